@@ -2,37 +2,40 @@
 """Makes the wheel of the package with the standard library alone: as `pip install ./python` asks for it, or by hand, as
 `python3 build_wheel.py FOLDER [LIBRARY]`. The shared object goes into it where it is built; the wheel is then for Linux on
 x86-64, else for any system, and the shared object is taken from there. The same files give the same bytes."""
+from __future__ import annotations
+
 import base64
 import hashlib
 import os
 import sys
 import zipfile
+from typing import Any
 
 HERE = os.path.dirname(os.path.realpath(__file__))
 LIBRARY = "libflexray.so.0"
 
 
-def _read(*parts):
+def _read(*parts: str) -> bytes:
     with open(os.path.join(HERE, *parts), "rb") as file:
         return file.read()
 
 
-def _version():
+def _version() -> str:
     return _read("..", "VERSION").decode().strip()
 
 
-def _metadata():
+def _metadata() -> bytes:
     return (f"Metadata-Version: 2.1\nName: flexray\nVersion: {_version()}\n"
             "Summary: The clocks of a FlexRay cluster, simulated by a program whose every function is proved\n"
             "Requires-Python: >=3.9\n").encode()
 
 
-def _library(given=None):
+def _library(given: str | None = None) -> str | None:
     found = given or os.environ.get("FLEXRAY_LIBRARY") or os.path.join(HERE, "..", "out", "library", "lib", LIBRARY)
     return found if os.path.exists(found) else None
 
 
-def _parts(library):
+def _parts(library: str | None) -> dict[str, bytes]:
     found = {f"flexray/{name}": _read("flexray", name) for name in sorted(os.listdir(os.path.join(HERE, "flexray")))
              if name.endswith(".py") or name == "py.typed"}
     if library:
@@ -41,7 +44,8 @@ def _parts(library):
     return found
 
 
-def build_wheel(wheel_directory, config_settings=None, metadata_directory=None, library=None):
+def build_wheel(wheel_directory: str, config_settings: dict[str, Any] | None = None, metadata_directory: str | None = None,
+                library: str | None = None) -> str:
     """The name of the wheel that was written into the directory."""
     library = _library(library)
     tag = "py3-none-linux_x86_64" if library else "py3-none-any"
@@ -65,7 +69,7 @@ def build_wheel(wheel_directory, config_settings=None, metadata_directory=None, 
     return name
 
 
-def build_sdist(sdist_directory, config_settings=None):
+def build_sdist(sdist_directory: str, config_settings: dict[str, Any] | None = None) -> str:
     raise NotImplementedError("the package is built from the repository, of which it is a part")
 
 

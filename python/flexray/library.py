@@ -176,7 +176,7 @@ def whole(name: str, value: object) -> int:
     """A number that is whole, numpy's too; True, 1.5 and "7" are none."""
     if not isinstance(value, bool):
         try:
-            return operator.index(value)  # type: ignore[arg-type]
+            return operator.index(value)  # type: ignore[arg-type]  # whatever it is, operator.index finds out
         except TypeError:
             pass
     raise TypeError(f"{name}: {shown(value)} is no whole number")
@@ -188,7 +188,7 @@ def given_bytes(name: str, data: object, wanted: str = "bytes are wanted") -> by
     if isinstance(data, bytes):
         return data
     try:
-        return memoryview(data).tobytes()  # type: ignore[arg-type]
+        return memoryview(data).tobytes()  # type: ignore[arg-type]  # whatever it is, memoryview finds out
     except TypeError:
         pass
     hint = ", as its read() answers them" if hasattr(data, "read") else ""

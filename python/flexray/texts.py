@@ -4,9 +4,17 @@ from __future__ import annotations
 import re
 
 from .results import (Bound, Capture, CapturedFrame, Check, CycleRow, Deviation, FailedCheck, Frame, Heard, Join, Lead,
-                      LogCounts, NodeEnd, Observation, ObservedCycle, ObservedFault, ObservedNode, ObservedSender, Report, Sent, Series, SeriesCycle,
-                      Settled, SharpBound, SharpSeries, SharpSettled, SharpSide, SharpWay, Skew, Startup, Trace,
-                      Upgraded, Vector, Vectors, Verdict)
+                      LogCounts, NodeEnd, Observation, ObservedCycle, ObservedFault, ObservedNode, ObservedSender, Report,
+                      Sent, Series, SeriesCycle, Settled, SharpBound, SharpSeries, SharpSettled, SharpSide, SharpWay, Skew,
+                      Startup, Trace, Upgraded, Vector, Vectors, Verdict)
+
+
+class Strange(ValueError):
+    """A line that is of no form that is known here, or the end of a text that is too short."""
+
+    def __init__(self, line: str) -> None:
+        super().__init__(f"flexray printed what this module does not understand: {line}")
+        self.line = line
 
 
 class _Lines:
@@ -32,7 +40,7 @@ class _Lines:
         found = self.maybe(form)
         if found is None:
             line = self.lines[self.at] if self.more else "the end of the text"
-            raise ValueError(f"flexray printed what this module does not understand: {line}")
+            raise Strange(line)
         return found
 
     def one(self, form: str) -> int:
@@ -109,9 +117,9 @@ def report(text: str) -> Report:
     heard = Heard(*_numbers(lines.take("heard " + " ".join(rf"{name} (\d+)" for name in names))))
     cut = lines.one(r"cut (\d+)")
     ends = lines.every(r"node (\d+) (active|passive|halt) next (\d+) rate (-?\d+) offset (-?\d+)")
+    nodes_at_end = tuple(NodeEnd(int(node), state, int(start), int(rate), int(offset)) for node, state, start, rate, offset in ends)
     return Report(text, nodes, sync, arbitrary, doubles, precision, covered == "yes", tuple(gap.split()) if gap else (), in_sync,
-                  greatest, sent_a, sent_b, heard, cut, tuple(NodeEnd(int(node), state, int(start), int(rate), int(offset))
-                                                     for node, state, start, rate, offset in ends))
+                  greatest, sent_a, sent_b, heard, cut, nodes_at_end)
 
 
 def _greatest(groups: tuple[str, ...]) -> Skew | None:
@@ -171,7 +179,7 @@ def trace(text: str) -> Trace:
         elif words[0] == "join":
             joins.append(Join(int(words[1]), int(words[2]), int(words[3])))
         else:
-            raise ValueError(f"flexray printed what this module does not understand: {line}")
+            raise Strange(line)
     return Trace(text, doubles, tuple(arbitrary), tuple(joins), tuple(cycles), tuple(deviations))
 
 
@@ -205,9 +213,11 @@ def observation(text: str) -> Observation:
     cycles: list[ObservedCycle] = []
     nodes: list[ObservedNode] = []
     faults: list[ObservedFault] = []
-    while rows := lines.every(OBSERVED_CYCLE):
+    begun = -1
+    while lines.at > begun:
+        begun = lines.at
         cycles.extend(ObservedCycle(int(cycle), int(senders), int(low), _known(high), says)
-                      for cycle, senders, low, high, says in rows)
+                      for cycle, senders, low, high, says in lines.every(OBSERVED_CYCLE))
         nodes.extend(ObservedNode(int(double), int(node), int(low), int(high), _known(least), _known(most))
                      for double, node, low, high, least, most in lines.every(OBSERVED_NODE))
         faults.extend(ObservedFault(int(cycle), _known(node), kind, tuple(fields))

@@ -10,6 +10,8 @@ import unittest
 from fractions import Fraction
 
 from bench import EXAMPLE, REPOSITORY, Bench, edited, needs
+from flexray import texts
+from flexray.results import ObservedFault
 from flexlab.captures import observed, observer, packets
 from flexlab.program import report
 from flexlab.captures.frames import frame_bytes
@@ -30,6 +32,10 @@ class Cluster:
     microtick_ns = Fraction(25)
     nodes = {}
     called = staticmethod(str)
+
+    @staticmethod
+    def called(number):
+        return str(number)
 
 
 MICROTICK_NS, MACROS, MICROS, TURN = 25, 5000, 200000, 4900
@@ -216,8 +222,9 @@ class Logs(Bench):
                 ("stranger", ("B", "9", "3", "-"), "a frame is in its slot 3 on channel B, which it does not have"),
                 ("form", ("A", "9", "3", "-"), "the frame in its slot 3 on channel A has another payload length, or another"),
                 ("cycle", ("B", "9", "63", "-"), "its frame on channel B comes at another time than its cycle count 63")):
-            self.assertIn(told, words.of((7, 2, kind, fields)))
-            self.assertTrue(words.of((7, 2, kind, fields)).startswith("cycle 7, node 2: "))
+            fault = ObservedFault(7, 2, kind, fields)
+            self.assertIn(told, words.of(fault))
+            self.assertTrue(words.of(fault).startswith("cycle 7, node 2: "))
 
     def test_a_frame_of_another_form(self):
         path = self.sent()
@@ -237,7 +244,7 @@ class Logs(Bench):
         with open(os.path.join(REPOSITORY, "examples", "observe", "printed.txt"), encoding="ascii") as file:
             text = file.read()
         for word, is_said in (("sure", False), ("premise", True)):
-            told = observed.read_observed(text.replace("numbers,sure", f"numbers,{word}"))
+            told = texts.observation(text.replace("numbers,sure", f"numbers,{word}"))
             page = self.one_line("\n".join(observed.verdict_lines(Cluster, told)))
             self.assertEqual("Numbers that each frame comes within half a cycle of the schedule is taken for granted" in page,
                              is_said)

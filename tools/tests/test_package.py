@@ -192,6 +192,7 @@ class Package(Bench):
         self.assertIn("python3 (>= 3.11)", self.field(package, "Recommends"))
         listed = subprocess.run(["dpkg-deb", "-c", package], capture_output=True, text=True, check=True).stdout
         self.assertNotIn("dist-packages", listed)
+        self.assertIn("share/flexray/python/flexray/texts.py", listed)
         self.assertNotIn("libflexray", listed)
         ended = subprocess.run([os.path.join(TOOLS, "package"), self.room], capture_output=True, text=True, check=False,
                                env={**os.environ, "FLEXRAY": FLEXRAY, **none})

@@ -53,13 +53,13 @@ class Formulas(Case):
                 for beside, name in ((False, "alone"), (True, "beside")):
                     last = max(node.key_slot or 0 for node in cluster.nodes.values())
                     found, bounds = least.sharp_bounds_of(cluster.parameters, least.Kind(beside, flutter, last)), told[name]
-                    self.assertEqual([found[one] for one in ("lambda", "pi", "precision", "lasts")],
+                    self.assertEqual([*(found[one] for one in ("lambda", "pi", "precision")), found.lasts],
                                      [bounds.lambda_, bounds.pi, bounds.precision, bounds.lasts])
                     self.assertEqual([(number, least.holds(number, found[number]), *found[number]) for number in range(1, 6)],
                                      bounds.checks)
                     self.assertEqual(bounds.flutter, flutter)
                     bounds = joined[name]
-                    self.assertEqual((found["reach"], found["first rates"]), (bounds.reach, bounds.lasts))
+                    self.assertEqual((found["reach"], found.first_rates), (bounds.reach, bounds.lasts))
                     self.assertEqual([(number, least.holds(number, found[number]), *found[number]) for number in range(1, 10)],
                                      bounds.checks)
 

@@ -3,6 +3,8 @@
 A file is written beside its place and takes its name once it is whole, so none is ever there in part; and what is read is a
 file, of a bounded length. Nothing else in flexlab opens a file to write it.
 """
+from __future__ import annotations
+
 import codecs
 import contextlib
 import fcntl
@@ -12,10 +14,13 @@ import re
 import stat
 import sys
 from collections.abc import Iterator
-from typing import IO, Any
+from typing import IO, TYPE_CHECKING, Any
 
 from . import ranges
 from .ending import FILE, REFUSED, Stop
+
+if TYPE_CHECKING:
+    from ..toml.cluster import Cluster
 
 # No file that is read whole is longer: a longer one is told as that. Of captures, what they unpack to counts too.
 MIB = 1 << 20
@@ -166,7 +171,7 @@ def alone(folder: str) -> Iterator[None]:
         os.close(held)
 
 
-def parameter_lines(cluster):
+def parameter_lines(cluster: Cluster) -> Iterator[str]:
     if ranges.version_of(cluster.parameters) == 2:
         yield "version,2,,,\n"
     yield from (f"param,{name},{value},,\n" for name, value in cluster.parameters.items())
@@ -175,18 +180,18 @@ def parameter_lines(cluster):
     yield from (f"slot,{slot},{node},{base},{repetition}\n" for slot, node, base, repetition in cluster.slots)
 
 
-def drift_lines(cluster):
+def drift_lines(cluster: Cluster) -> Iterator[str]:
     yield f"doubles,{cluster.doubles},,,,\n"
     for node in cluster.nodes.values():
         if not node.arbitrary and (node.start or node.rate):
             yield f"start,{node.number},{node.start},{node.rate},,\n"
-    for node, steps in cluster.lengths.items():
-        yield from (f"length,{node},{cycle},{ticks},,\n" for cycle, ticks in sorted(steps.items()))
+    for number, steps in cluster.lengths.items():
+        yield from (f"length,{number},{cycle},{ticks},,\n" for cycle, ticks in sorted(steps.items()))
     for (sender, receiver, channel), steps in sorted(cluster.delays.items()):
         yield from (f"delay,{sender},{receiver},{channel},{cycle},{ticks}\n" for cycle, ticks in sorted(steps.items()))
 
 
-def script_lines(cluster):
+def script_lines(cluster: Cluster) -> Iterator[str]:
     yield from (f"arbitrary,{node},,,,,\n" for node in cluster.arbitrary)
     yield from (f"join,{double},{node},{reference},,,\n" for node, (double, reference) in sorted(cluster.joins.items()))
     for (cycle, sender, receiver, channel), (kind, value, frame) in sorted(cluster.script.items()):
@@ -201,7 +206,7 @@ def hold(folder: str) -> None:
     HELD.enter_context(alone(folder))
 
 
-def write_files(cluster, folder):
+def write_files(cluster: Cluster, folder: str) -> list[str]:
     """Writes params.csv, drift.csv and script.csv, and hands back their paths."""
     paths = []
     make_folder(folder)

@@ -1,37 +1,50 @@
 """The parameters of a cluster: range, unit and meaning of each, as docs/FORMATS.md has them."""
 from collections.abc import Mapping
+from typing import NamedTuple
+
+
+class Parameter(NamedTuple):
+    """The least and the greatest value of a parameter, its unit, and what it is."""
+    least: int
+    most: int
+    unit: str
+    meaning: str
+
+
+# Values of parameters by their names.
+Parameters = dict[str, int]
 
 PARAMETERS = {
-    "gMacroPerCycle": (10, 16000, "macroticks", "a cycle"),
-    "pMicroPerCycle": (10, 640000, "microticks", "a cycle, before correction"),
-    "gNumberOfStaticSlots": (1, 1023, "slots", "static slots a cycle"),
-    "gdStaticSlot": (2, 1000, "macroticks", "a static slot"),
-    "gdActionPointOffset": (1, 63, "macroticks", "from the start of a static slot to its action point"),
-    "gdNIT": (1, 15999, "macroticks", "the rest of the cycle after the static slots"),
-    "gPayloadLengthStatic": (0, 127, "two-byte words", "the payload of a static frame"),
-    "gOffsetCorrectionStart": (1, 15999, "macroticks", "the macrotick at which the offset correction starts"),
-    "gMaxWithoutClockCorrectionPassive": (1, 15, "double cycles", "without a correction term, until a node is passive"),
-    "gMaxWithoutClockCorrectionFatal": (1, 15, "double cycles", "without a correction term, until a node may halt"),
-    "pAllowHaltDueToClock": (0, 1, "", "whether a node may halt: 1 yes, 0 no"),
-    "pAllowPassiveToActive": (0, 31, "double cycles", "good ones until a passive node is active; 0: never"),
-    "pClusterDriftDamping": (0, 100, "microticks", "by which the rate term is damped toward 0"),
-    "pOffsetCorrectionOut": (1, 16000, "microticks", "the limit of the offset term"),
-    "pRateCorrectionOut": (1, 2000, "microticks", "the limit of the rate term"),
-    "pDelayCompensation": (0, 200, "microticks", "taken off each measured arrival"),
-    "xRateBound": (0, 1500, "ticks", "the greatest distance of a microtick's length from nominal"),
-    "xChangeBound": (0, 1500, "ticks", "the greatest change of that length from one cycle to the next"),
-    "xDelayError": (0, 10000000, "ticks", "the greatest distance of a delay from the compensation"),
+    "gMacroPerCycle": Parameter(10, 16000, "macroticks", "a cycle"),
+    "pMicroPerCycle": Parameter(10, 640000, "microticks", "a cycle, before correction"),
+    "gNumberOfStaticSlots": Parameter(1, 1023, "slots", "static slots a cycle"),
+    "gdStaticSlot": Parameter(2, 1000, "macroticks", "a static slot"),
+    "gdActionPointOffset": Parameter(1, 63, "macroticks", "from the start of a static slot to its action point"),
+    "gdNIT": Parameter(1, 15999, "macroticks", "the rest of the cycle after the static slots"),
+    "gPayloadLengthStatic": Parameter(0, 127, "two-byte words", "the payload of a static frame"),
+    "gOffsetCorrectionStart": Parameter(1, 15999, "macroticks", "the macrotick at which the offset correction starts"),
+    "gMaxWithoutClockCorrectionPassive": Parameter(1, 15, "double cycles", "without a correction term, until a node is passive"),
+    "gMaxWithoutClockCorrectionFatal": Parameter(1, 15, "double cycles", "without a correction term, until a node may halt"),
+    "pAllowHaltDueToClock": Parameter(0, 1, "", "whether a node may halt: 1 yes, 0 no"),
+    "pAllowPassiveToActive": Parameter(0, 31, "double cycles", "good ones until a passive node is active; 0: never"),
+    "pClusterDriftDamping": Parameter(0, 100, "microticks", "by which the rate term is damped toward 0"),
+    "pOffsetCorrectionOut": Parameter(1, 16000, "microticks", "the limit of the offset term"),
+    "pRateCorrectionOut": Parameter(1, 2000, "microticks", "the limit of the rate term"),
+    "pDelayCompensation": Parameter(0, 200, "microticks", "taken off each measured arrival"),
+    "xRateBound": Parameter(0, 1500, "ticks", "the greatest distance of a microtick's length from nominal"),
+    "xChangeBound": Parameter(0, 1500, "ticks", "the greatest change of that length from one cycle to the next"),
+    "xDelayError": Parameter(0, 10000000, "ticks", "the greatest distance of a delay from the compensation"),
 }
 
 # In a file of version 2 each channel has a compensation of its own.
 OF_CHANNELS = {
-    f"pDelayCompensation{channel}": (0, 200, "microticks", f"taken off each arrival measured on channel {channel}")
+    f"pDelayCompensation{channel}": Parameter(0, 200, "microticks", f"taken off each arrival measured on channel {channel}")
     for channel in "AB"
 }
 NAMES = {**PARAMETERS, **OF_CHANNELS}
 
 
-def table(version):
+def table(version: int) -> dict[str, Parameter]:
     """The parameters of a file of this version, in the order of its table."""
     if version == 1:
         return PARAMETERS

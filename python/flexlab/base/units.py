@@ -9,8 +9,10 @@ that of its frequency, so a positive one makes the microtick shorter:
 from fractions import Fraction
 
 TICKS = 1_000_000
+Number = int | Fraction
 
-def rounded(value):
+
+def rounded(value: Number) -> int:
     """The nearest whole number, a half away from 0."""
     value = Fraction(value)
     doubled = abs(value) * 2 + 1
@@ -18,29 +20,29 @@ def rounded(value):
     return whole if value >= 0 else -whole
 
 
-def length_of(ppm):
+def length_of(ppm: Number) -> int:
     """The ticks of a microtick of an oscillator whose frequency is off by so many ppm."""
     return rounded(Fraction(TICKS * TICKS) / (TICKS + Fraction(ppm)))
 
 
-def ppm_of(length):
+def ppm_of(length: int) -> Fraction:
     """The ppm by which a frequency is off whose microtick lasts so many ticks."""
     return Fraction(TICKS * TICKS, length) - TICKS
 
 
-def ticks_of_microticks(microticks):
+def ticks_of_microticks(microticks: Number) -> int:
     return rounded(Fraction(microticks) * TICKS)
 
 
-def ticks_of_ns(nanoseconds, microtick_ns):
+def ticks_of_ns(nanoseconds: Number, microtick_ns: Number) -> int:
     return rounded(Fraction(nanoseconds) / microtick_ns * TICKS)
 
 
-def us_of_ticks(ticks, microtick_ns):
+def us_of_ticks(ticks: Number, microtick_ns: Number) -> Fraction:
     return Fraction(ticks) * microtick_ns / TICKS / 1000
 
 
-def decimal(value, digits):
+def decimal(value: Number, digits: int) -> str:
     """A number with so many digits behind the point, rounded like all else here."""
     scaled = rounded(Fraction(value) * 10 ** digits)
     sign = "-" if scaled < 0 else ""
@@ -48,19 +50,19 @@ def decimal(value, digits):
     return sign + (text if digits == 0 else text[:-digits] + "." + text[-digits:])
 
 
-def signed(value, digits):
+def signed(value: Number, digits: int) -> str:
     text = decimal(value, digits)
     return text if text.startswith("-") else "+" + text
 
 
-def microseconds(ticks, microtick_ns):
+def microseconds(ticks: Number, microtick_ns: Number) -> str:
     return decimal(us_of_ticks(ticks, microtick_ns), 3) + " us"
 
 
-def lasting(ms):
+def lasting(ms: Fraction) -> str:
     """A time in milliseconds, from ten seconds on in seconds."""
     return decimal(ms, 3) + " ms" if ms < 10000 else decimal(ms / 1000, 1) + " s"
 
 
-def percent(part, whole):
+def percent(part: Number, whole: int) -> str:
     return "-" if whole == 0 else decimal(Fraction(part * 100, whole), 1) + " %"

@@ -4,6 +4,6 @@ import os
 HERE = os.path.dirname(os.path.realpath(__file__))
 
 
-def version():
+def version() -> str:
     with open(os.path.join(HERE, "..", "..", "..", "VERSION"), encoding="ascii") as file:
         return file.read().strip()

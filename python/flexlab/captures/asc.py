@@ -9,11 +9,15 @@ from dataclasses import dataclass
 from fractions import Fraction
 from itertools import product
 from typing import Any
+from collections.abc import Iterator
+from typing import NamedTuple
 
 from ..base.ending import NO, REFUSED, Stop, printable
 from ..base.files import LONGEST, text_of
 from .frames import header_crcs, proved_header
+from ..toml.cluster import Cluster
 from ..toml.source import Source
+from ..toml.values import Table
 
 LENGTHS = {"payload_bytes": 2, "payload_words": 1}
 NEEDED = ("time", "channels", "slot", "cycle", "header_crc")
@@ -28,26 +32,44 @@ TRIED, SILENT = 1000, 30
 HINT = 'state them in [asc]: docs/FLEXLAB.md, "ASC files"'
 
 
+# For each number of a row the bases in which it may be, and one for each.
+Choices = list[tuple[int, ...]]
+Bases = tuple[int, ...]
+
+
+class Time(NamedTuple):
+    """A time in picoseconds, with how many decimal places of a second it has."""
+    ps: int
+    places: int
+
+
+class Numbers(NamedTuple):
+    """Slot, words of the payload and header CRC; None for what is no number."""
+    slot: int | None
+    words: int | None
+    crc: int | None
+
+
 @dataclass
 class Layout:
     """A form of rows, as a text: the places of columns that are read, and of words that each row has."""
     text: str
-    places: dict
-    fixed: dict
+    places: dict[str, int]
+    fixed: dict[int, str]
 
     @property
-    def numbers(self):
+    def numbers(self) -> tuple[str, str, str, str]:
         """The columns of slot, payload length, header CRC and cycle count."""
         return "slot", next(name for name in LENGTHS if name in self.places), "header_crc", "cycle"
 
     @property
-    def end(self):
+    def end(self) -> int:
         return max(*self.places.values(), *self.fixed) + 1
 
-    def takes(self, words):
+    def takes(self, words: list[str]) -> bool:
         return bool(words) and all(at < len(words) and words[at] == word for at, word in self.fixed.items())
 
-    def word(self, words, name):
+    def word(self, words: list[str], name: str) -> str:
         """What stands in a column; where the row ends before it, a text that is nothing."""
         at = self.places[name]
         return words[at] if at < len(words) else "-"
@@ -57,15 +79,15 @@ class Layout:
 class Line:
     """A line that has the form of rows: its picoseconds with their decimal places, None where it has no time."""
     number: int
-    time: tuple | None
-    words: list
+    time: Time | None
+    words: list[str]
 
 
 @dataclass
 class Row:
     """A row that is proved; its header has the cycle count 0, and the count is the word that stands in its column."""
     line: int
-    time: tuple
+    time: Time
     channels: str
     direction: str
     slot: int
@@ -80,10 +102,39 @@ class Log:
     others: int = 0
 
 
+class Counted(NamedTuple):
+    """A row with its cycle count."""
+    row: Row
+    cycle: int
+
+
+class Step(NamedTuple):
+    """From a row of a sync frame to the next one of its slot and channel: how many cycles went by, and whether the counts say so."""
+    one: Counted
+    two: Counted
+    passed: int
+    is_told: bool
+
+
+class Headed(NamedTuple):
+    """The header of a frame, with its time."""
+    ns: Fraction
+    channel: str
+    header: bytes
+
+
+class AscFile(NamedTuple):
+    """The step of the times in ns; the frames; how many lines were left out, by reason; and the columns."""
+    step: Fraction
+    frames: list[Headed]
+    left: dict[str, int]
+    columns: str
+
+
 # ---- the TOML file
 
 
-def read_layouts(cluster):
+def read_layouts(cluster: Cluster) -> tuple[list[Layout], list[str] | None, bool]:
     """The layouts to be tried; which numbers are hexadecimal, None where that is to be found; and whether the sums of relative
     times are exact."""
     table = Source(cluster.path).table("asc")
@@ -97,7 +148,7 @@ def read_layouts(cluster):
     return layouts, hexadecimal, table.flag("sums_are_exact", (False,))
 
 
-def layout_of(table, text):
+def layout_of(table: Table, text: str) -> Layout:
     words = text.split()
     names = [word for word in words if word in (*NEEDED, *LENGTHS, "direction")]
     for name in NEEDED:
@@ -114,15 +165,15 @@ def layout_of(table, text):
 # ---- the lines
 
 
-def picoseconds(word):
+def picoseconds(word: str) -> Time | None:
     """A time in seconds, with its decimal places; None where it is none."""
     found = re.fullmatch(r"(\d{1,9})(?:\.(\d{1,12}))?", word, re.ASCII)
-    return (int(found[1]) * 10**12 + int((found[2] or "").ljust(12, "0")), len(found[2] or "")) if found else None
+    return Time(int(found[1]) * 10**12 + int((found[2] or "").ljust(12, "0")), len(found[2] or "")) if found else None
 
 
 def read_lines(path: str, layouts: list[Layout], most: int = LONGEST) -> tuple[Log, list[Line]]:
     """What the head of a file says, and its lines that have the form of rows. A relative time is that since the event before."""
-    log, lines, clock = Log(), [], 0
+    log, lines, clock = Log(), list[Line](), 0
     end = max(layout.end for layout in layouts)
     with text_of(path, most) as file:
         for number, line in enumerate(file, 1):
@@ -133,9 +184,9 @@ def read_lines(path: str, layouts: list[Layout], most: int = LONGEST) -> tuple[L
             layout = next((layout for layout in layouts if layout.takes(words)), None)
             told = picoseconds(layout.word(words, "time") if layout else words[0]) if words else None
             if told:
-                clock = told[0] + (clock if log.is_relative else 0)
+                clock = told.ps + (clock if log.is_relative else 0)
             if layout:
-                lines.append(Line(number, told and (clock, told[1]), words))
+                lines.append(Line(number, told and Time(clock, told.places), words))
             elif told:
                 log.others += 1
     return log, lines
@@ -144,42 +195,45 @@ def read_lines(path: str, layouts: list[Layout], most: int = LONGEST) -> tuple[L
 # ---- what of a row its CRC proves
 
 
-def whole(word, base):
+def whole(word: str, base: int) -> int | None:
     return int(word, base) if re.fullmatch(r"(?:0[xX])?[0-9A-Fa-f]{1,6}" if base == 16 else r"[0-9]{1,6}", word) else None
 
 
-def numbers_of(layout, bases, words):
+def numbers_of(layout: Layout, bases: Bases, words: list[str]) -> Numbers:
     """Slot, words of the payload and header CRC; None for what is no number."""
     slot, length, kept = (whole(layout.word(words, name), base) for name, base in zip(layout.numbers, bases))
     size = LENGTHS[layout.numbers[1]]
-    return slot, None if length is None or length % size else length // size, kept
+    return Numbers(slot, None if length is None or length % size else length // size, kept)
 
 
-def proved(layout, bases, line):
+def proved(layout: Layout, bases: Bases, line: Line) -> Row | None:
     """A line as a row, or None where it is none or its CRC does not fit it."""
-    numbers = numbers_of(layout, bases, line.words)
-    header = None if None in numbers else proved_header(*numbers, 0)
+    slot, words, crc = numbers_of(layout, bases, line.words)
+    if slot is None or words is None or crc is None:
+        return None
+    header = proved_header(slot, words, crc, 0)
     channels = CHANNELS.get(layout.word(line.words, "channels"))
     direction = layout.word(line.words, "direction").lower() if "direction" in layout.places else FRAMES[0]
     if header and line.time and channels and direction in (*FRAMES, REQUEST):
-        return Row(line.number, line.time, channels, direction, numbers[0], header, layout.word(line.words, "cycle"))
+        return Row(line.number, line.time, channels, direction, slot, header, layout.word(line.words, "cycle"))
     return None
 
 
-def bases_of(log, hexadecimal, layout):
+def bases_of(log: Log, hexadecimal: list[str] | None, layout: Layout) -> Choices:
     """In which bases each number may be, that of the file first."""
     if hexadecimal is None:
         return [(log.base, 26 - log.base)] * 4
     return [(16 if name in hexadecimal else 10,) for name in layout.numbers]
 
 
-def chosen(path, log, lines, layouts, hexadecimal):
+def chosen(path: str, log: Log, lines: list[Line], layouts: list[Layout], hexadecimal: list[str] | None) -> tuple[Layout, Bases]:
     """The layout, and the bases of its first numbers, by which most rows are proved; that has to be more than half."""
     some = lines[:TRIED]
-    ways = [(layout, bases) for layout in layouts for bases in product(*bases_of(log, hexadecimal, layout)[:3])]
+    ways: list[tuple[Layout, Bases]] = [(layout, bases) for layout in layouts
+                                        for bases in product(*bases_of(log, hexadecimal, layout)[:3])]
     # Where as many are proved, it is the way by which more have the numbers of a header, for what is told of them.
-    layout, bases = max(ways, key=lambda way: (sum(proved(*way, line) is not None for line in some),
-                                               sum(None not in numbers_of(*way, line.words) for line in some)))
+    layout, bases = max(ways, key=lambda way: (sum(proved(way[0], way[1], line) is not None for line in some),
+                                               sum(None not in numbers_of(way[0], way[1], line.words) for line in some)))
     wrong = [line for line in some if proved(layout, bases, line) is None]
     if 2 * len(wrong) >= len(some):
         raise Stop(REFUSED, f"{path}:{wrong[0].number}: {told_wrong(layout, bases, wrong[0].words)}. So it is in {len(wrong)} of "
@@ -187,7 +241,7 @@ def chosen(path, log, lines, layouts, hexadecimal):
     return layout, bases
 
 
-def told_wrong(layout, bases, words):
+def told_wrong(layout: Layout, bases: Bases, words: list[str]) -> str:
     """What was read of a row that is not proved, and what its CRC would have to be."""
     names = [name for name in ("time", *layout.numbers, "channels", "direction") if name in layout.places]
     told = "read were " + ", ".join(f"'{printable(layout.word(words, name))}' as {name}" for name in names)
@@ -203,31 +257,31 @@ def told_wrong(layout, bases, words):
 # ---- the cycle counts, which no CRC covers
 
 
-def counted(rows, base):
+def counted(rows: list[Row], base: int) -> list[Counted]:
     """Rows with their cycle counts."""
     found = ((row, whole(row.count, base)) for row in rows)
-    return [(row, count) for row, count in found if count is not None and count < 64]
+    return [Counted(row, count) for row, count in found if count is not None and count < 64]
 
 
-def steps(rows, cycle):
-    """From each row of a sync frame to the next one of its slot and channel: both, how many cycles went by, and whether the
-    counts say so."""
-    last = {}
-    for row, count in sorted((row for row in rows if row[0].header[0] & 0x10), key=lambda row: row[0].time[0]):
-        for channel in row.channels:
-            before, known = last.get((row.slot, channel), (None, 0))
-            passed = round((row.time[0] - before.time[0]) / cycle) if before else SILENT + 1
-            if passed <= SILENT:
-                yield (before, known), (row, count), passed, passed >= 1 and (count - known - passed) % 64 == 0
-            last[row.slot, channel] = row, count
+def steps(rows: list[Counted], cycle: Fraction) -> Iterator[Step]:
+    """Those of rows in the order of their times."""
+    last: dict[tuple[int, str], Counted] = {}
+    for two in sorted((one for one in rows if one.row.header[0] & 0x10), key=lambda one: one.row.time.ps):
+        for channel in two.row.channels:
+            one = last.get((two.row.slot, channel))
+            if one:
+                passed = round((two.row.time.ps - one.row.time.ps) / cycle)
+                if passed <= SILENT:
+                    yield Step(one, two, passed, passed >= 1 and (two.cycle - one.cycle - passed) % 64 == 0)
+            last[two.row.slot, channel] = two
 
 
-def with_cycles(path, rows, bases, cycle):
+def with_cycles(path: str, rows: list[Row], bases: Bases, cycle: Fraction) -> tuple[list[Counted], int]:
     """Rows with their counts, and the base in which these go up with the times; more than half of the steps have to."""
     tried = [(counted(rows, base), base) for base in bases]
-    found, base = max(tried, key=lambda way: (sum(step[3] for step in steps(way[0], cycle)), len(way[0])))
+    found, base = max(tried, key=lambda way: (sum(step.is_told for step in steps(way[0], cycle)), len(way[0])))
     told = list(steps(found, cycle))
-    wrong = [step for step in told if not step[3]]
+    wrong = [step for step in told if not step.is_told]
     if wrong and 2 * len(wrong) >= len(told):
         (one, before), (two, count), passed, _ = wrong[0]
         raise Stop(REFUSED, f"{path}:{two.line}: slot {two.slot} goes from cycle count {before} (line {one.line}) to {count}, and by "
@@ -257,9 +311,9 @@ def read_asc(path: str, cluster: Any, most: int = LONGEST) -> tuple[Fraction, li
     sent = [row for row in rows if row.direction != REQUEST]
     cycle = cluster.parameters["pMicroPerCycle"] * Fraction(cluster.microtick_ns) * 1000
     found, base = with_cycles(path, sent, bases_of(log, hexadecimal, layout)[3], cycle)
-    frames = [(Fraction(row.time[0], 1000), channel, row.header[:4] + bytes([row.header[4] | count]))
+    frames = [Headed(Fraction(row.time.ps, 1000), channel, row.header[:4] + bytes([row.header[4] | count]))
               for row, count in found for channel in row.channels]
     left = {UNPROVED: len(lines) - len(rows) + len(sent) - len(found), REQUESTS: len(rows) - len(sent), OTHERS: log.others}
-    step = Fraction(10**9, 10 ** min((row.time[1] for row, _ in found), default=0))
+    step = Fraction(10**9, 10 ** min((row.time.places for row, _ in found), default=0))
     hexadecimal = [name for name, one in zip(layout.numbers, (*bases, base)) if one == 16]
-    return step, frames, left, f"{layout.text}; hexadecimal: {' '.join(hexadecimal) or 'none'}"
+    return AscFile(step, frames, left, f"{layout.text}; hexadecimal: {' '.join(hexadecimal) or 'none'}")

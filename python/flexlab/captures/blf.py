@@ -31,26 +31,39 @@ class Received:
     """An object of a frame: its stamp with the code of its step, its fields, and its payload as far as that was kept."""
     code: int
     stamp: int
-    fields: tuple
+    fields: tuple[int, ...]
     payload: bytes
 
-    channels = property(lambda self: CHANNELS.get(self.fields[2], ""))
-    direction = property(lambda self: self.fields[3] & 0xFF)
-    length = property(lambda self: self.fields[9])
-    flags = property(lambda self: (self.fields[14], self.fields[13]))
+    @property
+    def channels(self) -> str:
+        return CHANNELS.get(self.fields[2], "")
+
+    @property
+    def direction(self) -> int:
+        return self.fields[3] & 0xFF
+
+    @property
+    def length(self) -> int:
+        return self.fields[9]
+
+    @property
+    def flags(self) -> tuple[int, int]:
+        return self.fields[14], self.fields[13]
 
     @cached_property
-    def header(self):
+    def header(self) -> bytes | None:
         """As one of the two CRCs proves it, or None."""
         slot, one, two, length, _, cycle = self.fields[6:12]
-        return length % 2 == 0 and (proved_header(slot, length // 2, one, cycle & 0xFF)
-                                    or proved_header(slot, length // 2, two, cycle & 0xFF)) or None
+        if length % 2:
+            return None
+        return proved_header(slot, length // 2, one, cycle & 0xFF) or proved_header(slot, length // 2, two, cycle & 0xFF)
 
-    def is_told(self, flags):
-        """Whether these flags have the indicators of the header."""
-        return (flags & SYNC != 0, flags & STARTUP != 0) == (self.header[0] & 0x10 != 0, self.header[0] & 0x08 != 0)
+    def is_told(self, flags: int) -> bool:
+        """Whether these flags have the indicators of a header that is proved."""
+        first = self.header[0] if self.header else 0
+        return (flags & SYNC != 0, flags & STARTUP != 0) == (first & 0x10 != 0, first & 0x08 != 0)
 
-    def head(self, flags):
+    def head(self, flags: int) -> bytes:
         """The five bytes of the header; where no CRC proves it, with neither sync nor startup indicator."""
         slot, kept, _, length, _, cycle = self.fields[6:12]
         head = self.header or bytes([slot >> 8 & 7, slot & 255, length & 0xFE | kept >> 10 & 1, kept >> 2 & 255,
@@ -146,7 +159,7 @@ def read_blf(path: str, most: int = LONGEST) -> tuple[list[Packet], int]:
     frames = received(path, most)
     proved = [frame for frame in frames if frame.header]
     place = max((0, 1), key=lambda place: sum(frame.is_told(frame.flags[place]) for frame in proved))
-    found = []
+    found: list[Packet] = []
     for frame in frames:
         kind = FRAME if frame.direction in (0, 1) else UNSURE
         flags = frame.flags[place]

@@ -3,9 +3,12 @@ import csv
 import os
 import re
 import tempfile
-from dataclasses import dataclass, field
+from argparse import Namespace
+from collections.abc import Callable, Iterable
+from typing import Any
 
 from ..program import calls as programs
+from ..program.calls import Told
 from .blf import MAGIC, read_blf
 from ..toml.cluster import read_cluster
 from ..base.ending import DONE, NO, PROGRAM, REFUSED, USAGE, Stop
@@ -14,30 +17,12 @@ from .frames import frame_crc
 from .packets import FLAGS, FRAME, LINK_FLEXRAY, SYMBOL, Packet, packets_of
 from ..pages.machine import printed
 from ..pages.page import field as lines_of
-from .timing import draw_timing, timing, timing_lines, timing_objects, write_timing
+from .taken import Ends, Header, Place, Taken
+from .timing import Timing, draw_timing, timing, timing_lines, timing_objects, write_timing
 
 PIECE = 1 << 20
 LIMIT = 16777216
 CYCLES = 200000
-
-
-@dataclass
-class Taken:
-    """What became of the packets of a capture."""
-    packets: list
-    whole: dict = field(default_factory=dict)
-    headed: dict = field(default_factory=dict)
-    damaged: dict = field(default_factory=dict)
-    bare: list = field(default_factory=list)
-    symbols: list = field(default_factory=list)
-    other: list = field(default_factory=list)
-    cycles: dict = field(default_factory=dict)
-    ends: tuple | None = None
-
-    @property
-    def known(self):
-        """What is known of frames: of whole ones all, of those without a frame CRC what their header says."""
-        return {**self.headed, **self.whole}
 
 
 def load(path: str, most: int = LONGEST) -> list[Packet]:
@@ -70,14 +55,15 @@ def load_by_tshark(path: str, most: int) -> tuple[int, list[Packet]]:
     return packets_of(path, data)
 
 
-def stated(frame):
+def stated(frame: bytes) -> int | None:
     """How many bytes a frame has by its header."""
     return 8 + 2 * (frame[2] >> 1) if len(frame) > 2 else None
 
 
-def sort_packets(packets):
+def sort_packets(packets: list[Packet]) -> tuple[Taken, dict[str, list[Packet]]]:
     """Sorts by what a packet is; frames that are as long as they say are still to be looked at."""
-    taken, todo = Taken(packets), {"A": [], "B": []}
+    taken = Taken(packets)
+    todo: dict[str, list[Packet]] = {"A": [], "B": []}
     for packet in packets:
         if not packet.data or packet.kind not in (FRAME, SYMBOL):
             taken.other.append(packet)
@@ -95,25 +81,26 @@ def sort_packets(packets):
     return taken, todo
 
 
-def ask(program, words, data, room):
+def ask(program: str, words: list[str], data: bytes, room: str) -> Told:
     path = os.path.join(room, "bytes")
     put_bytes(path, data)
     return programs.call(program, [*words, path])
 
 
-def completed(packet):
+def completed(packet: Packet) -> bytes:
     """The bytes of a frame without its frame CRC, with one that is right: so flexray looks at its header."""
     return packet.frame + frame_crc(packet.channel, packet.frame).to_bytes(3, "big")
 
 
-def check_channel(program, channel, packets, whole, taken, room, bytes_of=lambda packet: packet.frame):
+def check_channel(program: str, channel: str, packets: list[Packet], whole: dict[int, Header], taken: Taken, room: str,
+                  bytes_of: Callable[[Packet], bytes] = lambda packet: packet.frame) -> None:
     """Asks flexray capture which packets are whole: piece by piece, behind a fault from the next packet on.
 
     Where there are many faults pieces are short, since what stands behind a fault is read in vain.
     """
     at, limit = 0, PIECE
     while at < len(packets):
-        piece, size = [], 0
+        piece, size = list[Packet](), 0
         while at + len(piece) < len(packets) and size < limit:
             piece.append(packets[at + len(piece)])
             size += len(piece[-1].frame)
@@ -122,7 +109,7 @@ def check_channel(program, channel, packets, whole, taken, room, bytes_of=lambda
             raise Stop(PROGRAM, f"flexray capture {channel} ended with status {status}: {told}")
         found = re.findall(r"^at \d+ id (\d+) words (\d+) cycle (\d+) crc (\w+)$", text, re.M)
         for packet, (number, words, cycle, _) in zip(piece, found):
-            whole[packet.number] = int(number), int(words), int(cycle)
+            whole[packet.number] = Header(int(number), int(words), int(cycle))
         fault = re.search(r"^fault (\d+) (.*)$", text, re.M)
         if fault:
             taken.damaged[piece[len(found)].number] = fault[2]
@@ -132,20 +119,21 @@ def check_channel(program, channel, packets, whole, taken, room, bytes_of=lambda
         limit = max(1, limit // 8) if fault else min(PIECE, limit * 4)
 
 
-def count_cycles(taken):
+def count_cycles(taken: Taken) -> None:
     """Cycles from the first one's count on: from packet to packet the count goes on by less than 64."""
-    last, known = None, taken.known
+    last: int | None = None
+    known = taken.known
     for packet in taken.packets:
         if packet.number in known:
-            count = known[packet.number][2]
+            count = known[packet.number].cycle
             if last is None:
                 last = count
             step = (count - last) % 64
             # A packet of the cycle before may stand behind one of this cycle.
             taken.cycles[packet.number] = last + (step if step < 48 else step - 64)
             last = max(last, taken.cycles[packet.number])
-    ends = [(cycle, known[number][0]) for number, cycle in taken.cycles.items()]
-    taken.ends = (min(ends), max(ends)) if ends else None
+    ends = [Place(cycle, known[number].id) for number, cycle in taken.cycles.items()]
+    taken.ends = Ends(min(ends), max(ends)) if ends else None
 
 
 def take_apart(path: str, program: str, most: int = LONGEST) -> Taken:
@@ -164,9 +152,10 @@ def take_apart(path: str, program: str, most: int = LONGEST) -> Taken:
     return taken
 
 
-def write_bytes(folder, channel, frames):
+def write_bytes(folder: str, channel: str, frames: Iterable[bytes]) -> list[str]:
     """The frames of a channel, in as many files as flexray's limit asks for."""
-    parts, size = [[]], 0
+    parts: list[list[bytes]] = [[]]
+    size = 0
     for frame in frames:
         if size + len(frame) > LIMIT:
             parts.append([])
@@ -180,7 +169,7 @@ def write_bytes(folder, channel, frames):
     return paths
 
 
-def write_vectors(folder, taken):
+def write_vectors(folder: str, taken: Taken) -> tuple[str, int]:
     """A recording for flexray nm: the whole frames with the payload preamble indicator, which alone can count."""
     path, beyond = os.path.join(folder, "vectors.csv"), 0
     with whole(path, encoding="ascii") as file:
@@ -194,7 +183,7 @@ def write_vectors(folder, taken):
     return path, beyond
 
 
-def write_table(folder, taken):
+def write_table(folder: str, taken: Taken) -> str:
     path = os.path.join(folder, "frames.csv")
     with whole(path) as file:
         writer = csv.writer(file, lineterminator="\n")
@@ -202,7 +191,7 @@ def write_table(folder, taken):
         all_known = taken.known
         for packet in taken.packets:
             if packet.number in all_known or packet.number in taken.damaged:
-                known = all_known.get(packet.number, ("", "", ""))
+                known: Header | tuple[str, str, str] = all_known.get(packet.number, ("", "", ""))
                 checked = "frame" if packet.number in taken.whole else "header" if packet.number in taken.headed else ""
                 flags = " and ".join(name for bit, name in FLAGS.items() if packet.flags & bit)
                 seconds = f"{packet.ns // 10**9}.{packet.ns % 10**9:09}"
@@ -212,31 +201,32 @@ def write_table(folder, taken):
     return path
 
 
-def repetition(cycles):
+def repetition(cycles: Iterable[int]) -> int:
     """The greatest of 64, 32, .. 1 with which all these cycles have one rest."""
     return next(every for every in (64, 32, 16, 8, 4, 2, 1) if len({cycle % every for cycle in cycles}) == 1)
 
 
-def spans(numbers):
+def spans(numbers: Iterable[int]) -> str:
     """Numbers as text, runs of them joined, the first twelve."""
-    found, numbers = [], sorted(numbers)
-    while numbers:
+    found, rest = list[str](), sorted(numbers)
+    while rest:
         last = 0
-        while last + 1 < len(numbers) and numbers[last + 1] == numbers[last] + 1:
+        while last + 1 < len(rest) and rest[last + 1] == rest[last] + 1:
             last += 1
-        found.append(str(numbers[0]) if last == 0 else f"{numbers[0]}-{numbers[last]}")
-        numbers = numbers[last + 1:]
+        found.append(str(rest[0]) if last == 0 else f"{rest[0]}-{rest[last]}")
+        rest = rest[last + 1:]
     return ", ".join(found[:12]) + (", .." if len(found) > 12 else "")
 
 
-def span_of(taken, number):
+def span_of(taken: Taken, number: int) -> tuple[int, int]:
     """The cycles of the capture in which an ID may be expected: slots go by ID, so a capture that begins or
     ends within a cycle has only a part of that cycle's."""
+    assert taken.ends is not None
     (first, first_id), (last, last_id) = taken.ends
     return first + (number < first_id), last - (number > last_id)
 
 
-def missing_of(taken, number, cycles):
+def missing_of(taken: Taken, number: int, cycles: list[int]) -> tuple[int, list[int]]:
     """In which cycles an ID is missing, by its repetition."""
     every, have = repetition(cycles), set(cycles)
     first, last = span_of(taken, number)
@@ -244,16 +234,17 @@ def missing_of(taken, number, cycles):
     return every, [cycle for cycle in range(begin, last + 1, every) if cycle not in have]
 
 
-def seen_of(taken, channel):
+def seen_of(taken: Taken, channel: str) -> dict[int, list[int]]:
     """Of each ID of a channel the cycles of its whole frames, or of those with a right header."""
-    seen, known = {}, taken.known
+    seen: dict[int, list[int]] = {}
+    known = taken.known
     for packet in taken.packets:
         if packet.number in known and packet.channel == channel:
-            seen.setdefault(known[packet.number][0], []).append(taken.cycles[packet.number])
+            seen.setdefault(known[packet.number].id, []).append(taken.cycles[packet.number])
     return seen
 
 
-def capture_object(path, taken, times):
+def capture_object(path: str, taken: Taken, times: Timing | None) -> dict[str, Any]:
     """A capture as an object: names stand in docs/FLEXLAB.md, "For machines"."""
     ids = []
     for channel in "AB":
@@ -263,13 +254,13 @@ def capture_object(path, taken, times):
                         "last": max(cycles), "missing": missing, "twice": len(cycles) - len(set(cycles))})
     damaged = [{"packet": packet.number, "channel": packet.channel, "fault": taken.damaged[packet.number]}
                for packet in taken.packets if packet.number in taken.damaged]
-    cycles = [min(taken.cycles.values()), max(taken.cycles.values())] if taken.cycles else None
+    ends = [min(taken.cycles.values()), max(taken.cycles.values())] if taken.cycles else None
     return {"file": path, "packets": len(taken.packets), "whole": len(taken.whole), "damaged": damaged,
             "without_trailer": len(taken.bare), "header_right": len(taken.headed), "symbols": len(taken.symbols),
-            "others": len(taken.other), "cycles": cycles, "ids": ids, "times": timing_objects(times)}
+            "others": len(taken.other), "cycles": ends, "ids": ids, "times": timing_objects(times)}
 
 
-def id_lines(taken, channel):
+def id_lines(taken: Taken, channel: str) -> list[str]:
     seen = seen_of(taken, channel)
     if not seen:
         return []
@@ -283,7 +274,7 @@ def id_lines(taken, channel):
     return found
 
 
-def damaged_lines(taken):
+def damaged_lines(taken: Taken) -> list[str]:
     if not taken.damaged:
         return []
     found, listed = ["", "Damaged"], 0
@@ -300,7 +291,7 @@ def damaged_lines(taken):
     return found
 
 
-def page_lines(path, taken, beyond, times):
+def page_lines(path: str, taken: Taken, beyond: int, times: Timing | None) -> list[str]:
     flagged = [packet for packet in taken.packets if packet.data and packet.flags]
     fine = sum(packet.number in taken.whole for packet in flagged)
     found = lines_of("Capture", f"{path}: {len(taken.packets)} packets")
@@ -330,14 +321,14 @@ def page_lines(path, taken, beyond, times):
                                       "flexray told; flexlab sorts and counts, and reckons with the time stamps.")
 
 
-def fold(program, width, vectors):
+def fold(program: str, width: int, vectors: str) -> str:
     status, text, told = programs.call(program, ["nm", str(width), vectors])
     if status != 0:
         raise Stop(PROGRAM, f"flexray nm ended with status {status}: {told}")
     return text
 
 
-def capture(words, folder):
+def capture(words: Namespace, folder: str) -> int:
     if words.nm is not None and not 1 <= words.nm <= 12:
         raise Stop(USAGE, f"--nm: {words.nm} is not from 1 to 12 bytes")
     program = programs.flexray(words.flexray)

@@ -1,19 +1,28 @@
 """The page of `flexlab observe`: what flexray tells of a log, in microseconds and ppm, and its pictures."""
+from __future__ import annotations
+
 import os
-from dataclasses import dataclass, field
+from dataclasses import asdict
 from fractions import Fraction
+from argparse import Namespace
+from collections.abc import Callable, Sequence
+from typing import Any, NamedTuple
+
+from flexray import texts
+from flexray.results import Observation, ObservedFault, ObservedNode
 
 from ..program import calls as programs
-from ..toml.cluster import read_cluster
-from ..base.ending import DONE, NO, PROGRAM, Stop
+from ..toml.cluster import Cluster, read_cluster
+from ..base.ending import DONE, NO
 from ..base.files import hold, parameter_lines, put
+from ..program.report import understood
 from ..pages.machine import printed
-from .observer import analyzer_words, left_lines, plain, write_log
+from .observer import Frames, Observer, analyzer_words, left_lines, plain, write_log
 from ..pages.page import field as lines_of
 from ..pages.page import ms_of_cycle
 from ..pages.pictures import COLOURS, POINTS, draw, node_label, node_texts, plain_axes
 from ..runs.runs import answer, keep
-from ..base.units import TICKS, decimal, us_of_ticks
+from ..base.units import TICKS, Number, decimal, us_of_ticks
 
 FATES = ("say where a clock was", "are damaged", "are of arbitrary nodes", "tell nothing of a clock",
          "come at another time than their cycle count has it or are of a past double cycle or of none",
@@ -26,70 +35,48 @@ ORIGIN = ("Every limit here is one that flexray printed, converted and rounded o
           "flexlab computes no answer of its own.")
 
 
-@dataclass
-class Observed:
-    """The rows of a text: of each cycle how many nodes sent, the limits of their skew in ticks, and what these say; of
-    each node its double cycles, with limits of the length of its cycles and of its offset term; contradictions, as
-    (cycle, node, kind, fields); of each sender and channel its frames; and the last rows by their first word."""
-    precision: int = 0
-    cycles: list = field(default_factory=list)
-    nodes: dict = field(default_factory=dict)
-    faults: list = field(default_factory=list)
-    senders: list = field(default_factory=list)
-    log: list = field(default_factory=list)
-    said: list = field(default_factory=list)
-    ends: dict = field(default_factory=dict)
-
-
-def number(text):
-    return None if text in ("-", "") else int(text)
-
-
-def read_observed(text):
-    found = Observed()
-    for line in text.splitlines():
-        word, *fields = line.split(",")
-        if word == "precision":
-            found.precision = int(fields[0])
-        elif word == "cycle":
-            found.cycles.append((int(fields[0]), int(fields[1]), int(fields[2]), number(fields[3]), fields[4]))
-        elif word == "node":
-            found.nodes.setdefault(int(fields[1]), []).append((int(fields[0]), *map(number, fields[2:6])))
-        elif word == "fault":
-            found.faults.append((int(fields[0]), number(fields[1]), fields[2], fields[3:7]))
-        elif word == "sender":
-            found.senders.append((int(fields[0]), fields[1], *map(number, fields[2:6])))
-        elif word in ("covered", "numbers", "sync", "verdict"):
-            found.ends[word] = [part for part in fields if part]
-        elif word == "log":
-            found.log = [int(count) for count in fields[:6]]
-        elif word == "cycles":
-            found.said = [int(count) for count in fields[2:5]]
-    if not found.log or len(found.said) != 3 or len(found.ends) != 4:
-        raise Stop(PROGRAM, "flexray observe printed no row of the log, of its cycles, or no verdict")
-    return found
+class Limits(NamedTuple):
+    """Limits of a number in a cycle or a double cycle."""
+    at: int
+    low: Number
+    high: Number
 
 
 # ---- rounding outwards
 
 
-def lower(value, digits=3):
+def lower(value: Number, digits: int = 3) -> str:
     return decimal(Fraction(Fraction(value) * 10**digits // 1, 10**digits), digits)
 
 
-def upper(value, digits=3):
+def upper(value: Number, digits: int = 3) -> str:
     text = lower(-Fraction(value), digits)
     return text[1:] if text.startswith("-") else text if Fraction(text) == 0 else "-" + text
 
 
-def ppm_of_cycle(length, cluster):
+def ppm_of_cycle(length: int, cluster: Cluster) -> Fraction:
     """The ppm by which a cycle of so many ticks is faster than the nominal one; the analyzer's clock is the measure."""
     return Fraction(cluster.parameters["pMicroPerCycle"] * TICKS * TICKS, length) - TICKS
 
 
-def rates(rows, cluster):
-    """(double cycle, least, greatest ppm) of a node."""
-    return [(double, ppm_of_cycle(high, cluster), ppm_of_cycle(low, cluster)) for double, low, high, _, _ in rows]
+def rates(rows: list[ObservedNode], cluster: Cluster) -> list[Limits]:
+    """Limits of the ppm of a node, by its double cycles."""
+    return [Limits(row.double, ppm_of_cycle(row.length_high, cluster), ppm_of_cycle(row.length_low, cluster)) for row in rows]
+
+
+def by_node(told: Observation) -> dict[int, list[ObservedNode]]:
+    """The double cycles of each node, by its number."""
+    found: dict[int, list[ObservedNode]] = {}
+    for row in told.nodes:
+        found.setdefault(row.node, []).append(row)
+    return dict(sorted(found.items()))
+
+
+def offset_of(row: ObservedNode) -> Limits | None:
+    """Limits of the offset term of a node, where its next double cycle shows it."""
+    if row.offset_low is None or row.offset_high is None:
+        return None
+    return Limits(row.double, row.offset_low, row.offset_high)
 
 
 # ---- contradictions
@@ -98,23 +85,23 @@ def rates(rows, cluster):
 class Words:
     """Contradictions in words, with numbers in microseconds and microticks."""
 
-    def __init__(self, cluster):
+    def __init__(self, cluster: Cluster) -> None:
         self.cluster, self.unit = cluster, cluster.microtick_ns
 
-    def us(self, low, high):
+    def us(self, low: str, high: str) -> str:
         """A pair of numbers of ticks; the upper one may not be known."""
         most = "no limit" if high in ("-", "") else f"{upper(us_of_ticks(int(high), self.unit))} us"
         return f"{lower(us_of_ticks(int(low), self.unit))} to {most}"
 
-    def beyond(self, what, fields):
+    def beyond(self, what: str, fields: Sequence[str]) -> str:
         return (f"{what} at least {lower(us_of_ticks(int(fields[0]), self.unit))} us apart, and in sync at most "
                 f"{upper(us_of_ticks(int(fields[3]), self.unit))} us")
 
-    def of(self, fault):
-        cycle, node, kind, fields = fault
-        return f"cycle {cycle}" + ("" if node is None else f", node {self.cluster.called(node)}") + f": {self.told(kind, fields)}"
+    def of(self, fault: ObservedFault) -> str:
+        node = "" if fault.node is None else f", node {self.cluster.called(fault.node)}"
+        return f"cycle {fault.cycle}{node}: {self.told(fault.kind, fault.fields)}"
 
-    def told(self, kind, fields):
+    def told(self, kind: str, fields: Sequence[str]) -> str:
         one, two, three, four = fields
         if kind == "channels":
             return "the stamps of both channels place its clock nowhere"
@@ -146,7 +133,7 @@ class Words:
         return self.beyond(what, fields)
 
 
-def fault_lines(cluster, told):
+def fault_lines(cluster: Cluster, told: Observation) -> list[str]:
     words, some = Words(cluster), told.faults[:MOST_FAULTS]
     found = lines_of("CONTRADICTION", *map(words.of, some)) if some else []
     if len(told.faults) > len(some):
@@ -154,15 +141,15 @@ def fault_lines(cluster, told):
     return found
 
 
-def verdict_lines(cluster, told):
+def verdict_lines(cluster: Cluster, told: Observation) -> list[str]:
     """What the log comes to."""
-    covered, sync, verdict = (told.ends[word] for word in ("covered", "sync", "verdict"))
-    found = []
+    covered, sync, verdict = told.covered, told.sync, told.verdict
+    found: list[str] = []
     if covered[0] == "no":
         why = f"check {covered[2]} fails" if covered[1] == "check" else (
             f"{covered[2]} correct nodes with a key slot do not outweigh {covered[3]} arbitrary ones")
         found += lines_of("Covered", f"no run of this cluster is: {why}; so nothing is held against the rules of sync")
-    if told.ends["numbers"][0] == "premise":
+    if told.numbers[0] == "premise":
         found += lines_of("Numbers", "that each frame comes within half a cycle of the schedule is taken for granted: the limits that "
                                      "are stated do not suffice to be sure of it of clocks in sync")
     if sync[0] == "-":
@@ -188,105 +175,102 @@ def verdict_lines(cluster, told):
 # ---- the page
 
 
-def skew_lines(cluster, told):
+def skew_lines(cluster: Cluster, told: Observation) -> list[str]:
     unit = cluster.microtick_ns
     if not told.cycles:
         return lines_of("Skew", "of no frame it is told where a clock was, so of clocks nothing is told")
-    known = [row for row in told.cycles if row[3] is not None]
-    least = max(told.cycles, key=lambda row: row[2])
-    text = f"at least {lower(us_of_ticks(least[2], unit))} us in cycle {least[0]}"
+    known = [(row.high, row.cycle) for row in told.cycles if row.high is not None]
+    least = max(told.cycles, key=lambda row: row.low)
+    text = f"at least {lower(us_of_ticks(least.low, unit))} us in cycle {least.cycle}"
     if known:
-        most = max(known, key=lambda row: row[3])
-        text += (f"; at most {upper(us_of_ticks(most[3], unit))} us (cycle {most[0]}) in the {len(known)} cycles of "
+        high, cycle = max(known, key=lambda row: row[0])
+        text += (f"; at most {upper(us_of_ticks(high, unit))} us (cycle {cycle}) in the {len(known)} cycles of "
                  "which that is known")
     found = lines_of("Skew", text)
-    over = [row for row in told.cycles if row[4] == "over"]
+    over = [row for row in told.cycles if row.says == "over"]
     if over:
-        found += lines_of("OVER", f"in {len(over)} cycles, the first of them {over[0][0]}, the clocks of the nodes "
+        found += lines_of("OVER", f"in {len(over)} cycles, the first of them {over[0].cycle}, the clocks of the nodes "
                                   "that sent lay further apart than the precision, for certain")
     return found
 
 
-def node_lines(cluster, told):
+def node_lines(cluster: Cluster, told: Observation) -> list[str]:
     if not told.nodes:
         return []
     found = ["", f"{'node':>4}  {'double cycles':>13}  {'ppm from':>10} {'to':>10}  {'offset term from':>16} {'to':>6}"]
-    for node, rows in sorted(told.nodes.items()):
+    for node, rows in by_node(told).items():
         ppm = rates(rows, cluster)
-        low, high = lower(min(row[1] for row in ppm)), upper(max(row[2] for row in ppm))
-        terms = [row for row in rows if row[3] is not None]
-        term = (min(row[3] for row in terms), max(row[4] for row in terms)) if terms else ("-", "-")
-        found.append(f"{node:>4}  {len(rows):>13}  {low:>10} {high:>10}  {term[0]:>16} {term[1]:>6}"
+        low, high = lower(min(row.low for row in ppm)), upper(max(row.high for row in ppm))
+        terms = [term for row in rows if (term := offset_of(row))]
+        least, most = (str(min(term.low for term in terms)), str(max(term.high for term in terms))) if terms else ("-", "-")
+        found.append(f"{node:>4}  {len(rows):>13}  {low:>10} {high:>10}  {least:>16} {most:>6}"
                      + (f"  {cluster.names[node]}" if node in cluster.names else ""))
     return found + [""] + lines_of(
         "", "ppm: how much faster its cycles were than nominal ones, rate correction included, by the analyzer's "
             "clock, in all its double cycles. Offset terms are microticks.")
 
 
-def missed_lines(cluster, told):
+def missed_lines(cluster: Cluster, told: Observation) -> list[str]:
     """Which senders have cycles of the log without a frame."""
+    rows = [(row.node, row.channel, row.frames, row.missed) for row in told.senders if row.missed]
     return lines_of("Not seen", *(
         f"node {cluster.called(node)} on channel {channel} in {missed} cycles" + ("" if frames else ", in none at all")
-        for node, channel, frames, _, _, missed in told.senders if missed)) if any(row[5] for row in told.senders) else []
+        for node, channel, frames, missed in rows)) if rows else []
 
 
-def page_lines(cluster, told, observer, frames, entries, name):
+def page_lines(cluster: Cluster, told: Observation, observer: Observer, frames: Frames, entries: int, name: str) -> list[str]:
     keys = sum(node.key_slot is not None for node in cluster.nodes.values())
     found = lines_of("Log", f"{name}: {entries} frames of key slots")
     found += lines_of("Cluster", f"{len(cluster.nodes)} nodes, {keys} with a key slot; cycles of "
                                  f"{decimal(ms_of_cycle(1, cluster), 3)} ms; a microtick is "
                                  f"{plain(cluster.microtick_ns)} ns")
     found += lines_of("Analyzer", analyzer_words(observer, frames))
-    found += lines_of("Frames", ", ".join(f"{count} {fate}" for count, fate in zip(told.log, FATES)))
+    found += lines_of("Frames", ", ".join(f"{count} {fate}" for count, fate in zip(asdict(told.log).values(), FATES)))
     found += left_lines(frames)
     if told.cycles:
-        within, over, neither = told.said
-        found += lines_of("Cycles", f"{told.cycles[0][0]} to {told.cycles[-1][0]}, by the cycle counts: {within} within the "
-                                    f"precision, {over} over it, {neither} open")
+        found += lines_of("Cycles", f"{told.cycles[0].cycle} to {told.cycles[-1].cycle}, by the cycle counts: {told.within} within the "
+                                    f"precision, {told.over} over it, {told.open} open")
     found += missed_lines(cluster, told)
     found += lines_of("Precision", f"{decimal(us_of_ticks(told.precision, cluster.microtick_ns), 3)} us")
     return (found + skew_lines(cluster, told) + verdict_lines(cluster, told) + fault_lines(cluster, told)
             + node_lines(cluster, told) + lines_of("Origin", ORIGIN))
 
 
-def observed_object(cluster, told, frames, entries):
+def observed_object(cluster: Cluster, told: Observation, frames: Frames, entries: int) -> dict[str, Any]:
     """A log as an object: names stand in docs/FLEXLAB.md, "For machines"."""
-    def us(ticks, rounded):
+    def us(ticks: int | None, rounded: Callable[[Number, int], str]) -> float | None:
         return None if ticks is None else float(rounded(us_of_ticks(ticks, cluster.microtick_ns), 6))
     return {
         "names": cluster.names, "entries": entries, "left_out": frames.left, "precision": {"ticks": told.precision},
-        "log": dict(zip(("judged", "damaged", "arbitrary", "other", "stray", "behind"), told.log)),
-        "said": dict(zip(("within", "over", "open"), told.said)), "verdict": told.ends["verdict"],
-        "sync": told.ends["sync"], "covered": told.ends["covered"], "numbers": told.ends["numbers"],
-        "faults": [{"cycle": cycle, "node": node, "kind": kind, "fields": fields, "told": Words(cluster).told(kind, fields)}
-                   for cycle, node, kind, fields in told.faults],
-        "senders": [dict(zip(("node", "channel", "frames", "first", "last", "missed"), row)) for row in told.senders],
-        "cycles": [{"cycle": cycle, "senders": senders, "least_us": us(low, lower), "most_us": us(high, upper),
-                    "says": says} for cycle, senders, low, high, says in told.cycles],
-        "nodes": {str(node): [{"double_cycle": row[0], "least_ppm": float(lower(ppm[1])),
-                               "most_ppm": float(upper(ppm[2])), "least_offset": row[3], "most_offset": row[4]}
+        "log": asdict(told.log), "said": {"within": told.within, "over": told.over, "open": told.open}, "verdict": told.verdict,
+        "sync": told.sync, "covered": told.covered, "numbers": told.numbers,
+        "faults": [{**asdict(fault), "told": Words(cluster).told(fault.kind, fault.fields)} for fault in told.faults],
+        "senders": [asdict(row) for row in told.senders],
+        "cycles": [{"cycle": row.cycle, "senders": row.senders, "least_us": us(row.low, lower), "most_us": us(row.high, upper),
+                    "says": row.says} for row in told.cycles],
+        "nodes": {str(node): [{"double_cycle": row.double, "least_ppm": float(lower(ppm.low)), "most_ppm": float(upper(ppm.high)),
+                               "least_offset": row.offset_low, "most_offset": row.offset_high}
                               for row, ppm in zip(rows, rates(rows, cluster))]
-                  for node, rows in sorted(told.nodes.items())}}
+                  for node, rows in by_node(told).items()}}
 
 
 # ---- pictures
 
 
-def thinned(rows):
-    """At most so many rows: of each stretch the one with the greatest upper limit, which stands last."""
+def thinned(rows: list[Limits]) -> list[Limits]:
+    """At most so many rows: of each stretch the one with the greatest upper limit."""
     width = -(-len(rows) // POINTS)
-    return [max(rows[at:at + width], key=lambda row: row[-1]) for at in range(0, len(rows), width)]
+    return [max(rows[at:at + width], key=lambda row: row.high) for at in range(0, len(rows), width)]
 
 
-def data(name, rows):
+def data(name: str, rows: list[Limits]) -> str:
     lines = (" ".join(decimal(value, 6) for value in row) + "\n" for row in thinned(rows))
     return f"${name} << end\n" + "".join(lines) + "end\n"
 
 
-def skew_script(cluster, told):
+def skew_script(cluster: Cluster, told: Observation) -> str:
     unit = cluster.microtick_ns
-    rows = [(cycle, us_of_ticks(low, unit), us_of_ticks(high, unit))
-            for cycle, _, low, high, _ in told.cycles if high is not None]
+    rows = [Limits(row.cycle, us_of_ticks(row.low, unit), us_of_ticks(row.high, unit)) for row in told.cycles if row.high is not None]
     precision = decimal(us_of_ticks(told.precision, unit), 6)
     return (data("skew", rows) + plain_axes() + "set title 'Limits of the skew in '.file noenhanced font ',14'\n"
             "set xlabel 'cycle'\nset ylabel 'microseconds'\nset yrange [0:*]\n"
@@ -297,13 +281,13 @@ def skew_script(cluster, told):
             f"     {precision} title 'precision' with lines linewidth 2 linecolor '#b00020'\n")
 
 
-def nodes_script(cluster, told):
+def nodes_script(cluster: Cluster, told: Observation) -> str:
     """Two panels: limits of each node's rate, and of its offset terms."""
     found, panels = "", (("rate", "ppm"), ("offset", "microticks"))
-    parts = {"rate": {}, "offset": {}}
-    for node, rows in sorted(told.nodes.items()):
+    parts: dict[str, dict[int, list[Limits]]] = {"rate": {}, "offset": {}}
+    for node, rows in by_node(told).items():
         parts["rate"][node] = rates(rows, cluster)
-        parts["offset"][node] = [(row[0], row[3], row[4]) for row in rows if row[3] is not None]
+        parts["offset"][node] = [term for row in rows if (term := offset_of(row))]
     for what, nodes in parts.items():
         found += "".join(data(f"{what}{node}", rows) for node, rows in nodes.items() if rows)
     found += plain_axes() + "set multiplot layout 2,1 title 'Rates and offset terms in '.file noenhanced font ',14'\n"
@@ -311,15 +295,15 @@ def nodes_script(cluster, told):
     for what, unit in panels:
         plots = [f"${what}{node} using 1:(($2+$3)/2):2:3 title {node_label(node)} noenhanced with yerrorlines pointtype 7 "
                  f"pointsize 0.3 linecolor '{COLOURS[at % len(COLOURS)]}'"
-                 for at, (node, rows) in enumerate(parts[what].items()) if rows]
+                 for at, (node, limits) in enumerate(parts[what].items()) if limits]
         if plots:
             found += f"set ylabel '{what}, {unit}'\nplot " + ", \\\n     ".join(plots) + "\n"
     return found + "unset multiplot\n"
 
 
-def draw_observed(cluster, told, folder, name):
-    drawn = []
-    if any(row[3] is not None for row in told.cycles):
+def draw_observed(cluster: Cluster, told: Observation, folder: str, name: str) -> list[str]:
+    drawn: list[str] = []
+    if any(row.high is not None for row in told.cycles):
         drawn += draw(folder, "observed-skew", skew_script(cluster, told), file=name)
     if told.nodes:
         drawn += draw(folder, "observed-nodes", nodes_script(cluster, told), "1000,860", file=name, **node_texts(cluster))
@@ -329,14 +313,14 @@ def draw_observed(cluster, told, folder, name):
 # ---- the request
 
 
-def observe(words, folder):
+def observe(words: Namespace, folder: str) -> int:
     program, cluster = programs.flexray(words.flexray, "observe"), read_cluster(words.cluster)
     params, log = os.path.join(folder, "params.csv"), os.path.join(folder, "log.csv")
     hold(folder)
     put(params, "".join(parameter_lines(cluster)), "ascii")
     observer, frames, entries = write_log(cluster, log, words)
     text = answer(program, ["observe", params, log], cluster=cluster)
-    told, name = read_observed(text), os.path.basename(words.file)
+    told, name = understood(texts.observation, "log", text), os.path.basename(words.file)
     keep(folder, "observed.csv", text)
     lines = page_lines(cluster, told, observer, frames, entries, name)
     keep(folder, "observed.txt", "\n".join(lines) + "\n")
@@ -348,4 +332,4 @@ def observe(words, folder):
         print(f"{'Files':<16}{folder}/: params.csv, log.csv, observed.csv, observed.txt")
         for path in drawn:
             print(f"{'Picture':<16}{path}")
-    return NO if told.said[1] or told.ends["verdict"][0] == "no" else DONE
+    return NO if told.over or told.verdict[0] == "no" else DONE

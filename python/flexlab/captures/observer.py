@@ -2,6 +2,8 @@
 
 Units are converted and limits rounded outwards; which frame is whole, and what it tells, is for flexray to say.
 """
+from __future__ import annotations
+
 import csv
 import re
 import struct
@@ -10,7 +12,8 @@ from collections.abc import Iterator
 from dataclasses import dataclass, field
 from fractions import Fraction
 from functools import cached_property
-from typing import Any
+from typing import Any, NamedTuple
+from argparse import Namespace
 
 from ..base import ranges
 from .asc import UNPROVED, read_asc
@@ -18,11 +21,13 @@ from .blf import MAGIC, read_blf
 from .capture import load, sort_packets
 from ..base.ending import NO, REFUSED, USAGE, Refused, Stop, printable
 from ..base.files import LONGEST, MIB, check_is_file, named_faults, put, text_of
+from ..toml.cluster import Cluster
+from ..toml.values import Table
 from .frames import crc, frame_crc
 from .packets import UNSURE
 from ..pages.page import field as lines_of
 from ..toml.source import Source
-from ..base.units import TICKS, decimal
+from ..base.units import TICKS, Number, decimal
 
 LAST_STAMP, MOST_TICKS, MOST_CYCLE = 9 * 10**17, 10**9, 199998
 WANTED = ("a table [observer] states what is known of the analyzer: resolution_ns, drift_ppm, delay_from_ns and "
@@ -30,6 +35,34 @@ WANTED = ("a table [observer] states what is known of the analyzer: resolution_n
 SHORT, FLAWED = "frames that are not as long as they say", "frames without a trailer, with an error flag"
 REQUESTED = "frames that may be mere requests to transmit"
 UNITS = {"s": Fraction(10**9), "ms": Fraction(10**6), "us": Fraction(1000), "ns": Fraction(1)}
+
+
+class Limits(NamedTuple):
+    """The least and the greatest of something, in ns."""
+    low: Fraction
+    high: Fraction
+
+
+class End(NamedTuple):
+    """A channel of a node."""
+    node: int
+    channel: str
+
+
+class Seen(NamedTuple):
+    """A frame with its stamp: its bytes, and whether these are all of them."""
+    ns: Fraction
+    channel: str
+    data: bytes
+    is_all: bool
+
+
+class TableRow(NamedTuple):
+    """A row of a CSV file, by its line."""
+    line: int
+    time: str
+    channel: str
+    data: str
 
 
 @dataclass
@@ -40,47 +73,54 @@ class Observer:
     drift: int
     error: Fraction
     jitter: Fraction | None
-    limits: dict
+    limits: dict[End, Limits]
     is_whole: bool = False
     since: int | None = None
 
 
 @dataclass
 class Frames:
-    """(ns, channel, bytes, whether these are all of the frame), of a file that keeps times in steps of so many ns; how
-    many were left out, by reason; and the columns that were read, where these are not stated by their names."""
+    """The frames of a file that keeps times in steps of so many ns; how many were left out, by reason; and the columns that
+    were read, where these are not stated by their names."""
     path: str
     step: Fraction
-    found: list
-    left: dict = field(default_factory=dict)
+    found: list[Seen]
+    left: dict[str, int] = field(default_factory=dict)
     columns: str = ""
 
-    def leave(self, reason, count=1):
+    def leave(self, reason: str, count: int = 1) -> None:
         if count:
             self.left[reason] = self.left.get(reason, 0) + count
 
     @cached_property
-    def is_torn(self):
+    def is_torn(self) -> bool:
         """Whether frames of key slots may have been left out, or are damaged."""
         return any(reason in self.left for reason in (SHORT, FLAWED, UNPROVED, REQUESTED)) or any(
             is_damaged(channel, data, is_all) for _, channel, data, is_all in self.found)
 
 
-def is_damaged(channel, data, is_all):
+class Log(NamedTuple):
+    """A log that was written: its observer, its frames, and how many entries it has."""
+    observer: Observer
+    frames: Frames
+    entries: int
+
+
+def is_damaged(channel: str, data: bytes, is_all: bool) -> bool:
     """Whether a CRC of a frame does not fit."""
     number = int.from_bytes(data[:5], "big")
     return crc(11, 0x385, 0x01A, number >> 17 & 0xFFFFF, 20) != number >> 6 & 0x7FF or (
         is_all and frame_crc(channel, data[:-3]) != int.from_bytes(data[-3:], "big"))
 
 
-def up(value):
+def up(value: Number) -> int:
     return -(-Fraction(value) // 1)
 
 
 # ---- the TOML file
 
 
-def read_observer(cluster):
+def read_observer(cluster: Cluster) -> Observer | None:
     """The observer that the file of a cluster states, or None where it states none."""
     source, most = Source(cluster.path), MOST_TICKS * cluster.microtick_ns / TICKS
     if "observer" not in source.entries:
@@ -93,16 +133,16 @@ def read_observer(cluster):
     jitter = table.number("jitter_ns", 0, most, "ns") if table.has("jitter_ns") else None
     is_whole, since = table.flag("missed_none", (False,)), since_of(table)
     all_limits = limits_of(table, "delay_from_ns", "delay_to_ns", most)
-    found = {(node.number, channel): all_limits for node in cluster.nodes.values() for channel in node.channels}
+    found = {End(node.number, channel): all_limits for node in cluster.nodes.values() for channel in node.channels}
     for table in source.tables("observer_delay"):
         own = limits_of(table, "from_ns", "to_ns", most)
         channels = table.channels("channels", ("AB",))
         for node in table.nodes("nodes", cluster.nodes):
-            found.update({(node, channel): own for channel in cluster.nodes[node].channels if channel in channels})
+            found.update({End(node, channel): own for channel in cluster.nodes[node].channels if channel in channels})
     return Observer(resolution, drift, error, jitter, found, is_whole, since)
 
 
-def since_of(table):
+def since_of(table: Table) -> int | None:
     if not table.has("in_sync_from_cycle"):
         return None
     since = table.whole("in_sync_from_cycle", 0, MOST_CYCLE)
@@ -111,14 +151,14 @@ def since_of(table):
     return since
 
 
-def limits_of(table, low, high, most):
-    found = table.number(low, 0, most, "ns"), table.number(high, 0, most, "ns")
-    if found[0] > found[1]:
+def limits_of(table: Table, low: str, high: str, most: Fraction) -> Limits:
+    found = Limits(table.number(low, 0, most, "ns"), table.number(high, 0, most, "ns"))
+    if found.low > found.high:
         table.refuse(low, f"it is above `{high}`")
     return found
 
 
-def stated(cluster):
+def stated(cluster: Cluster) -> Observer:
     """The observer, or the end of flexlab where the file states none."""
     found = read_observer(cluster)
     if found is None:
@@ -142,7 +182,7 @@ def step_of(path: str, most: int = LONGEST) -> Fraction | None:
         return Fraction(1)
     if data[:4] != b"\x0a\x0d\x0d\x0a" or len(data) < 12:
         return None
-    order, at, steps = "<" if data[8:12] == b"\x4d\x3c\x2b\x1a" else ">", 0, []
+    order, at, steps = "<" if data[8:12] == b"\x4d\x3c\x2b\x1a" else ">", 0, list[Fraction]()
     while at + 12 <= len(data):
         kind, length = struct.unpack(order + "II", data[at:at + 8])
         if kind == 1:
@@ -153,7 +193,7 @@ def step_of(path: str, most: int = LONGEST) -> Fraction | None:
     return max(steps, default=None)
 
 
-def interface_step(options, order):
+def interface_step(options: bytes, order: str) -> Fraction:
     """That of an interface of a pcapng file, by its options: a microsecond where none says so."""
     at = 0
     while at + 4 <= len(options):
@@ -179,7 +219,7 @@ def capture_frames(path: str, most: int = LONGEST) -> Frames:
     bare = taken.bare + cut
     packets = [(packet, True) for channel in "AB" for packet in todo[channel]]
     packets += [(packet, False) for packet in bare if not packet.flags]
-    frames.found = [(Fraction(packet.ns), packet.channel, packet.frame, is_all) for packet, is_all in packets]
+    frames.found = [Seen(Fraction(packet.ns), packet.channel, packet.frame, is_all) for packet, is_all in packets]
     requested = sum(bool(packet.data) and packet.kind == UNSURE for packet in taken.other)
     frames.leave("symbols", len(taken.symbols))
     frames.leave(REQUESTED, requested)
@@ -192,7 +232,7 @@ def capture_frames(path: str, most: int = LONGEST) -> Frames:
 # ---- frames of a table
 
 
-def columns_of(words):
+def columns_of(words: str) -> dict[str, str]:
     """The names of the columns, as time=NAME,channel=NAME,bytes=NAME."""
     found = dict(part.split("=", 1) for part in words.split(",") if "=" in part)
     if set(found) != {"time", "channel", "bytes"}:
@@ -250,7 +290,7 @@ def table_frames(path: str, columns: dict[str, str], unit: str, most_bytes: int 
         if len(data) not in (5, length - 3, length) or len(data) < 5:
             frames.leave(SHORT)
         else:
-            frames.found.append((Fraction(time) * UNITS[unit], channel.upper(), data, len(data) == length))
+            frames.found.append(Seen(Fraction(time) * UNITS[unit], channel.upper(), data, len(data) == length))
     frames.step = UNITS[unit] / 10**most
     return frames
 
@@ -258,7 +298,7 @@ def table_frames(path: str, columns: dict[str, str], unit: str, most_bytes: int 
 def asc_frames(path: str, cluster: Any, most: int = LONGEST) -> Frames:
     """The frames of an ASC file, by their headers."""
     step, found, left, columns = read_asc(path, cluster, most)
-    frames = Frames(path, step, [(ns, channel, header, False) for ns, channel, header in found], columns=columns)
+    frames = Frames(path, step, [Seen(ns, channel, header, False) for ns, channel, header in found], columns=columns)
     for reason, count in left.items():
         frames.leave(reason, count)
     return frames
@@ -274,7 +314,7 @@ def read_frames(cluster: Any, path: str, columns: str | None, unit: str, most: i
 # ---- the log
 
 
-def step_ticks(observer, step, microtick_ns):
+def step_ticks(observer: Observer, step: Fraction, microtick_ns: Fraction) -> tuple[int, int]:
     """The unit of the log in ticks, what a stamp is off beside it, and whether stamps are whole numbers of units."""
     size = TICKS / Fraction(microtick_ns)
     least, most = sorted((observer.resolution, step))
@@ -285,7 +325,7 @@ def step_ticks(observer, step, microtick_ns):
     return unit, up((breadth - unit if is_whole else breadth) + observer.error * size)
 
 
-def head_lines(cluster, observer, frames, unit, error):
+def head_lines(cluster: Cluster, observer: Observer, frames: Frames, unit: int, error: int) -> Iterator[str]:
     size = TICKS / Fraction(cluster.microtick_ns)
     yield from (f"unit,{unit},,,\n", f"drift,{observer.drift},,,\n", f"error,{error},,,\n")
     if observer.jitter is not None:
@@ -300,12 +340,12 @@ def head_lines(cluster, observer, frames, unit, error):
             yield f"delay,{node},{channel},{low * size // 1},{up(high * size)}\n"
 
 
-def entry_lines(cluster, frames, unit):
+def entry_lines(cluster: Cluster, frames: Frames, unit: int) -> Iterator[str]:
     """The entries in the order of their stamps, counted from the first frame; frames of other slots are left out."""
     keys = {node.key_slot for node in cluster.nodes.values() if node.key_slot}
     size = TICKS / Fraction(cluster.microtick_ns)
-    zero = min(ns for ns, _, _, _ in frames.found)
-    for ns, channel, data, is_all in sorted(frames.found, key=lambda frame: frame[0]):
+    zero = min(frame.ns for frame in frames.found)
+    for ns, channel, data, is_all in sorted(frames.found, key=lambda frame: frame.ns):
         number, stamp = (data[0] & 7) << 8 | data[1], (ns - zero) * size // unit
         if number > cluster.parameters["gNumberOfStaticSlots"]:
             frames.leave("frames of the dynamic segment")
@@ -318,7 +358,7 @@ def entry_lines(cluster, frames, unit):
             yield f"{kind},{stamp},{channel},{kept.hex().upper()},\n"
 
 
-def log_of(cluster, observer, frames):
+def log_of(cluster: Cluster, observer: Observer, frames: Frames) -> tuple[str, int]:
     """The text of the log, and how many entries it has."""
     if not frames.found:
         raise Stop(NO, f"{frames.path}: there is no frame that could be used")
@@ -338,22 +378,22 @@ def log_of(cluster, observer, frames):
     return "".join(lines), entries
 
 
-def left_lines(frames):
+def left_lines(frames: Frames) -> list[str]:
     """Lines of a page: what was left out, and which columns were read."""
     left = [f"{count} {reason}" for reason, count in frames.left.items()] or ["nothing"]
     return lines_of("Left out", *left) + (lines_of("Columns", frames.columns) if frames.columns else [])
 
 
-def write_log(cluster, path, words):
+def write_log(cluster: Cluster, path: str, words: Namespace) -> Log:
     """Writes the log of a capture: its observer, its frames, and how many entries it has."""
     observer, frames = stated(cluster), read_frames(
         cluster, words.file, words.columns, words.time_unit, words.most_mib * MIB)
     text, entries = log_of(cluster, observer, frames)
     put(path, text, "ascii")
-    return observer, frames, entries
+    return Log(observer, frames, entries)
 
 
-def analyzer_words(observer, frames):
+def analyzer_words(observer: Observer, frames: Frames) -> str:
     """What is stated of the analyzer, and what the file keeps of it."""
     resolution = max(observer.resolution, frames.step)
     found = f"stamps of {plain(resolution)} ns"
@@ -371,6 +411,6 @@ def analyzer_words(observer, frames):
     return found if observer.since is None else found + f"; the cluster is in sync from cycle {observer.since} on"
 
 
-def plain(ns):
+def plain(ns: Fraction) -> str:
     text = decimal(ns, 3)
     return text.rstrip("0").rstrip(".")

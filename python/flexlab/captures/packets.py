@@ -5,6 +5,8 @@ byte of error flags, and the frame's bytes.
 """
 import struct
 from dataclasses import dataclass
+from collections.abc import Iterable
+from typing import NamedTuple
 
 from ..base.ending import PROGRAM, Stop
 from ..base.files import read, whole
@@ -16,6 +18,13 @@ FRAME, SYMBOL, UNSURE = 1, 2, 3
 FLAGS = {0x10: "frame CRC", 0x08: "header CRC", 0x04: "frame end sequence", 0x02: "coding", 0x01: "TSS violation"}
 
 
+class Stamped(NamedTuple):
+    """A frame on a channel, with its instant in nanoseconds."""
+    ns: int
+    channel: str
+    frame: bytes
+
+
 @dataclass
 class Packet:
     number: int
@@ -24,23 +33,23 @@ class Packet:
     cut: int = 0
 
     @property
-    def channel(self):
+    def channel(self) -> str:
         return "B" if self.data[0] & 0x80 else "A"
 
     @property
-    def kind(self):
+    def kind(self) -> int:
         return self.data[0] & 0x7F
 
     @property
-    def flags(self):
+    def flags(self) -> int:
         return self.data[1] & 0x1F if self.kind == FRAME and len(self.data) > 1 else 0
 
     @property
-    def frame(self):
+    def frame(self) -> bytes:
         return self.data[2:]
 
 
-def write_capture(path, packets):
+def write_capture(path: str, packets: Iterable[Stamped]) -> None:
     """Writes (nanoseconds, channel, frame bytes) as packets without error flags, in their order."""
     with whole(path, binary=True) as file:
         file.write(struct.pack("<IHHiIII", MAGIC_NS, 2, 4, 0, 0, 65535, LINK_FLEXRAY))
@@ -59,7 +68,8 @@ def packets_of(path: str, data: bytes) -> tuple[int, list[Packet]]:
     order = "<" if data[:4] == struct.pack("<I", MAGIC_NS) else ">"
     if len(data) < 24 or struct.unpack(order + "I", data[:4])[0] != MAGIC_NS:
         raise Stop(PROGRAM, f"{path}: tshark wrote something that is no pcap with nanoseconds")
-    link, at, found = struct.unpack(order + "I", data[20:24])[0] & 0xFFFF, 24, []
+    link, at = struct.unpack(order + "I", data[20:24])[0] & 0xFFFF, 24
+    found: list[Packet] = []
     while at + 16 <= len(data):
         seconds, ns, kept, length = struct.unpack(order + "IIII", data[at:at + 16])
         found.append(Packet(len(found) + 1, seconds * 10**9 + ns, data[at + 16:at + 16 + kept], length - kept))

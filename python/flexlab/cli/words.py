@@ -1,22 +1,32 @@
 """The words of flexlab: its requests, their options, and how each ends."""
+from __future__ import annotations
+
 import argparse
+import io
 import os
 import shlex
 import shutil
 import signal
 import sys
 import traceback
+from collections.abc import Callable
+from typing import TYPE_CHECKING, NoReturn
 
 from ..base.ending import DONE, FAULT, FILE, STATUSES, STOPPED, USAGE, Stop, printable
 from ..base.files import HELD, hold, put_new
 from ..base.numbers import whole
 from ..base.version import version
 
+if TYPE_CHECKING:
+    from _typeshed import SupportsWrite
+
+    from ..toml.cluster import Cluster
+
 RAW = argparse.RawDescriptionHelpFormatter
 PROGRAM_HELP = "the program flexray (else: $FLEXRAY, the one built in this repository, or the one on the path)"
 
 
-def mebibytes(text):
+def mebibytes(text: str) -> int:
     """The count of --most-mib."""
     count = whole(text)
     if not 1 <= count <= 1 << 20:
@@ -27,15 +37,15 @@ def mebibytes(text):
 class Parser(argparse.ArgumentParser):
     """A parser whose texts are written like all others: what cannot be written is told."""
 
-    def _print_message(self, message, file=None):
+    def _print_message(self, message: str | None, file: SupportsWrite[str] | None = None) -> None:
         if message:
             (file or sys.stderr).write(message)
 
-    def error(self, message):
+    def error(self, message: str) -> NoReturn:
         super().error(told(message))
 
 
-def parser():
+def parser() -> argparse.ArgumentParser:
     top = Parser(
         prog="flexlab", formatter_class=RAW, epilog=STATUSES, allow_abbrev=False,
         description="Tools around flexray, in the units of a bench. flexlab computes no answer of its own: what it "
@@ -44,7 +54,7 @@ def parser():
     top.add_argument("-V", "--version", action="version", version=f"flexlab {version()}")
     requests = top.add_subparsers(dest="request", metavar="REQUEST", required=True)
 
-    def request(name, does, more=""):
+    def request(name: str, does: str, more: str = "") -> argparse.ArgumentParser:
         found = requests.add_parser(name, help=does, formatter_class=RAW, epilog=STATUSES, allow_abbrev=False,
                                     description=f"{does[0].upper()}{does[1:]}.{more}")
         found.set_defaults(does=name)
@@ -58,8 +68,7 @@ def parser():
                       "are asked. All files of one system are given together.")
     read_in.add_argument("files", metavar="FILE", nargs="+", help="FIBEX 2 to 4, or ARXML 3 and 4")
     read_in.add_argument("-o", "--out", metavar="OUT.toml", help="the file to be written, which is not there yet (FILE.toml beside the "
-                                                                 "first "
-                         "file), or - for standard output")
+                         "first file), or - for standard output")
     read_in.add_argument("--cluster", metavar="NAME", help="which FlexRay cluster, where there are several")
     read_in.add_argument("--take", metavar="ECU", help="where controllers differ, the values of this ECU's for all")
     read_in.add_argument("--leave-out", metavar="ECU", action="append", help="an ECU that is no node; several times")
@@ -77,8 +86,7 @@ def parser():
 
     write_back = request("export", "put changed parameters of a cluster back into the FIBEX or ARXML file that it came from",
                          "\nOnly changed numbers are other bytes in the new file, and those that follow from them. A file that was "
-                         "changed\n"
-                         "since it was imported is refused, and so are other nodes, key slots and frames.")
+                         "changed\nsince it was imported is refused, and so are other nodes, key slots and frames.")
     write_back.add_argument("file", metavar="FILE", help="the file that was imported; it is not written over")
     write_back.add_argument("--from", dest="source", metavar="CLUSTER.toml", required=True, help="the cluster as it is wanted")
     write_back.add_argument("-o", "--out", metavar="NEW", help="the file to be written, which is not there yet (FILE with .new before its "
@@ -86,8 +94,8 @@ def parser():
     write_back.add_argument("--cluster", metavar="NAME", help="which FlexRay cluster, where there are several")
     write_back.add_argument("--leave-out", metavar="ECU", action="append", help="an ECU that is no node, as import had it")
     write_back.add_argument("--map", metavar="RENAMED.toml", help="other names of elements, as import had them")
-    write_back.add_argument("--anyway", action="store_true", help="take a file that changed since; leave what follows in a way that is not "
-                                                                  "known")
+    write_back.add_argument("--anyway", action="store_true", help="take a file that changed since; leave what follows in a way that is "
+                                                                  "not known")
 
     build = request("build", "write the three files of a cluster for flexray",
                     "\nIt has flexray bound say whether the parameters keep their constraints.")
@@ -274,20 +282,18 @@ def parser():
     return top
 
 
-def folder_of(words, ending=".lab"):
-    if words.out:
-        return words.out
-    stem = os.path.splitext(words.file)[0]
-    return stem + ending
+def folder_of(words: argparse.Namespace, ending: str = ".lab") -> str:
+    out: str = words.out or os.path.splitext(words.file)[0] + ending
+    return out
 
 
-def cluster_of(words):
+def cluster_of(words: argparse.Namespace) -> Cluster:
     """The cluster of the file; numbers that are drawn are those of --seed and --draw."""
     from ..toml.cluster import read_cluster
     return read_cluster(words.file, None, (words.seed, words.draw))
 
 
-def called():
+def called() -> str:
     """What flexlab is called as here: by its name where that is on the path, else by its path. That of a package is called by
     what is in bin."""
     path, folder = sys.argv[0], os.path.dirname(os.path.realpath(sys.argv[0]))
@@ -297,7 +303,7 @@ def called():
     return "flexlab" if found and os.path.realpath(found) == os.path.realpath(path) else path
 
 
-def do_new(words):
+def do_new(words: argparse.Namespace) -> int:
     with open(os.path.join(os.path.dirname(os.path.dirname(__file__)), "toml", "example.toml"), encoding="utf-8") as file:
         text = file.read()
     if words.file == "-":
@@ -318,7 +324,7 @@ def do_export(words: argparse.Namespace) -> int:
     return export_file(words)
 
 
-def do_build(words):
+def do_build(words: argparse.Namespace) -> int:
     from ..program import calls as programs
     from ..toml.cluster import read_cluster
     from ..base.files import write_files
@@ -341,7 +347,7 @@ def do_build(words):
     return DONE
 
 
-def do_run(words):
+def do_run(words: argparse.Namespace) -> int:
     from ..program import calls as program
     from ..pages.page import page
     from ..runs.runs import keep, run_cluster
@@ -356,7 +362,7 @@ def do_run(words):
     run.asked, run.ways = spans, weigh(run, program.flexray(words.flexray), run_cluster)
     text = page(run)
     keep(folder, "page.txt", text)
-    drawn = []
+    drawn: list[str] = []
     if words.pictures:
         from ..pages.pictures import draw_run
         drawn = draw_run(run)
@@ -370,21 +376,21 @@ def do_run(words):
     return ended(run, asked, complain)
 
 
-def complain(line):
+def complain(line: str) -> None:
     print(f"flexlab: not met: {line}", file=sys.stderr)
 
 
-def do_power(words):
+def do_power(words: argparse.Namespace) -> int:
     from ..runs.startup import power
     return power(words, folder_of(words), complain)
 
 
-def do_settle(words):
+def do_settle(words: argparse.Namespace) -> int:
     from ..runs.settling import settle
     return settle(words, folder_of(words))
 
 
-def do_precision(words):
+def do_precision(words: argparse.Namespace) -> int:
     from ..program import calls as program
     from ..runs.runs import keep, run_cluster
     from ..pages.standard import compared
@@ -399,7 +405,7 @@ def do_precision(words):
     return DONE
 
 
-def do_design(words):
+def do_design(words: argparse.Namespace) -> int:
     from ..design.request import design
     return design(words)
 
@@ -409,7 +415,7 @@ def do_case(words: argparse.Namespace) -> int:
     return write_case(words)
 
 
-def do_worst(words):
+def do_worst(words: argparse.Namespace) -> int:
     from ..program import calls as program
     from ..toml.cluster import read_cluster
     from ..runs.worst import worst
@@ -418,7 +424,7 @@ def do_worst(words):
     return worst(cluster, folder, program.flexray(words.flexray), words)
 
 
-def do_pcap(words):
+def do_pcap(words: argparse.Namespace) -> int:
     from ..program import calls as program
     from ..runs.sending import write_run
     cluster, folder = cluster_of(words), folder_of(words)
@@ -426,27 +432,27 @@ def do_pcap(words):
     return write_run(cluster, folder, program.flexray(words.flexray))
 
 
-def do_explain(words):
+def do_explain(words: argparse.Namespace) -> int:
     from ..pages.explain import explain
     return explain(words.words, words.line, words.flexray, words.json)
 
 
-def do_study(words):
+def do_study(words: argparse.Namespace) -> int:
     from ..runs.study import study
     return study(words)
 
 
-def do_study_run(words):
+def do_study_run(words: argparse.Namespace) -> int:
     from ..runs.study import run_several
     return run_several(words.plan, words.runs)
 
 
-def do_capture(words):
+def do_capture(words: argparse.Namespace) -> int:
     from ..captures.capture import capture
     return capture(words, folder_of(words))
 
 
-def do_log(words):
+def do_log(words: argparse.Namespace) -> int:
     from ..toml.cluster import read_cluster
     from ..captures.observer import analyzer_words, left_lines, write_log
     from ..pages.page import field
@@ -457,20 +463,20 @@ def do_log(words):
     return DONE
 
 
-def do_observe(words):
+def do_observe(words: argparse.Namespace) -> int:
     from ..captures.observed import observe
     return observe(words, folder_of(words))
 
 
-DO = {"new": do_new, "import": do_import, "export": do_export, "case": do_case, "build": do_build, "run": do_run, "power": do_power,
-      "settle": do_settle, "pcap": do_pcap, "explain": do_explain, "study": do_study, "precision": do_precision, "design": do_design,
-      "worst": do_worst, "study-run": do_study_run,
-      "capture": do_capture, "log": do_log, "observe": do_observe}
+DO: dict[str, Callable[[argparse.Namespace], int]] = {
+    "new": do_new, "import": do_import, "export": do_export, "case": do_case, "build": do_build, "run": do_run, "power": do_power,
+    "settle": do_settle, "pcap": do_pcap, "explain": do_explain, "study": do_study, "precision": do_precision,
+    "design": do_design, "worst": do_worst, "study-run": do_study_run, "capture": do_capture, "log": do_log, "observe": do_observe}
 
 
-def joined(arguments):
+def joined(arguments: list[str]) -> list[str]:
     """The words, with the value of an option that may begin with `-` joined to it."""
-    found, rest = [], list(arguments)
+    found, rest = list[str](), list(arguments)
     while rest:
         word = rest.pop(0)
         takes = word in ("--values", "--seeds", "--seed", "--parallel", "--line", "--ssh") and rest
@@ -478,7 +484,7 @@ def joined(arguments):
     return found
 
 
-def check_names(words):
+def check_names(words: argparse.Namespace) -> None:
     """Ends flexlab where the name of a file or folder has a control character: it could stand for a line of its own."""
     for key in ("file", "out", "cluster", "flexray"):
         name = getattr(words, key, None)
@@ -489,12 +495,12 @@ def check_names(words):
             setattr(words, key, os.path.join(".", name))
 
 
-def told(line):
+def told(line: str) -> str:
     """The line of an ending, as it may stand on a terminal; where it is several, each by itself."""
     return "\n".join("".join(printable(one) if not one.isprintable() else one for one in part) for part in line.split("\n"))
 
 
-def done(words):
+def done(words: argparse.Namespace) -> int:
     """Does what the words ask, and hands back the exit status, whatever comes."""
     try:
         check_names(words)
@@ -524,7 +530,7 @@ def done(words):
         HELD.close()
 
 
-def flushed(status):
+def flushed(status: int) -> int:
     """The status, or that of a file where standard output does not take what was printed."""
     try:
         sys.stdout.flush()
@@ -533,7 +539,7 @@ def flushed(status):
     return status
 
 
-def unwritten(fault):
+def unwritten(fault: OSError) -> int:
     """The status where standard output does not take what is printed."""
     # What is left of it would be tried once more at the end.
     os.dup2(os.open(os.devnull, os.O_WRONLY), sys.stdout.fileno())
@@ -541,14 +547,15 @@ def unwritten(fault):
     return FILE
 
 
-def main(arguments):
+def main(arguments: list[str]) -> int:
     """Does what the words ask, and hands back the exit status."""
     signal.signal(signal.SIGPIPE, signal.SIG_DFL)
     if signal.getsignal(signal.SIGINT) is not signal.SIG_IGN:
         signal.signal(signal.SIGINT, signal.default_int_handler)
     # Names of files have the bytes that they have.
-    sys.stdout.reconfigure(errors="surrogateescape")
-    sys.stderr.reconfigure(errors="surrogateescape")
+    for stream in (sys.stdout, sys.stderr):
+        if isinstance(stream, io.TextIOWrapper):
+            stream.reconfigure(errors="surrogateescape")
     try:
         words = parser().parse_args(joined(arguments))
     except SystemExit as ended:

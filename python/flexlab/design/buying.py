@@ -63,8 +63,8 @@ def wishes(wish: Wish, design: Design) -> Iterator[tuple[str, Wish]]:
     if (unit / 2) * 2 in (25, 50, 100) and wish.of_kept("pDelayCompensation") is None:
         yield f"microticks of {shown_ns(unit / 2)} ns", replace(wish, microticks_ns=(unit / 2,))
     if "pClusterDriftDamping" not in dict(wish.kept):
-        yield "a damping of one more", replace(wish, kept=(*wish.kept, ("pClusterDriftDamping",
-                                                                      design.parameters["pClusterDriftDamping"] + 1)))
+        more = design.parameters["pClusterDriftDamping"] + 1
+        yield "a damping of one more", replace(wish, kept=(*wish.kept, ("pClusterDriftDamping", more)))
     if wish.arbitrary:
         yield "no arbitrary node", replace(wish, arbitrary=0)
     else:

@@ -9,7 +9,7 @@ from ..base.ending import NO, PROGRAM, Stop
 from ..pages.advice import latest_start
 from ..program import calls as programs
 from ..program.report import SharpBounds, read_sharp_bounds
-from ..runs.least import holds
+from ..runs.least import Sides, holds
 from ..runs.sharp import sharp_words
 from .solving import BEHIND, FRAME, FREE, LEAST, MAX_DRIFT, SLOT, Design, Raise, Task, binding, least, put
 
@@ -85,7 +85,7 @@ def asked(program: str, task: Task, p: dict[str, int], nodes: Nodes, path: str) 
 
 def failing(bounds: SharpBounds, name: str) -> tuple[str, int, int] | None:
     """A check by its name with both sides, where the program says that it fails."""
-    return next(((name, check[2], check[3]) for check in bounds.failing if f"C{check[0]}" == name), None)
+    return next(((name, check.left, check.right) for check in bounds.failing if f"C{check.number}" == name), None)
 
 
 def unlike(design: Design, bounds: SharpBounds) -> str | None:
@@ -94,8 +94,8 @@ def unlike(design: Design, bounds: SharpBounds) -> str | None:
         if design.bounds[name] != told:
             return f"{name} {told}, and reckoned are {design.bounds[name]}"
     for number, held, left, right in bounds.checks:
-        if design.bounds[number] != (left, right) or not held or not holds(number, (left, right)):
-            return f"C{number} {'holds' if held else 'fails'} {left} {right}, and reckoned are {design.bounds[number]}"
+        if design.bounds[number] != (left, right) or not held or not holds(number, Sides(left, right)):
+            return f"C{number} {'holds' if held else 'fails'} {left} {right}, and reckoned are {tuple(design.bounds[number])}"
     if bounds.lasts is not None:
         return f"that it lasts {bounds.lasts} double cycles"
     return None

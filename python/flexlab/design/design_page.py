@@ -8,7 +8,7 @@ from ..base import ranges
 from ..base.units import TICKS, decimal, rounded
 from ..base.version import version
 from ..pages.page import field
-from ..runs.least import holds
+from ..runs.least import Numbers, holds
 from .buying import Turned, ticks_ns
 from .confirming import OTHERS, Confirmed, Neighbour, Step, parameters_of
 from .quoted import quoted
@@ -38,7 +38,7 @@ class Answer:
     nearest: list[str] = made(default_factory=list)
     chain: list[Step] = made(default_factory=list)
     notes: list[str] = made(default_factory=list)
-    now: dict[str, int] | None = None
+    now: Numbers | None = None
 
     @property
     def best(self) -> Confirmed:
@@ -72,7 +72,7 @@ def asked_lines(answer: Answer) -> list[str]:
 
 def delay_lines(answer: Answer) -> list[str]:
     """Of each channel its delays, and the compensation that lies amid them."""
-    task, lines = answer.best.design.task, []
+    task, lines = answer.best.design.task, list[str]()
     for (channel, low, high), wait in zip(answer.wish.delays, task.compensations):
         lines += field("" if lines else "Delays", f"channel {channel}: {shown_ns(low)} to {shown_ns(high)} ns; the compensation is {wait} "
                                                   f"microticks ({shown_ns(wait * task.microtick_ns)} ns)")
@@ -184,8 +184,8 @@ def quoted_lines(answer: Answer) -> list[str]:
 def note_lines(answer: Answer) -> Iterator[str]:
     wish = answer.wish
     if not wish.flutter_ns:
-        yield from field("WARNING", "delays that flutter by nothing at all are stated, and no transceiver keeps that: with more than a tick "
-                                    "of it C1 asks for a damping of one more (below), so state what your hardware has")
+        yield from field("WARNING", "delays that flutter by nothing at all are stated, and no transceiver keeps that: with more than a "
+                                    "tick of it C1 asks for a damping of one more (below), so state what your hardware has")
     for note in answer.notes:
         yield from field("WARNING", note)
     if not wish.free:
@@ -199,10 +199,10 @@ def page(answer: Answer) -> str:
     design = answer.best.design
     if answer.now is not None:
         lines += field("Now", f"the file's own parameters have {us(ticks_ns(answer.now['precision'], design))}"
-                              + ("" if all(holds(number, answer.now[number]) for number in (1, 2, 3, 4, 5))  # type: ignore[index,arg-type]
+                              + ("" if all(holds(number, answer.now[number]) for number in (1, 2, 3, 4, 5))
                                  else ", and a check fails with them"))
-    lines += field("Precision", f"{us(design.precision_ns)} ({decimal(Fraction(design.bounds['precision'], TICKS), 3)} microticks), the sharp "
-                                "one, proved from sharp sync on")
+    lines += field("Precision", f"{us(design.precision_ns)} ({decimal(Fraction(design.bounds['precision'], TICKS), 3)} microticks), the "
+                                "sharp one, proved from sharp sync on")
     lines += field("Slots", f"{us(design.slot_ns)} each; {design.fitting} of them would fit into the cycle")
     lines += parameter_lines(answer) + check_lines(answer) + turned_lines(answer) + [""] + other_lines(answer)
     for number, one in enumerate(answer.chain):
@@ -246,6 +246,13 @@ def design_object(design: Design) -> dict[str, Any]:
             "parameters": parameters_of(design.task, design.parameters)}
 
 
+def cost_object(one: Turned) -> dict[str, Any]:
+    """What other hardware, or another wish, would come to."""
+    if one.design is None:
+        return {"what": one.what, "precision_us": None, "why": one.why}
+    return {"what": one.what, "precision_us": number_us(one.design.precision_ns), "slot_us": number_us(one.design.slot_ns)}
+
+
 def answer_object(answer: Answer) -> dict[str, Any]:
     """A design as an object: names and units stand in docs/FLEXLAB.md, "For machines"."""
     wish, found = answer.wish, answer.found
@@ -265,8 +272,7 @@ def answer_object(answer: Answer) -> dict[str, Any]:
             "checks": [{"check": f"C{number}", "holds": held, "left": left, "right": right,
                         "slack_us": number_us(slack_ns(best.design, number, left, right))}
                        for number, held, left, right in best.bounds.checks],
-            "costs": [{"what": one.what, **({"precision_us": number_us(one.design.precision_ns), "slot_us": number_us(one.design.slot_ns)}
-                                            if one.design else {"precision_us": None, "why": one.why})} for one in answer.turned],
+            "costs": [cost_object(one) for one in answer.turned],
             "others": [design_object(one.design) for one in answer.confirmed[1:]],
             "chain": [{"parameter": named(one.parameter), "value": one.value, "by": one.name, "told": one.told, "file": one.file}
                       for one in answer.chain],
@@ -285,8 +291,9 @@ def toml_of(answer: Answer, nodes: dict[int, str], sync: list[int],
              f"# {kind_words(wish)}, for delays that flutter by {shown_ns(wish.flutter_ns)} ns.", "", "[bench]",
              f"microtick_ns = {shown_ns(task.microtick_ns)}", f"bit_rate_mbit = {shown_ns(wish.bit_rate)}",
              f"start_bits = {wish.start_bits}", "", "[cluster]"]
-    remarks = {"pMicroPerCycle": f"a cycle of {us(wish.cycle_ns)}", "gMacroPerCycle": f"a macrotick of {decimal(design.macrotick_ns / 1000, 6)} "
-               "us", "gdStaticSlot": us(design.slot_ns), "gdNIT": "all behind the static slots", **dict.fromkeys(CHOSEN, "chosen")}
+    remarks = {"pMicroPerCycle": f"a cycle of {us(wish.cycle_ns)}",
+               "gMacroPerCycle": f"a macrotick of {decimal(design.macrotick_ns / 1000, 6)} us", "gdStaticSlot": us(design.slot_ns),
+               "gdNIT": "all behind the static slots", **dict.fromkeys(CHOSEN, "chosen")}
     for name, value in parameters_of(task, design.parameters).items():
         if not name.startswith("x"):
             lines.append(f"{name} = {value}" + (f"    # {remarks[name]}" if name in remarks else ""))
@@ -300,7 +307,8 @@ def toml_of(answer: Answer, nodes: dict[int, str], sync: list[int],
             lines += [f"key_slot = {sync.index(number) + 1}", "coldstart = true"]
     for channel, pairs in delays.items():
         for (sender, receiver), (low, high) in pairs.items():
-            lines += ["", "[[delay]]", f"from = {sender}", f"to = {receiver}", f'channels = "{channel}"', f"ns = {shown_ns((low + high) / 2)}"]
+            lines += ["", "[[delay]]", f"from = {sender}", f"to = {receiver}", f'channels = "{channel}"',
+                      f"ns = {shown_ns((low + high) / 2)}"]
     lines += said_lines(answer, sync)
     return "\n".join(lines) + "\n"
 

@@ -9,12 +9,11 @@ from collections.abc import Iterable, Iterator
 from dataclasses import dataclass, field
 from fractions import Fraction
 from functools import cached_property
-from typing import Any
 
 from ..base import ranges
 from ..base.units import TICKS
 from ..pages.advice import latest_start, up
-from ..runs.least import Kind, sharp_bounds_of
+from ..runs.least import Kind, Numbers, sharp_bounds_of
 
 # The greatest deviation of an oscillator by the standard (cClockDeviationMax), and the bits of idle behind a frame
 # (cChannelIdleDelimiter).
@@ -108,7 +107,7 @@ class Design:
     task: Task
     parameters: dict[str, int]
     behind: int
-    bounds: dict[Any, Any] = field(default_factory=dict)
+    bounds: Numbers
 
     @property
     def macrotick_ns(self) -> Fraction:

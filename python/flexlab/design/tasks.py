@@ -87,7 +87,8 @@ def tasks_of(wish: Wish, path: str = "") -> list[Task]:
         for error, waits in good:
             both = waits[0], waits[-1]
             frame = ticks((wish.bits + IDLE_BITS) * wish.bit_ns * (1 + Fraction(wish.rate, TICKS)), unit)
-            found.append(Task(unit, int(micros), wish.slots, wish.words, Kind(bool(wish.arbitrary), ticks(wish.flutter_ns, unit), wish.last),
+            kind = Kind(bool(wish.arbitrary), ticks(wish.flutter_ns, unit), wish.last)
+            found.append(Task(unit, int(micros), wish.slots, wish.words, kind,
                               wish.joins, wish.rate, wish.change, error, both, frame, ticks(wish.latest_ns, unit),
                               None if wish.free else standard_slot_ns(wish), ticks(wish.margin_ns, unit),
                               tuple((name, value) for name, value in wish.kept if name in KEPT)))

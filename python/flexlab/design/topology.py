@@ -216,7 +216,8 @@ def read_hardware(source: TopologySource, goal: Goal, notes: list[str]) -> tuple
 
 
 def has_stars(source: TopologySource) -> bool:
-    return any(isinstance(point, str) for table in source.tables("line") for point in table.entries.get("points", []) or [])
+    points = (table.entries.get("points") for table in source.tables("line"))
+    return any(isinstance(point, str) for some in points if isinstance(some, list) for point in some)
 
 
 @dataclass(frozen=True)
@@ -231,10 +232,9 @@ def read_line(table: Table) -> Line:
     channels = table.channels("channels", ("AB",))
     wanted = "a list of node numbers from 1 to 64 and names of stars, two or more"
     points = table.take("points", wanted, None)
-    good = isinstance(points, list) and len(points) >= 2 and all(
-        isinstance(point, str) and point or isinstance(point, int) and not isinstance(point, bool) and 1 <= point <= 64
-        for point in points)
-    if not good:
+    if not isinstance(points, list) or len(points) < 2 or not all(
+            isinstance(point, str) and point or isinstance(point, int) and not isinstance(point, bool) and 1 <= point <= 64
+            for point in points):
         table.refuse("points", f"{points} is not {wanted}")
     twice = next((point for point in points if points.count(point) > 1), None)
     if twice is not None:
@@ -304,7 +304,8 @@ class Channel:
 
     def paths(self, sender: int) -> Iterator[tuple[int, Fraction, int]]:
         """(node, metres, stars on the way) from a node to each other one."""
-        open_, seen = [(sender, Fraction(0), 0, None)], set()
+        open_: list[tuple[int | str, Fraction, int, Line | None]] = [(sender, Fraction(0), 0, None)]
+        seen: set[tuple[int | str, int]] = set()
         while open_:
             point, metres, stars, came = open_.pop()
             for line in self.on[point]:
@@ -318,7 +319,7 @@ class Channel:
                     if isinstance(other, int):
                         yield other, far, stars
                     else:
-                        open_.append((other, far, stars + 1, line))  # type: ignore[arg-type]
+                        open_.append((other, far, stars + 1, line))
 
 
 def delays_of(channel: Channel, hardware: dict[str, Span]) -> dict[Pair, Span]:
@@ -334,7 +335,7 @@ def delays_of(channel: Channel, hardware: dict[str, Span]) -> dict[Pair, Span]:
 
 def read_network(path: str) -> Network:
     """Reads a topology; faults that can be seen at once are told at once."""
-    source, notes = TopologySource(path), []
+    source, notes = TopologySource(path), list[str]()
     goal = read_goal(source)
     hardware, spans = read_hardware(source, goal, notes)
     lines = read_lines(source)

@@ -22,7 +22,7 @@ from .imported import Asked, Imported, Importing, key_of, plain
 from .importing import renamed_of
 from .names import CLUSTER, CONTROLLER
 from .network import Controller, Network, read_network
-from .numbers import flag, nanoseconds, near, number, shown
+from .numbers import nanoseconds, near, number, shown
 from .xml_file import Element, printable
 
 NIT = (2, 805)

@@ -3,11 +3,11 @@ import re
 from collections.abc import Iterable
 from dataclasses import dataclass, field
 from fractions import Fraction
-from types import SimpleNamespace
 
 from ..base import ranges
 from ..base.ending import REFUSED, USAGE, Stop
 from ..base.units import decimal
+from ..program.known import KeySlot, KnownSlot, Place
 from ..toml.constraints import broken, explain_constraint
 from .names import CLUSTER, CONTROLLER, CONTROLLER_CHECKED, CONTROLLER_OFF, TIMING
 from .network import Controller, Network, Sending
@@ -70,7 +70,7 @@ class Known:
 
     def __init__(self, found: Imported):
         self.found = found
-        self.slots = {one.slot: (one.node.number, SimpleNamespace(line=self.place(one.element))) for one in found.slots}
+        self.slots = {one.slot: KnownSlot(one.node.number, Place(self.place(one.element))) for one in found.slots}
 
     def place(self, element: Element | None) -> str:
         return "-" if element is None else self.found.network.place(element)
@@ -78,12 +78,15 @@ class Known:
     def parameter(self, name: str) -> int:
         return self.found.value(name)
 
+    def value(self, name: str) -> int:
+        return self.found.value(name)
+
     def line(self, name: str) -> str:
         return self.place(self.found.parameters[name].element)
 
-    def keys(self) -> list[tuple[int, int, SimpleNamespace]]:
-        return [(node.number, key_of(node) or 0, SimpleNamespace(line=self.place(node.key_slot)))
-                for node in self.found.nodes if key_of(node) is not None]
+    def keys(self) -> list[KeySlot]:
+        return [KeySlot(node.number, key, Place(self.place(node.key_slot)))
+                for node in self.found.nodes if (key := key_of(node)) is not None]
 
 
 def key_of(controller: Controller) -> int | None:
@@ -270,10 +273,9 @@ class Importing:
             if here > MOST_ERROR * microtick_ns:
                 amid = round((low + high) / 2 / microtick_ns)
                 raise Stop(REFUSED, f"{self.network.files[0].path}: delays of {plain(low)} to {plain(high)} ns on channel {channel} lie up "
-                                    "to "
-                                    f"{plain(here)} ns off its compensation, {plain(wait)} ns: {plain(here / microtick_ns)} microticks, "
-                                    "and "
-                                    f"{MOST_ERROR} are the range of flexray's xDelayError. A compensation amid them is {amid} microticks")
+                                    f"to {plain(here)} ns off its compensation, {plain(wait)} ns: {plain(here / microtick_ns)} microticks, "
+                                    f"and {MOST_ERROR} are the range of flexray's xDelayError. A compensation amid them is {amid} "
+                                    "microticks")
             error = max(error, here)
         return Told(plain(error), None, f"--delay-ns: {'; '.join(words)}")
 
@@ -301,14 +303,13 @@ class Importing:
         cycle = found.value("pMicroPerCycle") * microtick_ns
         if "cycle" in values and not near(nanoseconds(values["cycle"], form), cycle):
             told = nanoseconds(values["cycle"], form)
-            note(values["cycle"], f"CYCLE is {plain(told / 1000)} us, and {found.value('pMicroPerCycle')} microticks are "
-                                  f"{plain(cycle / 1000)} "
-                                  "us: microticks count")
+            micros = found.value("pMicroPerCycle")
+            note(values["cycle"], f"CYCLE is {plain(told / 1000)} us, and {micros} microticks are {plain(cycle / 1000)} us: "
+                                  "microticks count")
         if "macrotick" in values and not near(nanoseconds(values["macrotick"], form) * found.value("gMacroPerCycle"), cycle):
             told = nanoseconds(values["macrotick"], form)
             note(values["macrotick"], f"a macrotick is {plain(told / 1000)} us, and {found.value('gMacroPerCycle')} of them are no cycle "
-                                      "of "
-                                      f"{plain(cycle / 1000)} us: microticks count")
+                                      f"of {plain(cycle / 1000)} us: microticks count")
         if "bit" in values and "bit_rate" in values and not near(nanoseconds(values["bit"], form) * number(values["bit_rate"]),
                                                                  Fraction(1000000000)):
             note(values["bit"], f"a bit of {shown(values['bit'])} is not one of {shown(values['bit_rate'])} bit/s")
@@ -386,8 +387,7 @@ class Importing:
         step = next(step for step in reversed(ranges.REPETITIONS) if len({cycle % step for cycle in cycles}) == 1)
         if cycles != set(range(first % step, 64, step)):
             self.network.note(element, f"the frames of slot {slot} come in {len(cycles)} of 64 cycles, which is no base and repetition: "
-                                       "base "
-                                       f"{first % step}, repetition {step} covers them and more")
+                                       f"base {first % step}, repetition {step} covers them and more")
         return Slot(slot, node, first % step, step, element)
 
 

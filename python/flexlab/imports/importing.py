@@ -17,7 +17,7 @@ from .imported import ASKED, Asked, Imported, Importing, known_and_unused, key_o
 from .names import CLUSTER, CLUSTER_CHECKED, CONTROLLER, CONTROLLER_CHECKED, CONTROLLER_OFF, KEY_SLOT_ARXML
 from .network import Network, read_network
 from .registers import register_network
-from .text import name_of, notes_of, toml_of
+from .text import notes_of, toml_of
 from .xml_file import XmlFile, printable
 
 NUMBER = r"\d{1,9}(?:\.\d{1,9})?"

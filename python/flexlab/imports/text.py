@@ -69,5 +69,3 @@ def name_of(path: str) -> str:
 def quoted(text: str) -> str:
     """A text as TOML and JSON have it, with the letters that both take as they are."""
     return json.dumps(text, ensure_ascii=False)
-
-

@@ -1,8 +1,10 @@
 """Which parameter a failing check asks for, and the least value of it alone that meets the sides that
 flexray printed (docs/PRECISION.md, "Bounds and checks")."""
 from fractions import Fraction
+from typing import NamedTuple
 
 from ..base import ranges
+from ..base.ranges import Parameters
 
 WHY = {
     1: "the damping has to outweigh what a rate value may be off",
@@ -93,11 +95,20 @@ TURNS = {1: "pClusterDriftDamping", 2: "pRateCorrectionOut", 3: "pOffsetCorrecti
          8: "gdActionPointOffset", 9: "gdStaticSlot"}
 
 
-def up(value):
+class Advice(NamedTuple):
+    """The parameter that a failing check asks for, the value it has, the least that meets the check, and whether that is in its
+    range."""
+    name: str
+    now: int
+    value: int
+    fits: bool
+
+
+def up(value: Fraction) -> int:
     return -(-value.numerator // value.denominator)
 
 
-def least(number, right, parameters):
+def least(number: int, right: int, parameters: Parameters) -> int:
     """The least value of the check's parameter with which its left side meets this right side."""
     shortest = 1000000 - parameters["xRateBound"]
     macros = parameters["gMacroPerCycle"]
@@ -114,14 +125,14 @@ def least(number, right, parameters):
     return parameters["gdActionPointOffset"] + up((Fraction(right + 1, shortest) + macros) / micros)
 
 
-def advise(number, right, parameters):
-    """The parameter, the value it has, the least that meets the check, and whether that is in its range."""
+def advise(number: int, right: int, parameters: Parameters) -> Advice:
+    """What a failing check with this right side asks for."""
     name = TURNS[number]
     value = least(number, right, parameters)
-    return name, parameters[name], value, value <= ranges.PARAMETERS[name][1]
+    return Advice(name, parameters[name], value, value <= ranges.PARAMETERS[name].most)
 
 
-def latest_start(parameters):
+def latest_start(parameters: Parameters) -> int | None:
     """The latest gOffsetCorrectionStart that meets constraint 4, or None where none behind the slots does."""
     macros = parameters["gMacroPerCycle"]
     room = parameters["pMicroPerCycle"] - parameters["pRateCorrectionOut"] - macros
@@ -131,7 +142,7 @@ def latest_start(parameters):
     return start if start > parameters["gNumberOfStaticSlots"] * parameters["gdStaticSlot"] else None
 
 
-def also(number, parameters, value):
+def also(number: int, parameters: Parameters, value: int) -> str | None:
     """What else has to fit where that value is taken: constraints of docs/PROTOCOL.md."""
     if number in (2, 3, 6, 7):
         start = latest_start(dict(parameters, **{TURNS[number]: value}))

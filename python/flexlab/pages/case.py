@@ -253,8 +253,8 @@ def page(case: Case, path: str) -> str:
            "lambda), "
            "each length in its range (docs/GLOSSARY.md).</p>"),
         ("Premises, and who has to see to each", "<p>The claim holds where all of these do, and says nothing where one does not.</p>"
-         + table(("", "Premise", "Value", "Who sees to it", "Shown by"), ((f"P{one.number}", one.text, one.value, one.who, "") for one in
-                                                                        premises(case)))),
+         + table(("", "Premise", "Value", "Who sees to it", "Shown by"),
+                 ((f"P{one.number}", one.text, one.value, one.who, "") for one in premises(case)))),
         ("Evidence: what the claim rests on", table(("", ""), rests_on(case))),
         ("Evidence: the checks", "<p>As the program printed them: each holds where its left side is at least its right one.</p>"
          + table(("Check", "What it asks", "Both sides", "Used"), check_rows(case))),

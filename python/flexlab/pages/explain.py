@@ -3,7 +3,8 @@ import os
 import re
 import shlex
 from fractions import Fraction
-from types import SimpleNamespace
+from dataclasses import dataclass
+from collections.abc import Sequence
 
 from .advice import (FORMULA, LETTERS, SHARP_FORMULA, SHARP_LETTERS, SHARP_WAY_FORMULA, SHARP_WAY_LETTERS, TURNS, WAY_FORMULA,
                      advise)
@@ -13,16 +14,17 @@ from ..base.files import check_is_file
 from ..base.ending import DONE, FILE, NO, Stop
 from ..program.forms import FORMS
 from .gaps import check_words, gap_words, sharp_check_words, sharp_way_words
+from ..base.ranges import Parameters
 from ..program.known import Known, version_of
 from ..runs.least import Kind
 from ..base.ranges import FILE_BYTES, NAMES, table
 from ..program.reasons import EXPLAIN, MEANING, short
-from ..program.records import load
+from ..program.records import Record, load
 from .machine import printed
 from ..runs.sharp import MOST
 from ..program import calls as programs
 
-ROLES = {
+ROLES: dict[str, dict[str, int]] = {
     "frame": {"frame": 2}, "bound": {"params": 1}, "upgrade": {"params": 1},
     "settle": {"params": 1}, "nm": {"vectors": 2},
     "run": {"params": 1, "drift": 2, "script": 3}, "trace": {"params": 1, "drift": 2, "script": 3},
@@ -42,7 +44,7 @@ USAGE = {
 CAPTURES = (".asc", ".blf", ".pcap", ".pcapng")
 
 
-def file_of(role, words):
+def file_of(role: str, words: Sequence[str]) -> str | None:
     """The path that has this role in flexray's words, or None."""
     if len(words) == 3 and words[0] not in ROLES:
         place = {"params": 0, "drift": 1, "script": 2}.get(role)
@@ -51,7 +53,7 @@ def file_of(role, words):
     return words[place] if place is not None and place < len(words) else None
 
 
-def named(role, words):
+def named(role: str, words: Sequence[str]) -> str:
     """The path that has this role, or the end of flexlab where the words do not name it."""
     path = file_of(role, words)
     if path is None:
@@ -61,7 +63,7 @@ def named(role, words):
     return path
 
 
-def known_of(words):
+def known_of(words: Sequence[str]) -> Known:
     has_none = words and words[0] in ROLES and "params" not in ROLES[words[0]]
     path = None if has_none else named("params", words)
     try:
@@ -70,7 +72,7 @@ def known_of(words):
         raise Stop(FILE, f"{path}: {fault.strerror}")
 
 
-def explain_line(line, words):
+def explain_line(line: str, words: Sequence[str]) -> list[str]:
     """Lines that explain a line of flexray's standard error; `words` are those that flexray had."""
     if line.startswith("usage:"):
         return explain_usage(words)
@@ -116,7 +118,7 @@ WORD = {
 }
 
 
-def wrong_word(request, word, place):
+def wrong_word(request: str, word: str, place: int) -> str | None:
     """What is wrong with one of the words behind a request, or None."""
     if request in ("frame", "capture") and place == 1 and word not in ("A", "B"):
         return f"{short(word)} is not A or B, the channel"
@@ -127,7 +129,7 @@ def wrong_word(request, word, place):
     return None
 
 
-def explain_usage(words):
+def explain_usage(words: Sequence[str]) -> list[str]:
     if words and words[0] in USAGE:
         found = [f"the words have to be: flexray {USAGE[words[0]]}",
                  f"and behind {words[0]} {len(words) - 1} were given: {short(' '.join(words[1:]))}"]
@@ -135,7 +137,7 @@ def explain_usage(words):
     return ["there are these requests:", *(f"  flexray {form}" for form in USAGE.values())]
 
 
-def explain_read(role, path):
+def explain_read(role: str, path: str | None) -> list[str]:
     if path is None:
         return [f"the file that is the {role} could not be read"]
     try:
@@ -147,7 +149,7 @@ def explain_read(role, path):
     return [f"{path} ({role}): it could not be read then; now it can"]
 
 
-def explain_missing(role, name, words):
+def explain_missing(role: str, name: str, words: Sequence[str]) -> list[str]:
     path = named(role, words)
     if name in NAMES:
         least, most, unit, meaning = NAMES[name]
@@ -166,7 +168,7 @@ def explain_missing(role, name, words):
     return [f"{path}: there is no record {form}"]
 
 
-def explain_frame(rest):
+def explain_frame(rest: str) -> list[str]:
     words = rest.split()
     if rest.startswith("length"):
         stated, given = int(words[2]), int(words[4])
@@ -184,28 +186,29 @@ def explain_frame(rest):
     return [meaning.get(words[0], rest)]
 
 
-def loaded(path):
+def loaded(path: str) -> list[Record]:
     try:
         return load(path)
     except OSError as fault:
         raise Stop(FILE, f"{path}: {fault.strerror}")
 
 
-def beyond(path, number):
+def beyond(path: str, number: int) -> str:
     return f"{path}: it has no record {number}; is it another file than flexray read?"
 
 
-def explain_record(role, number, reason, words):
+def explain_record(role: str, number: int, reason: str, words: Sequence[str]) -> list[str]:
     path, cluster = named(role, words), known_of(words)
     if role == "log" and path.lower().endswith(CAPTURES):
-        return [f"{path}: this is a capture, and flexray reads logs: `flexlab log {shlex.quote(path)} CLUSTER.toml` writes one, and `flexlab observe` "
-                "asks flexray itself"]
+        return [f"{path}: this is a capture, and flexray reads logs: `flexlab log {shlex.quote(path)} CLUSTER.toml` writes one, and "
+                "`flexlab observe` asks flexray itself"]
     found = loaded(path)
     if number > len(found):
         return [beyond(path, number)]
     record = found[number - 1]
     if path.endswith(".toml"):
-        return [f"{path}: this is a TOML file, and flexray reads its own three files: `flexlab run {shlex.quote(path)}` writes and runs them"]
+        return [f"{path}: this is a TOML file, and flexray reads its own three files: `flexlab run {shlex.quote(path)}` writes and "
+                "runs them"]
     try:
         causes = list(EXPLAIN[reason](role, record, cluster, found[:number - 1]))
     except (LookupError, ValueError):
@@ -230,7 +233,7 @@ LAWS = {
 }
 
 
-def explain_trace(rest, words):
+def explain_trace(rest: str, words: Sequence[str]) -> list[str]:
     """A trace that breaks a law, or has a gap."""
     if rest.startswith("not covered "):
         gap = rest.split()[2:]
@@ -252,7 +255,7 @@ def explain_trace(rest, words):
     return found + [f"the record has {told[3]}, and the records before it ask for {' '.join(told[5:])}"]
 
 
-def apart(record, double):
+def apart(record: Record, double: int) -> str:
     cycles = f"double cycle {double} (cycles {2 * double} and {2 * double + 1})"
     if record.fields[0] == "dev":
         return f"the node of slot {record.fields[3]} has no row in cycle {record.fields[1]}, of {cycles}"
@@ -260,7 +263,7 @@ def apart(record, double):
             "further than pi from another, a length further than lambda, or a node is not active")
 
 
-def explain_check(number, left, right, words, way=False):
+def explain_check(number: int, left: int, right: int, words: Sequence[str], way: bool = False) -> list[str]:
     known = known_of(words)
     parameters = {name: value for name, (value, _) in known.values.items()}
     name = advise(number, right, parameters)[0]
@@ -269,7 +272,7 @@ def explain_check(number, left, right, words, way=False):
             *check_words(number, left, right, parameters, way)[1:], f"{name} stands on line {known.line(name)}"]
 
 
-def explain_sharp_check(name, number, left, right, words):
+def explain_sharp_check(name: str, number: int, left: int, right: int, words: Sequence[str]) -> list[str]:
     """A failing check of the sharper bounds, of a kind by its name, as `bound .. sharp FLUTTER`, also with `join`, and
     `settle .. sharp FLUTTER` tell it."""
     known, way = known_of(words), words[0] == "settle"
@@ -281,7 +284,7 @@ def explain_sharp_check(name, number, left, right, words):
     return [f"it asks: {formula[number]}", f"with {letters}", *told[1:], f"{turned} stands on line {known.line(turned)}"]
 
 
-def explain_answer(text, words):
+def explain_answer(text: str, words: Sequence[str]) -> list[str]:
     """What an accepted request's text says that needs explanation: failing checks, and the first gap."""
     found = []
     for line in text.splitlines():
@@ -306,7 +309,7 @@ def explain_answer(text, words):
     return found
 
 
-def is_pcap(path):
+def is_pcap(path: str) -> bool:
     """Whether a file begins as pcap or pcapng files do."""
     check_is_file(path)
     with open(path, "rb") as file:
@@ -314,27 +317,37 @@ def is_pcap(path):
                                 b"\x0a\x0d\x0d\x0a")
 
 
-def explain_gap(gap, words):
+@dataclass
+class Nameless:
+    """A cluster as files for flexray have it: without names, and without a microtick's length, for which one is taken."""
+    parameters: Parameters
+    microtick_ns: Fraction
+
+    def called(self, number: int) -> str:
+        return str(number)
+
+
+def explain_gap(gap: Sequence[str], words: Sequence[str]) -> list[str]:
     """A gap in words; files for flexray tell no nanoseconds, so a microtick of 25 ns is assumed, and said."""
     parameters = {name: value for name, (value, _) in known_of(words).values.items()}
-    found = gap_words(gap, SimpleNamespace(parameters=parameters, microtick_ns=Fraction(25)))
+    found = gap_words(gap, Nameless(parameters, Fraction(25)))
     return ["at a microtick of 25 ns:", *found] if gap[0] == "delay" else found
 
 
-def explain(words, line, given, as_json=False):
+def explain(words: Sequence[str], line: str | None, given: str | None, as_json: bool = False) -> int:
     """Prints the explanation; runs flexray where no line is given."""
-    accepted, found = False, None
+    accepted, found = False, list[str]()
     if line is None:
         status, text, line = programs.call(programs.flexray(given, words[0] if words else ""), words)
         accepted = status == 0
         if accepted:
             line, found = None, explain_answer(text, words)
     if not accepted:
-        found = explain_line(line, words)
+        found = explain_line(line or "", words)
     if as_json:
         printed({"words": words, "accepted": accepted, "line": line, "told": found})
     elif accepted:
         print("\n".join(found or ["flexray accepted these files, and nothing in its answer needs explanation"]))
     else:
-        print("\n".join([line, *found]))
+        print("\n".join([line or "", *found]))
     return DONE if accepted else NO

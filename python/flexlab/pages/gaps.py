@@ -1,11 +1,28 @@
 """The first gap in coverage that a report names, in words, and what closes it."""
+from collections.abc import Sequence
+from fractions import Fraction
+from typing import Protocol
+
 from .advice import OR, SHARP_OR, SHARP_WAY_WHY, SHARP_WHY, WAY_OR, WAY_WHY, WHY, advise, also
 from ..base import ranges
-from ..runs.least import sharp_advise
+from ..base.ranges import Parameters
+from ..runs.least import Kind, sharp_advise
 from ..base.units import microseconds, ppm_of, signed
 
 
-def check_words(number, left, right, parameters, way=False):
+class Described(Protocol):
+    """A cluster, as far as gaps speak of it."""
+
+    @property
+    def parameters(self) -> Parameters: ...
+
+    @property
+    def microtick_ns(self) -> Fraction: ...
+
+    def called(self, number: int) -> str: ...
+
+
+def check_words(number: int, left: int, right: int, parameters: Parameters, way: bool = False) -> list[str]:
     """A failing check in words, or one of those for the way to sync."""
     why, other = (WAY_WHY, WAY_OR) if way and number in WAY_WHY else (WHY, OR)
     found = [f"check C{number}{' for the way' if way else ''} fails: {left} against {right}; {why[number]}"]
@@ -16,7 +33,7 @@ def check_words(number, left, right, parameters, way=False):
     return found + ([more] if more else [])
 
 
-def sharp_check_words(number, left, right, parameters, kind):
+def sharp_check_words(number: int, left: int, right: int, parameters: Parameters, kind: Kind) -> list[str]:
     """A failing check of the sharper bounds in words."""
     name, now, value = sharp_advise(number, parameters, kind)
     asks = f"C{number} asks for {value} at least" if value is not None else f"none of its range meets C{number}"
@@ -26,7 +43,7 @@ def sharp_check_words(number, left, right, parameters, kind):
     return found + ([more] if more else [])
 
 
-def sharp_way_words(number, left, right, parameters, kind):
+def sharp_way_words(number: int, left: int, right: int, parameters: Parameters, kind: Kind) -> list[str]:
     """A failing check for the way to sharp sync in words."""
     if number in (1, 2):
         return sharp_check_words(number, left, right, parameters, kind)
@@ -37,16 +54,18 @@ def sharp_way_words(number, left, right, parameters, kind):
             f"RATE, or {SHARP_OR[number]}"]
 
 
-def gap_words(gap, cluster):
+def gap_words(gap: Sequence[str], cluster: Described) -> list[str]:
     """Lines in words of the words behind `covered no`."""
     kind, numbers = gap[0], [int(word) for word in gap[1:] if word not in ("A", "B")]
     channel = next((word for word in gap[1:] if word in ("A", "B")), "")
     parameters, unit = cluster.parameters, cluster.microtick_ns
+
     def name_of(place: int) -> str:
         return cluster.called(numbers[place])
 
     if kind == "check":
-        return check_words(*numbers, parameters)
+        number, left, right = numbers
+        return check_words(number, left, right, parameters)
     if kind == "flutter":
         return [f"a delay differs by {microseconds(numbers[0], unit)} between the two cycles of a double cycle, which is more than "
                 "any limits.delay_error allows for, twice 10 microticks"]
@@ -72,4 +91,3 @@ def gap_words(gap, cluster):
     return [f"in double cycle {numbers[2]} no channel carries the frames of node {name_of(0)} to node {name_of(1)} in "
             f"both its cycles (cycles {2 * numbers[2]} and {2 * numbers[2] + 1})",
             "let one channel be free of `lose` and `flip` there, or give both nodes channels AB"]
-

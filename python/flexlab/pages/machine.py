@@ -1,106 +1,131 @@
 """What machines read: a run as one JSON object, and what was required of it."""
+from __future__ import annotations
+
 import json
 import re
 from fractions import Fraction
+from collections.abc import Callable, Iterable
+from typing import Any, NamedTuple, TYPE_CHECKING
 
 from ..base.ending import DONE, UNMET, USAGE, Stop, printable
 from .gaps import check_words, gap_words, sharp_check_words
 from .model import warnings
 from .page import ms_of_cycle
+from ..program.report import Bounds, Skew
 from ..runs.sharp import ends_of, first_of, gap_of, is_within, kind_of, lost_of, skew_of
-from ..base.units import decimal, ppm_of, us_of_ticks
+from ..base.ranges import Parameters
+from ..base.units import Number, decimal, ppm_of, us_of_ticks
 from ..base.version import version
 from ..runs.ways import OlderChecks
 from ..runs.windows import exact, later, windows
 
 
-def printed(found):
+if TYPE_CHECKING:
+    from ..runs.runs import Run
+    from ..runs.ways import Checks, Way, Ways
+    from ..runs.windows import Window
+    from ..toml.cluster import Cluster
+
+# An object as JSON has it.
+Object = dict[str, Any]
+
+
+class Required(NamedTuple):
+    """What is required of a run, and of `within` how many microseconds."""
+    name: str
+    limit: Fraction | None
+
+
+def printed(found: Object) -> None:
     """Prints an object, as all of them begin with the version."""
     print(json.dumps({"version": version(), **found}, indent=1))
 
 
-def us(ticks, cluster):
+def us(ticks: Number | None, cluster: Cluster) -> float | None:
     return None if ticks is None else float(decimal(us_of_ticks(ticks, cluster.microtick_ns), 6))
 
 
-def ms(cycle, cluster):
+def ms(cycle: int | None, cluster: Cluster) -> float | None:
     return None if cycle is None else float(decimal(ms_of_cycle(cycle, cluster), 6))
 
 
-def skew_object(skew, cluster):
+def skew_object(skew: Skew | None, cluster: Cluster) -> Object | None:
     if not skew:
         return None
     ticks, cycle, macrotick = skew
     return {"ticks": ticks, "us": us(ticks, cluster), "cycle": cycle, "macrotick": macrotick}
 
 
-def within(run):
+def within(run: Run) -> bool | None:
     """Whether the skew stayed within the precision since the first double cycle in sync; None where it is not known."""
-    return run.in_sync_skew[0] <= run.report.precision if run.in_sync_skew else None
+    return run.in_sync_skew.ticks <= run.report.precision if run.in_sync_skew else None
 
 
-def checks_of(bounds, parameters):
-    return [{"check": f"C{number}", "holds": held, "left": left, "right": right,
-             **({} if held else {"told": check_words(number, left, right, parameters)})}
-            for number, held, left, right in bounds.checks]
+def checks_of(bounds: Bounds, parameters: Parameters) -> list[Object]:
+    return [{"check": f"C{check.number}", "holds": check.holds, "left": check.left, "right": check.right,
+             **({} if check.holds else {"told": check_words(check.number, check.left, check.right, parameters)})}
+            for check in bounds.checks]
 
 
-def sync_object(first, lost, cluster):
+def sync_object(first: int | None, lost: int | None, cluster: Cluster) -> Object:
     cycle = None if first is None else 2 * first
     return {"double_cycle": first, "cycle": cycle, "ms": ms(cycle, cluster), "lost_in_double_cycle": lost}
 
 
-def sharp_object(run):
+def sharp_object(run: Run) -> Object:
     """The sharper side of a run."""
     cluster, bounds, (known, gap) = run.cluster, run.sharp.bounds, gap_of(run)
     kind, p = kind_of(cluster, run.sharp.flutter), cluster.parameters
-    is_check = gap is not None and gap[0] == "check"
+    told = gap_words(gap, cluster) if gap and gap[0] != "check" else []
+    if gap and gap[0] == "check":
+        number, left, right = map(int, gap[1:])
+        told = sharp_check_words(number, left, right, p, kind)
     return {"covered": gap is None if known else None, "gap": gap and " ".join(gap),
-            "gap_told": sharp_check_words(*map(int, gap[1:]), p, kind) if is_check else gap_words(gap, cluster) if gap else [],
+            "gap_told": told,
             "kind": bounds.kind,
             "flutter": {"ticks": run.sharp.flutter, "us": us(run.sharp.flutter, cluster)},
             "precision": {"ticks": bounds.precision, "us": us(bounds.precision, cluster)},
             "in_sharp_sync": sync_object(first_of(run), lost_of(run), cluster),
             "lasts_double_cycles": bounds.lasts, "proved_before_double_cycle": ends_of(run),
             "skew": skew_object(skew_of(run), cluster), "within_precision": is_within(run),
-            "checks": [{"check": f"C{number}", "holds": held, "left": left, "right": right,
-                        **({} if held else {"told": sharp_check_words(number, left, right, p, kind)})}
-                       for number, held, left, right in bounds.checks]}
+            "checks": [{"check": f"C{check.number}", "holds": check.holds, "left": check.left, "right": check.right,
+                        **({} if check.holds else {"told": sharp_check_words(check.number, check.left, check.right, p, kind)})}
+                       for check in bounds.checks]}
 
 
-def nodes_of(run):
+def nodes_of(run: Run) -> list[Object]:
     found = []
     for number, (state, after, rate, offset) in sorted(run.report.ends.items()):
-        first, last = run.cycles[run.first_row(number)][number].length, run.cycles[-1][number].length
+        first, last = run.microticks_of(number)
         found.append({"node": number, "state": state, "next_ticks": after, "rate": rate, "offset": offset,
                       "microtick_ticks": last, "ppm_first": float(decimal(ppm_of(first), 3)),
                       "ppm_last": float(decimal(ppm_of(last), 3))})
     return found
 
 
-def window_object(one, cluster):
+def window_object(one: Window, cluster: Cluster) -> Object:
     """The skew of a stretch of cycles."""
     return {"first": one.first, "last": one.last, "what": one.what, "greatest_us": us(one.greatest, cluster),
             "cycle": one.cycle, "within_99_percent_us": us(one.most, cluster), "mean_us": us(one.mean, cluster),
             "settled": one.settled, "level_us": us(one.level, cluster)}
 
 
-def later_object(run):
+def later_object(run: Run) -> Object | None:
     found = later(run, run.begin)
-    return found and {**window_object(found, run.cluster), "of": "skew" if exact(run) else "starts"}
+    return {**window_object(found, run.cluster), "of": "skew" if exact(run) else "starts"} if found else None
 
 
-def drawn_object(cluster):
+def drawn_object(cluster: Cluster) -> dict[str, float]:
     return {name: float(decimal(value, 6)) for name, value in cluster.drawn.items()}
 
 
-def way_object(way, checks, cluster):
+def way_object(way: Way, checks: Checks | type[OlderChecks], cluster: Cluster) -> Object:
     known, gap = checks.gap(way.run)
     return {"first": way.first, "parameters": way.changed, "precision_us": us(way.bounds.precision, cluster),
             "covered": gap is None if known else None, "skew_us": us(way.skew, cluster)}
 
 
-def ways_object(ways, cluster):
+def ways_object(ways: Ways | None, cluster: Cluster) -> Object | None:
     """The ways to checks that hold, the one with the least skew first, why there are none of others, and what the older bound
     asks besides, where the sharper one is gone by."""
     if not ways:
@@ -113,7 +138,7 @@ def ways_object(ways, cluster):
             "older": ways.older and way_object(ways.older, OlderChecks, cluster), "no_older": ways.no_older or None}
 
 
-def run_object(run):
+def run_object(run: Run) -> Object:
     """A run as an object: names and units stand in docs/FLEXLAB.md, "For machines"."""
     cluster, report = run.cluster, run.report
     return {
@@ -128,7 +153,7 @@ def run_object(run):
         "precision": {"ticks": report.precision, "us": us(report.precision, cluster)},
         "sharp": sharp_object(run),
         "skew_in_sync": skew_object(run.in_sync_skew, cluster), "within_precision": within(run),
-        "greatest_skew": skew_object((report.skew, report.cycle, report.macrotick), cluster),
+        "greatest_skew": skew_object(Skew(report.skew, report.cycle, report.macrotick), cluster),
         "checks": checks_of(run.bounds, cluster.parameters), "ways": ways_object(run.ways, cluster),
         "later_skew": later_object(run),
         "skew_of_cycles": [window_object(one, cluster) for one in windows(run, run.asked)], "drawn": drawn_object(cluster),
@@ -140,31 +165,32 @@ def run_object(run):
     }
 
 
-def wanted(text):
+def wanted(text: str | None) -> list[Required]:
     """What `--require` asks for: pairs of a name and, of `within`, microseconds."""
     found = []
     for part in filter(None, (text or "").split(",")):
         span = re.fullmatch(r"within=([0-9]{1,30}(?:\.[0-9]{1,30})?)", part)
         if part not in ("covered", "in-sync", "sharply-covered") and not span:
-            raise Stop(USAGE, f"--require {printable(text)}: {printable(part)} is none of covered, in-sync, within=USEC, sharply-covered")
-        found.append((part, Fraction(span[1]) if span else None))
+            raise Stop(USAGE, f"--require {printable(text or '')}: {printable(part)} is none of covered, in-sync, within=USEC, "
+                              "sharply-covered")
+        found.append(Required(part, Fraction(span[1]) if span else None))
     return found
 
 
-def sharp_verdict(run):
+def sharp_verdict(run: Run) -> str | None:
     """Why a run is not sharply covered, or is not proved to be to its end from the first double cycle in sharp sync on."""
     known, gap = gap_of(run)
     if not known or gap:
-        return "sharp covered no " + " ".join(gap) if known else "whether it is sharply covered is not known"
+        return "sharp covered no " + " ".join(gap or []) if known else "whether it is sharply covered is not known"
     if first_of(run) is None:
         return "never in sharp sync"
     return None if ends_of(run) is None else f"what is proved ends before double cycle {ends_of(run)}"
 
 
-def verdicts(run, asked):
+def verdicts(run: Run, asked: Iterable[Required]) -> dict[str, str | None]:
     """Of each that is required whether it is met, and why not."""
     report, cluster = run.report, run.cluster
-    found = {}
+    found: dict[str, str | None] = {}
     for name, limit in asked:
         if name == "covered":
             why = None if report.gap is None else "covered no " + " ".join(report.gap)
@@ -176,13 +202,13 @@ def verdicts(run, asked):
         elif not run.in_sync_skew:
             why = "the skew in sync is not known" if report.in_sync is not None else "never in sync"
         else:
-            skew = us_of_ticks(run.in_sync_skew[0], cluster.microtick_ns)
-            why = None if skew <= limit else f"the skew in sync is {decimal(skew, 6)} us"
+            skew = us_of_ticks(run.in_sync_skew.ticks, cluster.microtick_ns)
+            why = None if limit is None or skew <= limit else f"the skew in sync is {decimal(skew, 6)} us"
         found[name] = why
     return found
 
 
-def ended(run, asked, say):
+def ended(run: Run, asked: Iterable[Required], say: Callable[[str], None]) -> int:
     """The status of a run of which something is required; what is not met is told by `say`."""
     unmet = {name: why for name, why in verdicts(run, asked).items() if why}
     for name, why in unmet.items():

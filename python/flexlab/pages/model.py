@@ -2,14 +2,15 @@
 from fractions import Fraction
 
 from ..base.units import decimal
+from ..toml.cluster import Cluster
 
 
-def frame_bits(cluster):
+def frame_bits(cluster: Cluster) -> int:
     """Bits of a static frame on the wire: its start, 10 for each of 8 bytes and of the payload, and 2 at its end."""
     return cluster.start_bits + 1 + 10 * (8 + 2 * cluster.parameters["gPayloadLengthStatic"]) + 2
 
 
-def warnings(cluster):
+def warnings(cluster: Cluster) -> list[str]:
     """Lines of what flexray accepts and a bus would not carry."""
     parameters = cluster.parameters
     macrotick = Fraction(parameters["pMicroPerCycle"]) * cluster.microtick_ns / parameters["gMacroPerCycle"]

@@ -1,5 +1,8 @@
 """The page of a run: flexray's numbers in the units of a bench, and what they say."""
+from __future__ import annotations
+
 from fractions import Fraction
+from typing import TYPE_CHECKING
 
 from .gaps import check_words, gap_words
 from .model import warnings
@@ -8,22 +11,26 @@ from ..runs.sharp import ends_of, first_of, is_covered
 from .sharp_page import check_lines as sharp_check_lines
 from .sharp_page import sharp_lines
 from ..runs.sync import starts_apart
-from ..base.units import decimal, microseconds, percent, ppm_of, signed, us_of_ticks
+from ..base.units import Number, decimal, microseconds, percent, ppm_of, signed, us_of_ticks
 from ..runs.ways import older_lines, way_lines
 from ..runs.windows import MOST, exact, later, windows
+from ..toml.cluster import Cluster
+
+if TYPE_CHECKING:
+    from ..runs.runs import Run
 
 ORIGIN = ("Every number here is one that flexray printed, converted, divided or held against another. flexlab "
           "computes no answer of its own.")
 
 
-def ms_of_cycle(cycle, cluster):
+def ms_of_cycle(cycle: int, cluster: Cluster) -> Fraction:
     return Fraction(cycle) * cluster.parameters["pMicroPerCycle"] * cluster.microtick_ns / 1000000
 
 
-def field(name, *lines):
-    found, label = [], name
+def field(name: str, *lines: str) -> list[str]:
+    found, label = list[str](), name
     for line in lines:
-        room, words = 96 - 16, []
+        room, words = 96 - 16, list[str]()
         for word in line.split(" "):
             if words and len(" ".join(words + [word])) > room:
                 found.append(f"{label:<16}" + " ".join(words))
@@ -34,7 +41,7 @@ def field(name, *lines):
     return found
 
 
-def head_lines(run):
+def head_lines(run: Run) -> list[str]:
     cluster, report = run.cluster, run.report
     length = ms_of_cycle(1, cluster)
     return field("Cluster", f"{report.nodes} nodes, {report.sync} sync nodes, {report.arbitrary} arbitrary; "
@@ -44,7 +51,7 @@ def head_lines(run):
                  ) + drawn_lines(cluster)
 
 
-def drawn_lines(cluster):
+def drawn_lines(cluster: Cluster) -> list[str]:
     """The numbers that were drawn, as the file would have them."""
     if not cluster.drawn:
         return []
@@ -52,7 +59,7 @@ def drawn_lines(cluster):
     return field("Drawn", told)
 
 
-def verdict_lines(run):
+def verdict_lines(run: Run) -> list[str]:
     cluster, report = run.cluster, run.report
     if report.in_sync is None:
         found = field("In sync", "NEVER: no double cycle of the run is in sync")
@@ -79,8 +86,8 @@ def verdict_lines(run):
     return found + field("Covered", "NO: nothing is promised of this run's precision", *words)
 
 
-def skew_lines(run):
-    cluster, report, unit = run.cluster, run.report, run.cluster.microtick_ns
+def skew_lines(run: Run) -> list[str]:
+    report, unit = run.report, run.cluster.microtick_ns
     microticks = decimal(Fraction(report.precision, 1000000), 3)
     found = field("Precision", f"{microseconds(report.precision, unit)} ({microticks} microticks), computed from the "
                                "parameters")
@@ -104,36 +111,38 @@ def skew_lines(run):
                                           f"macrotick {report.macrotick}){early_words(run)}")
 
 
-def early_words(run):
+def early_words(run: Run) -> str:
     """Against what the greatest skew of the run is not to be held, since it lies before."""
     report = run.report
     if report.in_sync is None:
         return ": not in sync, so it is not to be held against the precision"
     if report.cycle < 2 * report.in_sync:
         return ": before sync, so it is not to be held against the precision"
-    if is_covered(run) and (first_of(run) is None or report.cycle < 2 * first_of(run)):
+    first = first_of(run)
+    if is_covered(run) and (first is None or report.cycle < 2 * first):
         return ": before sharp sync, so it is not to be held against the sharp precision"
     return ""
 
 
-def within_lines(run, skew):
+def within_lines(run: Run, skew: int) -> list[str]:
     """Whether the skew stayed within the precision since the first double cycle in sync."""
     if skew <= run.report.precision:
         return field("Within", "yes: since it was first in sync the skew was never above the precision")
     place = ""
     if run.series and run.series.within:
-        place = f", first in cycle {run.series.within[1]}, macrotick {run.series.within[2]}"
+        place = f", first in cycle {run.series.within.cycle}, macrotick {run.series.within.macrotick}"
     return field("Within", f"NO: since it was first in sync the skew was above the precision{place}")
 
 
-def held_against(run, cycle):
+def held_against(run: Run, cycle: int) -> tuple[int, str]:
     """What the skew of cycles from this one on is held against: the sharper precision where that is proved of them."""
-    if is_covered(run) and first_of(run) is not None and cycle >= 2 * first_of(run) and ends_of(run) is None:
+    first = first_of(run)
+    if is_covered(run) and first is not None and cycle >= 2 * first and ends_of(run) is None:
         return run.sharp.bounds.precision, "sharp precision"
     return run.report.precision, "precision"
 
 
-def later_lines(run):
+def later_lines(run: Run) -> list[str]:
     """The skew behind the transient: from where it has settled on, or from the cycle that was asked for."""
     found, unit = later(run, run.begin), run.cluster.microtick_ns
     if found is None:
@@ -147,7 +156,7 @@ def later_lines(run):
                  f"{microseconds(found.most, unit)}, the mean is {microseconds(found.mean, unit)}")
 
 
-def window_lines(run):
+def window_lines(run: Run) -> list[str]:
     """The skew by stretches of cycles."""
     found, unit = windows(run, run.asked), run.cluster.microtick_ns
     if not found:
@@ -155,7 +164,8 @@ def window_lines(run):
     lines = ["", f"{'skew of cycles' if exact(run) else 'starts of cycles':<18}{'greatest':>10}{'in cycle':>10}"
                  f"{'99 %':>9}{'mean':>9}{'settled':>9}{'within':>9}"]
     for one in found[:MOST]:
-        numbers = [decimal(us_of_ticks(value, unit), 3) for value in (one.greatest, one.most, one.mean, one.level)]
+        values: tuple[Number, ...] = one.greatest, one.most, one.mean, one.level
+        numbers = [decimal(us_of_ticks(value, unit), 3) for value in values]
         lines.append((f"{f'{one.first}-{one.last}':<18}{numbers[0]:>10}{one.cycle:>10}{numbers[1]:>9}{numbers[2]:>9}"
                       f"{one.settled:>9}{numbers[3]:>9}  {one.what}").rstrip())
     if len(found) > MOST:
@@ -164,19 +174,19 @@ def window_lines(run):
                                    "greatest of the second half of these cycles.")]
 
 
-def check_lines(run):
+def check_lines(run: Run) -> list[str]:
     """The sharper checks, and the older ones, which the promise of a run that nodes join may rest on."""
     if not run.cluster.joins:
         return sharp_check_lines(run, field) + older_lines(run, field)
-    found = []
-    for number, _, left, right in run.bounds.failing:
-        words = check_words(number, left, right, run.cluster.parameters)
+    found: list[str] = []
+    for check in run.bounds.failing:
+        words = check_words(check.number, check.left, check.right, run.cluster.parameters)
         found += field("" if found else "Older checks", *words)
     if not found:
         count = len(run.bounds.checks)
-        tight = max(run.bounds.checks, key=lambda check: Fraction(check[3], check[2]) if check[2] else 0)
-        found = field("Older checks", f"C1 to C{count} hold; C{tight[0]} is the tightest, used to "
-                                      f"{percent(tight[3], tight[2])}")
+        tight = max(run.bounds.checks, key=lambda check: Fraction(check.right, check.left) if check.left else Fraction(0))
+        found = field("Older checks", f"C1 to C{count} hold; C{tight.number} is the tightest, used to "
+                                      f"{percent(tight.right, tight.left)}")
     return sharp_check_lines(run, field) + found
 
 
@@ -185,7 +195,7 @@ def bracketed(name: str) -> str:
     return f"({name}) " if name else ""
 
 
-def node_lines(run):
+def node_lines(run: Run) -> list[str]:
     parameters = run.cluster.parameters
 
     def name_of(node: int) -> str:
@@ -194,7 +204,7 @@ def node_lines(run):
     found = ["", f"{'node':>4} {'state':<8}{'ppm at first':>14}{'ppm at last':>13}{'microtick':>11}"
                  f"{'rate':>7}{'offset':>8}"]
     for node, (state, _, rate, offset) in sorted(run.report.ends.items()):
-        first, last = run.cycles[run.first_row(node)][node].length, run.cycles[-1][node].length
+        first, last = run.microticks_of(node)
         found.append(f"{node:>4} {state:<8}{signed(ppm_of(first), 2):>14}{signed(ppm_of(last), 2):>13}"
                      f"{last:>11}{rate:>7}{offset:>8}  {name_of(node)}".rstrip())
     for node in run.cluster.arbitrary:
@@ -210,13 +220,13 @@ def node_lines(run):
                                "lengthen the cycle.")]
 
 
-def joined_words(cycle, cluster):
+def joined_words(cycle: int | None, cluster: Cluster) -> str:
     if cycle is None:
         return "takes no part in this run"
     return f"takes part from cycle {cycle} on ({decimal(ms_of_cycle(cycle, cluster), 3)} ms)"
 
 
-def frame_lines(run):
+def frame_lines(run: Run) -> list[str]:
     report = run.report
     bad = {name: count for name, count in report.heard.items() if name not in ("stored", "plain") and count}
     sent = ", ".join(f"{count} sent on {channel}" for channel, (count, _) in sorted(report.sent.items()))
@@ -227,7 +237,7 @@ def frame_lines(run):
     return found
 
 
-def page(run):
+def page(run: Run) -> str:
     found = head_lines(run) + verdict_lines(run) + sharp_lines(run, field, ms_of_cycle) + skew_lines(run) + check_lines(run)
     if run.ways:
         found += way_lines(run.ways, run.cluster, field)

@@ -1,7 +1,11 @@
 """Pictures of a run by gnuplot: the skew over time beside the precision, and each node's terms."""
+from __future__ import annotations
+
 import os
 import tempfile
 from fractions import Fraction
+from collections.abc import Sequence
+from typing import TYPE_CHECKING, NamedTuple
 
 from ..program import calls as programs
 from ..base.ending import PROGRAM, Stop, printable
@@ -11,7 +15,11 @@ from ..runs.sharp import ends_of, first_of, is_covered, skew_of
 from ..runs.sync import starts_apart
 from ..base.units import decimal, us_of_ticks
 from ..runs.windows import changes, later
+from ..program.report import Skew
 from ..toml.cluster import Cluster
+
+if TYPE_CHECKING:
+    from ..runs.runs import Run
 
 COLOURS = ("#0072b2", "#d55e00", "#009e73", "#cc79a7", "#e69f00", "#56b4e9", "#7f3f00", "#555555")
 POINTS = 1500
@@ -21,8 +29,28 @@ UPPER = ("set tmargin 5\nset bmargin 6\nset key at screen 0.5, 0.475 bottom cent
          "width 2")
 
 
-def thinned(rows):
-    """At most so many rows of (cycle, value): of each stretch of cycles the greatest value is kept."""
+# A value of a cycle.
+Point = tuple[int, Fraction]
+
+
+class Bound(NamedTuple):
+    """A line that the skew is held against, in microseconds, from a first cycle to a last one."""
+    name: str
+    us: Fraction
+    span: tuple[int, int]
+    colour: str
+
+
+class Marks(NamedTuple):
+    """The first cycle from which on something is so, what that is, and the greatest skew with what it is in."""
+    first: int | None
+    what: str
+    skew: Skew | None
+    name: str
+
+
+def thinned(rows: Sequence[Point]) -> list[Point]:
+    """At most so many rows: of each stretch of cycles the greatest value is kept."""
     width = -(-len(rows) // POINTS)
     return [max(rows[at:at + width], key=lambda row: row[1]) for at in range(0, len(rows), width)]
 
@@ -77,7 +105,7 @@ def shortened(name: str) -> str:
     return name if len(name) <= NAME_ROOM else name[:NAME_ROOM - 2] + ".."
 
 
-def skew_rows(run):
+def skew_rows(run: Run) -> tuple[list[Point], str]:
     """(cycle, microseconds) of each cycle, and what they are."""
     unit = run.cluster.microtick_ns
     if run.series and run.series.rows:
@@ -87,40 +115,40 @@ def skew_rows(run):
             "how far the starts of the cycle lie apart")
 
 
-def plain_axes():
+def plain_axes() -> str:
     return ("set border 3 linecolor '#555555'\nset tics nomirror textcolor '#333333'\n"
             "set grid ytics linecolor '#e3e3e3' linetype 1\nset key textcolor '#333333'\n")
 
 
-def precisions(run):
-    """(name, microseconds, first and last cycle, colour) of the lines that the skew is held against: the older bound where that
-    is proved of the run or nothing is, and the sharper one where it is, from sharp sync on."""
+def precisions(run: Run) -> list[Bound]:
+    """The lines that the skew is held against: the older bound where that is proved of the run or nothing is, and the sharper one
+    where it is, from sharp sync on."""
     unit, first, last = run.cluster.microtick_ns, sharp_cycle(run), len(run.cycles)
-    found = []
+    found: list[Bound] = []
     if first is not None:
-        end = last if ends_of(run) is None else 2 * ends_of(run)
-        found.append(("sharp precision", us_of_ticks(run.sharp.bounds.precision, unit), (first, end), "#009e73"))
+        ends = ends_of(run)
+        end = last if ends is None else 2 * ends
+        found.append(Bound("sharp precision", us_of_ticks(run.sharp.bounds.precision, unit), (first, end), "#009e73"))
     if run.report.gap is None or first is None:
-        found.append(("precision", us_of_ticks(run.report.precision, unit), (0, last), "#b00020"))
+        found.append(Bound("precision", us_of_ticks(run.report.precision, unit), (0, last), "#b00020"))
     return found
 
 
-def sharp_cycle(run):
+def sharp_cycle(run: Run) -> int | None:
     """The first cycle in sharp sync of a run of which the sharper precision is proved, or None."""
     first = first_of(run) if is_covered(run) else None
     return None if first is None else 2 * first
 
 
-def marks(run):
-    """(first cycle, what is so from it on, the dot as (skew, cycle, macrotick), what it is in): sharp sync where the sharper
-    precision alone is drawn, else sync."""
+def marks(run: Run) -> Marks:
+    """Of sharp sync where the sharper precision alone is drawn, else of sync."""
     if sharp_cycle(run) is not None and run.report.gap is not None:
-        return sharp_cycle(run), "in sharp sync", skew_of(run), "in sharp sync"
+        return Marks(sharp_cycle(run), "in sharp sync", skew_of(run), "in sharp sync")
     first = None if run.report.in_sync is None else 2 * run.report.in_sync
-    return first, "in sync", run.in_sync_skew, "in sync" if run.lost is None else "since sync"
+    return Marks(first, "in sync", run.in_sync_skew, "in sync" if run.lost is None else "since sync")
 
 
-def skew_script(run):
+def skew_script(run: Run) -> str:
     """Two panels over the same cycles: the skew beside the precision, and in the scale of what it is later."""
     report, unit = run.report, run.cluster.microtick_ns
     rows, what = skew_rows(run)
@@ -129,7 +157,7 @@ def skew_script(run):
     most, last = max([row[1] for row in rows] + [us_of_ticks(report.skew, unit)]), len(run.cycles)
     top = max(most, precision) * 115 / 100
     wide = most > 20 * precision
-    lines = [f"$skew << end\n" + "".join(f"{cycle} {decimal(value, 6)}\n" for cycle, value in thinned(rows)) + "end",
+    lines = ["$skew << end\n" + "".join(f"{cycle} {decimal(value, 6)}\n" for cycle, value in thinned(rows)) + "end",
              plain_axes() + "set multiplot layout 2,1 title 'Clock skew of '.file noenhanced font ',14'",
              "set xlabel 'cycle'", f"set ylabel 'microseconds{', a logarithmic scale' if wide else ''}'",
              f"set xrange [0:{last}]\nset x2range [0:{decimal(ms_of_cycle(last, run.cluster), 3)}]",
@@ -164,7 +192,7 @@ def skew_script(run):
     return ("\n".join(lines) + "\nplot " + ", \\\n     ".join(plots) + "\n" + near_panel(run) + "unset multiplot\n")
 
 
-def near_panel(run):
+def near_panel(run: Run) -> str:
     """The panel in the scale of the later skew, with the stretches in which oscillators change."""
     found, unit = later(run, run.begin), run.cluster.microtick_ns
     if found is None:
@@ -179,7 +207,7 @@ def near_panel(run):
                   "fillstyle solid noborder behind",
                   f"set label {20 + at} {label} noenhanced at {first}, graph 0.93 "
                   "offset 0.5,0 textcolor '#3b6ea5'"]
-    data = [(found.greatest, "greatest", "'#d55e00' dashtype 2"), (found.mean, "mean", "'#777777' dashtype 3")]
+    data = [(Fraction(found.greatest), "greatest", "'#d55e00' dashtype 2"), (found.mean, "mean", "'#777777' dashtype 3")]
     plots = ["$skew using 1:2 notitle with lines linewidth 1.5 linecolor '#0072b2'"]
     plots += [f"[{found.first}:{found.last + 1}] {decimal(us_of_ticks(value, unit), 6)} title '{name} from cycle "
               f"{found.first} on, {decimal(us_of_ticks(value, unit), 3)} us' with lines linewidth 1.2 linecolor {style}"
@@ -188,7 +216,7 @@ def near_panel(run):
         plots) + "\n"
 
 
-def join_lines(run):
+def join_lines(run: Run) -> list[str]:
     """Where nodes that join begin to take part: a node that listens or follows has no row."""
     found = []
     for at, (cycle, nodes) in enumerate(sorted(begun(run).items())):
@@ -201,9 +229,9 @@ def join_lines(run):
     return found
 
 
-def begun(run):
+def begun(run: Run) -> dict[int, list[int]]:
     """The nodes that joined, by the cycle from which on they have rows."""
-    found = {}
+    found: dict[int, list[int]] = {}
     for node in sorted(run.cluster.joins):
         cycle = run.first_row(node)
         if cycle is not None:
@@ -211,14 +239,14 @@ def begun(run):
     return found
 
 
-def terms_script(run):
+def terms_script(run: Run) -> str:
     nodes = sorted(run.report.ends)
-    parameters, lines = run.cluster.parameters, []
+    parameters, lines = run.cluster.parameters, list[str]()
     step = 2 * -(-len(run.cycles) // (2 * POINTS))
     for node in nodes:
         told = [cycle for cycle in range(0, len(run.cycles) - 1, step) if node in run.cycles[cycle]]
         data = "".join(f"{cycle} {run.cycles[cycle][node].rate} {run.cycles[cycle + 1][node].offset}\n"
-                       for cycle in told or [run.first_row(node)])
+                       for cycle in told or [run.first_row(node) or 0])
         lines.append(f"$node{node} << end\n{data}end")
     lines.append(plain_axes() + "set multiplot layout 2,1 title 'Correction terms of '.file noenhanced font ',14'")
     lines.append(f"set xrange [0:{len(run.cycles)}]\nset lmargin 10\nset rmargin 14\n"
@@ -234,7 +262,7 @@ def terms_script(run):
     return "\n".join(lines) + "\nunset multiplot\n"
 
 
-def draw_run(run):
+def draw_run(run: Run) -> list[str]:
     """Draws both pictures into the run's folder, and hands back their paths."""
     if not run.cycles:
         return []

@@ -1,19 +1,30 @@
 """The lines of a page that tell of the sharper bounds: how far the clocks of this run lie apart where delays flutter little."""
+from __future__ import annotations
+
 from fractions import Fraction
+from collections.abc import Callable
+from typing import TYPE_CHECKING
 
 from .gaps import gap_words, sharp_check_words
 from ..runs.least import least_sharp_damping
 from ..runs.sharp import ends_of, first_of, gap_of, is_covered, is_within, kind_of, lost_of, skew_of
 from ..base.units import decimal, lasting, microseconds, percent
 
+if TYPE_CHECKING:
+    from ..runs.runs import Run
+    from ..runs.sharp import Sharp
+    from ..toml.cluster import Cluster
+
+Lines = Callable[..., list[str]]
+
 KINDS = {"alone": "without arbitrary nodes", "beside": "beside arbitrary nodes"}
 
 
-def kind_words(sharp, unit):
+def kind_words(sharp: Sharp, unit: Fraction) -> str:
     return f"{KINDS[sharp.bounds.kind]}, for delays that flutter by {microseconds(sharp.bounds.flutter, unit)}"
 
 
-def covered_words(run):
+def covered_words(run: Run) -> list[str]:
     """Sentences on whether the run is sharply covered."""
     known, gap = gap_of(run)
     if not known:
@@ -28,24 +39,25 @@ def covered_words(run):
     return ["NO: nothing is promised of this run's sharp precision", *words]
 
 
-def sync_words(run, ms_of_cycle):
+def sync_words(run: Run, ms_of_cycle: Callable[[int, Cluster], Fraction]) -> str:
     first, lost, cluster = first_of(run), lost_of(run), run.cluster
     if first is None:
         return "NEVER: no double cycle of the run is in sharp sync"
 
-    def place(double):
+    def place(double: int) -> str:
         return f"cycle {2 * double}, {decimal(ms_of_cycle(2 * double, cluster), 3)} ms"
 
+    ends = ends_of(run)
     if lost is None:
         return f"yes, from double cycle {first} on ({place(first)}), and still so at the end"
     # As long as the walk lasts, lengths may leave their range; nothing else of sharp sync is lost.
-    if is_covered(run) and lost < (run.report.doubles if ends_of(run) is None else ends_of(run)):
+    if is_covered(run) and lost < (run.report.doubles if ends is None else ends):
         return (f"yes, from double cycle {first} on ({place(first)}), but for lengths that leave their range from double cycle "
                 f"{lost} on ({place(lost)})")
     return f"NOT ALL THE WAY: from double cycle {first} on ({place(first)}) at first; lost in double cycle {lost} ({place(lost)})"
 
 
-def lasting_words(run, ms_of_cycle):
+def lasting_words(run: Run, ms_of_cycle: Callable[[int, Cluster], Fraction]) -> str | None:
     """For how long what is proved holds, where the first check fails; None where it is to the end of the run. Where nodes join it
     is so as long as the rate limit suffices for first rates too."""
     lasts, end = run.sharp.bounds.lasts, ends_of(run)
@@ -60,23 +72,23 @@ def lasting_words(run, ms_of_cycle):
     return f"PROVED IN PART, of {told}: not from cycle {2 * end} on"
 
 
-def skew_lines(run, field):
+def skew_lines(run: Run, field: Lines) -> list[str]:
     """How far clocks lay apart since they were first in sharp sync."""
     skew, sharp, unit = skew_of(run), run.sharp, run.cluster.microtick_ns
     if skew is None:
         return [] if first_of(run) is None else field("Sharp skew", "not known: flexray-series tells it, which is not installed")
-    found = field("Sharp skew", f"{microseconds(skew[0], unit)} at most since it was first in sharp sync, "
-                                f"{percent(skew[0], sharp.bounds.precision)} of the sharp precision (cycle {skew[1]}, macrotick "
-                                f"{skew[2]})")
+    found = field("Sharp skew", f"{microseconds(skew.ticks, unit)} at most since it was first in sharp sync, "
+                                f"{percent(skew.ticks, sharp.bounds.precision)} of the sharp precision (cycle {skew.cycle}, macrotick "
+                                f"{skew.macrotick})")
     if is_within(run):
         return found + field("Sharply within", "yes: since then the skew was never above the sharp precision")
     place = ""
     if sharp.told and sharp.told.within:
-        place = f", first in cycle {sharp.told.within[1]}, macrotick {sharp.told.within[2]}"
+        place = f", first in cycle {sharp.told.within.cycle}, macrotick {sharp.told.within.macrotick}"
     return found + field("Sharply within", f"NO: since then the skew was above the sharp precision{place}")
 
 
-def sharp_lines(run, field, ms_of_cycle):
+def sharp_lines(run: Run, field: Lines, ms_of_cycle: Callable[[int, Cluster], Fraction]) -> list[str]:
     """The lines of the page."""
     found = field("Sharply covered", *covered_words(run))
     bounds, unit = run.sharp.bounds, run.cluster.microtick_ns
@@ -87,21 +99,21 @@ def sharp_lines(run, field, ms_of_cycle):
     return found + skew_lines(run, field)
 
 
-def check_lines(run, field):
+def check_lines(run: Run, field: Lines) -> list[str]:
     """The sharper checks: those that fail, or which is the tightest."""
     bounds, p = run.sharp.bounds, run.cluster.parameters
-    kind, found = kind_of(run.cluster, run.sharp.flutter), []
-    for number, _, left, right in bounds.failing:
-        words = sharp_check_words(number, left, right, p, kind)
-        if number == 1:
+    kind, found = kind_of(run.cluster, run.sharp.flutter), list[str]()
+    for check in bounds.failing:
+        words = sharp_check_words(check.number, check.left, check.right, p, kind)
+        if check.number == 1:
             words.append(f"without that the sharp precision is proved of {bounds.lasts or 'no'} double cycles from the first in "
                          "sharp sync on")
         found += field("" if found else "Checks", *words)
     if found:
         return found
-    tight = max(bounds.checks, key=lambda check: Fraction(check[3], check[2]) if check[2] else 0)
+    tight = max(bounds.checks, key=lambda check: Fraction(check.right, check.left) if check.left else Fraction(0))
     count = len(bounds.checks)
     own, least = p["pClusterDriftDamping"], least_sharp_damping(p, kind)
     less = f"; a damping of {least} would suffice" if least < own else ""
-    return field("Checks", f"C1 to C{count} hold, those of the sharp precision; C{tight[0]} is the tightest, used to "
-                           f"{percent(tight[3], tight[2])}{less}")
+    return field("Checks", f"C1 to C{count} hold, those of the sharp precision; C{tight.number} is the tightest, used to "
+                           f"{percent(tight.right, tight.left)}{less}")

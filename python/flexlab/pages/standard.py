@@ -8,10 +8,11 @@ from ..base import ranges
 from ..base.ending import USAGE, Stop
 from ..base.numbers import number_of
 from .page import field, ms_of_cycle
-from ..program.report import read_sharp_bounds
-from ..runs.runs import answer
+from ..base.ranges import Parameters
+from ..program.report import Bounds, SharpBounds, read_sharp_bounds
+from ..runs.runs import Run, answer
 from .sharp_page import KINDS
-from ..base.units import decimal, lasting, microseconds, percent, rounded, us_of_ticks
+from ..base.units import Number, decimal, lasting, microseconds, percent, rounded, us_of_ticks
 from ..runs.windows import exact, later
 
 TICKS = 1000000
@@ -25,24 +26,24 @@ BEST, BEST_DAMPING, BEST_DELAYS = 12, 6, 1
 class Row:
     """A number of the table; what fails of its checks and for how many double cycles it holds, where it has such."""
     name: str
-    ticks: int
+    ticks: Number
     what: str
     fails: str = ""
     lasts: str = ""
 
 
-def greatest_delay(parameters):
+def greatest_delay(parameters: Parameters) -> int:
     """The longest that a frame may travel by the parameters, in ticks."""
     return ranges.compensation(parameters) * TICKS + parameters["xDelayError"]
 
 
-def by_formula(parameters, microticks, damping, delays):
+def by_formula(parameters: Parameters, microticks: int, damping: int, delays: int) -> int:
     """(microticks + damping times the cluster's) longest microticks, and so many greatest delays, in ticks."""
     longest = TICKS + parameters["xRateBound"]
     return (microticks + damping * parameters["pClusterDriftDamping"]) * longest + delays * greatest_delay(parameters)
 
 
-def flutter_asked(text, run):
+def flutter_asked(text: str | None, run: Run) -> int:
     """Ticks of --flutter-ns, or the flutter of the run's own delays, at most what flexray bound takes."""
     if text is None:
         return run.sharp.bounds.flutter
@@ -56,24 +57,24 @@ def flutter_asked(text, run):
     return ticks
 
 
-def sharp_for(run, program, flutter):
+def sharp_for(run: Run, program: str, flutter: int) -> dict[str, SharpBounds]:
     """The sharper bounds of both kinds for this flutter."""
     if flutter == run.sharp.bounds.flutter:
         return run.sharp.both
     return read_sharp_bounds(answer(program, sharp.sharp_words(run.files[0], flutter)))
 
 
-def failing(bounds):
-    return ", ".join(f"C{check[0]}" for check in bounds.failing) or "none"
+def failing(bounds: Bounds | SharpBounds) -> str:
+    return ", ".join(f"C{check.number}" for check in bounds.failing) or "none"
 
 
-def simulated(run):
+def simulated(run: Run) -> list[Row]:
     found = []
     if run.in_sync_skew:
-        found.append(Row("simulated, in sync", run.in_sync_skew[0], f"the greatest skew, in cycle {run.in_sync_skew[1]}"))
+        found.append(Row("simulated, in sync", run.in_sync_skew.ticks, f"the greatest skew, in cycle {run.in_sync_skew.cycle}"))
     skew = None if run.cluster.joins else sharp.skew_of(run)
     if skew:
-        found.append(Row("simulated, sharp sync", skew[0], f"the greatest skew, in cycle {skew[1]}"))
+        found.append(Row("simulated, sharp sync", skew.ticks, f"the greatest skew, in cycle {skew.cycle}"))
     figures = later(run, run.begin)
     if figures:
         name = "simulated, later" if exact(run) else "starts, later"
@@ -82,7 +83,7 @@ def simulated(run):
     return found
 
 
-def rows(run, both, worst=WORST):
+def rows(run: Run, both: dict[str, SharpBounds], worst: int = WORST) -> tuple[list[Row], int]:
     """Each number of the table, and the one of this cluster that others are held against."""
     p = run.cluster.parameters
     found = [Row("the standard, best case", by_formula(p, BEST, BEST_DAMPING, BEST_DELAYS),
@@ -99,7 +100,7 @@ def rows(run, both, worst=WORST):
     return found + simulated(run), own
 
 
-def compared(run, program, worst=WORST, flutter_ns=None):
+def compared(run: Run, program: str, worst: int = WORST, flutter_ns: str | None = None) -> str:
     """The page."""
     cluster, unit = run.cluster, run.cluster.microtick_ns
     p, flutter = cluster.parameters, flutter_asked(flutter_ns, run)
@@ -110,18 +111,18 @@ def compared(run, program, worst=WORST, flutter_ns=None):
     own = "the greatest of this run" if run.sharp.flutter <= sharp.MOST else "the most that flexray bound takes"
     lines += field("Flutter", f"{microseconds(flutter, unit)}: how far a delay may differ between the two cycles of a double "
                               f"cycle; {own if flutter_ns is None else 'as asked'}")
-    table, own = rows(run, both, worst)
+    table, mine = rows(run, both, worst)
     lines += ["", f"{'precision':<26}{'us':>9}{'microticks':>12}{'fails':>13}{'lasts':>9}{'part':>10}"]
     for row in table:
         lines.append(f"{row.name:<26}{decimal(us_of_ticks(row.ticks, unit), 3):>9}{decimal(Fraction(row.ticks, TICKS), 1):>12}"
-                     f"{row.fails:>13}{row.lasts:>9}{percent(row.ticks, own):>10}  {row.what}")
+                     f"{row.fails:>13}{row.lasts:>9}{percent(row.ticks, mine):>10}  {row.what}")
     lines += ["", *field("", "fails: which of its checks do. lasts: for how many double cycles it holds, on: on and on. part: of "
                              + ("the older bound." if cluster.joins else "the sharp number of this cluster."))]
     lines += field("Sharp", sharp_words(run, both[run.sharp.bounds.kind], flutter))
     return "\n".join(lines + field("Older", older_words(run)) + closing_lines(worst)) + "\n"
 
 
-def sharp_words(run, bounds, flutter):
+def sharp_words(run: Run, bounds: SharpBounds, flutter: int) -> str:
     """Whether the sharp number of this cluster is proved of this run, with delays that flutter so much."""
     known, gap = sharp.gap_of(run)
     if gap and gap[0] == "check" or bounds.gap:
@@ -140,9 +141,9 @@ def sharp_words(run, bounds, flutter):
                    f"({lasting(ms_of_cycle(2 * bounds.lasts, run.cluster))}), since C1 fails")
 
 
-def older_words(run):
+def older_words(run: Run) -> str:
     """Whether the older bound is proved of this run."""
-    failing_checks = [f"C{check[0]}" for check in run.bounds.failing]
+    failing_checks = [f"C{check.number}" for check in run.bounds.failing]
     if failing_checks:
         verb = "fails" if len(failing_checks) == 1 else "fail"
         return f"nothing of this cluster is proved by the older bound, since {', '.join(failing_checks)} {verb}"
@@ -152,7 +153,7 @@ def older_words(run):
     return "while in sync no macroticks of correct nodes lie further apart than the older bound: that is proved too"
 
 
-def closing_lines(worst):
+def closing_lines(worst: int) -> list[str]:
     return (field("The standard", "its formulas, of the appendix on parameter constraints, say how near clocks come in "
                                   "the long run: the best case without a faulty node, the worst with one. No proof "
                                   "stands beside them, nor which oscillators and starts they are of. They are quoted "

@@ -1,39 +1,46 @@
 """The picture of a study: skew over the values of its first key, or over the share of its draws."""
 import os
 from fractions import Fraction
+from typing import NamedTuple
 
 from ..base.ending import DONE
 from .pictures import COLOURS, KEY, POINTS, draw, plain_axes
-from ..runs.study import worth
+from ..runs.study import Line, Plan, worth
 from ..base.units import decimal
 
 
-def curves(plan, good):
-    """(name, points of (x, line)) of each curve: over the values of the first key, of the worst draw, one curve for each
-    choice of the others; or, of draws alone, over the share of the runs."""
+class Curve(NamedTuple):
+    """The results of runs over a number that is written, with a name."""
+    name: str
+    points: list[tuple[str, Line]]
+
+
+def curves(plan: Plan, good: list[Line]) -> list[Curve]:
+    """Curves over the values of the first key, of the worst draw, one for each choice of the others; or, of draws alone, over the
+    share of the runs."""
     if not plan["keys"]:
         order = list(enumerate(sorted(good, key=worth), 1))
         # Of many runs every so many, and the worst.
         some = order[::-max(1, len(order) // POINTS)][::-1]
-        return [("", [(decimal(Fraction(100 * at, len(order)), 3), line) for at, line in some])]
-    found = {}
+        return [Curve("", [(decimal(Fraction(100 * at, len(order)), 3), line) for at, line in some])]
+    found: dict[str, dict[str, Line]] = {}
     for line in good:
         others = ", ".join(f"{key} {line[key]}" for key in plan["keys"][1:])
         best = found.setdefault(others, {})
         x = line[plan["keys"][0]]
         if x not in best or worth(best[x]) < worth(line):
             best[x] = line
-    return [(name, sorted(best.items(), key=lambda one: Fraction(one[0]))) for name, best in found.items()]
+    return [Curve(name, sorted(best.items(), key=lambda one: Fraction(one[0]))) for name, best in found.items()]
 
 
-def row(x, line):
+def row(x: str, line: Line) -> str:
     """A line of the data: x, the precision, the skews in sync, greatest and later, and that of a run that is not covered."""
     greatest = line["greatest_skew_us"]
     return (f"{x} {line['precision_us']} {line['skew_in_sync_us'] or 'NaN'} {greatest} {line.get('later_skew_us') or 'NaN'} "
             f"{'NaN' if line['covered'] == 'yes' else greatest}\n")
 
 
-def picture(folder, plan, lines):
+def picture(folder: str, plan: Plan, lines: dict[int, Line]) -> list[str]:
     good = [line for line in lines.values() if line["status"] == DONE]
     if not good:
         return []

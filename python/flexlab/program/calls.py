@@ -10,8 +10,11 @@ import subprocess
 import sys
 import tempfile
 import threading
-from collections.abc import Callable
-from typing import IO, Any
+from collections.abc import Callable, Sequence
+from typing import IO, Any, NamedTuple
+from types import ModuleType
+
+from flexray import Answer
 
 from ..base.ending import MISSING, PROGRAM, Stop
 from .stamp import stamp
@@ -20,6 +23,14 @@ PACKAGES = {"gnuplot": "gnuplot-nox", "parallel": "parallel", "tshark": "tshark"
 HERE = os.path.dirname(os.path.realpath(__file__))
 # Where the repository has what its tools build, and what they say of that.
 OUT = os.path.realpath(os.path.join(HERE, "..", "..", "..", "out"))
+Request = Callable[..., Answer]
+
+
+class Told(NamedTuple):
+    """What a call of a program came to: its status, what it printed, and its last line on standard error."""
+    status: int
+    text: str
+    line: str
 
 
 def flexray(given: str | None = None, command: str = "") -> str:
@@ -75,7 +86,7 @@ def own_program(command: str = "") -> str | None:
     return shutil.which("flexray")
 
 
-def series(program):
+def series(program: str) -> str | None:
     """The second program, flexray-series, where it is installed beside the first or on the path.
 
     The variable FLEXRAY_SERIES names another one; where it is empty none is taken.
@@ -93,13 +104,13 @@ def series(program):
     return None
 
 
-def is_script(path):
+def is_script(path: str) -> bool:
     """The launcher of a repository is one: it would build the program first, which takes long."""
     with open(path, "rb") as file:
         return file.read(2) == b"#!"
 
 
-def helper(name):
+def helper(name: str) -> str:
     """A program of a Debian package, or the end of flexlab with the package's name."""
     found = shutil.which(name)
     if not found:
@@ -109,13 +120,14 @@ def helper(name):
 
 
 # Which words of a request are files, by their places.
-FILES = {"frame": [2], "bound": [1], "upgrade": [1], "settle": [1], "nm": [2], "run": [1, 2, 3], "trace": [1, 2, 3],
-         "check": [1, 2], "observe": [1, 2], "cold": [1, 2], "capture": [2], "make": []}
+FILES: dict[str, list[int]] = {
+    "frame": [2], "bound": [1], "upgrade": [1], "settle": [1], "nm": [2], "run": [1, 2, 3], "trace": [1, 2, 3], "check": [1, 2],
+    "observe": [1, 2], "cold": [1, 2], "capture": [2], "make": []}
 NAMES = ("first", "second", "third")
 
 
 @functools.lru_cache
-def package():
+def package() -> ModuleType | None:
     """The Python package of flexray, or None where it or its library is not there or is of other sources than these. Where the
     variable FLEXLAB_LIBRARY is `no` it is not taken."""
     if os.environ.get("FLEXLAB_LIBRARY") == "no":
@@ -131,40 +143,41 @@ def package():
 
 
 @functools.lru_cache
-def by_library(program):
+def by_library(program: str) -> Request | None:
     """The function of the package that answers as this program does: where it is the one that flexlab finds by itself, or
     flexray-series beside it. None where a call has to be one of the program."""
-    own = own_program()
-    if not own or not package():
+    own, found = own_program(), package()
+    if not own or found is None:
         return None
+    request: Request | None = None
     if os.path.realpath(program) == os.path.realpath(own):
-        return package().request
-    if not os.environ.get("FLEXRAY_SERIES") and program == series(own):
-        return package().series_request
-    return None
+        request = found.request
+    elif not os.environ.get("FLEXRAY_SERIES") and program == series(own):
+        request = found.series_request
+    return request
 
 
-def answered(program, words):
+def answered(program: str, words: Sequence[str]) -> Told | None:
     """(status, text, line) of a call of the library in place of the program; None where only the program can answer."""
-    request = by_library(program)
-    if request is None:
+    request, own = by_library(program), package()
+    if request is None or own is None:
         return None
-    places = [0, 1, 2] if request == package().series_request else FILES.get(words[0] if words else "")
+    places = [0, 1, 2] if request == own.series_request else FILES.get(words[0] if words else "")
     if places is None or len(words) <= max(places, default=0) or any("\n" in word for word in words):
         return None
-    spelt, files = list(words), []
+    spelt, files = list(words), list[bytes]()
     for name, place in zip(NAMES, places):
         # A file that cannot be read, and one that is none, are the program's to tell.
         if not os.path.isfile(words[place]):
             return None
         try:
             with open(words[place], "rb") as file:
-                files.append(file.read(package().library.MOST + 1))
+                files.append(file.read(own.library.MOST + 1))
         except OSError:
             return None
         spelt[place] = name
-    found = beside(lambda: request(spelt, *files))
-    return found.status, found.text, found.line
+    found = beside(functools.partial(request, spelt, *files))
+    return Told(found.status, found.text, found.line)
 
 
 def beside(ask: Callable[[], Any]) -> Any:
@@ -208,15 +221,14 @@ def stream(program: str, words: list[str], most: int) -> tuple[int, bytes, str]:
     return ended.returncode, bytes(found[:most + 1]), lines[-1] if lines else ""
 
 
-def call(program: str, words: list[str], out: IO[bytes] | None = None, cwd: str | None = None) -> tuple[int, str, str]:
+def call(program: str, words: Sequence[str], out: IO[bytes] | None = None, cwd: str | None = None) -> Told:
     """Calls a program, in the folder `cwd` where one is named: its status, what it printed (or wrote to the file `out`), and its
     last line on err. No shell reads the words."""
     found = answered(program, words) if cwd is None else None
     if found is not None:
-        status, text, told = found
         if out:
-            out.write(text.encode("utf-8"))
-        return status, "" if out else text, told
+            out.write(found.text.encode("utf-8"))
+        return found._replace(text="") if out else found
     try:
         ended = subprocess.run([program, *words], stdin=subprocess.DEVNULL, stderr=subprocess.PIPE,
                                stdout=out or subprocess.PIPE, check=False, cwd=cwd)
@@ -224,4 +236,4 @@ def call(program: str, words: list[str], out: IO[bytes] | None = None, cwd: str 
         raise Stop(PROGRAM, f"{program}: {fault.strerror}")
     text = "" if out else ended.stdout.decode("utf-8", "replace")
     told = ended.stderr.decode("utf-8", "replace").strip().splitlines()
-    return ended.returncode, text, told[-1] if told else ""
+    return Told(ended.returncode, text, told[-1] if told else "")

@@ -10,14 +10,16 @@ class Record:
     number: int
     line: int
     text: str
-    fields: list
+    fields: list[str]
 
 
-def records(data):
+def records(data: bytes) -> list[Record]:
     """The records of a file's bytes, numbered from 1; empty lines are none."""
     if data.startswith(b"\xef\xbb\xbf"):
         data = data[3:]
-    found, fields, field = [], [], bytearray()
+    found: list[Record] = []
+    fields: list[str] = []
+    field = bytearray()
     line, begin_line, begin, at = 1, 1, 0, 0
     quoted = was_quoted = touched = False
     while at <= len(data):
@@ -53,9 +55,9 @@ def records(data):
     return found
 
 
-def shown(field):
+def shown(field: bytearray) -> str:
     return bytes(field).decode("utf-8", "replace")
 
 
-def load(path):
+def load(path: str) -> list[Record]:
     return records(read(path, FILE_BYTES))

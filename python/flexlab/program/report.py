@@ -1,8 +1,27 @@
 """What flexray printed, taken apart: bounds, reports, traces and series."""
 import re
+from collections.abc import Callable, Sequence
 from dataclasses import dataclass, field
+from typing import NamedTuple, TypeVar
+
+from flexray import texts
 
 from ..base.ending import PROGRAM, Stop
+
+
+class Check(NamedTuple):
+    """A check of a cluster: it holds where its left side is enough for the right one."""
+    number: int
+    holds: bool
+    left: int
+    right: int
+
+
+class Skew(NamedTuple):
+    """How far nodes lie apart at most, in ticks, and the first cycle and macrotick at which they do."""
+    ticks: int
+    cycle: int
+    macrotick: int
 
 
 @dataclass
@@ -12,25 +31,36 @@ class Bounds:
     pi: int = 0
     precision: int = 0
     reach: int | None = None
-    checks: list = field(default_factory=list)
+    checks: list[Check] = field(default_factory=list)
 
     @property
-    def failing(self):
-        return [check for check in self.checks if not check[1]]
+    def failing(self) -> list[Check]:
+        return [check for check in self.checks if not check.holds]
 
 
-def strange(what, line):
+Parsed = TypeVar("Parsed")
+
+
+def understood(parse: Callable[[str], Parsed], what: str, text: str) -> Parsed:
+    """A text of flexray taken apart, or the end of flexlab where it is none."""
+    try:
+        return parse(text)
+    except texts.Strange as fault:
+        raise strange(what, fault.line)
+
+
+def strange(what: str, line: str) -> Stop:
     return Stop(PROGRAM, f"flexray printed a {what} that is not understood: {line}")
 
 
-def read_bounds(text):
+def read_bounds(text: str) -> Bounds:
     found = Bounds()
     for line in text.splitlines():
         words = line.split()
         if words[0] in ("y1", "lambda", "pi", "precision", "reach"):
             setattr(found, words[0] + ("_" if words[0] == "lambda" else ""), int(words[1]))
         elif re.fullmatch(r"C\d+ (holds|fails) -?\d+ -?\d+", line):
-            found.checks.append((int(words[0][1:]), words[1] == "holds", int(words[2]), int(words[3])))
+            found.checks.append(Check(int(words[0][1:]), words[1] == "holds", int(words[2]), int(words[3])))
         else:
             raise strange("bound", line)
     return found
@@ -46,20 +76,20 @@ class SharpBounds:
     pi: int = 0
     precision: int = 0
     reach: int | None = None
-    checks: list = field(default_factory=list)
+    checks: list[Check] = field(default_factory=list)
     lasts: int | None = None
 
     @property
-    def failing(self):
-        return [check for check in self.checks if not check[1]]
+    def failing(self) -> list[Check]:
+        return [check for check in self.checks if not check.holds]
 
     @property
-    def gap(self):
+    def gap(self) -> list[str] | None:
         """The words of the first check behind C1 that fails, or None: C1 decides how long the bounds hold, and is no gap."""
-        return next((["check", *map(str, (check[0], *check[2:]))] for check in self.failing if check[0] != 1), None)
+        return next((["check", str(check.number), str(check.left), str(check.right)] for check in self.failing if check.number != 1), None)
 
 
-def read_sharp_bounds(text):
+def read_sharp_bounds(text: str) -> dict[str, SharpBounds]:
     """What `bound PARAMS sharp FLUTTER` printed, also with `join` behind it: the bounds of each kind."""
     both = [SharpBounds("alone"), SharpBounds("beside")]
     for line in text.splitlines():
@@ -72,10 +102,24 @@ def read_sharp_bounds(text):
             elif words[:-1] in (["lasts"], ["first", "rates", "last"]):
                 kind.lasts = None if words[-1] == "on" else int(words[-1])
             elif re.fullmatch(r"C\d (holds|fails) -?\d+ -?\d+", " ".join(words)):
-                kind.checks.append((int(words[0][1:]), words[1] == "holds", int(words[2]), int(words[3])))
+                kind.checks.append(Check(int(words[0][1:]), words[1] == "holds", int(words[2]), int(words[3])))
             else:
                 raise strange("bound", line)
     return {kind.kind: kind for kind in both}
+
+
+class Sent(NamedTuple):
+    """The frames of a channel: how many correct nodes sent, and the exclusive or of their frame CRCs, as digits."""
+    frames: int
+    xor: str
+
+
+class NodeEnd(NamedTuple):
+    """A node behind the last cycle: its state, the start of the cycle that would come next, its terms in microticks."""
+    state: str
+    next: int
+    rate: int
+    offset: int
 
 
 @dataclass
@@ -85,18 +129,18 @@ class Report:
     arbitrary: int = 0
     doubles: int = 0
     precision: int = 0
-    gap: list | None = None
+    gap: list[str] | None = None
     in_sync: int | None = None
     skew: int = 0
     cycle: int = 0
     macrotick: int = 0
-    sent: dict = field(default_factory=dict)
-    heard: dict = field(default_factory=dict)
+    sent: dict[str, Sent] = field(default_factory=dict)
+    heard: dict[str, int] = field(default_factory=dict)
     cut: int = 0
-    ends: dict = field(default_factory=dict)
+    ends: dict[int, NodeEnd] = field(default_factory=dict)
 
 
-def read_report(text):
+def read_report(text: str) -> Report:
     found = Report()
     for line in text.splitlines():
         words = line.split()
@@ -112,13 +156,13 @@ def read_report(text):
         elif words[:2] == ["greatest", "skew"]:
             found.skew, found.cycle, found.macrotick = int(words[2]), int(words[4]), int(words[6])
         elif words[0] == "sent":
-            found.sent[words[1]] = int(words[2]), words[4]
+            found.sent[words[1]] = Sent(int(words[2]), words[4])
         elif words[0] == "heard":
             found.heard = {name: int(count) for name, count in zip(words[1::2], words[2::2])}
         elif words[0] == "cut":
             found.cut = int(words[1])
         elif words[0] == "node":
-            found.ends[int(words[1])] = words[2], int(words[4]), int(words[6]), int(words[8])
+            found.ends[int(words[1])] = NodeEnd(words[2], int(words[4]), int(words[6]), int(words[8]))
         else:
             raise strange("report", f"{line} {pairs}")
     return found
@@ -133,16 +177,36 @@ class Row:
     state: str
 
 
-def read_trace(path):
+# The rows of a cycle by node, and those of each cycle.
+Rows = dict[int, Row]
+Trace = list[Rows]
+
+
+class Within(NamedTuple):
+    """Whether a skew stayed within a precision, and the first cycle and macrotick at which it did not."""
+    holds: bool
+    cycle: int | None
+    macrotick: int | None
+
+
+class SeriesCycle(NamedTuple):
+    """A cycle of a series; its skew is None where no node runs."""
+    cycle: int
+    in_sync: bool
+    skew: int | None
+    macrotick: int | None
+
+
+def read_trace(path: str) -> Trace:
     """The `cycle` rows of a trace: for each cycle the rows by node."""
-    cycles = []
+    cycles: Trace = []
     with open(path, encoding="ascii") as file:
         for line in file:
             words = line.rstrip("\n").split(",")
             if words[0] == "cycle":
                 if int(words[1]) == len(cycles):
                     cycles.append({})
-                cycles[-1][int(words[2])] = Row(*(int(word) for word in words[3:7]), words[7])
+                cycles[-1][int(words[2])] = Row(int(words[3]), int(words[4]), int(words[5]), int(words[6]), words[7])
     return cycles
 
 
@@ -150,32 +214,37 @@ def read_trace(path):
 class SharpSeries:
     """What the lines of flexray-series say of the sharper bounds. `rows` has of each cycle whether it is in sharp sync;
     `lasts` is None where the walk does so on and on."""
-    rows: list = field(default_factory=list)
+    rows: list[bool] = field(default_factory=list)
     flutter: int = 0
     precision: int = 0
     kind: str = ""
-    gap: list | None = None
+    gap: list[str] | None = None
     synced: int | None = None
     lasts: int | None = None
-    greatest: tuple | None = None
-    within: tuple | None = None
+    greatest: Skew | None = None
+    within: Within | None = None
 
 
 @dataclass
 class Series:
     """What flexray-series printed: of each cycle (cycle, in sync, skew, macrotick), and its last lines."""
-    rows: list = field(default_factory=list)
-    greatest: tuple | None = None
+    rows: list[SeriesCycle] = field(default_factory=list)
+    greatest: Skew | None = None
     synced: bool = False
-    within: tuple | None = None
+    within: Within | None = None
     sharp: SharpSeries = field(default_factory=SharpSeries)
 
 
-def within_of(words, numbers):
-    return None if words[1] == "-" else (words[1] == "yes", numbers[2], numbers[3])
+def within_of(words: Sequence[str], numbers: Sequence[int | None]) -> Within | None:
+    return None if words[1] == "-" else Within(words[1] == "yes", numbers[2], numbers[3])
 
 
-def read_series(text):
+def greatest_of(numbers: Sequence[int | None]) -> Skew | None:
+    ticks, cycle, macrotick = numbers[1:4]
+    return None if ticks is None or cycle is None or macrotick is None else Skew(ticks, cycle, macrotick)
+
+
+def read_series(text: str) -> Series:
     """What `flexray-series .. sharp` printed. The skew of a cycle without running nodes is None, as is what is not told since
     no cycle is in sync."""
     found = Series()
@@ -187,10 +256,10 @@ def read_series(text):
         if len(words) != 5:
             raise strange("series", line)
         if numbers[0] is not None and words[1] in ("yes", "no"):
-            found.rows.append((numbers[0], words[1] == "yes", numbers[2], numbers[3]))
+            found.rows.append(SeriesCycle(numbers[0], words[1] == "yes", numbers[2], numbers[3]))
             found.sharp.rows.append(words[4] == "yes")
         elif words[0] == "greatest":
-            found.greatest = tuple(numbers[1:4]) if numbers[1] is not None else None
+            found.greatest = greatest_of(numbers)
         elif words[0] == "synced":
             found.synced = words[1] == "yes"
         elif words[0] == "within":
@@ -200,7 +269,7 @@ def read_series(text):
     return found
 
 
-def read_sharp(found, words, numbers):
+def read_sharp(found: SharpSeries, words: Sequence[str], numbers: Sequence[int | None]) -> bool:
     """Takes a line of the sharper bounds; whether it is one."""
     if words[0] == "flutter" and numbers[1] is not None:
         found.flutter = numbers[1]
@@ -211,7 +280,7 @@ def read_sharp(found, words, numbers):
     elif words[0] == "sharp synced":
         found.synced, found.lasts = numbers[1], numbers[2]
     elif words[0] == "sharp greatest":
-        found.greatest = tuple(numbers[1:4]) if numbers[1] is not None else None
+        found.greatest = greatest_of(numbers)
     elif words[0] == "sharp within":
         found.within = within_of(words, numbers)
     else:

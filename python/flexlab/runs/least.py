@@ -2,13 +2,52 @@
 hold is asked of flexray bound before anything is said of them."""
 from dataclasses import dataclass
 from fractions import Fraction
+from typing import NamedTuple, overload
 
 from ..base import ranges
+from ..base.ranges import Parameters
 from ..pages.advice import TURNS, latest_start, up
 
 TICKS = 1000000
 FITTED = ("xRateBound", "xChangeBound", "xDelayError", "pRateCorrectionOut", "pClusterDriftDamping", "pOffsetCorrectionOut",
           "gdActionPointOffset", "gdStaticSlot")
+
+
+# Parameters with which all checks hold, or why there are none.
+Found = tuple[Parameters | None, str | None]
+
+
+class Sides(NamedTuple):
+    """Both sides of a check."""
+    left: int
+    right: int
+
+
+class Common(NamedTuple):
+    """The longest and the shortest microtick, the error of an arrival, and by how much a cycle changes, in ticks."""
+    longest: int
+    shortest: int
+    error: int
+    change: int
+
+
+@dataclass
+class Numbers:
+    """What `flexray bound` prints: bounds by their names, and both sides of checks by their numbers. Of sharper bounds, for how many
+    double cycles the walk and first rates last, None where they do on and on."""
+    bounds: dict[str, int]
+    sides: dict[int, Sides]
+    lasts: int | None = None
+    first_rates: int | None = None
+
+    @overload
+    def __getitem__(self, name: int) -> Sides: ...
+
+    @overload
+    def __getitem__(self, name: str) -> int: ...
+
+    def __getitem__(self, name: int | str) -> Sides | int:
+        return self.sides[name] if isinstance(name, int) else self.bounds[name]
 
 
 @dataclass(frozen=True)
@@ -20,52 +59,49 @@ class Kind:
     last: int
 
     @property
-    def name(self):
+    def name(self) -> str:
         return "beside" if self.beside else "alone"
 
 
-def common_of(p, wait=None):
+def common_of(p: Parameters, wait: int | None = None) -> Common:
     """What all bounds are made of: the longest and the shortest microtick, the error of an arrival, and by how much a cycle
     changes."""
     wait = ranges.compensation(p) if wait is None else wait
-    return (TICKS + p["xRateBound"], TICKS - p["xRateBound"], p["xDelayError"] + wait * p["xRateBound"],
-            (p["pMicroPerCycle"] + p["pRateCorrectionOut"]) * p["xChangeBound"])
+    return Common(TICKS + p["xRateBound"], TICKS - p["xRateBound"], p["xDelayError"] + wait * p["xRateBound"],
+                  (p["pMicroPerCycle"] + p["pRateCorrectionOut"]) * p["xChangeBound"])
 
 
-def slot_sides(p, first, apart, wait=None):
+def slot_sides(p: Parameters, first: int, apart: int, wait: int | None = None) -> dict[int, Sides]:
     """Both sides of a check of the offset limit, and of the two of slots behind it, for clocks so far apart; `wait` is the greater
     compensation where that is known."""
     wait, rate = ranges.compensation(p) if wait is None else wait, p["xRateBound"]
     longest, shortest, error = TICKS + rate, TICKS - rate, p["xDelayError"] + wait * rate
     macros, left = p["gMacroPerCycle"], p["pMicroPerCycle"] - p["pRateCorrectionOut"]
     point, rest = p["gdActionPointOffset"], p["gdStaticSlot"] - p["gdActionPointOffset"]
-    return {first: (p["pOffsetCorrectionOut"] * shortest, apart + error + longest),
-            first + 1: ((point * left - macros) * shortest, macros * (apart + p["xDelayError"])),
-            first + 2: ((rest * left - macros) * shortest,
-                        macros * (apart + wait * TICKS + p["xDelayError"]))}
+    return {first: Sides(p["pOffsetCorrectionOut"] * shortest, apart + error + longest),
+            first + 1: Sides((point * left - macros) * shortest, macros * (apart + p["xDelayError"])),
+            first + 2: Sides((rest * left - macros) * shortest, macros * (apart + wait * TICKS + p["xDelayError"]))}
 
 
-def bounds_of(p, join=False):
+def bounds_of(p: Parameters, join: bool = False) -> Numbers:
     """The bounds of a cluster and both sides of its checks, as `flexray bound` prints them."""
     longest, shortest, error, change = common_of(p)
     damping, most = p["pClusterDriftDamping"], p["pRateCorrectionOut"]
     y1 = 2 * error + 2 * longest + 3 * change
     lengths = 4 * y1 + 2 * longest + 4 * damping * longest + 8 * change
     starts = 6 * lengths + 4 * error + 8 * longest
-    found = {"y1": y1, "lambda": lengths, "pi": starts, "precision": starts + 2 * lengths + 2 * longest}
-    drift = 2 * p["pMicroPerCycle"] * p["xRateBound"]
-    found[1] = damping * shortest, y1 + 2 * change
-    found[2] = most * shortest, drift
-    found.update(slot_sides(p, 3, found["precision"]))
+    precision, drift = starts + 2 * lengths + 2 * longest, 2 * p["pMicroPerCycle"] * p["xRateBound"]
+    found = Numbers({"y1": y1, "lambda": lengths, "pi": starts, "precision": precision},
+                    {1: Sides(damping * shortest, y1 + 2 * change), 2: Sides(most * shortest, drift), **slot_sides(p, 3, precision)})
     if join:
         follower = y1 + 4 * change
-        found["reach"] = starts + 8 * lengths + 4 * follower + 4 * error + 8 * longest
-        found[6] = most * shortest, drift + follower
-        found.update(slot_sides(p, 7, found["reach"]))
+        reach = starts + 8 * lengths + 4 * follower + 4 * error + 8 * longest
+        found.bounds["reach"] = reach
+        found.sides.update({6: Sides(most * shortest, drift + follower), **slot_sides(p, 7, reach)})
     return found
 
 
-def sharp_bounds_of(p, kind):
+def sharp_bounds_of(p: Parameters, kind: Kind) -> Numbers:
     """The sharper bounds of a cluster and both sides of their checks, as `flexray bound PARAMS sharp FLUTTER join` prints them;
     with how far action points lie apart, and for how many double cycles the walk and first rates last (None: on and on)."""
     wait = ranges.compensation(p)
@@ -83,30 +119,31 @@ def sharp_bounds_of(p, kind):
     walk = kind.flutter + change + wide - 1 + (shortest - damping * shortest if damping else longest)
     room = most * shortest - 2 * micros * p["xRateBound"]
     counted = kind.flutter + change + longest
-    return {"lambda": lengths, "pi": starts, "precision": starts + lengths + odd + 2 * longest, "near": near,
-            "reach": reach, "lasts": 0 if room < 0 else None if walk <= 0 else room // walk,
-            "first rates": 0 if room < counted else None if walk <= 0 else min(room // walk, (room - counted) // walk + 1),
-            1: (damping * shortest + 1, shortest + kind.flutter + change + wide),
-            2: (most * shortest, 2 * micros * p["xRateBound"]), **slot_sides(p, 3, near, wait),
-            6: (most * shortest, 2 * micros * p["xRateBound"] + counted), **slot_sides(p, 7, reach, wait)}
+    lasts = 0 if room < 0 else None if walk <= 0 else room // walk
+    first_rates = 0 if room < counted else None if walk <= 0 else min(room // walk, (room - counted) // walk + 1)
+    return Numbers({"lambda": lengths, "pi": starts, "precision": starts + lengths + odd + 2 * longest, "near": near,
+                    "reach": reach},
+                   {1: Sides(damping * shortest + 1, shortest + kind.flutter + change + wide),
+                    2: Sides(most * shortest, 2 * micros * p["xRateBound"]), **slot_sides(p, 3, near, wait),
+                    6: Sides(most * shortest, 2 * micros * p["xRateBound"] + counted), **slot_sides(p, 7, reach, wait)}, lasts, first_rates)
 
 
-def holds(number, sides):
+def holds(number: int, sides: Sides) -> bool:
     """Whether a check holds with these sides: of a late arrival the left one has to be greater."""
-    return sides[0] > sides[1] if number in (5, 9) else sides[0] >= sides[1]
+    return sides.left > sides.right if number in (5, 9) else sides.left >= sides.right
 
 
-def beyond(name, value):
+def beyond(name: str, value: int) -> str:
     return f"{name} would have to be {value}, and is {ranges.PARAMETERS[name][1]} at most"
 
 
-def least_damping(p):
+def least_damping(p: Parameters) -> int:
     """The least damping with which C1 holds."""
     _, right = bounds_of(p)[1]
     return up(Fraction(right, TICKS - p["xRateBound"]))
 
 
-def least_rate(p, join):
+def least_rate(p: Parameters, join: bool) -> int:
     shortest, change = TICKS - p["xRateBound"], 7 * p["xChangeBound"]
     drift = 2 * p["pMicroPerCycle"] * p["xRateBound"]
     found = up(Fraction(drift, shortest))
@@ -117,13 +154,13 @@ def least_rate(p, join):
     return found
 
 
-def least_sharp_damping(p, kind):
+def least_sharp_damping(p: Parameters, kind: Kind) -> int:
     """The least damping with which the first sharper check holds, so that lengths do not walk."""
     _, right = sharp_bounds_of(p, kind)[1]
     return up(Fraction(right - 1, TICKS - p["xRateBound"]))
 
 
-def sharp_advise(number, parameters, kind):
+def sharp_advise(number: int, parameters: Parameters, kind: Kind) -> tuple[str, int, int | None]:
     """The parameter that a failing sharper check asks for, the value it has, and the least that meets the check with all else
     as it is; None where none of its range does."""
     name = TURNS[number]
@@ -132,12 +169,13 @@ def sharp_advise(number, parameters, kind):
                             if holds(number, sharp_bounds_of({**parameters, name: value}, kind)[number])), None)
 
 
-def least_sharp(parameters, kind, damping):
+def least_sharp(parameters: Parameters, kind: Kind, damping: int) -> Found:
     """These parameters with this damping, and the least changes by which all sharper checks behind the first hold, or why
     there are none. Limits and slots stand in the right sides too, so they are fitted until nothing changes."""
     p = {**parameters, "pClusterDriftDamping": damping,
          "pRateCorrectionOut": max(parameters["pRateCorrectionOut"], least_rate(parameters, False))}
-    before, name = None, too_great(p)
+    before: Parameters | None = None
+    name = too_great(p)
     if name:
         return None, beyond(name, p[name])
     while p != before:
@@ -149,12 +187,12 @@ def least_sharp(parameters, kind, damping):
     return schedule(p)
 
 
-def too_great(p):
+def too_great(p: Parameters) -> str | None:
     """The first parameter that is beyond its range, or None."""
     return next((name for name in FITTED if p[name] > ranges.PARAMETERS[name][1]), None)
 
 
-def fit_slots(p, sides, first):
+def fit_slots(p: Parameters, sides: Numbers, first: int) -> None:
     """Raises the offset limit and makes room in the slots, as these sides of checks ask; a value that suffices stays, only
     the action point may move back, where the slot is long enough for both sides of it."""
     shortest, macros = TICKS - p["xRateBound"], p["gMacroPerCycle"]
@@ -168,7 +206,7 @@ def fit_slots(p, sides, first):
         p["gdActionPointOffset"] = min(max(p["gdActionPointOffset"], before), p["gdStaticSlot"] - behind)
 
 
-def least_values(parameters, join, damping=None):
+def least_values(parameters: Parameters, join: bool, damping: int | None = None) -> Found:
     """These parameters with the least changes by which all checks and constraints hold, or why there are none.
 
     The damping is the given one where it suffices.
@@ -186,7 +224,7 @@ def least_values(parameters, join, damping=None):
     return schedule(p)
 
 
-def schedule(p):
+def schedule(p: Parameters) -> Found:
     """The rest of the cycle behind the slots, with room for the offset correction, or why they do not fit."""
     macros, slots, slot = p["gMacroPerCycle"], p["gNumberOfStaticSlots"], p["gdStaticSlot"]
     start = latest_start(dict(p, gNumberOfStaticSlots=0))

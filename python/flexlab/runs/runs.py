@@ -1,52 +1,63 @@
 """One run of a cluster: its files, what flexray says of them, and what of it a page shows."""
+from __future__ import annotations
+
 import os
 import re
 from dataclasses import dataclass, field
+from typing import IO, TYPE_CHECKING
 
 from ..program import calls as programs
 from ..toml.constraints import broken, explain_constraint
 from ..base.ending import NO, PROGRAM, Stop
 from ..base.files import put, whole, write_files
 from ..program.known import KnownToml
-from ..program.report import Bounds, Report, Series, read_bounds, read_report, read_series, read_trace
+from ..program.report import Bounds, Report, Series, Skew, Trace, read_bounds, read_report, read_series, read_trace
+from ..toml.cluster import Cluster
 from .settled import skew_in_sync
 from .sharp import Sharp, flutter_of, sharp_of, sharp_words, unlike
 from .sync import fits, sync_of
 
+if TYPE_CHECKING:
+    from .ways import Ways
+
 
 @dataclass
 class Run:
-    cluster: object
+    cluster: Cluster
     folder: str
     bounds: Bounds
     report: Report
-    cycles: list
-    synced: list
-    in_sync_skew: tuple | None = None
+    cycles: Trace
+    synced: list[bool]
+    sharp: Sharp
+    in_sync_skew: Skew | None = None
     series: Series | None = None
-    sharp: Sharp | None = None
-    ways: object = None
-    files: list = field(default_factory=list)
+    ways: Ways | None = None
+    files: list[str] = field(default_factory=list)
     begin: int | None = None
-    asked: list = field(default_factory=list)
+    asked: list[tuple[int, int]] = field(default_factory=list)
 
     @property
-    def lost(self):
+    def lost(self) -> int | None:
         """The first double cycle behind the first in sync that is not in sync."""
         if self.report.in_sync is None:
             return None
         return next((at for at in range(self.report.in_sync, len(self.synced)) if not self.synced[at]), None)
 
-    def first_row(self, node):
+    def first_row(self, node: int) -> int | None:
         """The first cycle in which a node has a row, or None."""
         return next((cycle for cycle, rows in enumerate(self.cycles) if node in rows), None)
 
+    def microticks_of(self, node: int) -> tuple[int, int]:
+        """The lengths of the microtick of a node that takes part, in its first and in the last cycle."""
+        return next(rows[node].length for rows in self.cycles if node in rows), self.cycles[-1][node].length
+
     @property
-    def at_end(self):
+    def at_end(self) -> bool:
         return bool(self.synced) and self.synced[-1]
 
 
-def broken_constraints(told, cluster):
+def broken_constraints(told: str, cluster: Cluster) -> Stop:
     """What ends flexlab where flexray refuses the parameters of a TOML file: each constraint that is broken, by its lines."""
     known, first = KnownToml(cluster), int(told.split()[-1])
     found = [f"{cluster.path}: flexray refuses the parameters that come of it: {told}"]
@@ -56,7 +67,7 @@ def broken_constraints(told, cluster):
     return Stop(NO, "\n".join(found))
 
 
-def answer(program, words, out=None, cluster=None):
+def answer(program: str, words: list[str], out: IO[bytes] | None = None, cluster: Cluster | None = None) -> str:
     """What flexray prints; a refusal ends flexlab, with the explanation of it, by the TOML file where it is of one."""
     status, text, told = programs.call(program, words, out)
     if status == 5 and cluster and re.fullmatch(r"params: constraint [1-8]", told):
@@ -74,12 +85,12 @@ def keep(folder: str, name: str, text: str) -> None:
     put(os.path.join(folder, name), text)
 
 
-def bound_words(cluster, path):
+def bound_words(cluster: Cluster, path: str) -> list[str]:
     """What `bound` is asked for: of a cluster that nodes join also the checks for that."""
     return ["bound", path, "join"] if cluster.joins else ["bound", path]
 
 
-def run_cluster(cluster, folder, program, begin=None):
+def run_cluster(cluster: Cluster, folder: str, program: str, begin: int | None = None) -> Run:
     """Writes the files, calls bound, run, trace and flexray-series, and gathers what they say."""
     paths = write_files(cluster, folder)
     told = answer(program, bound_words(cluster, paths[0]), cluster=cluster)
@@ -96,10 +107,10 @@ def run_cluster(cluster, folder, program, begin=None):
     if not fits(synced, report.in_sync, cluster.joins) and cycles and cluster.correct:
         first = next((at for at, good in enumerate(synced) if good), None)
         raise Stop(PROGRAM, f"flexray says in sync {report.in_sync}, and its trace says {first}")
-    run = Run(cluster, folder, bounds, report, cycles, synced, files=paths, begin=begin)
-    run.sharp = call_sharp(run, program)
+    sharp = call_sharp(cluster, folder, paths[0], cycles, program)
+    run = Run(cluster, folder, bounds, report, cycles, synced, sharp, files=paths, begin=begin)
     run.series = call_series(program, paths, folder)
-    if run.series and synced != [row[1] for row in run.series.rows[::2]] and cycles:
+    if run.series and synced != [row.in_sync for row in run.series.rows[::2]] and cycles:
         raise Stop(PROGRAM, "flexray-series says of a double cycle that it is in sync, and the trace does not, or back")
     run.in_sync_skew = find_skew(run, program)
     if run.series:
@@ -110,14 +121,14 @@ def run_cluster(cluster, folder, program, begin=None):
     return run
 
 
-def call_sharp(run, program):
-    flutter = flutter_of(run.cluster)
-    text = answer(program, sharp_words(run.files[0], flutter, bool(run.cluster.joins)))
-    keep(run.folder, "sharp.txt", text)
-    return sharp_of(run.cluster, flutter, text, run.cycles)
+def call_sharp(cluster: Cluster, folder: str, path: str, cycles: Trace, program: str) -> Sharp:
+    flutter = flutter_of(cluster)
+    text = answer(program, sharp_words(path, flutter, bool(cluster.joins)))
+    keep(folder, "sharp.txt", text)
+    return sharp_of(cluster, flutter, text, cycles)
 
 
-def call_series(program, paths, folder):
+def call_series(program: str, paths: list[str], folder: str) -> Series | None:
     second = programs.series(program)
     if not second:
         return None
@@ -126,7 +137,7 @@ def call_series(program, paths, folder):
     return read_series(text)
 
 
-def find_skew(run, program):
+def find_skew(run: Run, program: str) -> Skew | None:
     """(skew, cycle, macrotick) of the greatest skew from the first double cycle in sync on."""
     report = run.report
     if report.in_sync is None:
@@ -134,5 +145,5 @@ def find_skew(run, program):
     if run.series and run.series.greatest:
         return run.series.greatest
     if report.cycle >= 2 * report.in_sync:
-        return report.skew, report.cycle, report.macrotick
+        return Skew(report.skew, report.cycle, report.macrotick)
     return skew_in_sync(run.cluster, run.cycles, report.in_sync, program, run.folder)

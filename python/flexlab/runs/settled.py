@@ -6,10 +6,11 @@ import os
 
 from ..program import calls as programs
 from ..base.files import whole, write_files
-from ..program.report import read_report, read_trace
+from ..program.report import Skew, Trace, read_report, read_trace
+from ..toml.cluster import Cluster, Steps
 
 
-def moved(steps, cycle):
+def moved(steps: Steps, cycle: int) -> Steps:
     """Rows that hold from a cycle on, counted from another cycle."""
     before = [at for at in steps if at <= cycle]
     found = {0: steps[max(before)]} if before else {}
@@ -17,7 +18,7 @@ def moved(steps, cycle):
     return found
 
 
-def begun_at(cluster, cycles, double):
+def begun_at(cluster: Cluster, cycles: Trace, double: int) -> tuple[Cluster, int]:
     """The cluster as it stood at a double cycle, and the tick that is its 0."""
     cycle = 2 * double
     later = copy.deepcopy(cluster)
@@ -25,15 +26,15 @@ def begun_at(cluster, cycles, double):
     zero = min(row.start for row in cycles[cycle].values())
     for number, row in cycles[cycle].items():
         later.nodes[number].start, later.nodes[number].rate = row.start - zero, row.rate
-    later.joins = {node: (at - double, reference) for node, (at, reference) in cluster.joins.items()
+    later.joins = {node: join._replace(double=join.double - double) for node, join in cluster.joins.items()
                    if node not in cycles[cycle]}
     later.lengths = {node: moved(steps, cycle) for node, steps in cluster.lengths.items()}
     later.delays = {link: moved(steps, cycle) for link, steps in cluster.delays.items()}
-    later.script = {(at - cycle, *link): row for (at, *link), row in cluster.script.items() if at >= cycle}
+    later.script = {at._replace(cycle=at.cycle - cycle): row for at, row in cluster.script.items() if at.cycle >= cycle}
     return later, zero
 
 
-def same(cycles, rest, cycle, zero):
+def same(cycles: Trace, rest: Trace, cycle: int, zero: int) -> bool:
     if len(cycles) != cycle + len(rest):
         return False
     for number, rows in enumerate(rest):
@@ -44,7 +45,7 @@ def same(cycles, rest, cycle, zero):
     return True
 
 
-def skew_in_sync(cluster, cycles, double, program, folder):
+def skew_in_sync(cluster: Cluster, cycles: Trace, double: int, program: str, folder: str) -> Skew | None:
     """(skew, cycle, macrotick) from that double cycle on, or None where the second run is not the rest."""
     if any(at < double and node not in cycles[2 * double] for node, (at, _) in cluster.joins.items()):
         return None
@@ -60,4 +61,4 @@ def skew_in_sync(cluster, cycles, double, program, folder):
     report = read_report(text)
     if not same(cycles, read_trace(trace), 2 * double, zero):
         return None
-    return report.skew, report.cycle + 2 * double, report.macrotick
+    return Skew(report.skew, report.cycle + 2 * double, report.macrotick)

@@ -1,14 +1,18 @@
 """How soon clocks that begin apart are in sync at the latest: flexray settle, asked and answered in the units of a bench."""
 import re
 from fractions import Fraction
+from argparse import Namespace
 
-from ..base.ending import DONE, NO, PROGRAM, USAGE, REFUSED, Stop
+from ..base.ending import DONE, NO, REFUSED, USAGE, Stop
 from ..base.numbers import MANY, number_of
 from ..base.files import hold, write_files
+from flexray import texts
+
 from ..pages.gaps import check_words, sharp_way_words
 from ..pages.page import ORIGIN, field, ms_of_cycle
 from ..program.calls import flexray
-from ..program.report import read_bounds, read_sharp_bounds
+from ..program.report import read_bounds, read_sharp_bounds, understood
+from ..toml.cluster import Cluster, Steps
 from .runs import answer, bound_words
 from .sharp import flutter_of, kind_of, sharp_words
 from ..pages.sharp_page import KINDS
@@ -18,17 +22,17 @@ from ..base.units import decimal, microseconds, percent, rounded, ticks_of_ns
 MOST = 1000000000000
 
 
-def length_at(steps, cycle):
+def length_at(steps: Steps, cycle: int) -> int:
     return steps[max(at for at in steps if at <= cycle)]
 
 
-def lengths(cluster, cycle):
+def lengths(cluster: Cluster, cycle: int) -> list[int]:
     """How long the correct nodes' cycles are at first, in ticks."""
     micros = cluster.parameters["pMicroPerCycle"]
     return [(micros + cluster.nodes[node].rate) * length_at(cluster.lengths[node], cycle) for node in cluster.correct]
 
 
-def given(text, option, size):
+def given(text: str, option: str, size: int) -> int:
     """Ticks of a number of an option."""
     try:
         number = number_of(text) if re.fullmatch(r"[0-9]+(\.[0-9]+)?", text) else Fraction(-1)
@@ -42,7 +46,7 @@ def given(text, option, size):
     return ticks
 
 
-def asked(cluster, words):
+def asked(cluster: Cluster, words: Namespace) -> tuple[int, int]:
     """START and RATE in ticks: as they are said, or those of the file."""
     micros = cluster.parameters["pMicroPerCycle"]
     start = (given(words.start_us, "--start-us", ticks_of_ns(1000, cluster.microtick_ns)) if words.start_us
@@ -52,14 +56,14 @@ def asked(cluster, words):
     return start, rate
 
 
-def beyond(cluster):
+def beyond(cluster: Cluster) -> list[int]:
     """The nodes whose first cycles are longer or shorter than their limit allows for at rate 0: the premise asks for that."""
     micros, most = cluster.parameters["pMicroPerCycle"], cluster.parameters["xRateBound"]
     return [node for cycle in (0, 1) for node, length in zip(cluster.correct, lengths(cluster, cycle))
             if not micros * (1000000 - most) <= length <= micros * (1000000 + most)]
 
 
-def settle(words, folder):
+def settle(words: Namespace, folder: str) -> int:
     """The request `settle`."""
     from ..toml.cluster import read_cluster
     cluster = read_cluster(words.file)
@@ -89,17 +93,7 @@ def settle(words, folder):
     return DONE if sharply or older else NO
 
 
-def told_of(program, words, prefix=""):
-    """(peak, double cycle or None, the failing check as three numbers or None) of what `settle` printed."""
-    text = answer(program, words)
-    peak = re.search(rf"^{prefix}peak (\d+)$", text, re.M)
-    ends = re.search(rf"^{prefix}settles (?:(\d+)|no check (\d) (\d+) (\d+))$", text, re.M)
-    if not peak or not ends:
-        raise Stop(PROGRAM, f"flexray settle printed what is not understood: {text}")
-    return int(peak[1]), ends[1] and int(ends[1]), None if ends[1] else tuple(map(int, ends.groups()[1:]))
-
-
-def way_lines(cluster, double, peak, precision, name):
+def way_lines(cluster: Cluster, double: int | None, peak: int, precision: int, name: str) -> list[str]:
     """How far clocks lie apart on the way, where that is proved."""
     furthest = f"{microseconds(peak, cluster.microtick_ns)}, {percent(peak, precision)} of the {name}"
     if double is None:
@@ -107,31 +101,37 @@ def way_lines(cluster, double, peak, precision, name):
     return field("On the way", f"no two macroticks lie further apart than {furthest}")
 
 
-def latest(cluster, double):
+def latest(cluster: Cluster, double: int) -> str:
     return (f"in double cycle {double} at the latest (cycle {2 * double}, "
             f"{decimal(2 * double * ms_of_cycle(1, cluster), 3)} ms): ")
 
 
-def sharp_lines(program, cluster, path, start, rate):
+def sharp_lines(program: str, cluster: Cluster, path: str, start: int, rate: int) -> tuple[bool, list[str]]:
     """(whether it is proved, lines) of when clocks are in sharp sync, of the kind and the flutter of the file."""
     flutter = flutter_of(cluster)
     kind = kind_of(cluster, flutter)
     bounds = read_sharp_bounds(answer(program, sharp_words(path, flutter)))[kind.name]
-    peak, double, check = told_of(program, ["settle", path, str(start), str(rate), *sharp_words(path, flutter)[2:]],
-                                  f"{kind.name} ")
+    told = understood(texts.sharp_settled, "way to sync",
+                      answer(program, ["settle", path, str(start), str(rate), *sharp_words(path, flutter)[2:]]))
+    way = told.beside if kind.beside else told.alone
     what = f"{KINDS[kind.name]}, for delays that flutter by {microseconds(flutter, cluster.microtick_ns)}"
-    found = (field("In sharp sync", "NOT PROVED: a check for the way there fails",
-                   *sharp_way_words(*check, cluster.parameters, kind)) if check else
-             field("In sharp sync", latest(cluster, double) + f"proved of sharply covered runs that begin so, {what}"))
-    return not check, found + way_lines(cluster, double, peak, bounds.precision, "sharp precision")
+    if way.failed:
+        why = sharp_way_words(way.failed.number, way.failed.left, way.failed.right, cluster.parameters, kind)
+        found = field("In sharp sync", "NOT PROVED: a check for the way there fails", *why)
+    else:
+        found = field("In sharp sync", latest(cluster, way.double or 0) + f"proved of sharply covered runs that begin so, {what}")
+    return not way.failed, found + way_lines(cluster, way.double, way.peak, bounds.precision, "sharp precision")
 
 
-def older_lines(program, cluster, path, start, rate, sharply):
+def older_lines(program: str, cluster: Cluster, path: str, start: int, rate: int, sharply: bool) -> tuple[bool, list[str]]:
     """(whether it is proved, lines) of when clocks are in sync by the older bound; what to turn for it is told where nothing is
     proved by the sharper one."""
     bounds = read_bounds(answer(program, ["bound", path]))
-    peak, double, check = told_of(program, ["settle", path, str(start), str(rate)])
-    found = (field("In sync", "NOT PROVED: a check of the older bound for the way there fails",
-                   *check_words(*check, cluster.parameters, True)[:1 if sharply else None]) if check else
-             field("In sync", latest(cluster, double) + "proved of covered runs that begin so, with all correct nodes active"))
-    return not check, found + way_lines(cluster, double, peak, bounds.precision, "precision")
+    told = understood(texts.settled, "way to sync", answer(program, ["settle", path, str(start), str(rate)]))
+    if told.failed:
+        why = check_words(told.failed.number, told.failed.left, told.failed.right, cluster.parameters, True)
+        found = field("In sync", "NOT PROVED: a check of the older bound for the way there fails", *why[:1 if sharply else None])
+    else:
+        found = field("In sync", latest(cluster, told.double or 0)
+                      + "proved of covered runs that begin so, with all correct nodes active")
+    return not told.failed, found + way_lines(cluster, told.double, told.peak, bounds.precision, "precision")

@@ -1,14 +1,27 @@
 """The sharper bounds of a run: of the kind that its script has, and for the flutter of its own delays, asked of flexray bound;
 and what flexray-series says of them where that is installed."""
+from __future__ import annotations
+
 from dataclasses import dataclass, field
+from typing import TYPE_CHECKING, NamedTuple
 
 from ..base import ranges
 from .least import TICKS, Kind
-from ..program.report import SharpBounds, SharpSeries, read_sharp_bounds
+from ..program.report import SharpBounds, SharpSeries, Skew, Trace, read_sharp_bounds
+from ..toml.cluster import Cluster, Steps
 from .sync import is_in_sharp_sync, sync_of
+
+if TYPE_CHECKING:
+    from .runs import Run
 
 # The greatest flutter that flexray bound takes, twice the greatest delay error; beyond it a run has a delay outside its limit.
 MOST = 20000000
+
+
+class Gap(NamedTuple):
+    """Whether it is known, and the words of the first gap or None."""
+    known: bool
+    words: list[str] | None
 
 
 @dataclass
@@ -16,18 +29,18 @@ class Sharp:
     """Of a run: the flutter of its delays, the bounds of both kinds for that or the most that flexray bound takes, those of the
     run's kind, in which double cycles its trace is in sharp sync, and what flexray-series told."""
     flutter: int
-    both: dict
+    both: dict[str, SharpBounds]
     bounds: SharpBounds
-    rows: list = field(default_factory=list)
+    rows: list[bool] = field(default_factory=list)
     told: SharpSeries | None = None
 
 
-def delay_at(steps, cycle, wait):
+def delay_at(steps: Steps, cycle: int, wait: int) -> int:
     before = [at for at in steps if at <= cycle]
     return steps[max(before)] if before else wait
 
 
-def flutter_of(cluster):
+def flutter_of(cluster: Cluster) -> int:
     """By how many ticks a delay of the run differs at most between the two cycles of a double cycle, from a correct sync node
     to another correct node."""
     found = 0
@@ -40,25 +53,25 @@ def flutter_of(cluster):
     return found
 
 
-def kind_of(cluster, flutter):
+def kind_of(cluster: Cluster, flutter: int) -> Kind:
     """Of which sharper bounds a run is."""
     last = max((node.key_slot for node in cluster.nodes.values() if node.key_slot is not None), default=1)
     return Kind(bool(cluster.arbitrary), min(flutter, MOST), last)
 
 
-def sharp_words(path, flutter, join=False):
+def sharp_words(path: str, flutter: int, join: bool = False) -> list[str]:
     """What `bound` is asked for of the sharper bounds, of a cluster that nodes join too."""
     return ["bound", path, "sharp", str(min(flutter, MOST))] + (["join"] if join else [])
 
 
-def sharp_of(cluster, flutter, text, cycles):
+def sharp_of(cluster: Cluster, flutter: int, text: str, cycles: Trace) -> Sharp:
     """The sharper side of a run, by what flexray bound printed for its flutter; but for what flexray-series tells."""
     both = read_sharp_bounds(text)
     bounds = both[kind_of(cluster, flutter).name]
     return Sharp(flutter, both, bounds, sync_of(cycles, bounds, cluster.parameters, is_in_sharp_sync))
 
 
-def unlike(sharp, told, doubles):
+def unlike(sharp: Sharp, told: SharpSeries, doubles: bool) -> str | None:
     """What of the series does not fit the bounds, the file or the trace, or None."""
     if told.flutter != sharp.flutter:
         return f"flexray-series says that delays flutter by {told.flutter} ticks, and by the file it is {sharp.flutter}"
@@ -74,27 +87,27 @@ def unlike(sharp, told, doubles):
 # ---- what is known of a run
 
 
-def gap_of(run):
+def gap_of(run: Run) -> Gap:
     """(whether it is known, the words of the first gap of the sharper bounds or None). Without flexray-series they are those
     of the report, where that names no older check, or has none that fails: the others are the same. Delays that flutter by
     more than twice the greatest delay error have the gap `flutter` here; one of them is outside its limit."""
     sharp = run.sharp
     if sharp.flutter > MOST:
-        return True, ["flutter", str(sharp.flutter)]
+        return Gap(True, ["flutter", str(sharp.flutter)])
     if sharp.told:
-        return True, sharp.told.gap
+        return Gap(True, sharp.told.gap)
     if sharp.bounds.gap:
-        return True, sharp.bounds.gap
+        return Gap(True, sharp.bounds.gap)
     gap = run.report.gap
-    return (False, None) if gap and gap[0] == "check" else (True, gap)
+    return Gap(False, None) if gap and gap[0] == "check" else Gap(True, gap)
 
 
-def is_covered(run):
+def is_covered(run: Run) -> bool:
     """Whether a run is known to be sharply covered."""
     return gap_of(run) == (True, None)
 
 
-def first_of(run):
+def first_of(run: Run) -> int | None:
     """The first double cycle in sharp sync in which no node follows, or None. Without flexray-series it is not told who follows:
     only nodes that join can, in the two double cycles behind that in which they listen."""
     if run.sharp.told:
@@ -103,29 +116,31 @@ def first_of(run):
     return next((at for at, good in enumerate(run.sharp.rows) if good and at not in following), None)
 
 
-def lost_of(run):
+def lost_of(run: Run) -> int | None:
     """The first double cycle behind that one that is not in sharp sync, or None."""
     first = first_of(run)
     return None if first is None else next((at for at in range(first, len(run.sharp.rows)) if not run.sharp.rows[at]), None)
 
 
-def ends_of(run):
+def ends_of(run: Run) -> int | None:
     """The double cycle behind the last one of which the sharper precision is proved, from the first in sharp sync on; None
     where it is proved to the end of the run."""
     first, lasts = first_of(run), run.sharp.bounds.lasts
     return None if first is None or lasts is None or first + lasts >= run.report.doubles else first + lasts
 
 
-def skew_of(run):
+def skew_of(run: Run) -> Skew | None:
     """(skew, cycle, macrotick) of the greatest skew since the first double cycle in sharp sync, None where it is not known."""
     first = first_of(run)
-    if run.sharp.told or first is None:
-        return run.sharp.told.greatest if first is not None else None
-    whole = run.report.skew, run.report.cycle, run.report.macrotick
-    return next((skew for skew in (whole, run.in_sync_skew) if skew and skew[1] >= 2 * first), None)
+    if first is None:
+        return None
+    if run.sharp.told:
+        return run.sharp.told.greatest
+    whole = Skew(run.report.skew, run.report.cycle, run.report.macrotick)
+    return next((skew for skew in (whole, run.in_sync_skew) if skew and skew.cycle >= 2 * first), None)
 
 
-def is_within(run):
+def is_within(run: Run) -> bool | None:
     """Whether the skew stayed within the sharper precision since then; None where it is not known."""
     skew = skew_of(run)
-    return None if skew is None else skew[0] <= run.sharp.bounds.precision
+    return None if skew is None else skew.ticks <= run.sharp.bounds.precision

@@ -1,11 +1,16 @@
 """A startup from power-on: flexray cold tells who leads; a run in which the leader runs and the others join it tells when
 all are in sync. Two models one after the other: what lies between them is said on the page."""
+from __future__ import annotations
+
 import copy
 import os
 import re
 import sys
 from dataclasses import dataclass, field
 from fractions import Fraction
+from argparse import Namespace
+from collections.abc import Callable, Iterable, Iterator
+from typing import Any, NamedTuple
 
 from ..base import ranges
 from ..base.ending import DONE, NO
@@ -13,6 +18,7 @@ from ..pages.gaps import gap_words
 from ..pages.machine import ended, printed, run_object, wanted
 from ..pages.page import ORIGIN, check_lines, field as lines_of
 from ..program.calls import flexray
+from ..toml.cluster import Cluster, Join, Power
 from .runs import Run, answer, bound_words, keep, run_cluster
 from ..base.files import hold, whole, write_files
 from ..base.units import decimal, microseconds, percent
@@ -20,61 +26,96 @@ from ..base.units import decimal, microseconds, percent
 LISTENING, RESOLVING = 2, 4
 
 
+class Lead(NamedTuple):
+    """A node that begins to lead, and the macrotick at which it does."""
+    node: int
+    macrotick: int
+
+
+class Part(NamedTuple):
+    """What part a node takes, and when, in milliseconds, it is on, listens, follows and takes part."""
+    node: int
+    part: str
+    on: Fraction
+    listens: Fraction | None
+    follows: Fraction | None
+    takes_part: Fraction | None
+
+    @property
+    def times(self) -> tuple[Fraction | None, ...]:
+        return self.on, self.listens, self.follows, self.takes_part
+
+
+class Phase(NamedTuple):
+    """What a node, by its place, does from one time to another, in milliseconds."""
+    at: int
+    name: str
+    begun: Fraction
+    until: Fraction
+
+
 @dataclass
 class Cold:
     """What flexray cold printed."""
-    apart: tuple | None = None
-    leads: list = field(default_factory=list)
-    leading: list = field(default_factory=list)
+    apart: tuple[int, int] | None = None
+    leads: list[Lead] = field(default_factory=list)
+    leading: list[int] = field(default_factory=list)
 
 
 @dataclass
 class Startup:
-    cluster: object
-    power: dict
+    cluster: Cluster
+    power: dict[int, list[Power]]
     cycles: int
     cold: Cold
     leader: int | None = None
     lead_at: int = 0
-    listens: dict = field(default_factory=dict)
-    out: dict = field(default_factory=dict)
+    listens: dict[int, int] = field(default_factory=dict)
+    out: dict[int, str] = field(default_factory=dict)
     run: Run | None = None
 
-    def ms(self, macroticks):
+    @property
+    def joined(self) -> Run:
+        """The run that the others join, which there is where one node leads."""
+        assert self.run is not None
+        return self.run
+
+    def ms(self, macroticks: int) -> Fraction:
         """Milliseconds of so many nominal macroticks."""
         return macroticks * self.cluster.macrotick_ns / 1000000
 
-    def of_cycle(self, cycle):
+    def of_cycle(self, cycle: int | None) -> Fraction | None:
         """When a cycle of the run begins, by the first of its nodes, in milliseconds from the begin."""
-        if cycle is None or cycle >= len(self.run.cycles):
+        if cycle is None or cycle >= len(self.joined.cycles):
             return None
-        ticks = min(row.start for row in self.run.cycles[cycle].values())
+        ticks = min(row.start for row in self.joined.cycles[cycle].values())
         return self.ms(self.lead_at) + Fraction(ticks) * self.cluster.microtick_ns / 10 ** 12
 
     @property
-    def first_on(self):
-        return min(times[0][0] for node, times in self.power.items() if node in coldstart(self.cluster))
+    def first_on(self) -> int:
+        return min(times[0].on for node, times in self.power.items() if node in coldstart(self.cluster))
 
     @property
-    def synced(self):
+    def synced(self) -> int | None:
         """The first double cycle that is in sync with all that are to join it, or None."""
-        rows = [self.run.first_row(node) for node in self.listens]
-        if None in rows:
+        run = self.joined
+        rows = [row for node in self.listens if (row := run.first_row(node)) is not None]
+        if len(rows) < len(self.listens):
             return None
         begin = -(-max(rows, default=0) // 2)
-        return next((at for at in range(begin, len(self.run.synced)) if self.run.synced[at]), None)
+        return next((at for at in range(begin, len(run.synced)) if run.synced[at]), None)
 
 
-def coldstart(cluster):
+def coldstart(cluster: Cluster) -> list[int]:
     return [node.number for node in cluster.nodes.values() if node.coldstart and not node.arbitrary]
 
 
-def power_of(cluster):
+def power_of(cluster: Cluster) -> dict[int, list[Power]]:
     """When each node is switched; one that no [[power]] names is on from 0."""
-    return {number: cluster.power.get(number, [(0, None)]) for number in cluster.nodes}
+    return {number: cluster.power.get(number, [Power(0, None)]) for number in cluster.nodes}
 
 
-def write_power(cluster, power, folder):
+def write_power(cluster: Cluster, power: dict[int, list[Power]], folder: str) -> tuple[str, int]:
     """Writes power.csv, with as many cycles as the last switch and a startup behind it take."""
     nodes = coldstart(cluster)
     last = max([time for node in nodes for times in power[node] for time in times if time is not None], default=0)
@@ -88,27 +129,27 @@ def write_power(cluster, power, folder):
     return path, cycles
 
 
-def read_cold(text):
+def read_cold(text: str) -> Cold:
     found = Cold()
     for line in text.splitlines():
         words = line.split()
         if re.fullmatch(r"connected no \d+ \d+", line):
             found.apart = int(words[2]), int(words[3])
         elif re.fullmatch(r"lead \d+ at \d+", line):
-            found.leads.append((int(words[1]), int(words[3])))
+            found.leads.append(Lead(int(words[1]), int(words[3])))
         elif re.fullmatch(r"leading \d+", line):
             found.leading.append(int(words[1]))
     return found
 
 
-def joining(startup):
+def joining(startup: Startup) -> Cluster:
     """The cluster whose leader runs from where it begins to lead, and which the others join, each when it can."""
-    cluster, leader, length = startup.cluster, startup.leader, 2 * startup.cluster.parameters["gMacroPerCycle"]
+    cluster, leader, length = startup.cluster, startup.cold.leading[0], 2 * startup.cluster.parameters["gMacroPerCycle"]
     later = copy.deepcopy(cluster)
     later.joins = {}
     for number in cluster.correct:
         later.nodes[number].start = later.nodes[number].rate = 0
-        times = [(on, off) for on, off in startup.power[number] if off is None or off > startup.lead_at]
+        times = [one for one in startup.power[number] if one.off is None or one.off > startup.lead_at]
         if number == leader:
             pass
         elif not times:
@@ -116,29 +157,29 @@ def joining(startup):
         elif not cluster.common(leader, number):
             startup.out[number] = f"it has no channel in common with node {leader}, which leads"
         else:
-            startup.listens[number] = -(-max(0, times[0][0] - startup.lead_at) // length)
+            startup.listens[number] = -(-max(0, times[0].on - startup.lead_at) // length)
     # By the standard a node that is no coldstart node integrates where it hears two; the second one takes part in the
     # third double cycle behind that in which it listens.
     followers = [startup.listens[number] for number in coldstart(cluster) if number in startup.listens]
     for number, double in startup.listens.items():
         if number not in coldstart(cluster):
             startup.listens[number] = max(double, min(followers) + 3) if followers else double
-    later.joins = {number: (double, leader) for number, double in startup.listens.items()}
+    later.joins = {number: Join(double, leader) for number, double in startup.listens.items()}
     later.doubles = min(ranges.DOUBLES[1], max([cluster.doubles, *(double + 8 for double in startup.listens.values())]))
     return without(later, startup.out)
 
 
-def without(cluster, numbers):
+def without(cluster: Cluster, numbers: Iterable[int]) -> Cluster:
     """The cluster without some nodes, and without what is said of them."""
     cluster.nodes = {number: node for number, node in cluster.nodes.items() if number not in numbers}
-    cluster.slots = [row for row in cluster.slots if row[1] not in numbers]
+    cluster.slots = [row for row in cluster.slots if row.node not in numbers]
     cluster.lengths = {number: steps for number, steps in cluster.lengths.items() if number not in numbers}
     cluster.delays = {link: steps for link, steps in cluster.delays.items() if not set(link[:2]) & set(numbers)}
     cluster.script = {place: row for place, row in cluster.script.items() if not set(place[1:3]) & set(numbers)}
     return cluster
 
 
-def begin(cluster, folder, program):
+def begin(cluster: Cluster, folder: str, program: str) -> Startup:
     """The startup of a cluster: who leads, and where one does, the run that the others join."""
     paths = write_files(cluster, folder)
     answer(program, bound_words(cluster, paths[0]), cluster=cluster)
@@ -154,7 +195,7 @@ def begin(cluster, folder, program):
     return startup
 
 
-def why_none(startup):
+def why_none(startup: Startup) -> list[str]:
     """Why no node, or more than one, leads after the last macrotick."""
     cluster, nodes = startup.cluster, coldstart(startup.cluster)
     need = (LISTENING + RESOLVING) * cluster.parameters["gMacroPerCycle"] + 1
@@ -174,54 +215,52 @@ def why_none(startup):
     return found or [f"the startup has {startup.cycles} cycles, which do not suffice"]
 
 
-def shown(value):
+def shown(value: Fraction | None) -> str:
     return "-" if value is None else decimal(value, 3)
 
 
-def table(startup):
-    """(node, part, on, listens, follows, takes part), times in milliseconds, of each node."""
-    found = []
+def table(startup: Startup) -> list[Part]:
+    """The part of each node."""
+    found: list[Part] = []
     for number in startup.cluster.nodes:
-        on = startup.ms(startup.power[number][0][0])
+        on = startup.ms(startup.power[number][0].on)
         if number == startup.leader:
             led = startup.ms(startup.lead_at)
-            found.append((number, "leads", on, on, None, led))
+            found.append(Part(number, "leads", on, on, None, led))
         elif number in startup.cluster.arbitrary:
-            found.append((number, "arbitrary", on, None, None, None))
+            found.append(Part(number, "arbitrary", on, None, None, None))
         elif number in startup.out:
-            found.append((number, "not there", on, None, None, None))
+            found.append(Part(number, "not there", on, None, None, None))
         else:
             double = startup.listens[number]
             part = "coldstart" if startup.cluster.nodes[number].coldstart else "sync" if (
                 startup.cluster.nodes[number].key_slot) else "no key slot"
-            found.append((number, part, on, startup.of_cycle(2 * double), startup.of_cycle(2 * double + 2),
-                          startup.of_cycle(startup.run.first_row(number))))
+            found.append(Part(number, part, on, startup.of_cycle(2 * double), startup.of_cycle(2 * double + 2),
+                              startup.of_cycle(startup.joined.first_row(number))))
     return found
 
 
-def table_lines(startup):
+def table_lines(startup: Startup) -> list[str]:
     found = ["", f"{'node':>4}  {'part':<12}{'on':>10}{'listens':>12}{'follows':>12}{'takes part':>12}   ms"]
-    for number, part, *times in table(startup):
-        found.append((f"{number:>4}  {part:<12}{shown(times[0]):>10}" + "".join(f"{shown(time):>12}" for time in times[1:])
-                      + "        " + startup.cluster.nodes[number].name).rstrip())
+    for row in table(startup):
+        found.append((f"{row.node:>4}  {row.part:<12}{shown(row.on):>10}" + "".join(f"{shown(time):>12}" for time in row.times[1:])
+                      + "        " + startup.cluster.nodes[row.node].name).rstrip())
     found.append("")
     for number, why in sorted(startup.out.items()):
         found += lines_of("", f"node {startup.cluster.called(number)} is not in the run: {why}")
     for number in startup.cluster.arbitrary:
         found += lines_of("", f"node {startup.cluster.called(number)} is arbitrary: it is left off until one leads, since nothing is "
-                              "promised of a "
-                              "faulty coldstart node, and then says what the file has it say")
+                              "promised of a faulty coldstart node, and then says what the file has it say")
     for number, times in sorted(startup.power.items()):
         off = [time for _, time in times if time is not None and time > startup.lead_at]
-        if off and number in startup.run.cluster.nodes:
-            found += lines_of("", f"node {startup.cluster.called(number)} is switched off at {shown(startup.ms(off[0]))} ms: the run does "
-                                  "not have "
-                                  "that, in it nobody leaves")
+        if off and number in startup.joined.cluster.nodes:
+            found += lines_of("", f"node {startup.cluster.called(number)} is switched off at {shown(startup.ms(off[0]))} ms: the run "
+                                  "does not have that, in it nobody leaves")
     return found
 
 
-def head_lines(startup):
-    cluster, cold, nodes = startup.cluster, startup.cold, coldstart(startup.cluster)
+def head_lines(startup: Startup) -> list[str]:
+    cold, nodes = startup.cold, coldstart(startup.cluster)
     apart = (f"nodes {cold.apart[0]} and {cold.apart[1]} share no channel, so nothing keeps both from leading"
              if cold.apart else "every two share a channel")
     found = lines_of("Coldstart", f"{len(nodes)} correct coldstart nodes"
@@ -239,15 +278,15 @@ def head_lines(startup):
     return found
 
 
-def sync_lines(startup):
-    run, cluster, synced = startup.run, startup.cluster, startup.synced
+def sync_lines(startup: Startup) -> list[str]:
+    run, cluster, synced = startup.joined, startup.cluster, startup.synced
     late = [number for number in startup.listens if run.first_row(number) is None]
     if synced is None:
         why = (f"nodes {', '.join(map(str, late))} take no part in {run.cluster.cycles} cycles" if late
                else "no double cycle with all of them is in sync")
         found = lines_of("All in sync", f"NO: {why}")
     else:
-        time = startup.of_cycle(2 * synced)
+        time = startup.of_cycle(2 * synced) or Fraction(0)
         found = lines_of("All in sync", f"from {shown(time)} ms on, {shown(time - startup.ms(startup.first_on))} ms after the "
                                         f"first coldstart node was switched on (cycle {2 * synced} of the run)")
         lost = next((at for at in range(synced, len(run.synced)) if not run.synced[at]), None)
@@ -269,7 +308,7 @@ def sync_lines(startup):
     return found + check_lines(run)
 
 
-def proved_lines(startup):
+def proved_lines(startup: Startup) -> list[str]:
     cold, nodes = startup.cold, coldstart(startup.cluster)
     plain = all(off is None for number, times in startup.power.items() if number in nodes for _, off in times)
     found = []
@@ -295,7 +334,7 @@ LEFT_OUT = ("wakeup; that a coldstart node follows a leader already in the four 
             "Nodes that are no coldstart nodes listen once a second coldstart node takes part.")
 
 
-def page(startup):
+def page(startup: Startup) -> str:
     found = head_lines(startup)
     if startup.leader is None:
         found += lines_of("Leads", "NOBODY at the end" if not startup.cold.leading else "MORE THAN ONE at the end",
@@ -306,15 +345,15 @@ def page(startup):
     return "\n".join(found) + "\n"
 
 
-def startup_object(startup):
+def startup_object(startup: Startup) -> dict[str, Any]:
     """A startup as an object: names stand in docs/FLEXLAB.md, "For machines"."""
-    def number(value):
+    def number(value: Fraction | None) -> float | None:
         return None if value is None else float(decimal(value, 6))
 
-    found = {
+    found: dict[str, Any] = {
         "file": startup.cluster.path, "names": startup.cluster.names, "coldstart_nodes": coldstart(startup.cluster),
-        "no_common_channel": startup.cold.apart, "leads": [{"node": node, "macrotick": time, "ms": number(startup.ms(time))}
-                                                       for node, time in startup.cold.leads],
+        "no_common_channel": startup.cold.apart,
+        "leads": [{"node": node, "macrotick": time, "ms": number(startup.ms(time))} for node, time in startup.cold.leads],
         "leader": startup.leader, "why_none": why_none(startup) if startup.leader is None else [],
     }
     if startup.run:
@@ -322,9 +361,9 @@ def startup_object(startup):
         found.update({
             "all_in_sync_ms": None if synced is None else number(startup.of_cycle(2 * synced)),
             "first_on_ms": number(startup.ms(startup.first_on)), "left_out_nodes": startup.out,
-            "nodes": [{"node": node, "part": part, **{name: number(time) for name, time in zip(
-                ("on_ms", "listens_ms", "follows_ms", "takes_part_ms"), times)}}
-                for node, part, *times in table(startup)],
+            "nodes": [{"node": row.node, "part": row.part, **{name: number(time) for name, time in zip(
+                ("on_ms", "listens_ms", "follows_ms", "takes_part_ms"), row.times)}}
+                for row in table(startup)],
             "run": run_object(startup.run)})
     return found
 
@@ -332,21 +371,20 @@ def startup_object(startup):
 COLOURS = {"waits": "#d9d9d9", "listens": "#56b4e9", "follows": "#e69f00", "takes part": "#009e73"}
 
 
-def spans(startup, end):
-    """(node's place, phase, from, to) in milliseconds, until the end of the picture."""
+def spans(startup: Startup, end: Fraction) -> Iterator[Phase]:
+    """What the nodes do, until the end of the picture."""
     for at, (_, part, on, listens, follows, takes) in enumerate(table(startup)):
-        marks = [("waits" if part != "leads" else "listens", on), ("listens", listens), ("follows", follows),
-                 ("takes part", takes)]
-        marks = [(name, time) for name, time in marks if time is not None]
+        all_marks = (("waits" if part != "leads" else "listens", on), ("listens", listens), ("follows", follows), ("takes part", takes))
+        marks = [(name, time) for name, time in all_marks if time is not None]
         for (name, time), (_, behind) in zip(marks, [*marks[1:], ("", end)]):
             if min(behind, end) > time:
-                yield at, name, time, min(behind, end)
+                yield Phase(at, name, time, min(behind, end))
 
 
-def draw_startup(startup, folder):
+def draw_startup(startup: Startup, folder: str) -> list[str]:
     from ..pages.pictures import draw, node_label, node_texts, plain_axes
     rows, synced = table(startup), startup.synced
-    last = max([time for _, _, *times in rows for time in times if time is not None])
+    last = max(time for row in rows for time in row.times if time is not None)
     ready = startup.of_cycle(2 * synced) if synced is not None else None
     end = max(last, ready or 0) + startup.ms(4 * startup.cluster.parameters["gMacroPerCycle"])
     found = list(spans(startup, end))
@@ -374,7 +412,7 @@ def draw_startup(startup, folder):
                 file=os.path.basename(startup.cluster.path), **node_texts(startup.cluster))
 
 
-def power(words, folder, complain):
+def power(words: Namespace, folder: str, complain: Callable[[str], None]) -> int:
     """The request `power`."""
     from ..toml.cluster import read_cluster
     asked = wanted(words.require)
@@ -394,4 +432,4 @@ def power(words, folder, complain):
             print(f"{'Picture':<16}{path}")
     if startup.leader is None:
         return NO
-    return ended(startup.run, asked, complain) if asked else DONE
+    return ended(startup.joined, asked, complain) if asked else DONE

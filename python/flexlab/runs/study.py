@@ -21,7 +21,9 @@ import time
 import zlib
 from decimal import Decimal
 from fractions import Fraction
-from typing import Any
+from typing import Any, NamedTuple
+from argparse import Namespace
+from collections.abc import Collection, Iterator, Sequence
 
 from ..program import calls as programs
 from . import sharp
@@ -30,7 +32,22 @@ from ..base.ending import DONE, FILE, MISSING, NO, PROGRAM, STOPPED, USAGE, Stop
 from ..base.files import alone, make_folder, named_faults, put, read, whole
 from ..base.numbers import MANY, number_of
 from ..pages.machine import printed
-from ..base.units import decimal, percent, us_of_ticks
+from ..base.units import Number, decimal, percent, us_of_ticks
+from ..program.report import Report
+from .runs import Run
+from .windows import Window
+
+# What a study is, and the results of a run: objects as JSON has them.
+Plan = dict[str, Any]
+Line = dict[str, Any]
+
+
+class Point(NamedTuple):
+    """A run: its number from 1, the values of the keys, and the number of the draw."""
+    number: int
+    values: list[str]
+    draw: int
+
 
 COLUMNS = ("status", "covered", "in_sync_double", "in_sync_at_end", "precision_us", "skew_in_sync_us",
            "percent_of_precision", "later_from_cycle", "later_skew_us", "later_99_us", "later_mean_us",
@@ -49,7 +66,7 @@ MAKE_NS = Fraction(25)
 JOBS, JOBS_OF_PARALLEL = r"[1-9][0-9]{0,3}", r"[1-9][0-9]{0,3}(?:\.[0-9]{1,3})?%|[+-][0-9]{1,3}(?:%)?"
 
 
-def listed(text, option):
+def listed(text: str, option: str) -> list[Fraction]:
     """The exact numbers of a list, 1,2.5,4 or FROM:TO:STEP."""
     try:
         if ":" in text:
@@ -63,11 +80,11 @@ def listed(text, option):
                           f"above 0, of at most {MOST}; {MANY}")
 
 
-def written(value):
+def written(value: Number) -> str:
     return decimal(value, 6).rstrip("0").rstrip(".")
 
 
-def keep_of(text):
+def keep_of(text: str) -> int | None:
     """How many of the worst runs keep a folder; None for all."""
     found = re.fullmatch(r"worst:(\d{1,7})", text)
     if not found and text not in ("all", "none"):
@@ -75,7 +92,7 @@ def keep_of(text):
     return int(found[1]) if found else None if text == "all" else 0
 
 
-def plan_of(words):
+def plan_of(words: Namespace) -> Plan:
     """What a study is: kept in its folder, so that another one is not mixed into it."""
     vary, lists = words.vary or [], words.values or []
     drawn = words.draws is not None
@@ -87,13 +104,13 @@ def plan_of(words):
     if words.jobs is not None and not re.fullmatch(f"{JOBS}|{JOBS_OF_PARALLEL}", words.jobs):
         raise Stop(USAGE, f"--jobs {printable(words.jobs)}: a number from 1 to 9999 is wanted, or as GNU parallel takes it, as 50%")
     if words.seeds:
-        values = listed(words.seeds, "--seeds")
-        for value in values:
+        seeds = listed(words.seeds, "--seeds")
+        for value in seeds:
             if value.denominator != 1 or not 0 <= value <= 4294967295:
                 raise Stop(USAGE, f"--seeds: {written(value)} is not a whole number from 0 to 4294967295")
         if not 1 <= words.doubles <= 10000:
             raise Stop(USAGE, f"--doubles: {words.doubles} is not from 1 to 10000")
-        return {"make": words.doubles, "keys": ["seed"], "values": [[written(value) for value in values]], "draws": 1}
+        return {"make": words.doubles, "keys": ["seed"], "values": [[written(value) for value in seeds]], "draws": 1}
     if len(set(vary)) != len(vary):
         raise Stop(USAGE, "--vary: a key is there twice")
     if drawn and not 1 <= words.draws <= MOST:
@@ -113,21 +130,22 @@ def plan_of(words):
             "cycles": words.cycles}
 
 
-def count_of(plan):
-    found = plan["draws"]
+def count_of(plan: Plan) -> int:
+    found: int = plan["draws"]
     for some in plan["values"]:
         found *= len(some)
     return found
 
 
-def points(plan):
-    """(number from 1, values by key, number of the draw) of each run; draws go fastest."""
+def points(plan: Plan) -> Iterator[Point]:
+    """Each run; draws go fastest."""
     for number, (*values, draw) in enumerate(itertools.product(*plan["values"], range(1, plan["draws"] + 1)), 1):
-        yield number, values, draw
+        yield Point(number, values, draw)
 
 
-def folder_for(words):
-    return words.out or (os.path.splitext(words.file)[0] + ".study" if words.file else "make.study")
+def folder_for(words: Namespace) -> str:
+    found: str = words.out or (os.path.splitext(words.file)[0] + ".study" if words.file else "make.study")
+    return found
 
 
 def begin(folder: str, plan: dict[str, Any]) -> None:
@@ -147,7 +165,7 @@ def begin(folder: str, plan: dict[str, Any]) -> None:
                           "another folder by --out, or remove this one")
 
 
-def results_path(folder):
+def results_path(folder: str) -> str:
     return os.path.join(folder, "study.jsonl")
 
 
@@ -177,12 +195,12 @@ def kept_lines(folder: str, plan: dict[str, Any]) -> dict[int, dict[str, Any]]:
     return found
 
 
-def range_order(name):
+def range_order(name: str) -> tuple[int, str]:
     """Columns of ranges of cycles go by the first cycle."""
-    return int(re.search(r"\d+", name)[0]), name
+    return int(name.removeprefix("cycles_").partition("-")[0]), name
 
 
-def write_results(folder, plan, lines):
+def write_results(folder: str, plan: Plan, lines: dict[int, Line]) -> str:
     """study.jsonl in the order of the runs, and the same as study.csv."""
     ranges = sorted({name for line in lines.values() for name in line if name.startswith("cycles_")}, key=range_order)
     names = ["run", *plan["keys"], *(["draw"] if plan.get("drawn") else []), *plan.get("drawn", []), *COLUMNS, *ranges]
@@ -196,7 +214,7 @@ def write_results(folder, plan, lines):
     return path
 
 
-def told_line(line):
+def told_line(line: Line) -> str:
     if line["status"] != DONE:
         return f"failed with status {line['status']}: {line['told']}"
     sync = "never in sync" if line["in_sync_double"] == "never" else f"in sync from {line['in_sync_double']}"
@@ -210,13 +228,13 @@ def told_line(line):
     return f"{sync}, covered {line['covered']}{gap}, {skew}{later}{sharply}"
 
 
-def named(plan, line):
+def named(plan: Plan, line: Line) -> str:
     return ", ".join(f"{key} {line[key]}" for key in [*plan["keys"], *(["draw"] if plan.get("drawn") else [])])
 
 
-def measured(run_report, unit, in_sync_skew, at_end, later=None):
+def measured(run_report: Report, unit: Fraction, in_sync_skew: int | None, at_end: bool | None, later: Window | None = None) -> Line:
     report = run_report
-    skew = in_sync_skew[0] if in_sync_skew else None
+    skew = in_sync_skew
     return {
         "covered": "yes" if report.gap is None else "no",
         "in_sync_double": "never" if report.in_sync is None else report.in_sync,
@@ -233,7 +251,7 @@ def measured(run_report, unit, in_sync_skew, at_end, later=None):
     }
 
 
-def sharply(run, unit):
+def sharply(run: Run, unit: Fraction) -> Line:
     """The columns of the sharper bounds."""
     known, gap = sharp.gap_of(run)
     found = {"sharply_covered": ("yes" if gap is None else "no") if known else "", "sharp_gap": " ".join(gap or [])}
@@ -243,16 +261,16 @@ def sharply(run, unit):
             "sharp_skew_us": "" if skew is None else decimal(us_of_ticks(skew[0], unit), 6)}
 
 
-def has_text(path, plan):
+def has_text(path: str, plan: Plan) -> bool:
     """Whether this machine has the TOML file as it was when the study began."""
     try:
         with open(path, encoding="utf-8-sig", newline="") as file:
-            return plan["machine"] == socket.gethostname() and file.read() == plan["text"]
+            return bool(plan["machine"] == socket.gethostname() and file.read() == plan["text"])
     except (OSError, UnicodeDecodeError):
         return False
 
 
-def measure(plan, values, number, folder):
+def measure(plan: Plan, values: Sequence[str], number: int, folder: str) -> tuple[Line, dict[str, str]]:
     """(columns, what was drawn) of a run, whose files go into the folder."""
     from ..toml.cluster import read_cluster
     from ..program.report import read_report
@@ -263,7 +281,7 @@ def measure(plan, values, number, folder):
         known = report.in_sync is not None and report.cycle >= 2 * report.in_sync
         # A covered run that came into sync stays so: that is proved.
         at_end = True if report.in_sync is not None and report.gap is None else None
-        return measured(report, MAKE_NS, (report.skew,) if known else None, at_end), {}
+        return measured(report, MAKE_NS, report.skew if known else None, at_end), {}
     make_folder(folder)
     path = plan["file"]
     if not has_text(path, plan):
@@ -278,19 +296,21 @@ def measure(plan, values, number, folder):
             os.remove(os.path.join(folder, name))
     unit, more = cluster.microtick_ns, {name: written(value) for name, value in cluster.drawn.items()}
     for one in windows(run, spans) if spans else ():
-        for name, ticks in (("greatest", one.greatest), ("99", one.most), ("mean", one.mean)):
+        for name, ticks in (("greatest", Fraction(one.greatest)), ("99", Fraction(one.most)), ("mean", one.mean)):
             more[f"cycles_{one.first}-{one.last}_{name}_us"] = decimal(us_of_ticks(ticks, unit), 6)
-    found = measured(run.report, unit, run.in_sync_skew, run.at_end, later(run, run.begin))
+    in_sync_skew = run.in_sync_skew.ticks if run.in_sync_skew else None
+    found = measured(run.report, unit, in_sync_skew, run.at_end, later(run, run.begin))
     return {**found, **sharply(run, unit)}, more
 
 
-def run_folder(folder, number):
+def run_folder(folder: str, number: int) -> str:
     return os.path.join(folder, "runs", f"{number:05}")
 
 
-def run_one(plan, number, values, draw, folder=None):
+def run_one(plan: Plan, number: int, values: Sequence[str], draw: int, folder: str | None = None) -> Line:
     """The results of one run, as a line has them."""
-    begun, line = time.monotonic(), {"run": number, **dict(zip(plan["keys"], values))}
+    begun = time.monotonic()
+    line: Line = {"run": number, **dict(zip(plan["keys"], values))}
     part = folder and f"{folder}.part"
     if plan.get("drawn"):
         line["draw"] = draw
@@ -314,7 +334,7 @@ def run_one(plan, number, values, draw, folder=None):
     return line
 
 
-def packed(plan):
+def packed(plan: Plan) -> str:
     """The plan without its lists, as one word of a command: so another machine needs no file of it."""
     text = json.dumps({name: value for name, value in plan.items() if name != "values"})
     found = base64.urlsafe_b64encode(zlib.compress(text.encode(), 9)).decode()
@@ -324,7 +344,7 @@ def packed(plan):
     return found
 
 
-def run_several(packed_plan, jobs):
+def run_several(packed_plan: str, jobs: list[str]) -> int:
     """What GNU parallel calls: some runs, each NUMBER:VALUE,..:DRAW, and a line of results of each on standard output."""
     plan = json.loads(zlib.decompress(base64.urlsafe_b64decode(packed_plan)))
     if not os.access(plan["flexray"], os.X_OK):
@@ -340,7 +360,7 @@ def run_several(packed_plan, jobs):
 class Results:
     """The results as they come: kept at once, and told, of a large study now and then."""
 
-    def __init__(self, folder, plan, lines):
+    def __init__(self, folder: str, plan: Plan, lines: dict[int, Line]) -> None:
         self.plan, self.lines, self.total = plan, lines, count_of(plan)
         self.every = 1 if self.total <= SHOWN else self.total // 100
         self.path = results_path(folder)
@@ -350,7 +370,7 @@ class Results:
         # What a stopped study left of a line is none, and no line begins behind it.
         self.is_cut = os.path.getsize(self.path) > 0
 
-    def take(self, line):
+    def take(self, line: Line) -> None:
         text = json.dumps(line) + "\n"
         with named_faults(self.path):
             left = (b"\n" if self.is_cut else b"") + text.encode("ascii")
@@ -370,7 +390,7 @@ class Results:
 HOST = re.compile(r"(?:[1-9][0-9]*/)?(?P<address>[^/\s-][^/\s]*)")
 
 
-def living_hosts(words, flexlab):
+def living_hosts(words: Namespace, flexlab: str) -> list[str]:
     """The hosts that answer and have flexlab; of each other one it is told what it is."""
     found = []
     for host in filter(None, (host.strip() for host in (words.hosts or "").split(","))):
@@ -397,25 +417,26 @@ def living_hosts(words, flexlab):
     return found
 
 
-def jobs_of(plan, todo):
+def jobs_of(plan: Plan, todo: Collection[int]) -> Iterator[str]:
     for number, values, draw in points(plan):
         if number in todo:
             yield f"{number}:{','.join(values)}:{draw}\n"
 
 
-def beside_of(words):
+def beside_of(words: Namespace) -> int:
     """How many runs go side by side."""
     return int(words.jobs) if re.fullmatch(JOBS, words.jobs or "") else os.cpu_count() or 1
 
 
-def kept_folder(folder, plan, number):
+def kept_folder(folder: str, plan: Plan, number: int) -> str | None:
     return run_folder(folder, number) if plan["keep"] == "all" and "make" not in plan else None
 
 
 class Forked:
     """A run in a copy of this process, where it is some calls of the library and starts no program."""
 
-    plan, folder = {}, ""
+    plan: Plan = {}
+    folder = ""
 
     @staticmethod
     def begin() -> None:
@@ -423,12 +444,12 @@ class Forked:
         signal.signal(signal.SIGINT, signal.SIG_IGN)
 
     @staticmethod
-    def run(job):
+    def run(job: Point) -> Line:
         number, values, draw = job
         return run_one(Forked.plan, number, values, draw, kept_folder(Forked.folder, Forked.plan, number))
 
 
-def run_forked(folder, plan, todo, words, results):
+def run_forked(folder: str, plan: Plan, todo: Collection[int], words: Namespace, results: Results) -> None:
     """Runs what is to be done in copies of this process, as many as go side by side."""
     Forked.plan, Forked.folder = plan, folder
     count = min(beside_of(words), len(todo))
@@ -447,7 +468,7 @@ def end_parallel(ended: subprocess.Popen[str]) -> None:
     ended.kill()
 
 
-def run_all(folder, plan, todo, words, results):
+def run_all(folder: str, plan: Plan, todo: Collection[int], words: Namespace, results: Results) -> None:
     """Runs what is to be done: by the library, by GNU parallel, or one after the other where both are missing."""
     if not words.hosts and not words.parallel and re.fullmatch(JOBS, words.jobs or "1") and programs.by_library(plan["flexray"]):
         run_forked(folder, plan, todo, words, results)
@@ -477,7 +498,7 @@ def run_all(folder, plan, todo, words, results):
         jobs.seek(0)
         with subprocess.Popen(wanted, stdin=jobs, stdout=subprocess.PIPE, text=True) as ended:
             try:
-                for text in ended.stdout:
+                for text in ended.stdout or ():
                     try:
                         line = json.loads(text)
                     except ValueError:
@@ -493,17 +514,17 @@ def run_all(folder, plan, todo, words, results):
         raise Stop(PROGRAM, f"GNU parallel ended with status {ended.returncode}")
 
 
-def worth(line):
+def worth(line: Line) -> Fraction:
     """The number by which a run is the worst."""
     return next((Fraction(line[name]) for name in WORST if line.get(name)), Fraction(-1))
 
 
-def worst_first(lines):
+def worst_first(lines: dict[int, Line]) -> list[Line]:
     good = [line for line in lines.values() if line["status"] == DONE]
     return sorted(good, key=lambda line: (-worth(line), line["run"]))
 
 
-def keep_worst(folder, plan, lines):
+def keep_worst(folder: str, plan: Plan, lines: dict[int, Line]) -> None:
     """Runs the worst runs again, for their files; the same words give the same run."""
     most = keep_of(plan["keep"])
     if "make" in plan:
@@ -514,7 +535,7 @@ def keep_worst(folder, plan, lines):
             run_one(plan, number, values, draw, run_folder(folder, number))
 
 
-def summary(folder, plan, lines):
+def summary(folder: str, plan: Plan, lines: dict[int, Line]) -> None:
     """What the page says of all runs."""
     order = worst_first(lines)
     if not order:
@@ -527,14 +548,14 @@ def summary(folder, plan, lines):
     most = values[-(-99 * len(values) // 100) - 1]
     what = {"later_skew_us": "later skew", "skew_in_sync_us": "skew in sync", "greatest_skew_us": "greatest skew"}[name]
     print(f"{'Runs':<16}{len(order)} of {count_of(plan)}, {both}; {what} {decimal(values[-1], 3)} us at "
-          f"most, 99 % of runs within {decimal(most, 3)} us, the mean is {decimal(sum(values) / len(values), 3)} us")
+          f"most, 99 % of runs within {decimal(most, 3)} us, the mean is {decimal(sum(values, Fraction(0)) / len(values), 3)} us")
     worst = order[0]
     kept = run_folder(folder, worst["run"])
     print(f"{'Worst run':<16}{worst['run']}: {named(plan, worst)}: {what} {decimal(values[-1], 3)} us"
           + (f"; files in {kept}/" if os.path.isdir(kept) else ""))
 
 
-def study(words):
+def study(words: Namespace) -> int:
     """A study; as JSON its lines go to standard output, and what is told meanwhile to standard error."""
     if not words.json:
         return run_study(words)[0]
@@ -546,7 +567,7 @@ def study(words):
     return status
 
 
-def run_study(words):
+def run_study(words: Namespace) -> tuple[int, str, Plan, dict[int, Line]]:
     """The status, the folder, the plan and the lines by their numbers. Where another study works in the folder it waits for it, and
     then has its lines."""
     program = programs.flexray(words.flexray)

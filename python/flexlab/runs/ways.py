@@ -1,42 +1,84 @@
 """Ways to a covered run: limits as low as the run needs, and the parameters that the checks then ask for. Each is run
 before it is told of, since what makes the proof hold may leave the clocks further apart in fact."""
+from __future__ import annotations
+
 import os
 import shutil
 from copy import deepcopy
 from dataclasses import dataclass, field
 from fractions import Fraction
+from collections.abc import Callable, Collection, Iterator
+from typing import TYPE_CHECKING, NamedTuple, Protocol
 
 from ..program import calls as programs
 from ..base.files import write_files
-from ..base.ranges import OF_CHANNELS, compensation_name, version_of
-from .least import TICKS, least_damping, least_sharp, least_sharp_damping, least_values
-from ..program.report import read_bounds, read_sharp_bounds
-from .sharp import first_of, gap_of, kind_of
-from ..toml.cluster import Cluster
+from ..base.ranges import OF_CHANNELS, Parameters, compensation_name, version_of
+from .least import TICKS, Found, least_damping, least_sharp, least_sharp_damping, least_values
+from ..program.report import Bounds, SharpBounds, read_bounds, read_sharp_bounds
+from .sharp import Gap, first_of, gap_of, kind_of
+from ..toml.cluster import Cluster, Link
 from ..base.units import decimal, lasting, microseconds, percent, rounded, us_of_ticks
 from .windows import exact, later, skews, window
+
+if TYPE_CHECKING:
+    from .runs import Run
 
 # A way is run for as many double cycles at most, and held against as many of the run.
 LONGEST = 1000
 LIMITS = ("xRateBound", "xChangeBound", "xDelayError")
 
 
+Lines = Callable[..., list[str]]
+
+
+class Runs(Protocol):
+    """What runs a cluster."""
+
+    def __call__(self, cluster: Cluster, folder: str, program: str, begin: int | None = None) -> Run: ...
+
+
+class Change(NamedTuple):
+    """The greatest change of a microtick from one cycle to the next, in ticks, of which node and in which cycle."""
+    ticks: int
+    node: int | None
+    cycle: int | None
+
+
+class Refused(NamedTuple):
+    """Why there is no way, and the sentences on the limits that it would have begun from."""
+    why: str | None
+    told: list[str]
+
+
+class Begin(NamedTuple):
+    """Limits to begin from, and sentences on them."""
+    limits: Parameters
+    told: list[str]
+
+
+class Candidate(NamedTuple):
+    """Parameters, or why there are none, and sentences on the limits that they begin from."""
+    parameters: Parameters | None
+    why: str | None
+    told: list[str]
+
+
 @dataclass
 class Way:
-    changed: dict
-    first: list
-    bounds: object = None
-    run: object = None
+    changed: Parameters
+    first: list[str]
+    bounds: Bounds | SharpBounds
+    run: Run
     skew: int = 0
 
 
 @dataclass
 class Ways:
     """The ways to checks that hold, why there are none of others, what the older bound asks besides, and the skew now."""
-    checks: object
+    checks: Checks
     wanted: bool = False
-    held: list = field(default_factory=list)
-    refused: list = field(default_factory=list)
+    held: list[Way] = field(default_factory=list)
+    refused: list[Refused] = field(default_factory=list)
     older: Way | None = None
     no_older: str = ""
     begin: int = 0
@@ -49,26 +91,26 @@ class OlderChecks:
     compensation amid the delays is tried at once."""
     name, amid = "Precision", (True,)
 
-    def __init__(self, run):
+    def __init__(self, run: Run) -> None:
         self.words = ["join"] if run.cluster.joins else []
-        self.failing = {check[0] for check in run.bounds.failing}
+        self.failing = {check.number for check in run.bounds.failing}
 
-    def least(self, parameters):
+    def least(self, parameters: Parameters) -> Iterator[Found]:
         own = parameters["pClusterDriftDamping"]
         for damping in dict.fromkeys((own, min(own, least_damping(parameters)))):
             yield least_values(parameters, bool(self.words), damping)
 
-    def read(self, text):
+    def read(self, text: str) -> Bounds | None:
         """The bounds, where all checks hold."""
         bounds = read_bounds(text)
         return None if bounds.failing else bounds
 
     @staticmethod
-    def gap(run):
-        return True, run.report.gap
+    def gap(run: Run) -> Gap:
+        return Gap(True, run.report.gap)
 
     @staticmethod
-    def first(run):
+    def first(run: Run) -> int | None:
         return run.report.in_sync
 
 
@@ -77,39 +119,42 @@ class SharpChecks:
     tried where there is no way without."""
     name, amid = "Sharp precision", (False, True)
 
-    def __init__(self, run):
+    def __init__(self, run: Run) -> None:
         self.kind = kind_of(run.cluster, run.sharp.flutter)
         self.words = ["sharp", str(self.kind.flutter)]
-        self.failing = {check[0] for check in run.sharp.bounds.failing}
+        self.failing = {check.number for check in run.sharp.bounds.failing}
 
-    def least(self, parameters):
+    def least(self, parameters: Parameters) -> Iterator[Found]:
         """With the damping as it is, and with the least by which the walk does not end; where nothing else fails the damping
         has to suffice."""
         own, least = parameters["pClusterDriftDamping"], least_sharp_damping(parameters, self.kind)
         for damping in (max(own, least),) if self.failing == {1} else dict.fromkeys((own, least)):
             yield least_sharp(parameters, self.kind, damping)
 
-    def read(self, text):
+    def read(self, text: str) -> SharpBounds | None:
         """The bounds, where all checks behind the first hold."""
         bounds = read_sharp_bounds(text)[self.kind.name]
         return None if bounds.gap else bounds
 
     @staticmethod
-    def gap(run):
+    def gap(run: Run) -> Gap:
         return gap_of(run)
 
     @staticmethod
-    def first(run):
+    def first(run: Run) -> int | None:
         return first_of(run)
 
 
-def shortened(cluster, doubles):
+Checks = OlderChecks | SharpChecks
+
+
+def shortened(cluster: Cluster, doubles: int) -> Cluster:
     """The cluster over its first double cycles alone."""
     found, cycles = deepcopy(cluster), 2 * doubles
     found.doubles = doubles
-    found.lengths, found.delays = ({key: {cycle: ticks for cycle, ticks in steps.items() if cycle < cycles}
-                                    for key, steps in rows.items()} for rows in (found.lengths, found.delays))
-    found.script = {place: row for place, row in found.script.items() if place[0] < cycles}
+    found.lengths = {node: {cycle: ticks for cycle, ticks in steps.items() if cycle < cycles} for node, steps in found.lengths.items()}
+    found.delays = {link: {cycle: ticks for cycle, ticks in steps.items() if cycle < cycles} for link, steps in found.delays.items()}
+    found.script = {place: row for place, row in found.script.items() if place.cycle < cycles}
     return found
 
 
@@ -122,21 +167,21 @@ def delays_of(cluster: Cluster) -> list[tuple[str, int]]:
             if sender != receiver and cluster.nodes[sender].key_slot is not None:
                 for channel in cluster.common(sender, receiver):
                     name = compensation_name(cluster.parameters, channel)
-                    found += [(name, ticks) for ticks in cluster.delays.get((sender, receiver, channel), {}).values()]
+                    found += [(name, ticks) for ticks in cluster.delays.get(Link(sender, receiver, channel), {}).values()]
     return found
 
 
-def greatest_change(cluster):
-    """(ticks, node, cycle) of the greatest change of a microtick from one cycle to the next, (0, None, None) of none."""
-    changes = ((abs(ticks - before), node, cycle) for node, steps in cluster.lengths.items()
+def greatest_change(cluster: Cluster) -> Change:
+    """The greatest change of a microtick from one cycle to the next, 0 of no node where there is none."""
+    changes = (Change(abs(ticks - before), node, cycle) for node, steps in cluster.lengths.items()
                for (_, before), (cycle, ticks) in zip(sorted(steps.items()), sorted(steps.items())[1:]))
-    return max(changes, key=lambda change: change[0], default=(0, None, None))
+    return max(changes, key=lambda change: change.ticks, default=Change(0, None, None))
 
 
-def needs(cluster):
+def needs(cluster: Cluster) -> Parameters:
     """The limits that this run needs, the delay error for the compensation as it is."""
     rate = max((abs(ticks - TICKS) for steps in cluster.lengths.values() for ticks in steps.values()), default=0)
-    change = greatest_change(cluster)[0]
+    change = greatest_change(cluster).ticks
     error = max((abs(ticks - cluster.parameters[name] * TICKS) for name, ticks in delays_of(cluster)), default=0)
     return {"xRateBound": rate, "xChangeBound": change, "xDelayError": error}
 
@@ -152,14 +197,15 @@ def amid(cluster: Cluster) -> tuple[dict[str, int], int] | None:
     return waits, max(max(max(some) - waits[name] * TICKS, waits[name] * TICKS - min(some)) for name, some in delays.items())
 
 
-def passed(cluster, need):
+def passed(cluster: Cluster, need: Parameters) -> list[str]:
     """A sentence for each stated limit that this run goes beyond."""
-    p, unit, found = cluster.parameters, cluster.microtick_ns, []
+    p, unit = cluster.parameters, cluster.microtick_ns
+    found: list[str] = []
     if need["xRateBound"] > p["xRateBound"]:
         found.append(f"an oscillator of this run is {need['xRateBound']} ticks off, beyond xRateBound, {p['xRateBound']}")
     if need["xChangeBound"] > p["xChangeBound"]:
         ticks, node, cycle = greatest_change(cluster)
-        found.append(f"the microtick of node {cluster.called(node)} changes by {ticks} ticks in cycle {cycle} of this run, beyond "
+        found.append(f"the microtick of node {cluster.called(node or 0)} changes by {ticks} ticks in cycle {cycle} of this run, beyond "
                      f"xChangeBound, {p['xChangeBound']}")
     if need["xDelayError"] > p["xDelayError"]:
         off, stated = (decimal(us_of_ticks(ticks, unit) * 1000, 1) for ticks in (need["xDelayError"], p["xDelayError"]))
@@ -167,13 +213,13 @@ def passed(cluster, need):
     return found
 
 
-def starting_points(cluster, failing, with_amid=True):
-    """(limits, sentences) to begin from: as they are stated, or as far as this run goes beyond them, and lower, as far
+def starting_points(cluster: Cluster, failing: Collection[int], with_amid: bool = True) -> list[Begin]:
+    """What to begin from: limits as they are stated, or as far as this run goes beyond them, and lower, as far
     as this run allows for it. How far oscillators are off matters where the rate limit is too small alone."""
     p, need, unit = cluster.parameters, needs(cluster), cluster.microtick_ns
     stated = {name: max(p[name], need[name]) for name in LIMITS}
     beyond = passed(cluster, need)
-    found = [(stated, beyond)]
+    found = [Begin(stated, beyond)]
     middle = amid(cluster) if with_amid else None
     delay = None
     if middle and middle[1] < stated["xDelayError"]:
@@ -182,88 +228,90 @@ def starting_points(cluster, failing, with_amid=True):
         delay = {**stated, **middle[0], "xDelayError": middle[1]}
         if middle[1] <= p["xDelayError"] < need["xDelayError"]:
             beyond = beyond[:-1]
-        found.append((delay, [*beyond, f"your delays span {decimal(us_of_ticks(max(delays) - min(delays), unit) * 1000, 1)} ns "
-                              f"({low} to {high} ns): put the compensation amid "
-                              + ("them" if version_of(p) == 1 else "those of each channel")]))
+        span = decimal(us_of_ticks(max(delays) - min(delays), unit) * 1000, 1)
+        found.append(Begin(delay, [*beyond, f"your delays span {span} ns ({low} to {high} ns): put the compensation amid "
+                                   + ("them" if version_of(p) == 1 else "those of each channel")]))
     lower = {**(delay or stated)}
-    told = list(found[-1][1])
+    told = list(found[-1].told)
     for name, words in (("xChangeBound", "no oscillator of this run changes by more than {} ppm a cycle"),
                         ("xRateBound", "none of this run is further off than {} ppm")):
-        if need[name] < lower[name] and (name != "xRateBound" or failing & {2, 6}):
+        if need[name] < lower[name] and (name != "xRateBound" or not {2, 6}.isdisjoint(failing)):
             lower[name] = need[name]
             told.append(words.format(need[name]))
-    if lower != found[-1][0]:
-        found.append((lower, told))
+    if lower != found[-1].limits:
+        found.append(Begin(lower, told))
     return found
 
 
-def candidates(cluster, checks, with_amid, seen):
-    """(parameters or None, why none, sentences), each set of parameters once, and none as they are."""
+def candidates(cluster: Cluster, checks: Checks, with_amid: bool, seen: list[Parameters | str | None]) -> Iterator[Candidate]:
+    """Each set of parameters once, and none as they are."""
     for limits, told in starting_points(cluster, checks.failing, with_amid):
         for found, why in checks.least(dict(cluster.parameters, **limits)):
             if (found or why) not in seen:
                 seen.append(found or why)
-                yield found, why, told
+                yield Candidate(found, why, told)
 
 
-def weigh(run, program, run_cluster):
+def weigh(run: Run, program: str, run_cluster: Runs) -> Ways | None:
     """The ways to a covered run, each run, the one with the least skew first, by the sharper checks where no node joins; and
     what the older ones would ask besides. None where neither is wanted."""
     cluster = run.cluster
-    checks = OlderChecks(run) if cluster.joins else SharpChecks(run)
+    checks: Checks = OlderChecks(run) if cluster.joins else SharpChecks(run)
     wanted = bool(checks.failing or passed(cluster, needs(cluster)))
     if not wanted and not run.bounds.failing:
         return None
     mine = later(run, run.begin)
     begin = mine.first if mine else 0
     doubles = min(cluster.doubles, max(LONGEST, begin + 1))
-    mine, whole = window(skews(run), begin, 2 * doubles - 1, ""), doubles == cluster.doubles
+    mine = window(skews(run), begin, 2 * doubles - 1, "")
+    whole = doubles == cluster.doubles
     found = Ways(checks, wanted, begin=begin, skew=mine.greatest if mine else 0,
                  span=f"from cycle {begin} " + ("on" if whole else f"to {2 * doubles - 1}"))
     shutil.rmtree(os.path.join(run.folder, "advised"), ignore_errors=True)
     tries = Tries(run, program, run_cluster, begin, doubles)
-    seen = [cluster.parameters]
+    seen: list[Parameters | str | None] = [cluster.parameters]
     for with_amid in checks.amid if wanted else ():
-        for parameters, why, told in () if found.held else candidates(cluster, checks, with_amid, seen):
-            way, why = tries.tried(checks, parameters, why, told, str(len(found.held) + 1))
+        for candidate in () if found.held else candidates(cluster, checks, with_amid, seen):
+            way, why = tries.tried(checks, candidate, str(len(found.held) + 1))
             if way:
                 found.held.append(way)
             else:
-                found.refused.append((why, told))
+                found.refused.append(Refused(why, candidate.told))
     # A run that is never in sync has no later skew to go by.
-    found.held.sort(key=lambda way: (checks.gap(way.run)[1] is not None, checks.first(way.run) is None, way.skew))
+    found.held.sort(key=lambda way: (checks.gap(way.run).words is not None, checks.first(way.run) is None, way.skew))
     if isinstance(checks, SharpChecks) and run.bounds.failing:
         ask_older(found, run, tries)
     return found
 
 
-def ask_older(found, run, tries):
+def ask_older(found: Ways, run: Run, tries: Tries) -> None:
     """What the older bound asks besides the best way, or besides the parameters as they are where no way is wanted."""
     older = OlderChecks(run)
     base = dict(run.cluster.parameters, **(found.held[0].changed if found.held else {}))
-    limits = starting_points(tries.with_values(base), older.failing)[0][0]
-    parameters, why = next(older.least(dict(base, **limits)))
-    found.older, found.no_older = tries.tried(older, parameters, why, [], "older", base)
+    limits = starting_points(tries.with_values(base), older.failing)[0].limits
+    found.older, why = tries.tried(older, Candidate(*next(older.least(dict(base, **limits))), []), "older", base)
+    found.no_older = why or ""
 
 
 @dataclass
 class Tries:
     """Runs of the cluster with other values, over its first double cycles."""
-    run: object
+    run: Run
     program: str
-    run_cluster: object
+    run_cluster: Runs
     begin: int
     doubles: int
 
-    def with_values(self, parameters):
+    def with_values(self, parameters: Parameters) -> Cluster:
         other = shortened(self.run.cluster, self.doubles)
         other.parameters = parameters
         return other
 
-    def tried(self, checks, parameters, why, told, name, base=None):
+    def tried(self, checks: Checks, candidate: Candidate, name: str, base: Parameters | None = None) -> tuple[Way | None, str | None]:
         """(the way, None) where its checks hold, else (None, why not)."""
+        parameters = candidate.parameters
         if parameters is None:
-            return None, why
+            return None, candidate.why
         before = base or self.run.cluster.parameters
         folder = os.path.join(self.run.folder, "advised", name)
         path = write_files(self.with_values(parameters), folder)[0]
@@ -272,14 +320,14 @@ class Tries:
         if bounds is None:
             return None, f"flexray bound {path}: {line or 'checks fail'}"
         changed = {key: value for key, value in parameters.items() if value != before[key]}
-        way = Way(changed, told, bounds, self.run_cluster(self.with_values(parameters), folder, self.program,
-                                                          begin=self.run.begin))
+        way = Way(changed, candidate.told, bounds, self.run_cluster(self.with_values(parameters), folder, self.program,
+                                                                    begin=self.run.begin))
         figures = later(way.run, self.begin)
         way.skew = figures.greatest if figures else 0
         return way, None
 
 
-def value_words(name, value, cluster):
+def value_words(name: str, value: int, cluster: Cluster) -> str:
     """A value as the TOML file has it."""
     unit = cluster.microtick_ns
     if name == "xDelayError":
@@ -289,14 +337,14 @@ def value_words(name, value, cluster):
     return f"{name} = {value}"
 
 
-def values_words(changed, cluster):
+def values_words(changed: Parameters, cluster: Cluster) -> str:
     """Values as the TOML file has them, limits first."""
     order = ["pDelayCompensation", *OF_CHANNELS, *LIMITS]
     return ", ".join(value_words(name, changed[name], cluster)
                      for name in [*(name for name in order if name in changed), *(name for name in changed if name not in order)])
 
 
-def skew_words(way, ways, unit):
+def skew_words(way: Way, ways: Ways, unit: Fraction) -> str:
     """The skew that a way leaves, beside what it is now."""
     what = "simulated skew" if exact(way.run) else "simulated starts"
     text = f"{what} {microseconds(way.skew, unit)} at most {ways.span}"
@@ -308,7 +356,7 @@ def skew_words(way, ways, unit):
     return text + (f", {share} of what it is now" if ways.skew else "")
 
 
-def lasting_words(way, cluster):
+def lasting_words(way: Way, cluster: Cluster) -> str:
     """Of sharper bounds for how long they hold, where that ends."""
     lasts = getattr(way.bounds, "lasts", None)
     if lasts is None:
@@ -316,11 +364,11 @@ def lasting_words(way, cluster):
     return f" for {lasts} double cycles ({lasting(2 * lasts * cycle_ms(cluster))}), since C1 fails"
 
 
-def cycle_ms(cluster):
+def cycle_ms(cluster: Cluster) -> Fraction:
     return Fraction(cluster.parameters["pMicroPerCycle"]) * cluster.microtick_ns / 1000000
 
 
-def way_words(way, ways, cluster):
+def way_words(way: Way, ways: Ways, cluster: Cluster) -> str:
     unit, (known, gap) = cluster.microtick_ns, ways.checks.gap(way.run)
     text = "; ".join(way.first) + ": " if way.first else ""
     text += "all checks hold" if not getattr(way.bounds, "failing", None) else "all checks but C1 hold"
@@ -330,7 +378,7 @@ def way_words(way, ways, cluster):
         text += "; covered yes" if gap is None else f"; covered no ({' '.join(gap)})"
     text += f"; {skew_words(way, ways, unit)}" + ("" if ways.checks.first(way.run) is not None else "; never in sync")
     ends = way.run.report.ends
-    still = sum(end[2] == 0 for end in ends.values())
+    still = sum(end.rate == 0 for end in ends.values())
     if still and way.changed.get("pClusterDriftDamping", 0) > cluster.parameters["pClusterDriftDamping"]:
         text += f"; the damping leaves {still} of {len(ends)} rate terms 0 at the end"
     if "gdNIT" in way.changed and way.changed["gdNIT"] < cluster.parameters["gdNIT"]:
@@ -338,7 +386,7 @@ def way_words(way, ways, cluster):
     return text
 
 
-def way_lines(ways, cluster, field_):
+def way_lines(ways: Ways, cluster: Cluster, field_: Lines) -> list[str]:
     """Lines of the page: what may be turned, each way run, the least skew first."""
     unit = cluster.microtick_ns
     if not ways.wanted:
@@ -359,14 +407,14 @@ def way_lines(ways, cluster, field_):
     return found
 
 
-def named_checks(numbers):
+def named_checks(numbers: list[int]) -> str:
     names = [f"C{number}" for number in numbers]
     return names[0] if len(names) == 1 else ", ".join(names[:-1]) + " and " + names[-1]
 
 
-def older_lines(run, field_):
+def older_lines(run: Run, field_: Lines) -> list[str]:
     """The line of the older checks: whether they hold, or what they ask besides, and what that does to the clocks."""
-    failing, ways, unit = [check[0] for check in run.bounds.failing], run.ways, run.cluster.microtick_ns
+    failing, ways, unit = [check.number for check in run.bounds.failing], run.ways, run.cluster.microtick_ns
     if not failing:
         return field_("Older checks", "those of the older bound, above called Precision, hold too")
     text = (f"{named_checks(failing)} of the older bound, above called Precision, {'fails' if len(failing) == 1 else 'fail'}; "

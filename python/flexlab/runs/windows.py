@@ -1,18 +1,44 @@
 """The skew by stretches of cycles: before, while and after an oscillator changes or a node joins, and from when on
 it stays within its later level. The numbers are those of flexray-series, the greatest skew of each cycle, or where
 that is not installed how far the starts of a cycle lie apart in the trace, which is less."""
+from __future__ import annotations
+
 import re
 from collections.abc import Iterable
 from dataclasses import dataclass
 from fractions import Fraction
+from typing import TYPE_CHECKING, NamedTuple
 
 from ..base.ending import USAGE, Stop
 from ..toml.cluster import Cluster
 from .sync import starts_apart
 
+if TYPE_CHECKING:
+    from .runs import Run
+
 # Changes that lie no further apart are one; what an oscillator did is corrected two double cycles later.
 TOGETHER, CORRECTED = 20, 4
 MOST = 12
+
+
+class Point(NamedTuple):
+    """The skew of a cycle, in ticks."""
+    cycle: int
+    ticks: int
+
+
+class Change(NamedTuple):
+    """The first and the last cycle of a stretch in which oscillators of these nodes change."""
+    first: int
+    last: int
+    nodes: set[int]
+
+
+class Stretch(NamedTuple):
+    """Cycles from the first to the last, and what is so in them."""
+    first: int
+    last: int
+    what: str
 
 
 @dataclass
@@ -28,18 +54,18 @@ class Window:
     level: int
 
 
-def skews(run):
-    """(cycle, ticks) of each cycle that has running nodes."""
+def skews(run: Run) -> list[Point]:
+    """Those of each cycle that has running nodes."""
     if run.series and run.series.rows:
-        return [(cycle, skew) for cycle, _, skew, _ in run.series.rows if skew is not None]
-    return [(cycle, starts_apart(rows)) for cycle, rows in enumerate(run.cycles)]
+        return [Point(row.cycle, row.skew) for row in run.series.rows if row.skew is not None]
+    return [Point(cycle, starts_apart(rows)) for cycle, rows in enumerate(run.cycles)]
 
 
-def exact(run):
+def exact(run: Run) -> bool:
     return bool(run.series and run.series.rows)
 
 
-def settled(rows):
+def settled(rows: list[Point]) -> tuple[int, int]:
     """The first of these cycles from which on the skew stays within its level, and that: the greatest of the
     second half of the rows."""
     level = max(skew for _, skew in rows[len(rows) // 2:])
@@ -50,7 +76,7 @@ def settled(rows):
     return first, level
 
 
-def window(rows, first, last, what):
+def window(rows: list[Point], first: int, last: int, what: str) -> Window | None:
     """The figures of the cycles from first to last, or None where none of them has a skew."""
     rows = [row for row in rows if first <= row[0] <= last]
     if not rows:
@@ -63,20 +89,20 @@ def window(rows, first, last, what):
                   *settled(rows))
 
 
-def changes(run):
-    """(first cycle, last cycle, nodes) of stretches in which oscillators change, and (cycle, nodes) that begin."""
+def changes(run: Run) -> tuple[list[Change], list[tuple[int, set[int]]]]:
+    """The stretches in which oscillators change, and (cycle, nodes) that begin."""
     marks = sorted((cycle, node) for node, steps in run.cluster.lengths.items() for cycle in steps if cycle)
-    found = []
+    found: list[Change] = []
     for cycle, node in marks:
-        if found and cycle - found[-1][1] <= TOGETHER:
-            found[-1] = found[-1][0], cycle, found[-1][2] | {node}
+        if found and cycle - found[-1].last <= TOGETHER:
+            found[-1] = Change(found[-1].first, cycle, found[-1].nodes | {node})
         else:
-            found.append((cycle, cycle, {node}))
-    joined = {}
+            found.append(Change(cycle, cycle, {node}))
+    joined: dict[int, set[int]] = {}
     for node in run.cluster.joins:
-        cycle = run.first_row(node)
-        if cycle:
-            joined.setdefault(cycle, set()).add(node)
+        begun = run.first_row(node)
+        if begun:
+            joined.setdefault(begun, set()).add(node)
     return found, sorted(joined.items())
 
 
@@ -86,38 +112,40 @@ def named(nodes: Iterable[int], cluster: Cluster) -> str:
     return ("node " if len(found) == 1 else "nodes ") + ", ".join(found)
 
 
-def stretches(run):
-    """(first, last, what) of the cycles of a run from its first double cycle in sync on."""
+def stretches(run: Run) -> list[Stretch]:
+    """Those of the cycles of a run from its first double cycle in sync on."""
     changing, joining = changes(run)
     last = len(run.cycles) - 1
-    marks = [(first, min(end + CORRECTED - 1, last), f"{named(nodes, run.cluster)} change{'s' if len(nodes) == 1 else ''}")
-             for first, end, nodes in changing]
+    marks: list[tuple[int, int | None, str]] = [
+        (first, min(end + CORRECTED - 1, last), f"{named(nodes, run.cluster)} change{'s' if len(nodes) == 1 else ''}")
+        for first, end, nodes in changing]
     at = 2 * run.report.in_sync if run.report.in_sync is not None else 0
-    found, what = [], "from sync on" if run.report.in_sync is not None else "from the beginning"
-    points = sorted(marks + [(cycle, None, f"with {named(nodes, run.cluster)}") for cycle, nodes in joining],
-                    key=lambda mark: mark[0])
+    found: list[Stretch] = []
+    what = "from sync on" if run.report.in_sync is not None else "from the beginning"
+    marks += [(cycle, None, f"with {named(nodes, run.cluster)}") for cycle, nodes in joining]
+    points = sorted(marks, key=lambda mark: mark[0])
     for first, end, name in points:
         if first > at:
-            found.append((at, first - 1, what))
+            found.append(Stretch(at, first - 1, what))
         at = max(at, first)
         if end is None:
             what = f"{name}"
         elif end >= at:
-            found.append((at, end, name))
+            found.append(Stretch(at, end, name))
             at, what = end + 1, "after it"
     if at <= last:
-        found.append((at, last, what))
+        found.append(Stretch(at, last, what))
     return found
 
 
-def windows(run, asked=()):
+def windows(run: Run, asked: Iterable[tuple[int, int]] = ()) -> list[Window]:
     """The windows of a run: those that were asked for, or else its stretches."""
     rows = skews(run)
-    spans = [(first, last, "") for first, last in asked] or stretches(run)
+    spans = [Stretch(first, last, "") for first, last in asked] or stretches(run)
     return [found for found in (window(rows, *span) for span in spans) if found]
 
 
-def later(run, first=None):
+def later(run: Run, first: int | None = None) -> Window | None:
     """The figures from a cycle on: from the given one, or else from where the first stretch has settled."""
     rows = skews(run)
     if not rows:
@@ -129,13 +157,13 @@ def later(run, first=None):
     return window(rows, first, rows[-1][0], "")
 
 
-def begin_of(cycle, cluster):
+def begin_of(cycle: int | None, cluster: Cluster) -> int | None:
     if cycle is not None and not 0 <= cycle < cluster.cycles:
         raise Stop(USAGE, f"--from {cycle}: the run has the cycles 0 to {cluster.cycles - 1}")
     return cycle
 
 
-def ranges_of(text, cluster):
+def ranges_of(text: str, cluster: Cluster) -> list[tuple[int, int]]:
     """(first, last) of each range of --cycles."""
     found = []
     for part in filter(None, (part.strip() for part in text.split(","))):

@@ -1,22 +1,26 @@
 """The run of a cluster that comes closest to its precision: oscillators, delays, starts and the words of arbitrary
 nodes are searched for, and each candidate is judged by flexray run. What is found is a lower bound of the worst case
 beside the proved upper one; it proves nothing."""
+from __future__ import annotations
+
 import copy
 import os
 import random
 import tempfile
 import threading
 import time
-from collections.abc import Callable
+from collections.abc import Callable, Iterator
 from dataclasses import dataclass, field
-from typing import Any
+from typing import NamedTuple
+from argparse import Namespace
 
 from ..base import ranges
 from ..base.ending import DONE, NO, USAGE, Stop
 from ..base.files import make_folder, parameter_lines, put
 from ..pages.gaps import gap_words
 from ..pages.page import field as lines_of
-from ..program.report import read_bounds, read_report
+from ..program.report import Report, read_bounds, read_report
+from ..toml.cluster import Cluster, Link
 from .runs import answer, keep
 from ..base.units import microseconds, percent, ppm_of, signed
 
@@ -28,21 +32,49 @@ NEAR = 60
 START = 2 * TICKS
 
 
+class LinkIn(NamedTuple):
+    """Frames of a node at another one, on a channel, in cycles of this parity."""
+    sender: int
+    receiver: int
+    channel: str
+    parity: int
+
+
+class SaidTo(NamedTuple):
+    """What an arbitrary node says to a receiver in cycles of this parity."""
+    arbitrary: int
+    receiver: int
+    parity: int
+
+
 @dataclass
 class Trial:
     """A candidate: of each correct node its camp, its start and by how many ticks its microtick is off its limit; of
     single links, and of what an arbitrary node says to a receiver, what is other than the camp asks for."""
-    camps: dict
-    starts: dict = field(default_factory=dict)
-    off: dict = field(default_factory=dict)
-    links: dict = field(default_factory=dict)
-    said: dict = field(default_factory=dict)
+    camps: dict[int, int]
+    starts: dict[int, int] = field(default_factory=dict)
+    off: dict[int, int] = field(default_factory=dict)
+    links: dict[LinkIn, int] = field(default_factory=dict)
+    said: dict[SaidTo, int | None] = field(default_factory=dict)
+
+
+class Best(NamedTuple):
+    """The greatest skew that was found, and the candidate that has it."""
+    skew: int
+    trial: Trial
+
+
+class Edge(NamedTuple):
+    """The files of a run whose two clocks of a pair begin as far apart as they may."""
+    drift: str
+    script: str
+    pair: tuple[int, int]
 
 
 class Bench:
     """The cluster that is searched, and how a candidate of it is judged."""
 
-    def __init__(self, cluster, program, doubles):
+    def __init__(self, cluster: Cluster, program: str, doubles: int) -> None:
         self.cluster, self.program, self.doubles, self.runs = cluster, program, doubles, 0
         self.parameters = "".join(parameter_lines(cluster))
         with tempfile.TemporaryDirectory() as room:
@@ -52,14 +84,14 @@ class Bench:
         self.p, self.cycles = cluster.parameters, 2 * doubles
         self.shift = self.reachable()
 
-    def reachable(self):
+    def reachable(self) -> int:
         """How early or late an arbitrary node may be so that its frame falls into its slot at every clock in sync."""
         p, left = self.p, self.p["pMicroPerCycle"] - self.p["pRateCorrectionOut"]
         point, slot, macros = p["gdActionPointOffset"], p["gdStaticSlot"], p["gMacroPerCycle"]
         room = min(point * left // macros - 2, (slot - point) * left // macros - 2 - ranges.compensation(p))
         return max(0, min(self.bounds.precision + 4 * TICKS, room * (TICKS - p["xRateBound"])))
 
-    def length(self, trial, node, cycle):
+    def length(self, trial: Trial, node: int, cycle: int) -> int:
         """The microtick of a node: at its limit in the last cycle, and until then as far on the way as it may be."""
         most, camp = self.p["xRateBound"], trial.camps[node]
         if camp == AMID:
@@ -67,15 +99,16 @@ class Bench:
         away = trial.off.get(node, 0) + self.p["xChangeBound"] * (self.cycles - 1 - cycle)
         return TICKS + camp * max(most - away, -most)
 
-    def heard(self, trial, receiver, link, parity):
+    def heard(self, trial: Trial, receiver: int, link: Link, parity: int) -> int:
         """By how much of the delay error a frame is late to a receiver in even or odd cycles."""
         camp = trial.camps[receiver] if parity else -trial.camps[receiver]
-        return trial.links.get((*link, parity), camp)
+        return trial.links.get(LinkIn(*link, parity), camp)
 
-    def said_to(self, trial, arbitrary, receiver, parity):
+    def said_to(self, trial: Trial, arbitrary: int, receiver: int, parity: int) -> int | None:
         """What an arbitrary node says to a receiver: late, early, or nothing (None)."""
-        if (arbitrary, receiver, parity) in trial.said:
-            return trial.said[arbitrary, receiver, parity]
+        said = SaidTo(arbitrary, receiver, parity)
+        if said in trial.said:
+            return trial.said[said]
         camp = trial.camps[receiver]
         if camp == AMID:
             if len(self.cluster.arbitrary) == 1:
@@ -83,7 +116,7 @@ class Bench:
             camp = EARLY if self.cluster.arbitrary.index(arbitrary) % 2 else LATE
         return camp if parity else -camp
 
-    def drift(self, trial):
+    def drift(self, trial: Trial) -> Iterator[str]:
         yield f"doubles,{self.doubles},,,,\n"
         micros, limit = self.p["pMicroPerCycle"], self.p["pRateCorrectionOut"]
         for node in self.cluster.correct:
@@ -101,22 +134,22 @@ class Bench:
         for sender, receiver, channel in self.links():
             before = None
             for cycle in range(self.cycles):
-                late = self.heard(trial, receiver, (sender, receiver, channel), cycle % 2)
+                late = self.heard(trial, receiver, Link(sender, receiver, channel), cycle % 2)
                 wait = ranges.compensation(self.p, channel) * TICKS
                 ticks = max(0, wait + late * self.p["xDelayError"])
                 if ticks != before:
                     yield f"delay,{sender},{receiver},{channel},{cycle},{ticks}\n"
                 before = ticks
 
-    def links(self):
+    def links(self) -> Iterator[Link]:
         for sender in self.cluster.correct:
             if self.cluster.nodes[sender].key_slot is not None:
                 for receiver in self.cluster.correct:
                     if receiver != sender:
                         for channel in self.cluster.common(sender, receiver):
-                            yield sender, receiver, channel
+                            yield Link(sender, receiver, channel)
 
-    def script(self, trial):
+    def script(self, trial: Trial) -> Iterator[str]:
         yield from (f"arbitrary,{node},,,,,\n" for node in self.cluster.arbitrary)
         for cycle in range(self.cycles):
             for node in self.cluster.arbitrary:
@@ -126,7 +159,7 @@ class Bench:
                         for channel in self.cluster.common(node, receiver):
                             yield f"say,{cycle},{node},{receiver},{channel},{late * self.shift},\n"
 
-    def judge(self, drift, script, room):
+    def judge(self, drift: str, script: str, room: str) -> Report:
         """The report of a run of these two files."""
         paths = [os.path.join(room, f"{name}.csv") for name in ("params", "drift", "script")]
         for path, text in zip(paths, (self.parameters, drift, script)):
@@ -134,17 +167,17 @@ class Bench:
         self.runs += 1
         return read_report(answer(self.program, ["run", *paths]))
 
-    def run(self, trial, room):
+    def run(self, trial: Trial, room: str) -> Report:
         return self.judge("".join(self.drift(trial)), "".join(self.script(trial)), room)
 
 
-def worth(report):
+def worth(report: Report) -> int:
     """The greatest skew where it is one in sync of a covered run, else nothing."""
     return report.skew if report.gap is None and report.in_sync == 0 else -1
 
 
-def edge(bench):
-    """(drift, script) of one double cycle in which two clocks begin as far apart as `in sync` allows, in their starts
+def edge(bench: Bench) -> Edge:
+    """One double cycle in which two clocks begin as far apart as `in sync` allows, in their starts
     and in their lengths."""
     cluster, p = bench.cluster, bench.p
     pair = next(((one, other) for one in cluster.correct for other in cluster.correct
@@ -166,10 +199,10 @@ def edge(bench):
         start, rate = {pair[0]: (0, -low), pair[1]: (bench.bounds.pi, high)}.get(node, (bench.bounds.pi // 2, 0))
         drift += f"start,{node},{start},{rate},,\n"
     drift += "".join(f"length,{node},0,{ticks},,\n" for node, ticks in zip(pair, best[1:]))
-    return drift, "".join(f"arbitrary,{node},,,,,\n" for node in cluster.arbitrary), pair
+    return Edge(drift, "".join(f"arbitrary,{node},,,,,\n" for node in cluster.arbitrary), pair)
 
 
-def divisions(correct):
+def divisions(correct: list[int]) -> Iterator[dict[int, int]]:
     """Each division into early nodes, late ones and the rest, by how many there are."""
     for early in range(1, min(len(correct), MOST_CAMP + 1)):
         for late in range(1, min(len(correct) - early, MOST_CAMP) + 1):
@@ -177,7 +210,7 @@ def divisions(correct):
                    for at, node in enumerate(correct)}
 
 
-def changed(trial, bench, draw):
+def changed(trial: Trial, bench: Bench, draw: random.Random) -> Trial:
     """The trial with one to three things changed."""
     found, correct, links = copy.deepcopy(trial), bench.cluster.correct, list(bench.links())
     for _ in range(draw.randint(1, 3)):
@@ -187,46 +220,46 @@ def changed(trial, bench, draw):
         elif what < 0.6:
             found.off[node] = draw.randint(0, min(NEAR, bench.p["xRateBound"]))
         elif what < 0.8 and links:
-            found.links[(*draw.choice(links), draw.randint(0, 1))] = draw.choice((EARLY, AMID, LATE))
+            found.links[LinkIn(*draw.choice(links), draw.randint(0, 1))] = draw.choice((EARLY, AMID, LATE))
         elif what < 0.95 and bench.cluster.arbitrary:
-            found.said[draw.choice(bench.cluster.arbitrary), node, draw.randint(0, 1)] = draw.choice((EARLY, LATE, None))
+            late = draw.choice((EARLY, LATE, None))
+            found.said[SaidTo(draw.choice(bench.cluster.arbitrary), node, draw.randint(0, 1))] = late
         else:
             found.camps[node] = draw.choice((EARLY, AMID, LATE))
     return found
 
 
-def climb(bench: Bench, begin: tuple[int, Any], budget: int, seed: int, until: float, room: str,
-          stop: threading.Event) -> tuple[int, Any]:
-    """(skew, trial) of the best that is found from a begin on: a change is kept where it is no worse than now, less an
-    allowance that falls to nothing as the runs go on."""
+def climb(bench: Bench, begin: Best, budget: int, seed: int, until: float, room: str, stop: threading.Event) -> Best:
+    """The best that is found from a begin on: a change is kept where it is no worse than now, less an allowance that falls to
+    nothing as the runs go on."""
     draw, best, now = random.Random(seed), begin, begin
     for turn in range(budget):
         if time.monotonic() > until or stop.is_set():
             break
-        trial = changed(now[1], bench, draw)
+        trial = changed(now.trial, bench, draw)
         skew = worth(bench.run(trial, room))
-        if skew >= now[0] - TICKS // 2 * (budget - turn) // budget and skew >= 0:
-            now = skew, trial
-        if skew > best[0]:
-            best = skew, trial
+        if skew >= now.skew - TICKS // 2 * (budget - turn) // budget and skew >= 0:
+            now = Best(skew, trial)
+        if skew > best.skew:
+            best = Best(skew, trial)
     return best
 
 
-def by_hand(bench, until, most):
-    """(skew, trial) of the best division into camps, with limits everywhere."""
-    best = -1, None
+def by_hand(bench: Bench, until: float, most: int) -> Best | None:
+    """The best division into camps, with limits everywhere."""
+    best: Best | None = None
     with tempfile.TemporaryDirectory() as room:
         for camps in divisions(bench.cluster.correct):
             if bench.runs > most or time.monotonic() > until:
                 break
             trial = Trial(camps)
             skew = worth(bench.run(trial, room))
-            if skew > best[0]:
-                best = skew, trial
+            if skew > (best.skew if best else -1):
+                best = Best(skew, trial)
     return best
 
 
-def who(bench, trial):
+def who(bench: Bench, trial: Trial) -> Iterator[str]:
     """What each node is in the worst run, in the units of a bench."""
     unit = bench.cluster.microtick_ns
     for node in bench.cluster.correct:
@@ -245,7 +278,7 @@ def who(bench, trial):
                        + ("nothing\n" if late is None else f"{CAMPS[late]} by {microseconds(bench.shift, unit)}\n"))
 
 
-def judged(bench: Bench, drift: str, script: str) -> Any:
+def judged(bench: Bench, drift: str, script: str) -> Report:
     """The report of a run of these two files."""
     with tempfile.TemporaryDirectory() as room:
         return bench.judge(drift, script, room)
@@ -258,10 +291,10 @@ def write(bench: Bench, folder: str, drift: str, script: str, told: str) -> None
         keep(folder, name, text)
 
 
-def side_by_side(seeds: range, work: Callable[[int, str, threading.Event], tuple[int, Any]]) -> list[tuple[int, Any]]:
+def side_by_side(seeds: range, work: Callable[[int, str, threading.Event], Best]) -> list[tuple[int, Best]]:
     """What comes of each seed, each in a thread and a folder of its own. ^C ends this, whatever the threads do: they look for it,
     and what they still write is away with the folder."""
-    found: list[tuple[int, Any]] = []
+    found: list[tuple[int, Best]] = []
     faults: list[BaseException] = []
     stop = threading.Event()
     with tempfile.TemporaryDirectory(ignore_cleanup_errors=True) as room:
@@ -269,7 +302,7 @@ def side_by_side(seeds: range, work: Callable[[int, str, threading.Event], tuple
             try:
                 place = os.path.join(room, str(seed))
                 make_folder(place)
-                found.append(work(seed, place, stop))
+                found.append((seed, work(seed, place, stop)))
             except BaseException as fault:  # pylint: disable=broad-except
                 faults.append(fault)
                 stop.set()
@@ -291,36 +324,39 @@ def side_by_side(seeds: range, work: Callable[[int, str, threading.Event], tuple
     return found
 
 
-def search(cluster, program, words):
+def search(cluster: Cluster, program: str, words: Namespace) -> tuple[Bench, Best | None, Best | None]:
     """(bench, by hand, best): the searched cluster with its best division and the best run that was found."""
     bench = Bench(cluster, program, words.double_cycles)
     until = time.monotonic() + words.seconds
     hand = by_hand(bench, until, words.runs)
-    if hand[1] is None:
+    if hand is None:
         return bench, hand, hand
-    budget = max(0, words.runs - bench.runs)
-    found = side_by_side(range(words.seed, words.seed + words.jobs),
-                         lambda seed, room, stop: (seed, climb(bench, hand, budget, seed, until, room, stop)))
+    budget, begin = max(0, words.runs - bench.runs), hand
+
+    def work(seed: int, room: str, stop: threading.Event) -> Best:
+        return climb(bench, begin, budget, seed, until, room, stop)
+
+    found = side_by_side(range(words.seed, words.seed + words.jobs), work)
     # Of equals it is that of the first seed, whichever thread is done first.
-    return bench, hand, max(sorted(found, key=lambda one: one[0]), key=lambda one: one[1][0])[1]
+    return bench, hand, max(sorted(found, key=lambda one: one[0]), key=lambda one: one[1].skew)[1]
 
 
-def check_words(words):
+def check_words(words: Namespace) -> None:
     for name, value, least, most in (("runs", words.runs, 1, 1000000), ("seconds", words.seconds, 1, 1000000),
                                      ("jobs", words.jobs, 1, 256), ("double-cycles", words.double_cycles, 2, 1000)):
         if not least <= value <= most:
             raise Stop(USAGE, f"--{name} {value}: it has to be from {least} to {most}")
 
 
-def left_out(cluster):
+def left_out(cluster: Cluster) -> tuple[str, ...]:
     return ("nodes that join: here all nodes run from cycle 0",) if cluster.joins else ()
 
 
-def worst(cluster, folder, program, words):
+def worst(cluster: Cluster, folder: str, program: str, words: Namespace) -> int:
     check_words(words)
     begin, unit, first = time.monotonic(), cluster.microtick_ns, Bench(cluster, program, 1)
     if first.bounds.failing:
-        named = ", ".join(f"C{check[0]}" for check in first.bounds.failing)
+        named = ", ".join(f"C{check.number}" for check in first.bounds.failing)
         raise Stop(NO, f"{cluster.path}: {named} of the older bound fails, so no run of this cluster is covered by it, and the "
                        "search is of covered runs: `flexlab run` tells what it asks for, and of the sharper bound")
     drift, script, pair = edge(first)
@@ -333,14 +369,14 @@ def worst(cluster, folder, program, words):
     page = lines_of("Precision", f"{microseconds(report.precision, unit)} ({report.precision} ticks), which no macroticks of "
                                  "correct nodes lie further apart than in sync: that is proved")
     page += lines_of("Edge of sync", *edge_words(first, report))
-    if best[1] is None:
+    if best is None or hand is None:
         page += lines_of("Worst found", "nothing: no candidate was covered and in sync from the beginning")
     else:
-        page += lines_of("By hand", f"{microseconds(hand[0], unit)}, {percent(hand[0], report.precision)}: the best division "
+        page += lines_of("By hand", f"{microseconds(hand.skew, unit)}, {percent(hand.skew, report.precision)}: the best division "
                                     "of the nodes into camps, with limits everywhere")
-        found = "".join(bench.drift(best[1])), "".join(bench.script(best[1]))
+        found = "".join(bench.drift(best.trial)), "".join(bench.script(best.trial))
         kept = judged(bench, *found)
-        write(bench, os.path.join(folder, "kept"), *found, "".join(who(bench, best[1])))
+        write(bench, os.path.join(folder, "kept"), *found, "".join(who(bench, best.trial)))
         page += lines_of("Worst found", f"{microseconds(kept.skew, unit)}, {percent(kept.skew, kept.precision)} (cycle "
                                         f"{kept.cycle}, macrotick {kept.macrotick}): clocks that begin together, and are "
                                         "driven apart")
@@ -357,7 +393,7 @@ def worst(cluster, folder, program, words):
     return DONE
 
 
-def edge_words(bench, report):
+def edge_words(bench: Bench, report: Report) -> Iterator[str]:
     unit, p = bench.cluster.microtick_ns, bench.p
     yield (f"{microseconds(report.skew, unit)}, {percent(report.skew, report.precision)} (cycle {report.cycle}, macrotick "
            f"{report.macrotick}): clocks that begin as far apart as `in sync` allows")

@@ -2,12 +2,58 @@
 import json
 from dataclasses import dataclass, field
 from fractions import Fraction
+from collections.abc import Mapping
+from typing import NamedTuple
 
-from ..base import ranges
-
-from ..base import units
-from .source import AMOUNTS, Source
+from ..base import ranges, units
+from ..base.ranges import Parameters
+from .source import AMOUNTS, Drawing, Source
 from .values import Table, near
+
+# Ticks by the cycle from which on they hold.
+Steps = dict[int, int]
+
+
+class Link(NamedTuple):
+    """Frames of a node at another one, on a channel."""
+    sender: int
+    receiver: int
+    channel: str
+
+
+class FrameAt(NamedTuple):
+    """Those of a cycle."""
+    cycle: int
+    sender: int
+    receiver: int
+    channel: str
+
+
+class Fate(NamedTuple):
+    """What becomes of such a frame: `lose`, `flip` with a bit, or `say` with a shift in ticks and the frame's bytes as digits."""
+    kind: str
+    value: int | str
+    frame: str
+
+
+class Slot(NamedTuple):
+    """A further slot of a node, in each cycle whose rest by the repetition is the base."""
+    slot: int
+    node: int
+    base: int
+    repetition: int
+
+
+class Join(NamedTuple):
+    """The double cycle in which a node that joins listens, and to which node."""
+    double: int
+    reference: int
+
+
+class Power(NamedTuple):
+    """The macroticks at which a node is switched on, and off."""
+    on: int
+    off: int | None
 
 
 @dataclass
@@ -30,33 +76,33 @@ class Cluster:
     microtick_ns: Fraction
     bit_rate: Fraction
     start_bits: int
-    parameters: dict
+    parameters: Parameters
     doubles: int
-    nodes: dict
-    slots: list
-    lengths: dict = field(default_factory=dict)
-    delays: dict = field(default_factory=dict)
-    script: dict = field(default_factory=dict)
-    joins: dict = field(default_factory=dict)
-    drawn: dict = field(default_factory=dict)
-    power: dict = field(default_factory=dict)
+    nodes: dict[int, Node]
+    slots: list[Slot]
+    lengths: dict[int, Steps] = field(default_factory=dict)
+    delays: dict[Link, Steps] = field(default_factory=dict)
+    script: dict[FrameAt, Fate] = field(default_factory=dict)
+    joins: dict[int, Join] = field(default_factory=dict)
+    drawn: dict[str, Fraction] = field(default_factory=dict)
+    power: dict[int, list[Power]] = field(default_factory=dict)
     text: str = ""
-    notes: list = field(default_factory=list)
+    notes: list[str] = field(default_factory=list)
 
     @property
-    def cycles(self):
+    def cycles(self) -> int:
         return 2 * self.doubles
 
     @property
-    def arbitrary(self):
+    def arbitrary(self) -> list[int]:
         return [node.number for node in self.nodes.values() if node.arbitrary]
 
     @property
-    def correct(self):
+    def correct(self) -> list[int]:
         return [node.number for node in self.nodes.values() if not node.arbitrary]
 
     @property
-    def macrotick_ns(self):
+    def macrotick_ns(self) -> Fraction:
         """How long a macrotick lasts by nominal microticks."""
         return self.parameters["pMicroPerCycle"] * self.microtick_ns / self.parameters["gMacroPerCycle"]
 
@@ -70,7 +116,7 @@ class Cluster:
         name = self.nodes[number].name if number in self.nodes else ""
         return f"{number} ({name})" if name else str(number)
 
-    def common(self, sender, receiver):
+    def common(self, sender: int, receiver: int) -> list[str]:
         return [channel for channel in "AB"
                 if channel in self.nodes[sender].channels and channel in self.nodes[receiver].channels]
 
@@ -84,7 +130,7 @@ NAME_LENGTH = 128
 MOST_PPM = Fraction(149825, 100)
 
 
-def amount(table, prefix, microtick_ns, least, most, default=None, more=""):
+def amount(table: Table, prefix: str, microtick_ns: Fraction, least: int, most: int, default: int | None = None, more: str = "") -> int:
     """Ticks of a time that is given as PREFIXus, PREFIXns, PREFIXmicroticks or PREFIXticks."""
     given = [unit for unit in AMOUNTS if table.has(prefix + unit)]
     keys = ", ".join(f"`{prefix}{unit}`" for unit in AMOUNTS)
@@ -105,7 +151,7 @@ def amount(table, prefix, microtick_ns, least, most, default=None, more=""):
     return units.ticks_of_microticks(value) if unit == "microticks" else units.rounded(value)
 
 
-def one_of(table, key, other):
+def one_of(table: Table, key: str, other: str) -> bool:
     """Whether the first of two keys is given, of which one has to be."""
     if table.has(key) == table.has(other):
         for misspelt in [] if table.has(key) else table.unknown():
@@ -115,7 +161,7 @@ def one_of(table, key, other):
     return table.has(key)
 
 
-def read_limits(source, microtick_ns):
+def read_limits(source: Source, microtick_ns: Fraction) -> Parameters:
     table = source.table("limits")
     found = {"xRateBound": 1500, "xChangeBound": 1500, "xDelayError": 10000000}
     with source.part():
@@ -162,7 +208,7 @@ def shown_name(name: str) -> str:
     return json.dumps(name if len(name) <= NAME_LENGTH else name[:32] + "..")
 
 
-def read_node(table, nodes, microtick_ns, rate_limit):
+def read_node(table: Table, nodes: dict[int, Node], microtick_ns: Fraction, rate_limit: int) -> None:
     number = table.whole("id", 1, 64)
     if number in nodes:
         table.refuse("id", f"node {number} is there already")
@@ -171,7 +217,7 @@ def read_node(table, nodes, microtick_ns, rate_limit):
     node = Node(number, key_slot, table.channels("channels"), table.flag("coldstart", (False,)),
                 table.flag("arbitrary", (False,)), table.number("ppm", -333333, 1000000, "ppm", (Fraction(0),)),
                 amount(table, "start_", microtick_ns, *ranges.START, default=0),
-                table.whole("rate", -rate_limit, rate_limit, "microticks", (0,)), table.index, name)
+                table.whole("rate", -rate_limit, rate_limit, "microticks", (0,)), table.index or 0, name)
     if node.coldstart and key_slot is None:
         table.refuse("coldstart", "a coldstart node needs a `key_slot`")
     if node.arbitrary and key_slot is None:
@@ -179,8 +225,8 @@ def read_node(table, nodes, microtick_ns, rate_limit):
     nodes[number] = node
 
 
-def read_nodes(source, microtick_ns, rate_limit):
-    nodes = {}
+def read_nodes(source: Source, microtick_ns: Fraction, rate_limit: int) -> dict[int, Node]:
+    nodes: dict[int, Node] = {}
     for table in source.tables("node"):
         with source.part():
             read_node(table, nodes, microtick_ns, rate_limit)
@@ -190,8 +236,8 @@ def read_nodes(source, microtick_ns, rate_limit):
     return dict(sorted(nodes.items()))
 
 
-def read_slots(source, nodes):
-    slots = []
+def read_slots(source: Source, nodes: dict[int, Node]) -> list[Slot]:
+    slots: list[Slot] = []
     for table in source.tables("slot"):
         with source.part():
             slot = table.whole("slot", 1, 1023)
@@ -206,7 +252,7 @@ def read_slots(source, nodes):
                 table.refuse("base", f"{base} is not below the repetition, {repetition}")
             if any(slot == known[0] for known in slots):
                 table.refuse("slot", f"slot {slot} is there already")
-            slots.append((slot, sender[0], base, repetition))
+            slots.append(Slot(slot, sender[0], base, repetition))
     return slots
 
 
@@ -220,9 +266,10 @@ def version_asked(source: Source, table: Table | None) -> int:
     return 2 if of_channels else 1
 
 
-def read_parameters(source, microtick_ns):
+def read_parameters(source: Source, microtick_ns: Fraction) -> Parameters:
     """The parameters; one that is refused has its greatest value, with which the rest is read."""
-    table, found = None, {}
+    table: Table | None = None
+    found: Parameters = {}
     with source.part():
         table = source.table("cluster")
     for name, (least, most, unit, _) in ranges.table(version_asked(source, table)).items():
@@ -236,7 +283,7 @@ def read_parameters(source, microtick_ns):
     return found
 
 
-def read_cluster(path, changes=None, drawing=(None, 1)):
+def read_cluster(path: str, changes: Mapping[str, Fraction] | None = None, drawing: Drawing = (None, 1)) -> Cluster:
     """Reads a cluster, with its clocks and its script; numbers that are drawn are of this seed and draw. All faults that
     can be seen at once are told at once."""
     from .rows import read_delays, read_joins, read_lengths, read_power, read_script

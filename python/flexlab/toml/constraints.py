@@ -1,15 +1,22 @@
 """The eight constraints of a cluster's parameters with the numbers put in (docs/PROTOCOL.md)."""
+from __future__ import annotations
+
+from collections.abc import Iterator
+from typing import TYPE_CHECKING
 from ..base import ranges
 from ..pages.advice import latest_start
 
+if TYPE_CHECKING:
+    from ..program.known import AnyKnown
 
-def with_lines(known, *names):
+
+def with_lines(known: AnyKnown, *names: str) -> str:
     return "; ".join(f"line {known.line(name)}: {name} {known.parameter(name)}" for name in names)
 
 
-def explain_constraint(number, known):
+def explain_constraint(number: int, known: AnyKnown) -> list[str]:
     """Lines that say what the constraint asks and what the file has."""
-    value = known.parameter
+    value = known.value
     if number == 1:
         slots, slot, rest = value("gNumberOfStaticSlots"), value("gdStaticSlot"), value("gdNIT")
         macros = value("gMacroPerCycle")
@@ -55,12 +62,12 @@ def explain_constraint(number, known):
     return ["a further slot is a static slot and no key slot", *faulty_slots(known)]
 
 
-def room_words(known):
+def room_words(known: AnyKnown) -> str:
     """The values of one parameter alone with which constraint 4 holds."""
     names = ("gMacroPerCycle", "pMicroPerCycle", "pRateCorrectionOut", "pOffsetCorrectionOut", "gNumberOfStaticSlots",
              "gdStaticSlot")
-    values = {name: known.parameter(name) for name in names}
-    macros, rest = values["gMacroPerCycle"], values["gMacroPerCycle"] - known.parameter("gOffsetCorrectionStart")
+    values = {name: known.value(name) for name in names}
+    macros, rest = values["gMacroPerCycle"], values["gMacroPerCycle"] - known.value("gOffsetCorrectionStart")
     start = latest_start(values)
     most = (values["pMicroPerCycle"] - values["pRateCorrectionOut"]) * rest // macros - rest - 1
     ways = [f"gOffsetCorrectionStart = {start} or earlier is one way"] if start is not None else []
@@ -70,13 +77,13 @@ def room_words(known):
                                "pMicroPerCycle is wanted greater")
 
 
-def macroticks(count):
+def macroticks(count: int) -> str:
     return f"{count} macrotick" + ("" if count == 1 else "s")
 
 
-def broken(known):
+def broken(known: AnyKnown) -> list[int]:
     """The numbers of the constraints that do not hold, where every parameter is known."""
-    value, keys = known.parameter, known.keys()
+    value, keys = known.value, known.keys()
     macros, slots = value("gMacroPerCycle"), value("gNumberOfStaticSlots") * value("gdStaticSlot")
     start = value("gOffsetCorrectionStart")
     rest = macros - start
@@ -84,16 +91,17 @@ def broken(known):
         1: macros == slots + value("gdNIT"),
         2: value("gdActionPointOffset") < value("gdStaticSlot"),
         3: slots < start < macros,
-        4: (value("pMicroPerCycle") - value("pRateCorrectionOut")) * rest
-           >= macros * (rest + value("pOffsetCorrectionOut") + 1),
+        4: ((value("pMicroPerCycle") - value("pRateCorrectionOut")) * rest
+            >= macros * (rest + value("pOffsetCorrectionOut") + 1)),
         5: value("gMaxWithoutClockCorrectionPassive") <= value("gMaxWithoutClockCorrectionFatal"),
         6: 1 <= len(keys) <= 15, 7: not list(faulty_keys(known)), 8: not list(faulty_slots(known)),
     }
     return [number for number, held in holds.items() if not held]
 
 
-def faulty_keys(known):
-    most, seen = known.parameter("gNumberOfStaticSlots"), {}
+def faulty_keys(known: AnyKnown) -> Iterator[str]:
+    most = known.value("gNumberOfStaticSlots")
+    seen: dict[int, int] = {}
     for node, key, record in known.keys():
         if key > most:
             yield f"line {record.line}: node {node} has key slot {key}, and there are {most} static slots"
@@ -102,8 +110,8 @@ def faulty_keys(known):
         seen.setdefault(key, node)
 
 
-def faulty_slots(known):
-    most, keys = known.parameter("gNumberOfStaticSlots"), {key: node for node, key, _ in known.keys()}
+def faulty_slots(known: AnyKnown) -> Iterator[str]:
+    most, keys = known.value("gNumberOfStaticSlots"), {key: node for node, key, _ in known.keys()}
     for slot, (node, record) in known.slots.items():
         if slot > most:
             yield f"line {record.line}: slot {slot} of node {node} is none of the {most} static slots"

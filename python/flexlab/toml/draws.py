@@ -4,25 +4,29 @@ import math
 import random
 from decimal import Decimal
 from fractions import Fraction
+from collections.abc import Iterator
+from typing import Any, TypeGuard
 
 from ..base.ending import REFUSED, Stop, printable
 from .places import line_of
 
 FORMS = "{ uniform = [FROM, TO] } or { normal = [MEAN, DEVIATION], limit = MOST }, and whole = true for whole numbers"
+# What tomllib hands out of a table.
+Entries = dict[str, Any]
 SEED = (0, 4294967295)
 TRIES = 10000
 
 
-def is_number(value):
+def is_number(value: object) -> TypeGuard[int | Decimal | Fraction]:
     return isinstance(value, (int, Decimal, Fraction)) and not isinstance(value, bool) and not (
         isinstance(value, Decimal) and not value.is_finite())
 
 
-def pair(value):
+def pair(value: object) -> bool:
     return isinstance(value, list) and len(value) == 2 and all(is_number(one) for one in value)
 
 
-def fault(value):
+def fault(value: Entries) -> str | None:
     """What is wrong with a distribution, or None."""
     kinds = [kind for kind in ("uniform", "normal") if kind in value]
     if len(kinds) != 1 or set(value) - {*kinds, "limit", "whole"} or not pair(value[kinds[0]]):
@@ -40,7 +44,7 @@ def fault(value):
     return None
 
 
-def one(value, name, seed, number):
+def one(value: Entries, name: str, seed: int, number: int) -> Fraction:
     """The number that this place draws, with six digits behind the point."""
     source = random.Random(f"{seed}/{number}/{name}")
     for _ in range(TRIES):
@@ -57,7 +61,7 @@ def one(value, name, seed, number):
     return Fraction(value["normal"][0])
 
 
-def places(entries):
+def places(entries: Entries) -> Iterator[tuple[str, int | None, Entries]]:
     """(table, number from 0 or None, entries) of each table of the file."""
     for name, table in entries.items():
         for index, one_table in enumerate(table) if isinstance(table, list) else [(None, table)]:
@@ -65,14 +69,15 @@ def places(entries):
                 yield name, index, one_table
 
 
-def draw(path, text, entries, seed, number):
+def draw(path: str, text: str, entries: Entries, seed: int | None, number: int) -> dict[str, Fraction]:
     """Puts numbers in place of distributions, and hands back what was drawn by name. The key `seed` of [run] is the seed
     where none is given."""
     own = entries.get("run", {}).pop("seed", 1) if isinstance(entries.get("run"), dict) else 1
     if not is_number(own) or own != int(own) or not SEED[0] <= own <= SEED[1]:
         raise Stop(REFUSED, f"{path}:{line_of(text, 'run', None, 'seed')}: run.seed: {printable(str(own))} is not a whole number from "
                             f"{SEED[0]} to {SEED[1]}")
-    seed, found = int(own) if seed is None else seed, {}
+    seed = int(own) if seed is None else seed
+    found: dict[str, Fraction] = {}
     for table, index, holder in places(entries):
         for key, value in holder.items():
             if isinstance(value, dict):

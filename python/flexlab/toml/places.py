@@ -30,5 +30,8 @@ def line_of(text: str, table: str, index: int | None, key: str | None) -> int | 
 
     Inline tables and dotted keys are not looked into: there the line of the table is told, or None.
     """
-    line, keys = lines_of(text).get((table, index or 0), (None, {}))
+    found = lines_of(text).get((table, index or 0))
+    if found is None:
+        return None
+    line, keys = found
     return line if key is None else keys.get(key, line)

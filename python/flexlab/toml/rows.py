@@ -1,52 +1,62 @@
 """Rows for many nodes and cycles: oscillators, delays, two-faced nodes and what is done to frames."""
 import heapq
 from fractions import Fraction
-from typing import Any
+from collections.abc import Iterable
+from typing import NamedTuple, TypeVar
 
-from ..base import ranges
+from ..base import ranges, units
 from ..base.ending import REFUSED, Stop
+from .cluster import Cluster, Fate, FrameAt, Join, Link, Power, Steps, amount
+from .source import TIMES, Source
+from .values import Table
 
-from ..base import units
-from .cluster import amount
-from .source import TIMES
+Default = TypeVar("Default", bound="int | None")
 
 
 # The shortest rows of each file.
 LEAST_BYTES = {"drift": len("delay,1,2,A,0,0\n"), "script": len("say,0,1,2,A,0,\n")}
 
 
-def length(table, key, ppm):
+class Ramp(NamedTuple):
+    """The ppm of an oscillator in the first and in the last of some cycles, and linear in between."""
+    first: int
+    last: int
+    begin: Fraction
+    end: Fraction
+
+
+def length(table: Table, key: str, ppm: Fraction) -> int:
     ticks = units.length_of(ppm)
     if not ranges.LENGTH[0] <= ticks <= ranges.LENGTH[1]:
         table.refuse(key, f"a microtick would last {ticks} ticks, which is not from 500000 to 1500000")
     return ticks
 
 
-def ppm_number(table, key, default=None):
+def ppm_number(table: Table, key: str, default: tuple[Fraction] | None = None) -> Fraction:
     return table.number(key, Fraction(-333333), Fraction(1000000), "ppm", default)
 
 
-def reach(table, cluster, default=None):
+def reach(table: Table, cluster: Cluster, default: tuple[str] | None = None) -> tuple[int, int]:
     """The cycles of a table, first and last; one that lies wholly behind the end of the run is noted."""
     first, last = table.cycles("cycles", cluster.cycles, default)
     behind(table, cluster, "cycles", first)
     return first, last
 
 
-def behind(table, cluster, key, first):
+def behind(table: Table, cluster: Cluster, key: str, first: int) -> None:
     if first >= cluster.cycles:
         note(table, cluster, key, f"it lies behind the end of the run, whose last cycle is {cluster.cycles - 1}, and has "
                                   "no effect")
 
 
-def note(table, cluster, key, why):
+def note(table: Table, cluster: Cluster, key: str, why: str) -> None:
     """A line that warns: the table is taken, and does not do what it may be there for."""
     cluster.notes.append(f"{cluster.path}:{table.line(key)}: {table.key(key)}: {why}")
 
 
-def read_lengths(source, cluster):
+def read_lengths(source: Source, cluster: Cluster) -> None:
     """For each node which length holds from which cycle on: the node's own, then [[oscillator]] by order."""
-    plans = {node.number: [(0, cluster.cycles - 1, node.ppm, node.ppm)] for node in cluster.nodes.values()}
+    plans = {node.number: [Ramp(0, cluster.cycles - 1, node.ppm, node.ppm)] for node in cluster.nodes.values()}
     for table in source.tables("node"):
         with source.part():
             length(table, "ppm", cluster.nodes[table.whole("id", 1, 64)].ppm)
@@ -63,7 +73,7 @@ def read_lengths(source, cluster):
             make_room(cluster, "drift", made)
 
 
-def read_oscillator(table, cluster):
+def read_oscillator(table: Table, cluster: Cluster) -> tuple[list[int], Ramp]:
     nodes = table.nodes("nodes", cluster.nodes)
     first, last = reach(table, cluster, ("all",))
     if table.has("ppm"):
@@ -76,10 +86,10 @@ def read_oscillator(table, cluster):
     length(table, "ppm" if table.has("ppm") else "ppm_to", end)
     if table.entries["nodes"] != "all":
         without_clock(table, "nodes", nodes, cluster)
-    return nodes, (first, last, begin, end)
+    return nodes, Ramp(first, last, begin, end)
 
 
-def without_clock(table, key, nodes, cluster):
+def without_clock(table: Table, key: str, nodes: list[int], cluster: Cluster) -> list[int]:
     """Notes which of these nodes are arbitrary, and hands back the others."""
     for node in nodes:
         if node in cluster.arbitrary:
@@ -88,12 +98,13 @@ def without_clock(table, key, nodes, cluster):
     return [node for node in nodes if node not in cluster.arbitrary]
 
 
-def steps(plan, cycles):
+def steps(plan: list[Ramp], cycles: int) -> Steps:
     """The cycles at which a length changes, each with its length; a ramp is linear in ppm."""
-    found, before = {}, None
+    found: Steps = {}
+    before = None
     marks = sorted({0} | {first for first, _, _, _ in plan} | {last + 1 for _, last, _, _ in plan})
     # The row that stands last of those that have a mark counts: it is the first of these.
-    coming, now = sorted((row[0], at) for at, row in enumerate(plan)), []
+    coming, now = sorted((row.first, at) for at, row in enumerate(plan)), list[int]()
     coming.reverse()
     for mark, end_mark in zip(marks, marks[1:] + [cycles]):
         if mark >= cycles:
@@ -111,16 +122,16 @@ def steps(plan, cycles):
     return found
 
 
-def links(table, cluster, senders, receivers, channels, named):
+def links(table: Table, cluster: Cluster, senders: Iterable[int], receivers: list[int], channels: str, named: str) -> list[Link]:
     """Pairs of different nodes with a common channel; a single pair that has none is refused."""
-    found = [(sender, receiver, channel) for sender in senders for receiver in receivers if sender != receiver
+    found = [Link(sender, receiver, channel) for sender in senders for receiver in receivers if sender != receiver
              for channel in cluster.common(sender, receiver) if channel in channels]
     if not found:
         table.refuse(named, f"no two of these nodes have a common channel of {channels}")
     return found
 
 
-def correct_only(table, key, cluster, why):
+def correct_only(table: Table, key: str, cluster: Cluster, why: str) -> list[int]:
     if table.entries.get(key, "all") == "all":
         return cluster.correct
     nodes = table.nodes(key, cluster.nodes)
@@ -130,7 +141,7 @@ def correct_only(table, key, cluster, why):
     return nodes
 
 
-def read_delays(source, cluster):
+def read_delays(source: Source, cluster: Cluster) -> None:
     made = sum(map(len, cluster.lengths.values()))
     for table in source.tables("delay"):
         with source.part():
@@ -147,14 +158,14 @@ def read_delays(source, cluster):
                 make_room(cluster, "drift", made)
 
 
-def delay_ends(table, cluster, key):
+def delay_ends(table: Table, cluster: Cluster, key: str) -> list[int]:
     """The correct nodes at one end of delays; those that are named and arbitrary are noted."""
     if table.entries.get(key, "all") == "all":
         return cluster.correct
     return without_clock(table, key, table.nodes(key, cluster.nodes), cluster)
 
 
-def read_script(source, cluster):
+def read_script(source: Source, cluster: Cluster) -> None:
     frame_bits = 8 * (8 + 2 * cluster.parameters["gPayloadLengthStatic"])
     said = []
     for name in ("two_faced", "say"):
@@ -177,12 +188,12 @@ def read_script(source, cluster):
                 receivers = correct_only(table, "to", cluster, "hears nothing")
                 first, last = reach(table, cluster)
                 channels = table.channels("channels", ("AB",))
-                bit = table.whole("bit", 0, frame_bits - 1) if name == "flip" else ""
+                bit: int | str = table.whole("bit", 0, frame_bits - 1) if name == "flip" else ""
                 for link in links(table, cluster, senders, receivers, channels, "channels"):
-                    put(table, cluster, link, first, last, (name, bit, ""))
+                    put(table, cluster, link, first, last, Fate(name, bit, ""))
 
 
-def read_joins(source, cluster):
+def read_joins(source: Source, cluster: Cluster) -> None:
     """For each node that joins the double cycle in which it listens, and its reference."""
     for table in source.tables("join"):
         with source.part():
@@ -194,7 +205,7 @@ def read_joins(source, cluster):
                 table.refuse("reference", f"node {reference} joins itself, and a reference is there from cycle 0 on")
 
 
-def read_join(table, cluster):
+def read_join(table: Table, cluster: Cluster) -> None:
     double = table.whole("double_cycle", *ranges.DOUBLE)
     node, reference = one_correct(table, "node", cluster), one_correct(table, "reference", cluster)
     if node in cluster.joins:
@@ -208,10 +219,10 @@ def read_join(table, cluster):
     if not cluster.common(reference, node):
         table.refuse("reference", f"nodes {node} and {reference} have no channel in common")
     behind(table, cluster, "double_cycle", 2 * double)
-    cluster.joins[node] = (double, reference)
+    cluster.joins[node] = Join(double, reference)
 
 
-def one_correct(table, key, cluster):
+def one_correct(table: Table, key: str, cluster: Cluster) -> int:
     nodes = table.nodes(key, cluster.nodes)
     if len(nodes) != 1:
         table.refuse(key, "one node is wanted")
@@ -220,7 +231,7 @@ def one_correct(table, key, cluster):
     return nodes[0]
 
 
-def make_room(cluster: Any, name: str, rows: int) -> None:
+def make_room(cluster: Cluster, name: str, rows: int) -> None:
     """Ends flexlab where a file would have more rows than its length takes, before they are made: a few lines can ask for
     billions of them."""
     most = ranges.FILE_BYTES // LEAST_BYTES[name]
@@ -229,21 +240,21 @@ def make_room(cluster: Any, name: str, rows: int) -> None:
                             f"{ranges.FILE_BYTES} bytes; fewer cycles or nodes make it shorter")
 
 
-def put(table, cluster, link, first, last, row):
+def put(table: Table, cluster: Cluster, link: Link, first: int, last: int, row: Fate) -> None:
     """A row for each of these cycles that the run has."""
     make_room(cluster, "script", len(cluster.script) + min(last, cluster.cycles - 1) + 1 - first)
     for cycle in range(first, min(last, cluster.cycles - 1) + 1):
-        if (cycle, *link) in cluster.script:
+        if FrameAt(cycle, *link) in cluster.script:
             table.refuse(None, "cycle {}, node {} to node {}, channel {}: another table says something of "
                                "these frames already".format(cycle, *link))
-        cluster.script[(cycle, *link)] = row
+        cluster.script[FrameAt(cycle, *link)] = row
 
 
-def read_two_faced(table, cluster, node):
+def read_two_faced(table: Table, cluster: Cluster, node: int) -> None:
     first, last = reach(table, cluster, ("all",))
     channels = table.channels("channels", ("AB",))
     ticks = amount(table, "", cluster.microtick_ns, 0, ranges.SHIFT[1])
-    groups = {}
+    groups: dict[int, int] = {}
     for key, shift in (("early", -ticks), ("late", ticks), ("on_time", 0)):
         for receiver in table.nodes(key, cluster.nodes, ([],)):
             if receiver in cluster.arbitrary:
@@ -255,20 +266,20 @@ def read_two_faced(table, cluster, node):
         table.refuse(None, "it wants receivers: `early`, `late` or `on_time`")
     for receiver, shift in groups.items():
         for link in links(table, cluster, [node], [receiver], channels, "channels"):
-            put(table, cluster, link, first, last, ("say", shift, ""))
+            put(table, cluster, link, first, last, Fate("say", shift, ""))
 
 
-def read_say(table, cluster, node):
+def read_say(table: Table, cluster: Cluster, node: int) -> None:
     first, last = reach(table, cluster)
     channels = table.channels("channels", ("AB",))
     receivers = correct_only(table, "to", cluster, "hears nothing")
     ticks = amount(table, "", cluster.microtick_ns, *ranges.SHIFT, default=0)
     frame = table.hexadecimal("frame", 524)
     for link in links(table, cluster, [node], receivers, channels, "channels"):
-        put(table, cluster, link, first, last, ("say", ticks, frame))
+        put(table, cluster, link, first, last, Fate("say", ticks, frame))
 
 
-def read_power(source, cluster):
+def read_power(source: Source, cluster: Cluster) -> None:
     """For each node when it is switched on and off, in macroticks; off may be None. Later tables of a node follow it."""
     for table in source.tables("power"):
         with source.part():
@@ -279,12 +290,13 @@ def read_power(source, cluster):
                 table.refuse(None, f"it is off {off} macroticks after the begin, and on {on}: off has to be later")
             for node in nodes:
                 before = cluster.power.setdefault(node, [])
-                if before and (before[-1][1] is None or on <= before[-1][1]):
+                last = before[-1].off if before else 0
+                if before and (last is None or on <= last):
                     table.refuse("nodes", f"node {node} is on already by an earlier table, and tables of a node ascend")
-                before.append((on, off))
+                before.append(Power(on, off))
 
 
-def macroticks(table, switch, cluster, default):
+def macroticks(table: Table, switch: str, cluster: Cluster, default: Default) -> int | Default:
     """The macrotick of a switch that is given as SWITCH_ms, _us or _macroticks."""
     given = [unit for unit in TIMES if table.has(f"{switch}_{unit}")]
     if not given:
@@ -292,4 +304,4 @@ def macroticks(table, switch, cluster, default):
     if len(given) > 1:
         table.refuse(f"{switch}_{given[1]}", "it wants one of " + ", ".join(f"`{switch}_{unit}`" for unit in TIMES))
     size = {"ms": 1000000 / cluster.macrotick_ns, "us": 1000 / cluster.macrotick_ns, "macroticks": Fraction(1)}[given[0]]
-    return units.rounded(size * table.number(f"{switch}_{given[0]}", *(bound / size for bound in ranges.POWER), given[0]))
+    return units.rounded(size * table.number(f"{switch}_{given[0]}", ranges.POWER[0] / size, ranges.POWER[1] / size, given[0]))

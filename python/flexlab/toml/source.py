@@ -5,6 +5,8 @@ import tomllib
 from decimal import Decimal
 from fractions import Fraction
 from typing import Any
+from collections.abc import Iterator, Mapping
+from typing import NoReturn
 
 from .draws import draw
 from ..base import files, numbers
@@ -13,12 +15,14 @@ from .places import line_of
 from ..base.ranges import NAMES
 from .values import Table, near, shown
 
+# The seed of a draw, None for that of the file, and its number.
+Drawing = tuple[int | None, int]
 AMOUNTS = ("us", "ns", "microticks", "ticks")
 # Of the times of a startup, which are whole macroticks.
 TIMES = ("ms", "us", "macroticks")
 SCRIPT = ("cycles", "channels", *AMOUNTS)
 # The keys that a table may have; of [values] any.
-KEYS = {
+KEYS: dict[str, tuple[str, ...]] = {
     "values": (),
     "bench": ("microtick_ns", "bit_rate_mbit", "start_bits"),
     "cluster": tuple(name for name in NAMES if not name.startswith("x")),
@@ -50,7 +54,7 @@ MOST_BYTES = 4 << 20
 
 
 class Source:
-    def __init__(self, path, changes=None, drawing=(None, 1)):
+    def __init__(self, path: str, changes: Mapping[str, Fraction] | None = None, drawing: Drawing = (None, 1)) -> None:
         """Reads the file; `changes` are pairs of a key's path and a number that takes its value's place, `drawing` is the
         seed, or None for that of the file, and the number of the draw."""
         self.load(path)
@@ -99,7 +103,7 @@ class Source:
                 elif isinstance(value, (dict, list)):
                     todo.append((value, depth + 1))
 
-    def no_toml(self, fault):
+    def no_toml(self, fault: str) -> Stop:
         """What ends flexlab where the file is no TOML: the line and its text, and what it may be."""
         place = re.search(r"at line (\d+)", fault)
         if not place:
@@ -111,21 +115,21 @@ class Source:
         return Refused(self.path, int(place[1]), f"this is not TOML: {printable(fault)}: {printable(text)}{hint}")
 
     @contextlib.contextmanager
-    def part(self):
+    def part(self) -> Iterator[None]:
         """Reads a part of the file: where it is refused the fault is kept, and reading goes on behind it."""
         try:
             yield
         except Refused as fault:
             self.faults.setdefault(fault.line, fault)
 
-    def tell(self):
+    def tell(self) -> None:
         """Ends flexlab where the file has faults, with all of them by line."""
         if self.faults:
             found = [fault.line for fault in sorted(self.faults.values(), key=lambda fault: fault.place or 0)]
             more = [f"{self.path}: and {len(found) - MOST_TOLD} more"] if len(found) > MOST_TOLD else []
             raise Stop(REFUSED, "\nflexlab: ".join(found[:MOST_TOLD] + more))
 
-    def check_names(self):
+    def check_names(self) -> None:
         for name, entries in self.entries.items():
             with self.part():
                 if name not in KEYS:
@@ -141,16 +145,16 @@ class Source:
                         table.refuse_unknown(key)
 
     @staticmethod
-    def home(key):
+    def home(key: str) -> str | None:
         """The single table that has a key which stands in another one, or None."""
         return next((f"[{name}]" for name in SINGLE if key in KEYS[name]), None)
 
-    def refuse_table(self, name):
+    def refuse_table(self, name: str) -> NoReturn:
         like = near(name, KEYS)
         hint = f"; did you mean `{like}`?" if like else f"; there are {', '.join(SINGLE + MANY)}"
         raise Refused(self.path, line_of(self.text, name, 0, None), f"there is no table `{printable(name)}`{hint}")
 
-    def change(self, key, number):
+    def change(self, key: str, number: Fraction) -> None:
         """Sets `table.key` or `table[N].key`, N from 1, which has to be there."""
         table, _, entry = key.rpartition(".")
         name, _, place = table.partition("[")
@@ -164,7 +168,7 @@ class Source:
                                 "TABLE[N].KEY for the Nth table of that name")
         holder[entry] = number
 
-    def named(self):
+    def named(self) -> None:
         for name, value in self.entries.get("values", {}).items():
             with self.part():
                 if isinstance(value, numbers.Beyond):
@@ -174,14 +178,14 @@ class Source:
                     Table(self, "values", None, {}).refuse(name, f"{shown(value)} is not a number")
                 self.values[name] = Fraction(value)
 
-    def plain_table(self, name):
+    def plain_table(self, name: str) -> Table:
         return Table(self, name, None, self.entries.get(name, {}), KEYS[name])
 
-    def table(self, name):
+    def table(self, name: str) -> Table:
         for other in self.entries:
             if name not in self.entries and other not in KEYS and near(other, KEYS) == name:
                 self.refuse_table(other)
         return self.plain_table(name)
 
-    def tables(self, name):
+    def tables(self, name: str) -> list[Table]:
         return [Table(self, name, index, entries, KEYS[name]) for index, entries in enumerate(self.entries.get(name, []))]

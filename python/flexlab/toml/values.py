@@ -1,14 +1,21 @@
 """One value of a TOML file at a time: what it may be, and the refusal with line, key and range."""
+from __future__ import annotations
+
 import difflib
 import re
 from decimal import Decimal
 from fractions import Fraction
+from collections.abc import Collection, Iterable
+from typing import TYPE_CHECKING, NoReturn
 
 from ..base.ending import Refused, printable
 from .places import line_of
 from ..base.numbers import MANY, Beyond
 from ..base.ranges import CYCLES
-from ..base.units import decimal
+from ..base.units import Number, decimal
+
+if TYPE_CHECKING:
+    from .source import Source
 
 
 def shown(value: object) -> str:
@@ -24,7 +31,7 @@ def shown(value: object) -> str:
     return printable(str(value))
 
 
-def near(word, known):
+def near(word: str, known: Iterable[str]) -> str | None:
     """The known name that is spelt most like a word, whatever the case of letters, or None."""
     folded = {name.lower(): name for name in sorted(known)}
     found = difflib.get_close_matches(word.lower(), folded, 1, 0.6)
@@ -34,23 +41,23 @@ def near(word, known):
 class Table:
     """One table of the file: hands out its values and refuses what does not fit."""
 
-    def __init__(self, source, name, index, entries, keys=()):
+    def __init__(self, source: Source, name: str, index: int | None, entries: dict[str, object], keys: Collection[str] = ()) -> None:
         self.source, self.name, self.index, self.entries, self.keys = source, name, index, entries, keys
 
-    def key(self, key=None):
+    def key(self, key: str | None = None) -> str:
         table = self.name if self.index is None else f"{self.name}[{self.index + 1}]"
         return table if key is None else f"{table}.{printable(key)}"
 
-    def line(self, key=None):
+    def line(self, key: str | None = None) -> int | None:
         return line_of(self.source.text, self.name, self.index, key)
 
-    def refuse(self, key, why):
+    def refuse(self, key: str | None, why: str) -> NoReturn:
         raise Refused(self.source.path, self.line(key), f"{self.key(key)}: {why}")
 
-    def has(self, key):
+    def has(self, key: str) -> bool:
         return key in self.entries
 
-    def take(self, key, wanted, default):
+    def take(self, key: str, wanted: str, default: tuple[object] | None) -> object:
         if key in self.entries:
             return self.entries[key]
         for other in self.unknown():
@@ -60,25 +67,25 @@ class Table:
             return default[0]
         self.refuse(None, f"the key `{key}` is missing: {wanted}")
 
-    def unknown(self):
+    def unknown(self) -> list[str]:
         return [key for key in self.entries if key not in self.keys] if self.keys else []
 
-    def refuse_unknown(self, key):
+    def refuse_unknown(self, key: str) -> NoReturn:
         like, other = near(key, self.keys), self.source.home(key)
         self.refuse(key, "there is no such key" + (f": it belongs into {other}" if other
                                                    else f"; did you mean `{like}`?" if like
                                                    else f"; it may have {', '.join(sorted(self.keys))}"))
 
-    def number(self, key, least, most, unit="", default=None, more=""):
+    def number(self, key: str, least: Number, most: Number, unit: str = "", default: tuple[Number] | None = None,
+               more: str = "") -> Fraction:
         """A number as an exact fraction, or the name of one of [values], a `-` before it allowed."""
         span = f"a number from {shown(least)} to {shown(most)}{' ' + unit if unit else ''}"
-        value = self.take(key, span, default)
-        value = self.plain(key, value, span)
+        value = self.plain(key, self.take(key, span, default), span)
         if not least <= value <= most:
             self.refuse(key, f"{shown(value)} is not {span}{more}")
         return value
 
-    def plain(self, key, value, span):
+    def plain(self, key: str, value: object, span: str) -> Fraction:
         if isinstance(value, str):
             named = re.fullmatch(r"([+-]?)\s*([A-Za-z_]\w*)", value)
             if not named or named.group(2) not in self.source.values:
@@ -95,32 +102,32 @@ class Table:
             self.refuse(key, f"{shown(value)} is not {span}")
         return Fraction(value)
 
-    def whole(self, key, least, most, unit="", default=None):
+    def whole(self, key: str, least: int, most: int, unit: str = "", default: tuple[int] | None = None) -> int:
         span = f"a whole number from {least} to {most}{' ' + unit if unit else ''}"
         value = self.plain(key, self.take(key, span, default), span)
         if value.denominator != 1 or not least <= value <= most:
             self.refuse(key, f"{shown(value)} is not {span}")
         return int(value)
 
-    def flag(self, key, default=None):
+    def flag(self, key: str, default: tuple[bool] | None = None) -> bool:
         value = self.take(key, "true or false", default)
         if not isinstance(value, bool):
             self.refuse(key, f"{shown(value)} is not true or false")
         return value
 
-    def text(self, key, wanted, default=None):
+    def text(self, key: str, wanted: str, default: tuple[str] | None = None) -> str:
         value = self.take(key, wanted, default)
         if not isinstance(value, str):
             self.refuse(key, f"{shown(value)} is not a text of {wanted}")
         return value
 
-    def channels(self, key, default=None):
+    def channels(self, key: str, default: tuple[str] | None = None) -> str:
         value = self.take(key, '"A", "B" or "AB"', default)
-        if value not in ("A", "B", "AB"):
+        if not isinstance(value, str) or value not in ("A", "B", "AB"):
             self.refuse(key, f'{shown(value)} is not "A", "B" or "AB"')
         return value
 
-    def hexadecimal(self, key, most):
+    def hexadecimal(self, key: str, most: int) -> str:
         value = self.take(key, "hexadecimal digits", ("",))
         if not isinstance(value, str) or not re.fullmatch(r"(?:[0-9A-Fa-f]{2})*", value):
             self.refuse(key, f"{shown(value)} is not text of hexadecimal digits, two a byte")
@@ -128,14 +135,14 @@ class Table:
             self.refuse(key, f"{len(value)} digits are more than {most}")
         return value
 
-    def nodes(self, key, known, default=None):
+    def nodes(self, key: str, known: Collection[int], default: tuple[object] | None = None) -> list[int]:
         """Node numbers: one, a list, "all", or a text such as "1-4,6"; in ascending order."""
         wanted = 'a node number, a list of them, "all", or a text such as "1-4,6"'
         value = self.take(key, wanted, default)
-        found = set()
+        found: set[int] = set()
         if value == "all":
             return sorted(known)
-        parts = value if isinstance(value, list) else [value]
+        parts: list[object] = value if isinstance(value, list) else [value]
         if isinstance(value, str):
             parts = [part.strip() for part in value.split(",")]
         for part in parts:
@@ -151,7 +158,7 @@ class Table:
                 self.refuse(key, f"there is no node {node}; nodes are {', '.join(map(str, sorted(known)))}")
         return sorted(found)
 
-    def cycles(self, key, cycles, default=None):
+    def cycles(self, key: str, cycles: int, default: tuple[str] | None = None) -> tuple[int, int]:
         """First and last cycle: one number, "all", "FROM-TO" or "FROM-". They may lie behind the end of the run."""
         wanted = f'a cycle from 0 to {CYCLES[1]}, "all", "FROM-TO" or "FROM-"'
         value = self.take(key, wanted, default)
