@@ -1,7 +1,8 @@
 #!/usr/bin/env python3
-"""Makes the wheel of the package with the standard library alone: as `pip install ./python` asks for it, or by hand, as
-`python3 build_wheel.py FOLDER [LIBRARY]`. The shared object goes into it where it is built; the wheel is then for Linux on
-x86-64, else for any system, and the shared object is taken from there. The same files give the same bytes."""
+"""Makes the wheel with the standard library alone: as `pip install ./python` asks for it, or by hand, as
+`python3 build_wheel.py FOLDER [LIBRARY]`. It has the package flexray, and flexlab with the command of that name. The shared object
+goes into it where it is built; the wheel is then for Linux on x86-64, else for any system, and the shared object is taken from
+there. The same files give the same bytes."""
 from __future__ import annotations
 
 import base64
@@ -13,6 +14,7 @@ from typing import Any
 
 HERE = os.path.dirname(os.path.realpath(__file__))
 LIBRARY = "libflexray.so.0"
+SCRIPTS = "[console_scripts]\nflexlab = flexlab.door:main\n"
 
 
 def _read(*parts: str) -> bytes:
@@ -30,14 +32,30 @@ def _metadata() -> bytes:
             "Requires-Python: >=3.9\n").encode()
 
 
+def _stamp() -> bytes:
+    """Of which sources all is: flexlab takes a library of these alone."""
+    if HERE not in sys.path:
+        sys.path.insert(0, HERE)
+    from flexlab.program.stamp import stamp
+    return f"{stamp() or ''}\n".encode()
+
+
 def _library(given: str | None = None) -> str | None:
     found = given or os.environ.get("FLEXRAY_LIBRARY") or os.path.join(HERE, "..", "out", "library", "lib", LIBRARY)
     return found if os.path.exists(found) else None
 
 
 def _parts(library: str | None) -> dict[str, bytes]:
-    found = {f"flexray/{name}": _read("flexray", name) for name in sorted(os.listdir(os.path.join(HERE, "flexray")))
-             if name.endswith(".py") or name == "py.typed"}
+    found = {}
+    for package in ("flexlab", "flexray"):
+        for folder, folders, names in os.walk(os.path.join(HERE, package)):
+            folders.sort()
+            for name in sorted(names):
+                if name.endswith((".py", ".toml")) or name == "py.typed":
+                    path = os.path.relpath(os.path.join(folder, name), HERE)
+                    found[path.replace(os.sep, "/")] = _read(path)
+    found["flexlab/VERSION"] = _read("..", "VERSION")
+    found["flexlab/stamp"] = _stamp()
     if library:
         with open(library, "rb") as file:
             found[f"flexray/{LIBRARY}"] = file.read()
@@ -53,6 +71,7 @@ def build_wheel(wheel_directory: str, config_settings: dict[str, Any] | None = N
     name = f"flexray-{_version()}-{tag}.whl"
     parts = _parts(library)
     parts[f"{info}/METADATA"] = _metadata()
+    parts[f"{info}/entry_points.txt"] = SCRIPTS.encode()
     parts[f"{info}/WHEEL"] = (f"Wheel-Version: 1.0\nGenerator: flexray\nRoot-Is-Purelib: {str(not library).lower()}\n"
                               f"Tag: {tag}\n").encode()
     lines = []

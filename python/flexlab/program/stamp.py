@@ -47,9 +47,12 @@ def of_sources(top: str) -> str:
 
 
 def stamp(top: str = TOP) -> str | None:
-    """The stamp of what stands here: of a package, as its file says, or of a repository; None where it is neither."""
-    try:
-        with open(os.path.join(top, "stamp"), encoding="ascii") as file:
-            return file.read().strip()
-    except OSError:
-        return of_sources(top) if os.path.exists(os.path.join(top, "crates.txt")) else None
+    """The stamp of what stands here: of a wheel or a package, as its file says, or of a repository; None where it is none of
+    them."""
+    for folder in (os.path.join(HERE, ".."), top):
+        try:
+            with open(os.path.join(folder, "stamp"), encoding="ascii") as file:
+                return file.read().strip()
+        except OSError:
+            continue
+    return of_sources(top) if os.path.exists(os.path.join(top, "crates.txt")) else None
