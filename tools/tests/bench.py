@@ -1,4 +1,6 @@
 """What the tests share: the program, flexlab called as a user calls it, and the commented example."""
+import contextlib
+import io
 import os
 import shutil
 import subprocess
@@ -12,6 +14,7 @@ FLEXLAB = os.path.join(TOOLS, "flexlab")
 sys.path.insert(0, os.path.join(REPOSITORY, "python"))
 sys.dont_write_bytecode = True
 
+from flexlab.cli.words import main  # noqa: E402
 from flexlab.program import calls as program  # noqa: E402
 
 FLEXRAY = program.flexray()
@@ -37,6 +40,16 @@ def edited(*changes, text=EXAMPLE):
             raise AssertionError(f"the example has no {old!r}")
         text = text.replace(old, new, 1)
     return text
+
+
+def in_process(*words):
+    """Status, standard output and standard error of a call of flexlab in this process, where many are made."""
+    streams = [io.TextIOWrapper(io.BytesIO(), encoding="utf-8", newline="") for _ in range(2)]
+    with contextlib.redirect_stdout(streams[0]), contextlib.redirect_stderr(streams[1]):
+        status = main([*words])
+    for stream in streams:
+        stream.flush()
+    return status, *(stream.buffer.getvalue().decode("utf-8", "surrogateescape") for stream in streams)
 
 
 class Bench(unittest.TestCase):

@@ -76,6 +76,7 @@ class Case(Bench):
         for title in ("1. Claim", "2. Premises, and who has to see to each", "3. Evidence: what the claim rests on", "6. Not covered"):
             self.assertIn(title, found.text)
         self.assertIn("@media print", page)
+        self.assertIn("Beside the correct nodes stands at most one arbitrary sync node, which may say anything", found.text)
         for number in range(1, 10):
             self.assertIn(f"<td>P{number}</td>", page)
         for path in ("a.toml", FLEXRAY):

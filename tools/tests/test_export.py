@@ -1,17 +1,14 @@
 """`flexlab export`: changed numbers go back into the file, what follows goes with them, and every other byte stays."""
-import contextlib
-import io
 import json
 import os
 import re
 import unittest
 
 import fieldfiles
-from bench import Bench
+from bench import Bench, in_process
 from test_import import ARXML, FIBEX, KINDS, LIMITS, put, sample
 
 from flexlab.base.files import parameter_lines
-from flexlab.cli.words import main
 from flexlab.toml.cluster import read_cluster
 
 CHANGED = {"pClusterDriftDamping = 1": "pClusterDriftDamping = 2", "pAllowPassiveToActive = 0": "pAllowPassiveToActive = 3"}
@@ -32,11 +29,9 @@ class Export(Bench):
         self.addCleanup(os.chdir, before)
 
     def called(self, *words, status=0):
-        out, err = io.StringIO(), io.StringIO()
-        with contextlib.redirect_stdout(out), contextlib.redirect_stderr(err):
-            found = main([*words])
-        self.assertEqual(found, status, err.getvalue())
-        return out.getvalue() if status == 0 else err.getvalue()
+        found, out, err = in_process(*words)
+        self.assertEqual(found, status, err)
+        return out if status == 0 else err
 
     def keep(self, name, data):
         with open(self.path(name), "wb") as file:
@@ -184,14 +179,12 @@ class Export(Bench):
                 for path in ("new", "r.toml"):
                     if os.path.exists(path):
                         os.remove(path)
-                out, err = io.StringIO(), io.StringIO()
-                with contextlib.redirect_stdout(out), contextlib.redirect_stderr(err):
-                    status = main(["export", name, "--from", "net.toml", "-o", "new", "--json"])
+                status, out, err = in_process("export", name, "--from", "net.toml", "-o", "new", "--json")
                 if status:
-                    self.assertIn("a comment, a section or a reference stands in this number", err.getvalue())
+                    self.assertIn("a comment, a section or a reference stands in this number", err)
                     self.assertFalse(os.path.exists("new"))
                     continue
-                found = json.loads(out.getvalue())["changes"]
+                found = json.loads(out)["changes"]
                 if not found:
                     continue
                 written += 1

@@ -1,6 +1,4 @@
 """`flexlab import`: samples against what is wanted of them, random files of the same kinds, and files that are broken or mean harm."""
-import contextlib
-import io
 import json
 import os
 import re
@@ -11,10 +9,9 @@ import tomllib
 import unittest
 
 import fieldfiles
-from bench import FLEXLAB, REPOSITORY, TOOLS, Bench
+from bench import FLEXLAB, REPOSITORY, TOOLS, Bench, in_process
 
 from flexlab.base.files import parameter_lines
-from flexlab.cli.words import main
 from flexlab.toml.cluster import read_cluster
 
 SAMPLES = os.path.join(TOOLS, "tests", "imports")
@@ -165,10 +162,7 @@ class Import(Bench):
 
     def called(self, *words):
         """Status, standard output and standard error, in this process: many files are read."""
-        out, err = io.StringIO(), io.StringIO()
-        with contextlib.redirect_stdout(out), contextlib.redirect_stderr(err):
-            status = main(["import", *words])
-        return status, out.getvalue(), err.getvalue()
+        return in_process("import", *words)
 
     def keep(self, name, data):
         with open(self.path(name), "wb") as file:

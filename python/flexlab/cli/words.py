@@ -486,13 +486,15 @@ def joined(arguments: list[str]) -> list[str]:
 
 def check_names(words: argparse.Namespace) -> None:
     """Ends flexlab where the name of a file or folder has a control character: it could stand for a line of its own."""
-    for key in ("file", "out", "cluster", "flexray"):
-        name = getattr(words, key, None)
-        if name and any(not one.isprintable() and not "\udc80" <= one <= "\udcff" for one in name):
-            raise Stop(USAGE, f"{printable(name)}: a name with a control character, as a line feed, is not taken: rename it")
-        # A program would take it for an option.
-        if name and name.startswith("-") and key in ("file", "out", "cluster") and words.does != "new":
-            setattr(words, key, os.path.join(".", name))
+    for key in ("file", "files", "out", "cluster", "source", "map", "flexray"):
+        given = getattr(words, key, None)
+        for name in given if isinstance(given, list) else [given] if given else []:
+            if any(not one.isprintable() and not "\udc80" <= one <= "\udcff" for one in name):
+                raise Stop(USAGE, f"{printable(name)}: a name with a control character, as a line feed, is not taken: rename it")
+        # A program would take it for an option. Standard output is none of a file, and the cluster of a file has a name.
+        if key in ("file", "out", "cluster") and given and given.startswith("-") and words.does != "new" and not (
+                words.does == "import" and given == "-" or words.does in ("import", "export") and key == "cluster"):
+            setattr(words, key, os.path.join(".", given))
 
 
 def told(line: str) -> str:

@@ -114,10 +114,11 @@ def sha256_of(path: str) -> str:
 def claim(case: Case) -> list[str]:
     cluster, bounds = case.cluster, case.bounds
     precision = upper_us(bounds.precision, cluster)
-    with_whom = ("No sync node is arbitrary." if not case.arbitrary else
-                 f"Beside the correct nodes stand at most {case.arbitrary} arbitrary sync node{'s' if case.arbitrary > 1 else ''}, each of "
-                 "which "
-                 "may say anything in its own slot, and something else to each receiver.")
+    with_whom = {0: "No sync node is arbitrary.",
+                 1: "Beside the correct nodes stands at most one arbitrary sync node, which may say anything in its own slot, and something "
+                    "else to each receiver.",
+                 2: "Beside the correct nodes stand at most two arbitrary sync nodes, each of which may say anything in its own slot, and "
+                    "something else to each receiver."}[case.arbitrary]
     span = (f"to the end of the run, of up to {ranges.CYCLES[1] + 1:,} cycles" if bounds.lasts is None else
             f"for the {bounds.lasts} double cycles from there on ({lasting(ms_of_cycle(2 * bounds.lasts, cluster))})")
     found = [f"From each double cycle in sharp sync on, {span}, no two corresponding macroticks of correct nodes lie further apart than "
@@ -163,7 +164,7 @@ def premises(case: Case) -> list[Premise]:
          "system: fault hypothesis, FMEA; supplier of the controllers"),
         ("In each double cycle every correct sync node's frames reach every other correct node in both its cycles, undamaged, on a channel "
          "that "
-         "both have.", "no such loss", "system: error rates, EMC, bus load of none but these frames"),
+         "both have.", "no such loss", "system: error rates, EMC"),
         ("All nodes are configured with these parameters, and with no external clock correction.",
          f"params.csv, SHA-256 {sha256(case.parameters.encode('ascii'))}"
          + "".join(f"; imported of a file with SHA-256 {one}" for one in imported[:8]), "integration: read back the configuration of each "
@@ -220,6 +221,9 @@ body { font: 11pt/1.45 "DejaVu Sans", Arial, sans-serif; max-width: 60rem; margi
 h1 { font-size: 1.5rem; } h2 { font-size: 1.15rem; margin-top: 2rem; border-bottom: 1px solid #999; }
 table { border-collapse: collapse; width: 100%; }
 th, td { border: 1px solid #999; padding: .3rem .5rem; text-align: left; vertical-align: top; overflow-wrap: anywhere; }
+th, td:first-child { overflow-wrap: normal; }
+.premises th:last-child { width: 18%; }
+.checks td:last-child { white-space: nowrap; }
 th { background: #eee; }
 .claim { border-left: 4px solid #0072b2; padding: .2rem 1rem; }
 code { font-family: monospace; overflow-wrap: anywhere; }
@@ -237,8 +241,8 @@ def cells(row: Iterable[str], tag: str = "td") -> str:
     return "<tr>" + "".join(f"<{tag}>{html.escape(cell)}</{tag}>" for cell in row) + "</tr>"
 
 
-def table(heads: Iterable[str], rows: Iterable[Iterable[str]]) -> str:
-    return f"<table><thead>{cells(heads, 'th')}</thead><tbody>" + "\n".join(cells(row) for row in rows) + "</tbody></table>"
+def table(heads: Iterable[str], rows: Iterable[Iterable[str]], kind: str = "plain") -> str:
+    return f"<table class=\"{kind}\"><thead>{cells(heads, 'th')}</thead><tbody>" + "\n".join(cells(row) for row in rows) + "</tbody></table>"
 
 
 def page(case: Case, path: str) -> str:
@@ -254,10 +258,11 @@ def page(case: Case, path: str) -> str:
            "each length in its range (docs/GLOSSARY.md).</p>"),
         ("Premises, and who has to see to each", "<p>The claim holds where all of these do, and says nothing where one does not.</p>"
          + table(("", "Premise", "Value", "Who sees to it", "Shown by"),
-                 ((f"P{one.number}", one.text, one.value, one.who, "") for one in premises(case)))),
+                 ((f"P{one.number}", one.text, one.value, one.who, "") for one in premises(case)), "premises")),
         ("Evidence: what the claim rests on", table(("", ""), rests_on(case))),
-        ("Evidence: the checks", "<p>As the program printed them: each holds where its left side is at least its right one.</p>"
-         + table(("Check", "What it asks", "Both sides", "Used"), check_rows(case))),
+        ("Evidence: the checks", "<p>As the program printed them: each holds where its left side is at least its right one, C5 and C9 "
+         "where it is greater.</p>"
+         + table(("Check", "What it asks", "Both sides", "Used"), check_rows(case), "checks")),
         ("Evidence: how to print it "
          "again", "<p>" + "<br>".join(f"<code>{html.escape(shlex.join(words))}</code>" for words in again(case, path))
          + "</p>" + table(("What", "SHA-256"), hashes(case, path))),
