@@ -69,8 +69,8 @@ class Made:
         one, two = self.p["A"], self.p["B"]
         lines = [] if one == two else ["version,2,,,"]
         lines += [f"param,{name},{value},," for name, value in self.p.items() if name not in "AB"]
-        lines += [f"param,pDelayCompensation,{one},,"] if one == two else [f"param,pDelayCompensationA,{one},,",
-                                                                          f"param,pDelayCompensationB,{two},,"]
+        both = (("", one),) if one == two else (("A", one), ("B", two))
+        lines += [f"param,pDelayCompensation{channel},{wait},," for channel, wait in both]
         lines += ["param,xRateBound,100,,", "param,xChangeBound,0,,", "param,xDelayError,1000000,,"]
         numbers = {at: number for number, at in enumerate(self.ordered(), 1)}
         for at in self.ordered():

@@ -115,8 +115,8 @@ def claim(case: Case) -> list[str]:
     cluster, bounds = case.cluster, case.bounds
     precision = upper_us(bounds.precision, cluster)
     with_whom = {0: "No sync node is arbitrary.",
-                 1: "Beside the correct nodes stands at most one arbitrary sync node, which may say anything in its own slot, and something "
-                    "else to each receiver.",
+                 1: "Beside the correct nodes stands at most one arbitrary sync node, which may say anything in its own slot, and "
+                    "something else to each receiver.",
                  2: "Beside the correct nodes stand at most two arbitrary sync nodes, each of which may say anything in its own slot, and "
                     "something else to each receiver."}[case.arbitrary]
     span = (f"to the end of the run, of up to {ranges.CYCLES[1] + 1:,} cycles" if bounds.lasts is None else
@@ -242,7 +242,8 @@ def cells(row: Iterable[str], tag: str = "td") -> str:
 
 
 def table(heads: Iterable[str], rows: Iterable[Iterable[str]], kind: str = "plain") -> str:
-    return f"<table class=\"{kind}\"><thead>{cells(heads, 'th')}</thead><tbody>" + "\n".join(cells(row) for row in rows) + "</tbody></table>"
+    inside = "\n".join(cells(row) for row in rows)
+    return f"<table class=\"{kind}\"><thead>{cells(heads, 'th')}</thead><tbody>{inside}</tbody></table>"
 
 
 def page(case: Case, path: str) -> str:
