@@ -49,6 +49,10 @@ def whole(path: str, binary: bool = False, encoding: str = "utf-8") -> Iterator[
                 yield file
             return
         part = os.path.join(os.path.dirname(place), f".{os.path.basename(place)[:200]}.{os.getpid()}.part")
+        # None of that name is taken, as a link that another user put there.
+        with contextlib.suppress(FileNotFoundError):
+            os.unlink(part)
+        form["mode"] = form["mode"].replace("w", "x")
         try:
             with open(part, **form) as file:
                 yield file
@@ -107,32 +111,32 @@ def check_is_file(path: str) -> None:
         raise Stop(FILE, f"{path}: it is {kind}, and a file is wanted")
 
 
-def read(path: str, most: int = LONGEST) -> bytes:
+def read(path: str, most: int = LONGEST, is_capture: bool = False) -> bytes:
     """The bytes of a file of at most so many."""
     check_is_file(path)
     with named_faults(path), open(path, "rb") as file:
         data = file.read(most + 1)
     if len(data) > most:
-        raise too_long(path, most)
+        raise too_long(path, most, is_capture)
     return data
 
 
-def too_long(path: str, most: int, unpacked: bool = False) -> Stop:
+def too_long(path: str, most: int, is_capture: bool, unpacked: bool = False) -> Stop:
     """What ends flexlab at a file of more than so many bytes."""
     size = f"{most // MIB} MiB" if most % MIB == 0 else f"{most} bytes"
     return Stop(REFUSED, f"{path}: {'it unpacks to' if unpacked else 'it has'} more than {size}, which is the most that is taken"
-                         + ("; --most-mib raises that of a capture" if most >= MIB else ""))
+                         + ("; --most-mib raises that" if is_capture else ""))
 
 
 def text_of(path: str, most: int = LONGEST) -> IO[str]:
     """The text of a table or a log of another tool, in the encoding that it has: by its byte order mark, else UTF-8, else
     Windows-1252, of which Latin-1 is a part."""
-    data = read(path, most)
+    data = read(path, most, is_capture=True)
     for mark, encoding in ((b"\xef\xbb\xbf", "utf-8-sig"), (b"\xff\xfe", "utf-16"), (b"\xfe\xff", "utf-16")):
         if data.startswith(mark):
             break
     else:
-        if b"\0" in data[:4096]:
+        if 4 * data[:4096].count(0) > len(data[:4096]):
             raise Stop(REFUSED, f"{path}: it has zero bytes, so it is no text, or one in UTF-16 without a byte order mark: have it "
                                 "kept as UTF-8")
         encoding = "utf-8" if is_utf8(data) else "cp1252"

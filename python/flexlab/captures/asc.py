@@ -176,7 +176,9 @@ def read_lines(path: str, layouts: list[Layout], most: int = LONGEST) -> tuple[L
     log, lines, clock = Log(), list[Line](), 0
     end = max(layout.end for layout in layouts)
     with text_of(path, most) as file:
-        for number, line in enumerate(file, 1):
+        for number, text in enumerate(file, 1):
+            # Blanks of other scripts divide no columns.
+            line = text.encode("ascii", "replace").decode("ascii")
             words = line.split(None, end)[:end]
             head = re.match(r"\s*base\s+(hex|dec)\b(.*)", line, re.I)
             if head:

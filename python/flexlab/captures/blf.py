@@ -135,13 +135,13 @@ def contents(path: str, data: bytes, most: int) -> Iterator[bytes]:
         piece = unpacked(path, item, head, left) if kind == CONTAINER else item
         left -= len(piece)
         if left < 0:
-            raise too_long(path, most, unpacked=True)
+            raise too_long(path, most, is_capture=True, unpacked=True)
         yield piece
 
 
 def received(path: str, most: int = LONGEST) -> list[Received]:
     """The frames of a file in the order in which they stand there."""
-    data = read(path, most)
+    data = read(path, most, is_capture=True)
     length = struct.unpack_from("<I", data, 4)[0] if len(data) >= 8 else len(data)
     found = []
     for kind, item, head in objects(contents(path, data[length:], most)):

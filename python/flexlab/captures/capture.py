@@ -11,7 +11,7 @@ from ..program import calls as programs
 from ..program.calls import Told
 from .blf import MAGIC, read_blf
 from ..toml.cluster import read_cluster
-from ..base.ending import DONE, NO, PROGRAM, REFUSED, USAGE, Stop
+from ..base.ending import DONE, NO, PROGRAM, REFUSED, USAGE, Stop, printable
 from ..base.files import LONGEST, MIB, check_is_file, hold, named_faults, put_bytes, too_long, whole
 from .frames import frame_crc
 from .packets import FLAGS, FRAME, LINK_FLEXRAY, SYMBOL, Packet, packets_of
@@ -47,11 +47,11 @@ def load_by_tshark(path: str, most: int) -> tuple[int, list[Packet]]:
     tshark = programs.helper("tshark")
     status, data, told = programs.stream(tshark, ["-n", "-r", path, "-F", "nsecpcap", "-w", "-"], most)
     if len(data) > most:
-        raise too_long(path, most, unpacked=True)
+        raise too_long(path, most, is_capture=True, unpacked=True)
     if status != 0 and not data:
-        raise Stop(REFUSED, f"{path}: tshark does not read it: {told}")
+        raise Stop(REFUSED, f"{path}: tshark does not read it: {printable(told)}")
     if status != 0:
-        print(f"{'WARNING':<16}tshark says: {told}")
+        print(f"{'WARNING':<16}tshark says: {printable(told)}")
     return packets_of(path, data)
 
 

@@ -346,7 +346,10 @@ def packed(plan: Plan) -> str:
 
 def run_several(packed_plan: str, jobs: list[str]) -> int:
     """What GNU parallel calls: some runs, each NUMBER:VALUE,..:DRAW, and a line of results of each on standard output."""
-    plan = json.loads(zlib.decompress(base64.urlsafe_b64decode(packed_plan)))
+    try:
+        plan = json.loads(zlib.decompress(base64.urlsafe_b64decode(packed_plan)))
+    except (ValueError, zlib.error, RecursionError):
+        raise Stop(USAGE, "study-run: this is no plan of a study, which `flexlab study` hands on")
     if not os.access(plan["flexray"], os.X_OK):
         plan["flexray"] = programs.flexray()
     here = plan["machine"] == socket.gethostname() and plan["keep"] == "all" and "make" not in plan
