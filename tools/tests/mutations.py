@@ -318,10 +318,12 @@ def stand_in(made: list[packets.Packet]) -> None:
         path = words[words.index("-r") + 1]
         with open(path, "rb") as file:
             data = file.read(most + 1)
-        return 0, pcap_of(made) if path.endswith("ng") else data, "stood in for"
+        if path.endswith("ng"):
+            return 0, pcap_of(made), ""
+        return (0, data, "") if data[:4] == struct.pack("<I", packets.MAGIC_NS) else (2, b"", "stood in for")
 
-    def call(*_: Any, **__: Any) -> tuple[int, str, str]:
-        return 0, "", ""
+    def call(_: str, words: list[str], *__: Any, **___: Any) -> tuple[int, str, str]:
+        return (0, "", "") if words[0] == "bound" and len(words) < 4 else (6, "", "stood in for")
 
     calls.stream, calls.call = stream, call
     calls.helper = lambda name: name  # type: ignore[assignment]
@@ -347,9 +349,10 @@ def run(kind: str, made: list[packets.Packet], seed: str, count: int, report: An
         status, err, out = called(words)
         signal.setitimer(signal.ITIMER_PROF, 0)
         fault = ""
-        if status not in ENDINGS or "Traceback" in err:
+        # Of words the stand-in of flexray may be asked for an answer, which it has not.
+        if status not in (*ENDINGS, *((6,) if kind == "words" else ())) or "Traceback" in err:
             fault = f"status {status}: {err[-600:]}"
-        elif status != 0 and not err and words[0] != "explain":
+        elif status != 0 and not err and not out:
             fault = f"status {status} without a word"
         elif any(not one.isprintable() and one not in "\n\ufffd" for one in err + out):
             fault = f"a control character on the terminal: {(err + out)[-300:]!r}"

@@ -13,6 +13,7 @@ import zlib
 
 import mutations
 from bench import FLEXLAB, FLEXRAY, REPOSITORY, Bench, edited, needs
+from flexlab.captures import observer
 
 SHORT = edited(("double_cycles = 200", "double_cycles = 8"))
 OBSERVER = "[observer]\nresolution_ns = 1\ndrift_ppm = 50\ndelay_from_ns = 0\ndelay_to_ns = 4000\n"
@@ -166,6 +167,13 @@ class Tables(Bench):
 
 
 class Bombs(Bench):
+    def test_an_option_of_a_pcapng_file_that_ends_before_its_value(self):
+        options = struct.pack("<HH", 9, 1)
+        data = mutations.pcapng_of(9)[:28] + struct.pack("<IIHHI", 1, 20 + len(options), 210, 0, 0) + options
+        with open(self.path("a.pcapng"), "wb") as file:
+            file.write(data)
+        self.assertEqual(observer.step_of(self.path("a.pcapng")), 1000)
+
     def test_a_blf_file(self):
         body = zlib.compress(bytes(4 << 20), 9)
         for size in (4 << 20, 0, 0xFFFFFFFF):

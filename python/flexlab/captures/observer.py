@@ -198,7 +198,7 @@ def interface_step(options: bytes, order: str) -> Fraction:
     at = 0
     while at + 4 <= len(options):
         code, length = struct.unpack(order + "HH", options[at:at + 4])
-        if code == 9 and length == 1:
+        if code == 9 and length == 1 and at + 4 < len(options):
             exponent = options[at + 4]
             return Fraction(10**9, 2 ** (exponent & 0x7F) if exponent & 0x80 else 10**exponent)
         if code == 0:
