@@ -57,7 +57,8 @@ def random_task(chance, micros=2000):
     """A task whose parameters are small, so that all of them can be tried."""
     return Task(Fraction(25), micros, chance.randint(1, 3), chance.randint(0, 2),
                 Kind(chance.random() < 0.5, chance.choice((0, 0, 2, 40000, 900000)), chance.randint(1, 3)), chance.random() < 0.5,
-                chance.choice((0, 5, 50, 300)), chance.choice((0, 0, 1, 3)), chance.choice((0, 400000, 900000)), (chance.randint(0, 2),) * 2,
+                chance.choice((0, 5, 50, 300)), chance.choice((0, 0, 1, 3)), chance.choice((0, 400000, 900000)),
+                (chance.randint(0, 2),) * 2,
                 chance.choice((0, 1500000, 9000000)), 0, chance.choice((None, Fraction(500))), chance.choice((0, 0, 100000)))
 
 

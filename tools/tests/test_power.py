@@ -88,8 +88,10 @@ class Power(Bench):
 
     def test_limits_that_do_not_suffice(self):
         page = self.one_line(self.power(PLAIN.replace("pOffsetCorrectionOut = 572", "pOffsetCorrectionOut = 320")))
-        self.assertIn("Covered NO: nothing is promised of this run's precision check C7 fails", page)
-        self.assertIn("turn pOffsetCorrectionOut", page)
+        self.assertIn("Covered NO by the older bound", page)
+        self.assertIn("check C7 of the older bound fails, see below", page)
+        self.assertRegex(page, r"Checks C1 to C9 hold, those of the sharp precision; .* Older checks C7 of the older bound, above called "
+                               r"Precision, fails; the sharp precision does not rest on them")
 
     def test_one_coldstart_node(self):
         text = re.sub(r"(key_slot = [23]\n(?:channels = \"AB\"\n)?)coldstart = true\n", r"\1", PLAIN)

@@ -269,7 +269,7 @@ class Pages(Case):
         self.assertIn("Sharply covered yes: in sharp sync no macroticks of correct nodes lie further apart than the sharp precision", page)
         self.assertIn("Sharp precision 0.900 us", page)
         self.assertIn("Checks C1 to C9 hold, those of the sharp precision", page)
-        self.assertIn("Older checks check C1 fails", page)
+        self.assertRegex(page, r"Older checks C1, .* of the older bound, above called Precision, fail; the sharp precision does not rest on")
         page = self.page(produced(SHORT) + JOINS + TWO_FACED)
         self.assertIn("Sharply covered NO: nothing is promised of this run's sharp precision check C7 fails, see below", page)
         self.assertIn("Checks check C7 fails: 126987300 against 136866544; the offset limit has to suffice for the reach of a node that "

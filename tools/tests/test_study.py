@@ -8,8 +8,15 @@ import subprocess
 import sys
 import time
 import unittest
+from fractions import Fraction
 
-from bench import EXAMPLE, FLEXLAB, FLEXRAY, Bench, edited, needs
+from bench import EXAMPLE, FLEXLAB, FLEXRAY, SERIES, Bench, edited, needs, needs_series
+from flexlab.base.ending import Stop
+from flexlab.cli.words import joined, parser
+from flexlab.program import calls
+from flexlab.runs import study
+from flexlab.toml.again import Again
+from flexlab.toml.cluster import read_cluster
 
 SHORT = edited(("double_cycles = 200", "double_cycles = 100"))
 
@@ -181,15 +188,22 @@ class Studies(Bench):
         self.write("a.toml", SHORT)
         words = ("study", "a.toml", "--vary", "values.drift", "--values", "50,100,150", "--ssh", ssh, "--jobs", "1")
         out, err = self.flexlab(*words, "--hosts", "one,dead,two")
-        self.assertIn("host dead is left out", err)
-        self.assertIn("ssh: connect to host dead: no route", err)
+        self.assertIn("Removed dead", err)
         self.assertEqual([line["status"] for line in self.lines()], ["0"] * 3)
         self.assertIn("3 of 3, 3 of them covered", out)
         self.assertEqual(os.listdir(far), [])
         self.assertIn("two", self.read("asked"))
-        err = self.flexlab(*words, "--hosts", "one", "--host-flexlab", "flexlab-that-is-not-there", "-o", "b", status=4)[1]
-        self.assertIn("host one is left out: it has no flexlab-that-is-not-there", err)
-        self.assertIn("no host is left", err)
+        # The same runs by this machine alone.
+        self.flexlab(*words, "-o", "here")
+        self.assertEqual(*(re.sub(r",\d+\.\d\d,", ",,", self.read(folder, "study.csv")) for folder in ("a.study", "here")))
+        err = self.flexlab(*words, "--hosts", "dead", "-o", "c", status=4)[1]
+        self.assertIn("GNU parallel has no host to run on", err)
+        # Where no host has flexlab the runs are missing, and the same words go on.
+        out, err = self.flexlab(*words, "--hosts", "one", "--host-flexlab", "flexlab-that-is-not-there", "-o", "b", status=1)
+        self.assertIn("flexlab-that-is-not-there: not found", err)
+        self.assertIn("Missing         3 of 3 runs", out)
+        self.flexlab(*words, "--hosts", "one", "-o", "b")
+        self.assertEqual([line["status"] for line in self.lines("b")], ["0"] * 3)
 
     def test_a_large_study_is_one_file(self):
         self.flexlab("study", "--seeds", "1:300:1", "--doubles", "1", "-o", "m", "--jobs", "2")
@@ -216,11 +230,48 @@ class Studies(Bench):
         self.assertIn("no value `values.none`", self.flexlab(*words, status=5)[1])
 
     def test_without_parallel(self):
+        """Of this machine alone nothing is needed but flexlab."""
         self.write("a.toml", SHORT)
         words = ("study", "a.toml", "--vary", "values.drift", "--values", "10,20")
         err = self.flexlab(*words, env={"PATH": "/nowhere"})[1]
-        self.assertIn("parallel is missing: install the Debian package parallel", err)
+        self.assertEqual(err, "")
         self.assertEqual(len(self.lines()), 2)
+        err = self.flexlab(*words, "--hosts", ":", "-o", "b", env={"PATH": "/nowhere"}, status=4)[1]
+        self.assertIn("parallel is missing: install the Debian package parallel", err)
+
+    def test_runs_leave_no_files(self):
+        self.write("a.toml", SHORT)
+        os.mkdir(self.path("room"))
+        self.flexlab("study", "a.toml", "--vary", "values.drift", "--values", "10,20", "--keep", "none", env={"TMPDIR": self.path("room")})
+        self.assertEqual(os.listdir(self.path("room")), [])
+        self.assertNotIn("runs", os.listdir(self.path("a.study")))
+
+    def test_progress_is_told(self):
+        self.write("a.toml", SHORT)
+        out = self.flexlab("study", "--seeds", "1:300:1", "--doubles", "1", "-o", "m", "--jobs", "2")[0]
+        self.assertEqual(len(re.findall(r"^\d+ of 300 runs, \d+ s; \d+ s are left$", out, re.M)), 10)
+
+    def test_figures_of_the_report_alone(self):
+        """They are those of the whole study, and the other columns are empty; no trace and no series are asked for."""
+        counting = self.write("counting", f"#!/bin/sh\necho \"$1\" >>{self.path('calls')}\nexec {FLEXRAY} \"$@\"\n")
+        os.chmod(counting, 0o755)
+        self.write("a.toml", SHORT)
+        words = ("study", "a.toml", "--vary", "values.drift", "--values", "50,250", "--keep", "none")
+        self.flexlab(*words, "-o", "all")
+        self.flexlab(*words, "-o", "short", "--figures", "report", "--flexray", counting)
+        whole, short = self.lines("all"), self.lines("short")
+        told = ("status", "covered", "in_sync_double", "precision_us", "greatest_skew_us", "greatest_cycle", "greatest_macrotick", "cut",
+                "gap", "sharply_covered", "sharp_gap", "sharp_precision_us")
+        for one, other in zip(whole, short):
+            self.assertEqual([one[name] for name in told], [other[name] for name in told])
+            empty = ("later_skew_us", "in_sync_at_end", "in_sharp_sync_double", "sharp_skew_us")
+            self.assertEqual([other[name] for name in empty], [""] * 4)
+            self.assertIn(other["skew_in_sync_us"], ("", one["skew_in_sync_us"]))
+        # The bounds are the same in both runs, so one process asks for them once.
+        calls = self.read("calls").split()
+        self.assertEqual(calls.count("run"), 2)
+        self.assertEqual(set(calls), {"run", "bound"})
+        self.assertIn("another study", self.flexlab(*words, "-o", "short", status=2)[1])
 
     @needs("parallel")
     @needs("gnuplot")
@@ -230,6 +281,83 @@ class Studies(Bench):
         with open(self.path("a.study", "study.png"), "rb") as file:
             self.assertEqual(file.read(8), b"\x89PNG\r\n\x1a\n")
         self.assertIn("not covered", self.read("a.study", "study.svg"))
+
+
+STUDIES = os.path.join(os.path.dirname(os.path.realpath(__file__)), "studies")
+
+
+class AsBefore(Bench):
+    """Studies of which studies/ has the results as they were when each run was made with its trace: by the programs with and without
+    flexray-series. The column of seconds is empty there."""
+
+    def results(self, name, env):
+        folder = name + ".study"
+        toml = [f"{name}.toml"] if os.path.exists(os.path.join(STUDIES, f"{name}.toml")) else []
+        for file in toml:
+            with open(os.path.join(STUDIES, file), encoding="utf-8") as text:
+                self.write(file, text.read())
+        with open(os.path.join(STUDIES, f"{name}.words"), encoding="utf-8") as file:
+            words = file.read().split("\n")[:-1]
+        env = {**os.environ, "FLEXRAY": FLEXRAY, "FLEXLAB_LIBRARY": "no", **env}
+        subprocess.run([sys.executable, FLEXLAB, "study", *toml, *words, "--keep", "none", "-o", folder, "--jobs", "2"], cwd=self.room,
+                       env=env, capture_output=True, check=False)
+        with open(self.path(folder, "study.csv"), encoding="utf-8", newline="") as file:
+            rows = list(csv.DictReader(file))
+        for row in rows:
+            row.update(seconds="", told=row["told"].replace(self.room + "/", ""))
+        return rows
+
+    def wanted(self, name, kind):
+        with open(os.path.join(STUDIES, f"{name}.{kind}.csv"), encoding="utf-8", newline="") as file:
+            return list(csv.DictReader(file))
+
+    def names(self):
+        found = sorted(name[:-6] for name in os.listdir(STUDIES) if name.endswith(".words"))
+        self.assertGreaterEqual(len(found), 8)
+        return found
+
+    def test_without_series(self):
+        for name in self.names():
+            with self.subTest(name=name):
+                self.assertEqual(self.results(name, {"FLEXRAY_SERIES": ""}), self.wanted(name, "plain"))
+
+    @needs_series
+    def test_with_series(self):
+        for name in self.names():
+            with self.subTest(name=name):
+                self.assertEqual(self.results(name, {"FLEXRAY_SERIES": SERIES}), self.wanted(name, "series"))
+
+    @needs_series
+    def test_by_the_library(self):
+        if calls.by_library(FLEXRAY) is None:
+            self.skipTest("the library of flexray is not there")
+        for name in self.names():
+            with self.subTest(name=name):
+                self.assertEqual(self.results(name, {"FLEXLAB_LIBRARY": "yes"}), self.wanted(name, "series"))
+
+    def test_clusters_that_are_read_again(self):
+        """They are those that are read anew, and so are refusals."""
+        compared = refused = 0
+        for name in self.names():
+            path = os.path.join(STUDIES, f"{name}.toml")
+            if not os.path.exists(path):
+                continue
+            with open(os.path.join(STUDIES, f"{name}.words"), encoding="utf-8") as file:
+                words = parser().parse_args(joined(["study", path, *file.read().split("\n")[:-1]]))
+            plan, again = study.plan_of(words), Again(path)
+            for _, values, draw in study.points(plan):
+                changes = {key: Fraction(value) for key, value in zip(plan["keys"], values)}
+                found = []
+                for read in (again.cluster, lambda *rest, at=path: read_cluster(at, *rest)):
+                    try:
+                        found.append(read(changes, (plan["seed"], draw)))
+                    except Stop as stop:
+                        found.append(stop.line)
+                        refused += 1
+                self.assertEqual(*found)
+                compared += 1
+        self.assertGreater(compared, 40)
+        self.assertGreater(refused, 2)
 
 
 if __name__ == "__main__":

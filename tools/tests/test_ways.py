@@ -7,11 +7,10 @@ from bench import EXAMPLE, Bench, edited
 from flexlab.runs import least
 from flexlab.program import report
 
-# Wide limits, a low damping: what one types first; and a node that joins, so that the older checks are those gone by.
+# Wide limits, a low damping: what one types first; and a node that joins.
 WIDE = (("pClusterDriftDamping = 5", "pClusterDriftDamping = 2"), ("delay_error_us = 0.0125", "delay_error_ns = 40"),
         ("pRateCorrectionOut = 81", "pRateCorrectionOut = 90"))
 JOINS = "[[join]]\nnode = 5\nreference = 1\ndouble_cycle = 20\n"
-LIMITS = re.compile(r"limits\.(\w+) = ([\d.]+)")
 
 
 class Formulas(Bench):
@@ -36,10 +35,9 @@ class Ways(Bench):
         self.write("a.toml", text)
         return self.one_line(self.flexlab("run", "a.toml")[0])
 
-    def taken(self, way, text):
-        """The TOML file with what a way says."""
-        values = re.search(r"all checks hold with (.*?)\. Precision", way)[1].split(", ")
-        for name, value in (one.split(" = ") for one in values):
+    def taken(self, values, text):
+        """The TOML file with values as a page tells them."""
+        for name, value in (one.split(" = ") for one in values.split(", ")):
             if name.startswith("limits.delay"):
                 text = re.sub(r"^delay_error_\w+ = [\d.]+", f"delay_error_ns = {value}", text, flags=re.M)
             else:
@@ -48,59 +46,69 @@ class Ways(Bench):
         return text
 
     def test_each_way_holds_and_has_the_skew_that_it_tells(self):
+        """Of a cluster that nodes join they are by the sharper checks, C6 to C9 among them."""
+        text = edited(("delay_error_us = 0.0125", "delay_error_ns = 125")) + JOINS
+        page = self.page(text)
+        ways = re.findall(r"all checks hold with (.*?)\. Sharp precision ([\d.]+) us; simulated starts ([\d.]+) us at most from cycle "
+                          r"(\d+) on", page)
+        self.assertEqual(len(ways), 4)
+        self.assertEqual([float(way[2]) for way in ways], sorted(float(way[2]) for way in ways))
+        tried = 0
+        for values, precision, skew, begin in ways:
+            if "limits" in values:
+                continue
+            self.write("b.toml", self.taken(values, text))
+            again = self.one_line(self.flexlab("run", "--from", begin, "b.toml")[0])
+            self.assertIn("Checks C1 to C9 hold, those of the sharp precision", again)
+            self.assertIn(f"Sharp precision {precision} us", again)
+            self.assertIn(f"as asked: {skew} us at most", again)
+            tried += 1
+        self.assertEqual(tried, 2)
+
+    def test_what_the_older_bound_asks_besides(self):
+        """It is told and held to, and no way: the sharper checks of this cluster hold."""
         text = edited(*WIDE) + JOINS
         page = self.page(text)
-        ways = re.findall(r"\d\. (?:your|all).*?(?=\d\. (?:your|all)|none with|Frames)", page)
-        self.assertEqual(len(ways), 2)
-        self.assertIn("your delays span 4.5 ns (7.5 to 12.0 ns): put the compensation amid them", ways[0])
-        self.assertIn("pClusterDriftDamping = 7", ways[1])
-        skews = []
-        for way in ways:
-            told = re.search(r"Precision ([\d.]+) us; covered yes; simulated starts ([\d.]+) us at most from cycle (\d+) on, "
-                             r"[\d.]+ times what it is now", way)
-            self.write("b.toml", self.taken(way, text))
-            again = self.one_line(self.flexlab("run", "--from", told[3], "b.toml")[0])
-            self.assertIn("C1 to C9 hold", again)
-            self.assertIn("Covered yes", again)
-            self.assertIn(f"Precision {told[1]} us", again)
-            self.assertIn(f"as asked: {told[2]} us at most", again)
-            skews.append(float(told[2]))
-        self.assertEqual(skews, sorted(skews))
-        self.assertIn("the damping leaves 3 of 5 rate terms 0 at the end", ways[1])
+        self.assertNotIn("Ways", page)
+        asked = re.search(r"Older checks C1, C7 and C8 of the older bound, above called Precision, fail; the sharp precision does not "
+                          r"rest on them\. They ask for (.*?) besides; the older bound is then ([\d.]+) us, and simulated starts "
+                          r"([\d.]+) us at most from cycle (\d+) on, [\d.]+ times what it is now: that makes the clocks worse", page)
+        self.write("b.toml", self.taken(asked[1], text))
+        again = self.one_line(self.flexlab("run", "--from", asked[4], "b.toml")[0])
+        self.assertIn("Covered yes", again)
+        self.assertIn("Older checks those of the older bound, above called Precision, hold too", again)
+        self.assertIn(f"Precision {asked[2]} us", again)
+        self.assertIn(f"as asked: {asked[3]} us at most", again)
 
     def test_slots_that_do_not_fit(self):
         page = self.page(edited(("delay_error_us = 0.0125", "delay_error_ns = 125")) + JOINS)
-        self.assertIn("none with the limits as stated: 60 static slots of 84 macroticks are 5040, and a cycle has 5000, of "
+        self.assertIn("No values are found with which they hold: 60 static slots of 84 macroticks are 5040, and a cycle has 5000, of "
                       "which the last 43 are for the offset correction: 59 such slots fit", page)
 
     def test_no_values_at_all(self):
-        page = self.page(edited(("gNumberOfStaticSlots = 60", "gNumberOfStaticSlots = 480"), ("gdStaticSlot = 50", "gdStaticSlot = 6"),
-                                ("gdActionPointOffset = 10", "gdActionPointOffset = 3"), ("gdNIT = 2000", "gdNIT = 2120")) + JOINS)
+        page = self.page(edited(("gNumberOfStaticSlots = 60", "gNumberOfStaticSlots = 1000"), ("gdStaticSlot = 50", "gdStaticSlot = 4"),
+                                ("gdActionPointOffset = 10", "gdActionPointOffset = 2"), ("gdNIT = 2000", "gdNIT = 1000")) + JOINS)
         self.assertIn("no values of these parameters are found with which all checks hold", page)
-        self.assertIn("480 static slots of", page)
-        page = self.page(edited(("delay_error_us = 0.0125", "delay_error_ns = 250"), ("gMacroPerCycle = 5000", "gMacroPerCycle = 9000"),
-                                ("gdNIT = 2000", "gdNIT = 6000"), ("microticks = 0.3", "microticks = 9.9")) + JOINS)
-        self.assertRegex(page, r"gdActionPointOffset would have to be \d+, and is 63 at most")
+        self.assertIn("1000 static slots of", page)
 
     def test_a_limit_that_the_run_needs_is_raised(self):
         page = self.page(edited(("microticks = 0.3", "microticks = 0.7")) + JOINS)
         self.assertIn("covered no", self.read("a.lab", "report.txt"))
         self.assertRegex(page, r"\d\. a delay of this run is 17.5 ns off the compensation, beyond xDelayError, 12.5 ns: "
-                               r"all checks hold with limits.delay_error_ns = 17.5, .*?covered yes")
+                               r"all checks hold with limits.delay_error_ns = 17.5, ")
 
     def test_where_a_run_goes_beyond_a_limit_is_told_beside_a_check_that_fails(self):
         # Behind its tables an oscillator is what it was before them: a ramp that nothing follows ends in a jump.
         page = self.page(edited(WIDE[0], ('nodes = 3\ncycles = "181-"\nppm = 20', 'nodes = 3\ncycles = "300-"\nppm = 20'))
                          + JOINS)
-        self.assertIn("check C1 fails", page)
-        told = "the microtick of node 3 changes by 60 ticks in cycle 181 of this run, beyond xChangeBound, 1: "
-        self.assertIn(told + "gdActionPointOffset would have to be", page)
-        self.assertIn("with limits that this run keeps", page)
-        self.assertNotIn("as they are stated", page)
+        self.assertIn("check C6 fails", page)
+        self.assertIn("Verdict NOT PROVED: in cycle 181 the microtick of node 3 changes by 60 ticks (about ppm), which is more than "
+                      "xChangeBound, 1 (and 1 more, below)", page)
+        self.assertIn("the microtick of node 3 changes by 60 ticks in cycle 181 of this run, beyond xChangeBound, 1: all checks but C1 "
+                      "hold with limits.xChangeBound = 60", page)
         page = self.page(edited(("oscillator_ppm = 200", "oscillator_ppm = 100")) + JOINS)
         self.assertRegex(page, r"\d\. an oscillator of this run is 150 ticks off, beyond xRateBound, 100: all checks hold with "
-                               r"limits.xRateBound = 150 \(ticks, about ppm\), gdActionPointOffset = 15, "
-                               r"pOffsetCorrectionOut = 572\. .*?covered yes")
+                               r"limits.xRateBound = 150 \(ticks, about ppm\), pClusterDriftDamping = 2\. ")
 
     def test_nothing_is_advised_where_all_holds(self):
         self.assertNotIn("Ways", self.page(EXAMPLE))

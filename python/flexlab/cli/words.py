@@ -203,10 +203,9 @@ def parser() -> argparse.ArgumentParser:
     explain.add_argument("words", metavar="WORDS", nargs="+")
 
     study = request("study", "run a cluster for each value of a list or a grid, each draw, or each seed of make",
-                    "\nSide by side by the library of flexray where that is there, else by GNU parallel, also on other hosts. The "
-                    "folder has\nstudy.csv and study.jsonl, a line a run, a picture, and a folder of each run that is kept. A "
-                    "study that was\nstopped goes on with the same words; runs that have a line are not run again. A failed run is a "
-                    "line with its status.")
+                    "\nSide by side, also on other hosts by GNU parallel. The folder has study.csv and study.jsonl, a line a run,\na picture, and a "
+                    "folder of each run that is kept. A study that was stopped goes on with the same words; runs\nthat have a line are not "
+                    "run again. A failed run is a line with its status.")
     study.add_argument("file", metavar="FILE.toml", nargs="?", help="the cluster; without it, seeds by --seeds")
     study.add_argument("--vary", metavar="KEY", action="append",
                        help="TABLE.KEY or TABLE[N].KEY, as values.drift or node[2].ppm; several, each with its --values, make "
@@ -221,6 +220,8 @@ def parser() -> argparse.ArgumentParser:
                        help="take the later skew from this cycle on (else from where each run has settled)")
     study.add_argument("--cycles", metavar="RANGES", default="",
                        help="columns of the skew of these cycles too, as 20-99,100-200,201-")
+    study.add_argument("--figures", choices=("all", "report"), default="all",
+                       help="report: only the columns that flexray run tells, which is some ten times as fast (all)")
     study.add_argument("--keep", metavar="RUNS", default="worst:3",
                        help="runs that keep their files: all, none or worst:COUNT (worst:3)")
     study.add_argument("-o", "--out", metavar="FOLDER", help="where files go (FILE.study beside the TOML file)")

@@ -12,6 +12,8 @@ from .gaps import check_words, gap_words, sharp_check_words
 from .model import warnings
 from .page import ms_of_cycle
 from ..program.report import Bounds, Skew
+from .verdict import gaps_told, verdict_object
+from ..runs.every_gap import every_gap, lost_frames
 from ..runs.sharp import ends_of, first_of, gap_of, is_within, kind_of, lost_of, skew_of
 from ..base.ranges import Parameters
 from ..base.units import Number, decimal, ppm_of, us_of_ticks
@@ -147,6 +149,9 @@ def run_object(run: Run) -> Object:
                     "double_cycles": report.doubles, "cycle_ms": ms(1, cluster),
                     "microtick_ns": float(cluster.microtick_ns), "parameters": cluster.parameters,
                     "names": cluster.names},
+        "verdict": verdict_object(run), "gaps": [" ".join(gap) for gap in every_gap(cluster)], "gaps_told": gaps_told(run),
+        "lost": [{"sender": sender, "first_cycle": first, "last_cycle": last, "times": count, "channels": channels}
+                 for sender, first, last, count, channels in lost_frames(cluster)],
         "covered": report.gap is None, "gap": report.gap and " ".join(report.gap),
         "gap_told": gap_words(report.gap, cluster) if report.gap else [],
         "in_sync": {**sync_object(report.in_sync, run.lost, cluster), "at_end": run.at_end},

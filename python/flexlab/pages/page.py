@@ -4,12 +4,14 @@ from __future__ import annotations
 from fractions import Fraction
 from typing import TYPE_CHECKING
 
-from .gaps import check_words, gap_words
+from .gaps import gap_words
 from .model import warnings
 from ..program.calls import coming
+from ..runs.every_gap import every_gap, lost_frames
 from ..runs.sharp import ends_of, first_of, is_covered
 from .sharp_page import check_lines as sharp_check_lines
 from .sharp_page import sharp_lines
+from .verdict import verdict_of
 from ..runs.sync import starts_apart
 from ..base.units import Number, decimal, microseconds, percent, ppm_of, signed, us_of_ticks
 from ..runs.ways import older_lines, way_lines
@@ -175,19 +177,8 @@ def window_lines(run: Run) -> list[str]:
 
 
 def check_lines(run: Run) -> list[str]:
-    """The sharper checks, and the older ones, which the promise of a run that nodes join may rest on."""
-    if not run.cluster.joins:
-        return sharp_check_lines(run, field) + older_lines(run, field)
-    found: list[str] = []
-    for check in run.bounds.failing:
-        words = check_words(check.number, check.left, check.right, run.cluster.parameters)
-        found += field("" if found else "Older checks", *words)
-    if not found:
-        count = len(run.bounds.checks)
-        tight = max(run.bounds.checks, key=lambda check: Fraction(check.right, check.left) if check.left else Fraction(0))
-        found = field("Older checks", f"C1 to C{count} hold; C{tight.number} is the tightest, used to "
-                                      f"{percent(tight.right, tight.left)}")
-    return sharp_check_lines(run, field) + found
+    """The sharper checks, and the older ones."""
+    return sharp_check_lines(run, field) + older_lines(run, field)
 
 
 def bracketed(name: str) -> str:
@@ -226,6 +217,29 @@ def joined_words(cycle: int | None, cluster: Cluster) -> str:
     return f"takes part from cycle {cycle} on ({decimal(ms_of_cycle(cycle, cluster), 3)} ms)"
 
 
+def gap_lines(run: Run) -> list[str]:
+    """What of the files lies outside the limits, all of it: the report names the first gap alone."""
+    gaps = every_gap(run.cluster)
+    found: list[str] = []
+    for gap in gaps if run.report.gap is None or gaps != [run.report.gap] else []:
+        found += field("" if found else "Gaps", *gap_words(gap, run.cluster))
+    return found
+
+
+def lost_lines(run: Run) -> list[str]:
+    """The frames that are lost or damaged on their way, by sender, and who joins by one of these senders."""
+    found: list[str] = []
+    for sender, first, last, count, channels in lost_frames(run.cluster):
+        joining = [node for node, (_, reference) in sorted(run.cluster.joins.items()) if reference == sender]
+        on = "channels A and B" if channels == "AB" else f"channel {channels}"
+        text = (f"{count} times a frame of node {run.cluster.called(sender)} does not reach a receiver, or is damaged, in cycles "
+                f"{first} to {last} on {on}")
+        if joining:
+            text += f"; it is the reference of {'node' if len(joining) == 1 else 'nodes'} {', '.join(map(str, joining))}"
+        found += field("" if found else "Lost", text)
+    return found
+
+
 def frame_lines(run: Run) -> list[str]:
     report = run.report
     bad = {name: count for name, count in report.heard.items() if name not in ("stored", "plain") and count}
@@ -238,10 +252,11 @@ def frame_lines(run: Run) -> list[str]:
 
 
 def page(run: Run) -> str:
-    found = head_lines(run) + verdict_lines(run) + sharp_lines(run, field, ms_of_cycle) + skew_lines(run) + check_lines(run)
+    found = field("Verdict", verdict_of(run).told) + head_lines(run) + verdict_lines(run) + sharp_lines(run, field, ms_of_cycle)
+    found += skew_lines(run) + check_lines(run) + gap_lines(run)
     if run.ways:
         found += way_lines(run.ways, run.cluster, field)
-    found += frame_lines(run)
+    found += frame_lines(run) + lost_lines(run)
     found += window_lines(run) + node_lines(run)
     for line in [*warnings(run.cluster), *run.cluster.notes]:
         found += field("WARNING", line)

@@ -12,6 +12,7 @@ from ..base.ranges import Parameters
 from ..program.report import Bounds, SharpBounds, read_sharp_bounds
 from ..runs.runs import Run, answer
 from .sharp_page import KINDS
+from .verdict import verdict_of
 from ..base.units import Number, decimal, lasting, microseconds, percent, rounded, us_of_ticks
 from ..runs.windows import exact, later
 
@@ -105,9 +106,10 @@ def compared(run: Run, program: str, worst: int = WORST, flutter_ns: str | None 
     cluster, unit = run.cluster, run.cluster.microtick_ns
     p, flutter = cluster.parameters, flutter_asked(flutter_ns, run)
     both = sharp_for(run, program, flutter)
-    lines = field("Cluster", f"a cycle of {decimal(ms_of_cycle(1, cluster), 3)} ms, damping {p['pClusterDriftDamping']}, "
-                             f"oscillators within {p['xRateBound']} ticks (about ppm), frames travel "
-                             f"{microseconds(greatest_delay(p), unit)} at most, by the parameters")
+    lines = field("Verdict", verdict_of(run).told)
+    lines += field("Cluster", f"a cycle of {decimal(ms_of_cycle(1, cluster), 3)} ms, damping {p['pClusterDriftDamping']}, "
+                              f"oscillators within {p['xRateBound']} ticks (about ppm), frames travel "
+                              f"{microseconds(greatest_delay(p), unit)} at most, by the parameters")
     own = "the greatest of this run" if run.sharp.flutter <= sharp.MOST else "the most that flexray bound takes"
     lines += field("Flutter", f"{microseconds(flutter, unit)}: how far a delay may differ between the two cycles of a double "
                               f"cycle; {own if flutter_ns is None else 'as asked'}")

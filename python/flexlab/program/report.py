@@ -250,15 +250,17 @@ def read_series(text: str) -> Series:
     found = Series()
     for line in text.splitlines():
         words = line.split(",")
+        if len(words) == 5 and words[1] in ("yes", "no") and words[0].isdigit():
+            skew, macrotick = (int(word) if word.isdigit() else None for word in words[2:4])
+            found.rows.append(SeriesCycle(int(words[0]), words[1] == "yes", skew, macrotick))
+            found.sharp.rows.append(words[4] == "yes")
+            continue
         numbers = [int(word) if word.isdigit() else None for word in words]
         if line == "cycle,in_sync,skew,macrotick,sharp":
             continue
         if len(words) != 5:
             raise strange("series", line)
-        if numbers[0] is not None and words[1] in ("yes", "no"):
-            found.rows.append(SeriesCycle(numbers[0], words[1] == "yes", numbers[2], numbers[3]))
-            found.sharp.rows.append(words[4] == "yes")
-        elif words[0] == "greatest":
+        if words[0] == "greatest":
             found.greatest = greatest_of(numbers)
         elif words[0] == "synced":
             found.synced = words[1] == "yes"

@@ -169,9 +169,10 @@ def sharp_advise(number: int, parameters: Parameters, kind: Kind) -> tuple[str, 
                             if holds(number, sharp_bounds_of({**parameters, name: value}, kind)[number])), None)
 
 
-def least_sharp(parameters: Parameters, kind: Kind, damping: int) -> Found:
-    """These parameters with this damping, and the least changes by which all sharper checks behind the first hold, or why
-    there are none. Limits and slots stand in the right sides too, so they are fitted until nothing changes."""
+def least_sharp(parameters: Parameters, kind: Kind, damping: int, join: bool = False) -> Found:
+    """These parameters with this damping, and the least changes by which all sharper checks behind the first hold, those for nodes
+    that join too where some do, or why there are none. Limits and slots stand in the right sides too, so they are fitted until
+    nothing changes."""
     p = {**parameters, "pClusterDriftDamping": damping,
          "pRateCorrectionOut": max(parameters["pRateCorrectionOut"], least_rate(parameters, False))}
     before: Parameters | None = None
@@ -180,7 +181,10 @@ def least_sharp(parameters: Parameters, kind: Kind, damping: int) -> Found:
         return None, beyond(name, p[name])
     while p != before:
         before = dict(p)
-        fit_slots(p, sharp_bounds_of(p, kind), 3)
+        sides = sharp_bounds_of(p, kind)
+        if join:
+            p["pRateCorrectionOut"] = max(p["pRateCorrectionOut"], up(Fraction(sides[6][1], TICKS - p["xRateBound"])))
+        fit_slots(p, sides, 7 if join else 3)
         name = too_great(p)
         if name:
             return None, beyond(name, p[name])

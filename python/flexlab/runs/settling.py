@@ -81,7 +81,9 @@ def settle(words: Namespace, folder: str) -> int:
                            + ("" if words.start_us and words.rate_ppm else ", as the file has them"))
     sharply, first = sharp_lines(program, cluster, paths[0], start, rate if words.rate_ppm else spread(lengths(cluster, 0)))
     older, second = older_lines(program, cluster, paths[0], start, rate, sharply)
-    found += first + second
+    verdict = ("proved of sharply covered runs, and of covered ones by the older bound" if sharply and older else
+               "proved of sharply covered runs" if sharply else "proved by the older bound alone" if older else "NOT PROVED by either bound")
+    found = field("Verdict", f"{verdict}, that clocks which begin so come into sync") + found + first + second
     outside = beyond(cluster)
     if outside and not words.rate_ppm:
         found += field("WARNING", f"the first cycles of nodes {', '.join(map(str, sorted(set(outside))))} are longer or shorter "

@@ -16,7 +16,10 @@ from ..base import ranges
 from ..base.ending import DONE, NO
 from ..pages.gaps import gap_words
 from ..pages.machine import ended, printed, run_object, wanted
-from ..pages.page import ORIGIN, check_lines, field as lines_of
+from ..pages.page import ORIGIN, check_lines, gap_lines, lost_lines, ms_of_cycle, field as lines_of
+from ..pages.sharp_page import sharp_lines
+from ..pages.verdict import verdict_of
+from .sharp import first_of, is_covered
 from ..program.calls import flexray
 from ..toml.cluster import Cluster, Join, Power
 from .runs import Run, answer, bound_words, keep, run_cluster
@@ -297,15 +300,17 @@ def sync_lines(startup: Startup) -> list[str]:
                                      "take part lie within the precision")
     else:
         words = (gap_words(run.report.gap, cluster) if run.report.gap[0] != "check"
-                 else [f"check C{run.report.gap[1]} fails, see below: the limits do not suffice for nodes that join"])
-        found += lines_of("Covered", "NO: nothing is promised of this run's precision", *words)
+                 else [f"check C{run.report.gap[1]} of the older bound fails, see below"])
+        found += lines_of("Covered", "NO by the older bound; by the sharper one yes, as below" if is_covered(run)
+                          else "NO by the older bound", *words)
+    found += sharp_lines(run, lines_of, ms_of_cycle)
     found += lines_of("Precision", microseconds(run.report.precision, cluster.microtick_ns))
     if run.in_sync_skew:
         skew, cycle, macrotick = run.in_sync_skew
         found += lines_of("Skew in sync", f"{microseconds(skew, cluster.microtick_ns)} at most, "
                                           f"{percent(skew, run.report.precision)} of the precision (cycle {cycle} of the run, "
                                           f"macrotick {macrotick})")
-    return found + check_lines(run)
+    return found + check_lines(run) + gap_lines(run) + lost_lines(run)
 
 
 def proved_lines(startup: Startup) -> list[str]:
@@ -321,6 +326,8 @@ def proved_lines(startup: Startup) -> list[str]:
         double = startup.run.report.in_sync
         found.append(f"what `Covered` says, from cycle {2 * double} of the run on, and that a node which listens in double cycle "
                      f"e of the run, {double} or later, takes part from its cycle 2 e + 6 on")
+    if startup.run and is_covered(startup.run) and first_of(startup.run) is not None:
+        found.append(f"what `Sharply covered` says, from cycle {2 * first_of(startup.run)} of the run on")
     text = "; ".join(found) if found else "nothing of this startup"
     if not startup.run:
         return lines_of("Proved", text)
@@ -334,8 +341,19 @@ LEFT_OUT = ("wakeup; that a coldstart node follows a leader already in the four 
             "Nodes that are no coldstart nodes listen once a second coldstart node takes part.")
 
 
+def verdict_words(startup: Startup) -> str:
+    """In a sentence who leads, when all are in sync, and what is proved of the run then."""
+    if startup.leader is None:
+        return "NO: no node leads at the end" if not startup.cold.leading else "NO: more than one node leads at the end"
+    if startup.synced is None:
+        synced = "but not all come into sync"
+    else:
+        synced = f"and all are in sync from {shown(startup.of_cycle(2 * startup.synced))} ms on"
+    return f"node {startup.cluster.called(startup.leader)} leads, {synced}; of the run then {verdict_of(startup.run).told}"
+
+
 def page(startup: Startup) -> str:
-    found = head_lines(startup)
+    found = lines_of("Verdict", verdict_words(startup)) + head_lines(startup)
     if startup.leader is None:
         found += lines_of("Leads", "NOBODY at the end" if not startup.cold.leading else "MORE THAN ONE at the end",
                           *why_none(startup))
@@ -351,7 +369,8 @@ def startup_object(startup: Startup) -> dict[str, Any]:
         return None if value is None else float(decimal(value, 6))
 
     found: dict[str, Any] = {
-        "file": startup.cluster.path, "names": startup.cluster.names, "coldstart_nodes": coldstart(startup.cluster),
+        "file": startup.cluster.path, "verdict": verdict_words(startup), "names": startup.cluster.names,
+        "coldstart_nodes": coldstart(startup.cluster),
         "no_common_channel": startup.cold.apart,
         "leads": [{"node": node, "macrotick": time, "ms": number(startup.ms(time))} for node, time in startup.cold.leads],
         "leader": startup.leader, "why_none": why_none(startup) if startup.leader is None else [],

@@ -1,5 +1,6 @@
-"""Studies: one run for each point of a grid of values, each draw, or each seed of make, side by side in processes that call
-the library of flexray, or by GNU parallel."""
+"""Studies: one run for each point of a grid of values, each draw, or each seed of make, side by side in copies of this process, and over
+several hosts by GNU parallel."""
+import atexit
 import base64
 import contextlib
 import csv
@@ -21,7 +22,7 @@ import time
 import zlib
 from decimal import Decimal
 from fractions import Fraction
-from typing import Any, NamedTuple
+from typing import TYPE_CHECKING, Any, NamedTuple
 from argparse import Namespace
 from collections.abc import Collection, Iterator, Sequence
 
@@ -36,6 +37,9 @@ from ..base.units import Number, decimal, percent, us_of_ticks
 from ..program.report import Report
 from .runs import Run
 from .windows import Window
+
+if TYPE_CHECKING:
+    from .quick import Caller
 
 # What a study is, and the results of a run: objects as JSON has them.
 Plan = dict[str, Any]
@@ -127,7 +131,7 @@ def plan_of(words: Namespace) -> Plan:
         raise Stop(USAGE, f"--draws: {words.file} has no number that is drawn, as ppm = {{ uniform = [-100, 100] }}")
     return {"file": os.path.abspath(words.file), "text": source.text, "keys": vary, "values": values,
             "draws": words.draws or 1, "drawn": sorted(source.drawn), "seed": words.seed, "from": words.begin,
-            "cycles": words.cycles}
+            "cycles": words.cycles, **({} if words.figures == "all" else {"figures": words.figures})}
 
 
 def count_of(plan: Plan) -> int:
@@ -261,6 +265,13 @@ def sharply(run: Run, unit: Fraction) -> Line:
             "sharp_skew_us": "" if skew is None else decimal(us_of_ticks(skew[0], unit), 6)}
 
 
+def shortly(run: Run, unit: Fraction) -> Line:
+    """The columns of the sharper bounds that a report and the bounds suffice for."""
+    known, gap = sharp.gap_of(run)
+    return {"sharply_covered": ("yes" if gap is None else "no") if known else "", "sharp_gap": " ".join(gap or []),
+            "sharp_precision_us": decimal(us_of_ticks(run.sharp.bounds.precision, unit), 6)}
+
+
 def has_text(path: str, plan: Plan) -> bool:
     """Whether this machine has the TOML file as it was when the study began."""
     try:
@@ -270,10 +281,33 @@ def has_text(path: str, plan: Plan) -> bool:
         return False
 
 
-def measure(plan: Plan, values: Sequence[str], number: int, folder: str) -> tuple[Line, dict[str, str]]:
-    """(columns, what was drawn) of a run, whose files go into the folder."""
-    from ..toml.cluster import read_cluster
+CALLERS: dict[tuple[int, str], "Caller"] = {}
+
+
+def caller_of(plan: Plan) -> "Caller":
+    """What this process keeps from run to run, with a folder of its own in the room of the study, which is gone at its end."""
+    from .quick import Caller
+    if "room" not in plan:
+        plan["room"] = tempfile.mkdtemp(prefix="flexlab-study-")
+        atexit.register(shutil.rmtree, plan["room"], ignore_errors=True)
+    key = os.getpid(), plan["room"]
+    if key not in CALLERS:
+        own = os.path.join(plan["room"], str(os.getpid()))
+        os.makedirs(own, exist_ok=True)
+        path = plan["file"]
+        if not has_text(path, plan):
+            path = os.path.join(own, os.path.basename(path))
+            with open(path, "w", encoding="utf-8", newline="") as file:
+                file.write(plan["text"])
+        CALLERS[key] = Caller(plan["flexray"], path, own)
+    return CALLERS[key]
+
+
+def measure(plan: Plan, values: Sequence[str], number: int, folder: str, is_kept: bool) -> tuple[Line, dict[str, str]]:
+    """(columns, what was drawn) of a run; where it is kept, or has no series, it is one as `run` makes it, with its files in the
+    folder."""
     from ..program.report import read_report
+    from .quick import run_of
     from .runs import answer, run_cluster
     from .windows import begin_of, later, ranges_of, windows
     if "make" in plan:
@@ -282,23 +316,27 @@ def measure(plan: Plan, values: Sequence[str], number: int, folder: str) -> tupl
         # A covered run that came into sync stays so: that is proved.
         at_end = True if report.in_sync is not None and report.gap is None else None
         return measured(report, MAKE_NS, report.skew if known else None, at_end), {}
-    make_folder(folder)
-    path = plan["file"]
-    if not has_text(path, plan):
-        path = os.path.join(folder, os.path.basename(path))
-        put(path, plan["text"])
+    caller = caller_of(plan)
     changes = {key: Fraction(Decimal(value)) for key, value in zip(plan["keys"], values)}
-    cluster = read_cluster(path, changes, (plan["seed"], number))
+    cluster = caller.clusters.cluster(changes, (plan["seed"], number))
     spans = ranges_of(plan.get("cycles") or "", cluster)
-    run = run_cluster(cluster, folder, plan["flexray"], begin=begin_of(plan.get("from"), cluster))
-    for name in ("trace.csv", os.path.join("in-sync", "trace.csv")):
-        if os.path.exists(os.path.join(folder, name)):
-            os.remove(os.path.join(folder, name))
+    begin = begin_of(plan.get("from"), cluster)
+    is_short = plan.get("figures") == "report"
+    run = None if is_kept and not is_short else run_of(cluster, caller, begin, is_short)
+    if run is None or is_kept:
+        make_folder(folder)
+        whole_run = run_cluster(cluster, folder, plan["flexray"], begin=begin)
+        run = run or whole_run
+        for name in ("trace.csv", os.path.join("in-sync", "trace.csv")):
+            if os.path.exists(os.path.join(folder, name)):
+                os.remove(os.path.join(folder, name))
     unit, more = cluster.microtick_ns, {name: written(value) for name, value in cluster.drawn.items()}
-    for one in windows(run, spans) if spans else ():
+    for one in windows(run, spans) if spans and not is_short else ():
         for name, ticks in (("greatest", Fraction(one.greatest)), ("99", Fraction(one.most)), ("mean", one.mean)):
             more[f"cycles_{one.first}-{one.last}_{name}_us"] = decimal(us_of_ticks(ticks, unit), 6)
     in_sync_skew = run.in_sync_skew.ticks if run.in_sync_skew else None
+    if is_short:
+        return {**measured(run.report, unit, in_sync_skew, None), **shortly(run, unit)}, more
     found = measured(run.report, unit, in_sync_skew, run.at_end, later(run, run.begin))
     return {**found, **sharply(run, unit)}, more
 
@@ -317,7 +355,7 @@ def run_one(plan: Plan, number: int, values: Sequence[str], draw: int, folder: s
     line.update(dict.fromkeys(COLUMNS, ""), status=DONE)
     with tempfile.TemporaryDirectory(prefix="flexlab-study-") as room:
         try:
-            columns, drawn = measure(plan, values, draw, part or os.path.join(room, "run"))
+            columns, drawn = measure(plan, values, draw, part or os.path.join(room, "run"), folder is not None)
             line.update(columns)
             line.update(drawn)
         except Stop as stop:
@@ -336,7 +374,7 @@ def run_one(plan: Plan, number: int, values: Sequence[str], draw: int, folder: s
 
 def packed(plan: Plan) -> str:
     """The plan without its lists, as one word of a command: so another machine needs no file of it."""
-    text = json.dumps({name: value for name, value in plan.items() if name != "values"})
+    text = json.dumps({name: value for name, value in plan.items() if name not in ("values", "room")})
     found = base64.urlsafe_b64encode(zlib.compress(text.encode(), 9)).decode()
     if len(found) > LONGEST_PLAN:
         raise Stop(USAGE, f"{plan['file']} is too long for a study: {len(found)} bytes as a word, and {LONGEST_PLAN} can "
@@ -365,7 +403,8 @@ class Results:
 
     def __init__(self, folder: str, plan: Plan, lines: dict[int, Line]) -> None:
         self.plan, self.lines, self.total = plan, lines, count_of(plan)
-        self.every = 1 if self.total <= SHOWN else self.total // 100
+        self.every = 1 if self.total <= SHOWN else self.total // (100 if sys.stdout.isatty() else 10)
+        self.begun, self.there = time.monotonic(), len(lines)
         self.path = results_path(folder)
         with named_faults(self.path):
             # Nothing of a line is kept back that would have to be written later.
@@ -386,38 +425,28 @@ class Results:
         if self.every == 1:
             print(f"run {line['run']} of {self.total}: {named(self.plan, line)}: {told_line(line)}", flush=True)
         elif len(self.lines) % self.every == 0:
-            print(f"{len(self.lines)} of {self.total} runs", flush=True)
+            taken, done = time.monotonic() - self.begun, len(self.lines) - self.there
+            print(f"{len(self.lines)} of {self.total} runs, {taken:.0f} s; "
+                  f"{taken * (self.total - len(self.lines)) / done:.0f} s are left", flush=True)
 
 
 # What begins with - would be an option of ssh.
 HOST = re.compile(r"(?:[1-9][0-9]*/)?(?P<address>[^/\s-][^/\s]*)")
 
 
-def living_hosts(words: Namespace, flexlab: str) -> list[str]:
-    """The hosts that answer and have flexlab; of each other one it is told what it is."""
-    found = []
-    for host in filter(None, (host.strip() for host in (words.hosts or "").split(","))):
-        match = HOST.fullmatch(host)
-        if match is None:
+def hosts_of(words: Namespace) -> list[str]:
+    """The hosts as GNU parallel has them."""
+    found = [host for host in (host.strip() for host in (words.hosts or "").split(",")) if host]
+    for host in found:
+        if not HOST.fullmatch(host):
             raise Stop(USAGE, f"--hosts: {host} is neither HOST nor COUNT/HOST, as in host1,8/host2,: where : is this machine")
-        address = match["address"]
-        if address == ":":
-            found.append(host)
-            continue
-        ssh = shlex.split(words.ssh)
-        if os.path.basename(ssh[0]) == "ssh":
-            ssh += ["-o", "BatchMode=yes", "-o", "ConnectTimeout=15"]
-        ended = subprocess.run([*ssh, address, f"command -v {shlex.quote(flexlab)}"], stdin=subprocess.DEVNULL,
-                               capture_output=True, text=True, check=False)
-        if ended.returncode == 0:
-            found.append(host)
-        elif ended.returncode == 255:
-            why = (ended.stderr.strip().splitlines() or ["it tells no cause"])[-1]
-            print(f"flexlab: host {host} is left out: {words.ssh.split()[0]} does not reach it ({why})", file=sys.stderr)
-        else:
-            print(f"flexlab: host {host} is left out: it has no {flexlab}; install the package there, or name flexlab as it "
-                  "is called there by --host-flexlab", file=sys.stderr)
     return found
+
+
+def host_options(words: Namespace, hosts: list[str]) -> list[str]:
+    """What GNU parallel is told of hosts: it looks which of them answer, shares the runs out, and tries one again elsewhere."""
+    ssh = f"{words.ssh} -o BatchMode=yes -o ConnectTimeout=15" if words.ssh == "ssh" else words.ssh
+    return ["--ssh", ssh, "--sshlogin", ",".join(hosts), "--filter-hosts", "--retries", "3"] if hosts else []
 
 
 def jobs_of(plan: Plan, todo: Collection[int]) -> Iterator[str]:
@@ -436,7 +465,7 @@ def kept_folder(folder: str, plan: Plan, number: int) -> str | None:
 
 
 class Forked:
-    """A run in a copy of this process, where it is some calls of the library and starts no program."""
+    """A run in a copy of this process."""
 
     plan: Plan = {}
     folder = ""
@@ -472,28 +501,17 @@ def end_parallel(ended: subprocess.Popen[str]) -> None:
 
 
 def run_all(folder: str, plan: Plan, todo: Collection[int], words: Namespace, results: Results) -> None:
-    """Runs what is to be done: by the library, by GNU parallel, or one after the other where both are missing."""
-    if not words.hosts and not words.parallel and re.fullmatch(JOBS, words.jobs or "1") and programs.by_library(plan["flexray"]):
+    """Runs what is to be done: in copies of this process, or, over hosts and with options of its own, by GNU parallel."""
+    if not words.hosts and not words.parallel and re.fullmatch(JOBS, words.jobs or "1"):
         run_forked(folder, plan, todo, words, results)
         return
-    flexlab = os.path.realpath(sys.argv[0])
-    hosts = living_hosts(words, words.host_flexlab or flexlab)
-    if words.hosts and not hosts:
-        raise Stop(MISSING, "no host is left: see above; `:` is this machine")
-    try:
-        parallel = programs.helper("parallel")
-    except Stop as stop:
-        print(f"flexlab: {stop.line}; runs go one after the other", file=sys.stderr)
-        for number, values, draw in points(plan):
-            if number in todo:
-                results.take(run_one(plan, number, values, draw, kept_folder(folder, plan, number)))
-        return
+    flexlab, hosts, parallel = os.path.realpath(sys.argv[0]), hosts_of(words), programs.helper("parallel")
     # A shell reads the command, of this machine or of another one.
     called = [words.host_flexlab or flexlab] if hosts else [sys.executable, flexlab]
-    # A program that is started takes a few runs, so that in a large study starting it does not weigh.
-    several = max(1, min(50, len(todo) // (8 * beside_of(words) * max(1, len(hosts)))))
+    # A program that is started takes some runs, so that in a large study starting it does not weigh.
+    several = max(1, min(500, len(todo) // (8 * beside_of(words) * max(1, len(hosts)))))
     wanted = [parallel, "--will-cite", "--line-buffer", *(["--jobs", words.jobs] if words.jobs else []),
-              *(["--ssh", words.ssh, "--sshlogin", ",".join(hosts), "--retries", "3"] if hosts else []),
+              *host_options(words, hosts),
               *shlex.split(words.parallel), "--max-args", str(several),
               f"{shlex.join([*called, 'study-run', packed(plan)])} {{}}"]
     with tempfile.TemporaryFile("w+") as jobs:
@@ -513,6 +531,8 @@ def run_all(folder: str, plan: Plan, todo: Collection[int], words: Namespace, re
             except BaseException:
                 end_parallel(ended)
                 raise
+    if hosts and ended.returncode == 255:
+        raise Stop(MISSING, "GNU parallel has no host to run on: see above; `:` is this machine")
     if ended.returncode > 101:
         raise Stop(PROGRAM, f"GNU parallel ended with status {ended.returncode}")
 
@@ -588,6 +608,8 @@ def run_held(words: Any, program: str, plan: dict[str, Any], folder: str) -> tup
     todo = set(range(1, total + 1)) - kept
     if kept:
         print(f"{len(kept)} of {total} runs are there already")
+    if "make" not in plan:
+        caller_of(plan)
     results = Results(folder, plan, lines)
     try:
         if todo:

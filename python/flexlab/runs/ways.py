@@ -121,7 +121,8 @@ class SharpChecks:
 
     def __init__(self, run: Run) -> None:
         self.kind = kind_of(run.cluster, run.sharp.flutter)
-        self.words = ["sharp", str(self.kind.flutter)]
+        self.join = bool(run.cluster.joins)
+        self.words = ["sharp", str(self.kind.flutter), *(["join"] if self.join else [])]
         self.failing = {check.number for check in run.sharp.bounds.failing}
 
     def least(self, parameters: Parameters) -> Iterator[Found]:
@@ -129,7 +130,7 @@ class SharpChecks:
         has to suffice."""
         own, least = parameters["pClusterDriftDamping"], least_sharp_damping(parameters, self.kind)
         for damping in (max(own, least),) if self.failing == {1} else dict.fromkeys((own, least)):
-            yield least_sharp(parameters, self.kind, damping)
+            yield least_sharp(parameters, self.kind, damping, self.join)
 
     def read(self, text: str) -> SharpBounds | None:
         """The bounds, where all checks behind the first hold."""
@@ -253,10 +254,10 @@ def candidates(cluster: Cluster, checks: Checks, with_amid: bool, seen: list[Par
 
 
 def weigh(run: Run, program: str, run_cluster: Runs) -> Ways | None:
-    """The ways to a covered run, each run, the one with the least skew first, by the sharper checks where no node joins; and
-    what the older ones would ask besides. None where neither is wanted."""
+    """The ways to a covered run, each run, the one with the least skew first, by the sharper checks; and what the older ones
+    would ask besides. None where neither is wanted."""
     cluster = run.cluster
-    checks: Checks = OlderChecks(run) if cluster.joins else SharpChecks(run)
+    checks: Checks = SharpChecks(run)
     wanted = bool(checks.failing or passed(cluster, needs(cluster)))
     if not wanted and not run.bounds.failing:
         return None
@@ -279,7 +280,7 @@ def weigh(run: Run, program: str, run_cluster: Runs) -> Ways | None:
                 found.refused.append(Refused(why, candidate.told))
     # A run that is never in sync has no later skew to go by.
     found.held.sort(key=lambda way: (checks.gap(way.run).words is not None, checks.first(way.run) is None, way.skew))
-    if isinstance(checks, SharpChecks) and run.bounds.failing:
+    if run.bounds.failing:
         ask_older(found, run, tries)
     return found
 

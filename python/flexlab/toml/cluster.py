@@ -1,5 +1,6 @@
 """A cluster as a TOML file describes it, in the numbers of flexray's files."""
 import json
+from collections.abc import Callable
 from dataclasses import dataclass, field
 from fractions import Fraction
 from collections.abc import Mapping
@@ -286,8 +287,17 @@ def read_parameters(source: Source, microtick_ns: Fraction) -> Parameters:
 def read_cluster(path: str, changes: Mapping[str, Fraction] | None = None, drawing: Drawing = (None, 1)) -> Cluster:
     """Reads a cluster, with its clocks and its script; numbers that are drawn are of this seed and draw. All faults that
     can be seen at once are told at once."""
+    return cluster_of(Source(path, changes, drawing))
+
+
+def all_readers() -> "tuple[Callable[[Source, Cluster], None], ...]":
+    """What reads the rows of a cluster, in this order."""
     from .rows import read_delays, read_joins, read_lengths, read_power, read_script
-    source = Source(path, changes, drawing)
+    return read_script, read_joins, read_lengths, read_delays, read_power
+
+
+def cluster_of(source: Source, readers: "tuple[Callable[[Source, Cluster], None], ...] | None" = None) -> Cluster:
+    """The cluster of a source; who has rows at hand puts readers of his own in place of those that read them."""
     microtick_ns, bit_rate, start_bits, doubles = Fraction(1000), Fraction(10), 15, 1
     with source.part():
         bench = source.table("bench")
@@ -300,9 +310,9 @@ def read_cluster(path: str, changes: Mapping[str, Fraction] | None = None, drawi
     nodes = read_nodes(source, microtick_ns, parameters["pRateCorrectionOut"])
     if len(nodes) < len(source.tables("node")) or not nodes:
         source.tell()
-    cluster = Cluster(path, microtick_ns, bit_rate, start_bits, parameters, doubles, nodes,
+    cluster = Cluster(source.path, microtick_ns, bit_rate, start_bits, parameters, doubles, nodes,
                       read_slots(source, nodes), drawn=source.drawn, text=source.text)
-    for read in (read_script, read_joins, read_lengths, read_delays, read_power):
+    for read in readers or all_readers():
         read(source, cluster)
     source.tell()
     return cluster

@@ -1,5 +1,6 @@
 """Rows for many nodes and cycles: oscillators, delays, two-faced nodes and what is done to frames."""
 import heapq
+import functools
 from fractions import Fraction
 from collections.abc import Iterable
 from typing import NamedTuple, TypeVar
@@ -68,7 +69,7 @@ def read_lengths(source: Source, cluster: Cluster) -> None:
     made = 0
     for node, plan in plans.items():
         if not cluster.nodes[node].arbitrary:
-            cluster.lengths[node] = steps(plan, cluster.cycles)
+            cluster.lengths[node] = dict(steps(tuple(plan), cluster.cycles))
             made += len(cluster.lengths[node])
             make_room(cluster, "drift", made)
 
@@ -98,7 +99,8 @@ def without_clock(table: Table, key: str, nodes: list[int], cluster: Cluster) ->
     return [node for node in nodes if node not in cluster.arbitrary]
 
 
-def steps(plan: list[Ramp], cycles: int) -> Steps:
+@functools.lru_cache(1000)
+def steps(plan: tuple[Ramp, ...], cycles: int) -> Steps:
     """The cycles at which a length changes, each with its length; a ramp is linear in ppm."""
     found: Steps = {}
     before = None

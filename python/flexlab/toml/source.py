@@ -53,12 +53,20 @@ MOST_TOLD = 100
 MOST_BYTES = 4 << 20
 
 
+def copied(entries: dict[str, Any]) -> dict[str, Any]:
+    """The tables of a file, so that a value of one may be changed."""
+    return {name: [dict(table) if isinstance(table, dict) else table for table in tables] if isinstance(tables, list)
+            else dict(tables) if isinstance(tables, dict) else tables for name, tables in entries.items()}
+
+
 class Source:
     def __init__(self, path: str, changes: Mapping[str, Fraction] | None = None, drawing: Drawing = (None, 1)) -> None:
         """Reads the file; `changes` are pairs of a key's path and a number that takes its value's place, `drawing` is the
         seed, or None for that of the file, and the number of the draw."""
         self.load(path)
         self.check_names()
+        # As the file has them, for who reads it again with other numbers.
+        self.raw = copied(self.entries)
         for key, number in (changes or {}).items():
             self.change(key, number)
         self.drawn = draw(path, self.text, self.entries, *drawing)

@@ -1,0 +1,121 @@
+"""A run of a study by what flexray and flexray-series print of it, without a trace: so the figures of a run that keeps no files cost
+what these two need. Where they do not suffice, a run is one as `run` makes it."""
+import os
+import tempfile
+from collections.abc import Iterator
+from contextlib import contextmanager
+from typing import Any
+
+from ..base import ranges
+from ..base.files import drift_lines, parameter_lines, script_lines
+from ..program import calls as programs
+from ..program.report import Bounds, Report, Series, SharpBounds, Skew, read_report, read_series, read_sharp_bounds
+from ..toml.again import Again
+from ..toml.cluster import Cluster
+from .runs import Run
+from .sharp import MOST, Sharp, flutter_of, kind_of, sharp_words, unlike
+
+NAMES = ("params.csv", "drift.csv", "script.csv")
+SPELT = ("first", "second", "third")
+# How many sets of bounds are kept: they are the same in all runs whose parameters are.
+BOUNDS = 1000
+
+
+class Caller:
+    """What a process of a study keeps from run to run: the file, the programs or the library, bounds, and the texts that were the
+    same in the run before."""
+
+    def __init__(self, program: str, path: str, room: str) -> None:
+        self.program, self.second, self.room = program, programs.series(program), room
+        self.clusters = Again(path)
+        self.bounds: dict[tuple[bytes, int, bool], dict[str, SharpBounds]] = {}
+        self.written: list[bytes | None] = [None, None, None]
+        self.script: tuple[object, object, bytes] | None = None
+
+    def texts(self, cluster: Cluster) -> list[bytes] | None:
+        """The three files of a cluster, as `write_files` writes them; None where one is too long."""
+        beside = cluster.arbitrary, cluster.joins
+        if self.script is None or self.script[0] is not cluster.script or self.script[1] != beside:
+            self.script = cluster.script, beside, "".join(script_lines(cluster)).encode("ascii")
+        found = ["".join(parameter_lines(cluster)).encode("ascii"), "".join(drift_lines(cluster)).encode("ascii"), self.script[2]]
+        return None if max(map(len, found)) > ranges.FILE_BYTES else found
+
+    def answer(self, program: str, words: list[str], texts: list[bytes]) -> str | None:
+        """What a program prints of these files, whose names stand in the words; None where it fails."""
+        request = programs.by_library(program)
+        if request is not None:
+            found = request([SPELT[NAMES.index(word)] if word in NAMES else word for word in words], *texts)
+            return found.text if found.status == 0 else None
+        for place, (name, text) in enumerate(zip(NAMES, texts)):
+            if text is not self.written[place] and text != self.written[place]:
+                with open(os.path.join(self.room, name), "wb") as file:
+                    file.write(text)
+                self.written[place] = text
+        status, printed, _ = programs.call(program, [os.path.join(self.room, word) if word in NAMES else word for word in words])
+        return printed if status == 0 else None
+
+    def sharp(self, cluster: Cluster, flutter: int, texts: list[bytes]) -> dict[str, SharpBounds] | None:
+        """The sharper bounds of both kinds, asked once for the same parameters."""
+        key = texts[0], min(flutter, MOST), bool(cluster.joins)
+        if key not in self.bounds:
+            text = self.answer(self.program, sharp_words(NAMES[0], flutter, bool(cluster.joins)), texts[:1])
+            if text is None:
+                return None
+            if len(self.bounds) >= BOUNDS:
+                self.bounds.clear()
+            self.bounds[key] = read_sharp_bounds(text)
+        return self.bounds[key]
+
+
+@contextmanager
+def room_of(folder: str | None = None) -> Iterator[str]:
+    """A folder for the files of a process, which is gone at its end."""
+    with tempfile.TemporaryDirectory(prefix="flexlab-study-", dir=folder) as room:
+        yield room
+
+
+def is_plain(cluster: Cluster) -> bool:
+    """Whether a trace tells of a run nothing more that a study has: who joins when stands in the trace alone."""
+    return not cluster.joins and bool(cluster.correct)
+
+
+def run_of(cluster: Cluster, caller: Caller, begin: int | None, is_short: bool = False) -> Run | None:
+    """A run by its report and, but where a short answer is wanted, by its series; None where these do not tell all, or a call
+    fails, which the longer way then tells."""
+    texts = caller.texts(cluster) if is_short or caller.second and is_plain(cluster) else None
+    printed = caller.answer(caller.program, ["run", *NAMES], texts) if texts else None
+    if printed is None or texts is None:
+        return None
+    report, flutter = read_report(printed), flutter_of(cluster)
+    both = caller.sharp(cluster, flutter, texts)
+    if both is None:
+        return None
+    sharp = Sharp(flutter, both, both[kind_of(cluster, flutter).name])
+    run = Run(cluster, "", Bounds(), report, [], [], begin=begin, sharp=sharp)
+    if is_short:
+        run.in_sync_skew = skew_of(report)
+        return run
+    assert caller.second is not None
+    printed = caller.answer(caller.second, [*NAMES, "sharp"], texts)
+    series = read_series(printed) if printed is not None else None
+    return with_series(run, series) if series is not None else None
+
+
+def skew_of(report: Report) -> Skew | None:
+    """The greatest skew where it lies in sync."""
+    known = report.in_sync is not None and report.cycle >= 2 * report.in_sync
+    return Skew(report.skew, report.cycle, report.macrotick) if known else None
+
+
+def with_series(run: Run, series: Series) -> Run | None:
+    """The run with what its series tells, or None where that does not fit what the others told."""
+    assert run.sharp is not None
+    cycles: list[dict[int, Any]] = [{} for _ in series.rows]
+    fits = len(series.rows) == run.cluster.cycles and unlike(run.sharp, series.sharp, False) is None
+    synced = next((at for at, row in enumerate(series.rows[::2]) if row[1]), None)
+    skew = series.greatest if run.report.in_sync is not None else None
+    if not fits or synced != run.report.in_sync or run.report.in_sync is not None and skew is None:
+        return None
+    run.series, run.in_sync_skew, run.cycles, run.synced = series, skew, cycles, [row[1] for row in series.rows[::2]]
+    run.sharp.told, run.sharp.rows = series.sharp, series.sharp.rows[::2]
+    return run
