@@ -50,8 +50,9 @@ def _lasting(microtick_ns: Number) -> Fraction:
     return found
 
 
-def _whole(value: Fraction) -> int:
-    doubled = abs(value) * 2 + 1
+def rounded(value: Union[int, Fraction]) -> int:
+    """The nearest whole number, a half away from 0."""
+    doubled = abs(Fraction(value)) * 2 + 1
     found = doubled.numerator // (doubled.denominator * 2)
     return found if value >= 0 else -found
 
@@ -73,17 +74,17 @@ def to_microticks(ticks: int) -> float:
 
 def from_ns(nanoseconds: Number, microtick_ns: Number) -> int:
     """Nanoseconds in ticks, the nearest whole one."""
-    return _whole(_exact("nanoseconds", nanoseconds) / _lasting(microtick_ns) * TICKS)
+    return rounded(_exact("nanoseconds", nanoseconds) / _lasting(microtick_ns) * TICKS)
 
 
 def from_us(microseconds: Number, microtick_ns: Number) -> int:
     """Microseconds in ticks, the nearest whole one."""
-    return _whole(_exact("microseconds", microseconds) * 1000 / _lasting(microtick_ns) * TICKS)
+    return rounded(_exact("microseconds", microseconds) * 1000 / _lasting(microtick_ns) * TICKS)
 
 
 def from_microticks(microticks: Number) -> int:
     """Microticks in ticks, the nearest whole one."""
-    return _whole(_exact("microticks", microticks) * TICKS)
+    return rounded(_exact("microticks", microticks) * TICKS)
 
 
 def length_of(ppm: Number) -> int:
@@ -92,7 +93,7 @@ def length_of(ppm: Number) -> int:
     below = TICKS + _exact("ppm", ppm)
     if below <= 0:
         raise ValueError(f"ppm: {shown(ppm)} is not above -1000000")
-    return _whole(TICKS * TICKS / below)
+    return rounded(TICKS * TICKS / below)
 
 
 def ppm_of(length: int) -> float:

@@ -1,4 +1,4 @@
-"""Exact conversions between the units of a bench and those of flexray.
+"""Exact conversions between the units of a bench and those of flexray, on those of the package flexray.
 
 A tick is a millionth of the nominal microtick. All is done in whole numbers and fractions; where a
 result has to be whole it is rounded to the nearest, a half away from 0. The ppm of an oscillator is
@@ -8,34 +8,17 @@ that of its frequency, so a positive one makes the microtick shorter:
 """
 from fractions import Fraction
 
-TICKS = 1_000_000
+from flexray.units import TICKS, from_microticks as ticks_of_microticks, from_ns as ticks_of_ns, length_of, rounded
+
+__all__ = ["TICKS", "Number", "decimal", "lasting", "length_of", "microseconds", "percent", "ppm_of", "rounded", "signed",
+           "ticks_of_microticks", "ticks_of_ns", "us_of_ticks"]
+
 Number = int | Fraction
 
 
-def rounded(value: Number) -> int:
-    """The nearest whole number, a half away from 0."""
-    value = Fraction(value)
-    doubled = abs(value) * 2 + 1
-    whole = doubled.numerator // (doubled.denominator * 2)
-    return whole if value >= 0 else -whole
-
-
-def length_of(ppm: Number) -> int:
-    """The ticks of a microtick of an oscillator whose frequency is off by so many ppm."""
-    return rounded(Fraction(TICKS * TICKS) / (TICKS + Fraction(ppm)))
-
-
 def ppm_of(length: int) -> Fraction:
-    """The ppm by which a frequency is off whose microtick lasts so many ticks."""
+    """The ppm by which a frequency is off whose microtick lasts so many ticks, exactly."""
     return Fraction(TICKS * TICKS, length) - TICKS
-
-
-def ticks_of_microticks(microticks: Number) -> int:
-    return rounded(Fraction(microticks) * TICKS)
-
-
-def ticks_of_ns(nanoseconds: Number, microtick_ns: Number) -> int:
-    return rounded(Fraction(nanoseconds) / microtick_ns * TICKS)
 
 
 def us_of_ticks(ticks: Number, microtick_ns: Number) -> Fraction:

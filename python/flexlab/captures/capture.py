@@ -1,14 +1,16 @@
 """A capture of a FlexRay network taken apart: files for flexray, and a page of what is there."""
 import csv
 import os
-import re
 import tempfile
 from argparse import Namespace
 from collections.abc import Callable, Iterable
 from typing import Any
 
+from flexray import texts
+
 from ..program import calls as programs
 from ..program.calls import Told
+from ..program.report import understood
 from .blf import MAGIC, read_blf
 from ..toml.cluster import read_cluster
 from ..base.ending import DONE, NO, PROGRAM, REFUSED, USAGE, Stop, printable
@@ -107,12 +109,12 @@ def check_channel(program: str, channel: str, packets: list[Packet], whole: dict
         status, text, told = ask(program, ["capture", channel], b"".join(bytes_of(packet) for packet in piece), room)
         if status != 0:
             raise Stop(PROGRAM, f"flexray capture {channel} ended with status {status}: {told}")
-        found = re.findall(r"^at \d+ id (\d+) words (\d+) cycle (\d+) crc (\w+)$", text, re.M)
-        for packet, (number, words, cycle, _) in zip(piece, found):
-            whole[packet.number] = Header(int(number), int(words), int(cycle))
-        fault = re.search(r"^fault (\d+) (.*)$", text, re.M)
+        answered = understood(texts.capture, "recording", text)
+        found, fault = answered.frames, answered.fault
+        for packet, one in zip(piece, found):
+            whole[packet.number] = Header(one.id, one.words, one.cycle)
         if fault:
-            taken.damaged[piece[len(found)].number] = fault[2]
+            taken.damaged[piece[len(found)].number] = fault
         elif len(found) != len(piece):
             raise Stop(PROGRAM, f"flexray capture {channel} found {len(found)} of {len(piece)} frames and no fault")
         at += len(found) + (1 if fault else 0)

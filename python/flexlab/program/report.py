@@ -1,10 +1,10 @@
 """What flexray printed, taken apart: bounds, reports, traces and series."""
-import re
 from collections.abc import Callable, Sequence
-from dataclasses import dataclass, field
+from dataclasses import asdict, dataclass, field
+from functools import partial
 from typing import NamedTuple, TypeVar
 
-from flexray import texts
+from flexray import results, texts
 
 from ..base.ending import PROGRAM, Stop
 
@@ -53,17 +53,13 @@ def strange(what: str, line: str) -> Stop:
     return Stop(PROGRAM, f"flexray printed a {what} that is not understood: {line}")
 
 
+def checks_of(told: Sequence[results.Check]) -> list[Check]:
+    return [Check(check.number, check.holds, check.left, check.right) for check in told]
+
+
 def read_bounds(text: str) -> Bounds:
-    found = Bounds()
-    for line in text.splitlines():
-        words = line.split()
-        if words[0] in ("y1", "lambda", "pi", "precision", "reach"):
-            setattr(found, words[0] + ("_" if words[0] == "lambda" else ""), int(words[1]))
-        elif re.fullmatch(r"C\d+ (holds|fails) -?\d+ -?\d+", line):
-            found.checks.append(Check(int(words[0][1:]), words[1] == "holds", int(words[2]), int(words[3])))
-        else:
-            raise strange("bound", line)
-    return found
+    told = understood(texts.bound, "bound", text)
+    return Bounds(told.y1, told.lambda_, told.pi, told.precision, told.reach, checks_of(told.checks))
 
 
 @dataclass
@@ -91,21 +87,10 @@ class SharpBounds:
 
 def read_sharp_bounds(text: str) -> dict[str, SharpBounds]:
     """What `bound PARAMS sharp FLUTTER` printed, also with `join` behind it: the bounds of each kind."""
-    both = [SharpBounds("alone"), SharpBounds("beside")]
-    for line in text.splitlines():
-        words = line.split()
-        kinds = [kind for kind in both if kind.kind == words[0]] or both
-        words = words[words[0] in ("alone", "beside"):]
-        for kind in kinds:
-            if words[0] in ("lambda", "pi", "precision", "flutter", "reach"):
-                setattr(kind, words[0] + ("_" if words[0] == "lambda" else ""), int(words[1]))
-            elif words[:-1] in (["lasts"], ["first", "rates", "last"]):
-                kind.lasts = None if words[-1] == "on" else int(words[-1])
-            elif re.fullmatch(r"C\d (holds|fails) -?\d+ -?\d+", " ".join(words)):
-                kind.checks.append(Check(int(words[0][1:]), words[1] == "holds", int(words[2]), int(words[3])))
-            else:
-                raise strange("bound", line)
-    return {kind.kind: kind for kind in both}
+    told = understood(partial(texts.sharp_bound, join=" reach " in text), "bound", text)
+    lasts = told.first_rates_last if told.joins else told.lasts
+    return {kind: SharpBounds(kind, told.flutter, side.lambda_, side.pi, side.precision, side.reach, checks_of(side.checks), lasts)
+            for kind, side in (("alone", told.alone), ("beside", told.beside))}
 
 
 class Sent(NamedTuple):
@@ -141,31 +126,11 @@ class Report:
 
 
 def read_report(text: str) -> Report:
-    found = Report()
-    for line in text.splitlines():
-        words = line.split()
-        pairs = dict(zip(words[0::2], words[1::2]))
-        if words[0] == "nodes":
-            found.nodes, found.sync, found.arbitrary, found.doubles = (int(word) for word in words[1::2])
-        elif words[0] == "precision":
-            found.precision = int(words[1])
-        elif words[0] == "covered":
-            found.gap = None if words[1] == "yes" else words[2:]
-        elif words[:2] == ["in", "sync"]:
-            found.in_sync = None if words[2] == "never" else int(words[2])
-        elif words[:2] == ["greatest", "skew"]:
-            found.skew, found.cycle, found.macrotick = int(words[2]), int(words[4]), int(words[6])
-        elif words[0] == "sent":
-            found.sent[words[1]] = Sent(int(words[2]), words[4])
-        elif words[0] == "heard":
-            found.heard = {name: int(count) for name, count in zip(words[1::2], words[2::2])}
-        elif words[0] == "cut":
-            found.cut = int(words[1])
-        elif words[0] == "node":
-            found.ends[int(words[1])] = NodeEnd(words[2], int(words[4]), int(words[6]), int(words[8]))
-        else:
-            raise strange("report", f"{line} {pairs}")
-    return found
+    told = understood(texts.report, "report", text)
+    sent = {channel: Sent(one.frames, f"{one.xor:06X}") for channel, one in (("A", told.sent_a), ("B", told.sent_b))}
+    ends = {end.node: NodeEnd(end.state, end.next, end.rate, end.offset) for end in told.ends}
+    return Report(told.nodes, told.sync, told.arbitrary, told.doubles, told.precision, None if told.covered else list(told.gap),
+                  told.in_sync, told.greatest.ticks, told.greatest.cycle, told.greatest.macrotick, sent, asdict(told.heard), told.cut, ends)
 
 
 @dataclass

@@ -4,13 +4,14 @@ from __future__ import annotations
 
 import copy
 import os
-import re
 import sys
 from dataclasses import dataclass, field
 from fractions import Fraction
 from argparse import Namespace
 from collections.abc import Callable, Iterable, Iterator
 from typing import Any, NamedTuple
+
+from flexray import results, texts
 
 from ..base import ranges
 from ..base.ending import DONE, NO
@@ -21,18 +22,13 @@ from ..pages.sharp_page import sharp_lines
 from ..pages.verdict import verdict_of
 from .sharp import first_of, is_covered
 from ..program.calls import flexray
+from ..program.report import understood
 from ..toml.cluster import Cluster, Join, Power
 from .runs import Run, answer, bound_words, keep, run_cluster
 from ..base.files import hold, whole, write_files
 from ..base.units import decimal, microseconds, percent
 
 LISTENING, RESOLVING = 2, 4
-
-
-class Lead(NamedTuple):
-    """A node that begins to lead, and the macrotick at which it does."""
-    node: int
-    macrotick: int
 
 
 class Part(NamedTuple):
@@ -58,19 +54,11 @@ class Phase(NamedTuple):
 
 
 @dataclass
-class Cold:
-    """What flexray cold printed."""
-    apart: tuple[int, int] | None = None
-    leads: list[Lead] = field(default_factory=list)
-    leading: list[int] = field(default_factory=list)
-
-
-@dataclass
 class Startup:
     cluster: Cluster
     power: dict[int, list[Power]]
     cycles: int
-    cold: Cold
+    cold: results.Startup
     leader: int | None = None
     lead_at: int = 0
     listens: dict[int, int] = field(default_factory=dict)
@@ -132,19 +120,6 @@ def write_power(cluster: Cluster, power: dict[int, list[Power]], folder: str) ->
     return path, cycles
 
 
-def read_cold(text: str) -> Cold:
-    found = Cold()
-    for line in text.splitlines():
-        words = line.split()
-        if re.fullmatch(r"connected no \d+ \d+", line):
-            found.apart = int(words[2]), int(words[3])
-        elif re.fullmatch(r"lead \d+ at \d+", line):
-            found.leads.append(Lead(int(words[1]), int(words[3])))
-        elif re.fullmatch(r"leading \d+", line):
-            found.leading.append(int(words[1]))
-    return found
-
-
 def joining(startup: Startup) -> Cluster:
     """The cluster whose leader runs from where it begins to lead, and which the others join, each when it can."""
     cluster, leader, length = startup.cluster, startup.cold.leading[0], 2 * startup.cluster.parameters["gMacroPerCycle"]
@@ -190,10 +165,10 @@ def begin(cluster: Cluster, folder: str, program: str) -> Startup:
     path, cycles = write_power(cluster, power, folder)
     text = answer(program, ["cold", paths[0], path])
     keep(folder, "cold.txt", text)
-    startup = Startup(cluster, power, cycles, read_cold(text))
+    startup = Startup(cluster, power, cycles, understood(texts.startup, "startup", text))
     if len(startup.cold.leading) == 1:
         startup.leader = startup.cold.leading[0]
-        startup.lead_at = max(time for node, time in startup.cold.leads if node == startup.leader)
+        startup.lead_at = max(lead.macrotick for lead in startup.cold.leads if lead.node == startup.leader)
         startup.run = run_cluster(joining(startup), os.path.join(folder, "joined"), program)
     return startup
 
@@ -264,6 +239,7 @@ def table_lines(startup: Startup) -> list[str]:
 
 def head_lines(startup: Startup) -> list[str]:
     cold, nodes = startup.cold, coldstart(startup.cluster)
+    leads = [(lead.node, lead.macrotick) for lead in cold.leads]
     apart = (f"nodes {cold.apart[0]} and {cold.apart[1]} share no channel, so nothing keeps both from leading"
              if cold.apart else "every two share a channel")
     found = lines_of("Coldstart", f"{len(nodes)} correct coldstart nodes"
@@ -274,8 +250,8 @@ def head_lines(startup: Startup) -> list[str]:
     if nodes:
         found += lines_of("Power-on", f"the first coldstart node is on at {shown(startup.ms(startup.first_on))} ms; all times "
                                       "are counted from 0 of the file, by nominal macroticks until a node leads")
-    for node, time in cold.leads:
-        last = max(at for other, at in cold.leads if other == node)
+    for node, time in leads:
+        last = max(at for other, at in leads if other == node)
         later = "" if node in cold.leading and time == last else ", and is switched off later"
         found += lines_of("Leads", f"node {startup.cluster.called(node)} from {shown(startup.ms(time))} ms on (macrotick {time}){later}")
     return found
@@ -372,7 +348,8 @@ def startup_object(startup: Startup) -> dict[str, Any]:
         "file": startup.cluster.path, "verdict": verdict_words(startup), "names": startup.cluster.names,
         "coldstart_nodes": coldstart(startup.cluster),
         "no_common_channel": startup.cold.apart,
-        "leads": [{"node": node, "macrotick": time, "ms": number(startup.ms(time))} for node, time in startup.cold.leads],
+        "leads": [{"node": lead.node, "macrotick": lead.macrotick, "ms": number(startup.ms(lead.macrotick))}
+                  for lead in startup.cold.leads],
         "leader": startup.leader, "why_none": why_none(startup) if startup.leader is None else [],
     }
     if startup.run:
