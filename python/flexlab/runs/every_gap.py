@@ -2,13 +2,10 @@
 another. They are those of docs/PRECISION.md, "Which runs are covered", but for the checks; the count is the first, since no
 parameter mends it."""
 from collections.abc import Iterator
-from typing import TYPE_CHECKING
 
 from ..base.ranges import compensation
 from ..base.units import TICKS
-
-if TYPE_CHECKING:
-    from ..toml.cluster import Cluster
+from ..toml.cluster import Cluster, Link
 
 # How many correct sync nodes outweigh so many arbitrary ones.
 OUTWEIGH = {0: 1, 1: 3, 2: 6}
@@ -51,7 +48,7 @@ def delay_gap(cluster: "Cluster") -> list[str] | None:
     for sender, receiver in pairs(cluster):
         for channel in cluster.common(sender, receiver):
             wait = compensation(cluster.parameters, channel) * TICKS
-            for cycle, ticks in sorted(cluster.delays.get((sender, receiver, channel), {}).items()):
+            for cycle, ticks in sorted(cluster.delays.get(Link(sender, receiver, channel), {}).items()):
                 if cycle < cluster.cycles and abs(ticks - wait) > most:
                     return ["delay", str(sender), str(receiver), channel, str(cycle), str(ticks)]
     return None

@@ -54,6 +54,11 @@ class Kept:
         self.made = None if len(source.faults) > faults else (getattr(cluster, name), cluster.arbitrary, cluster.notes[before:])
 
 
+def kept(read: Reader) -> Reader:
+    """A reader that keeps what it made, where its rows take long."""
+    return Kept(read, KEPT[read.__name__]) if read.__name__ in KEPT else read
+
+
 class Again:
     """Reads the clusters of one file. What two of them share is not to be changed."""
 
@@ -62,7 +67,7 @@ class Again:
         self.path, self.text, self.entries = path, first.text, first.raw
         # A fault of names is told with those of each cluster.
         self.is_faulty = bool(first.faults)
-        self.readers = tuple(Kept(read, KEPT[read.__name__]) if read.__name__ in KEPT else read for read in all_readers())
+        self.readers: tuple[Reader, ...] = tuple(kept(read) for read in all_readers())
 
     def source(self, changes: dict[str, Fraction], drawing: tuple[int | None, int]) -> Source:
         """The source with these numbers: as `Source` reads it, but that names were checked before."""
