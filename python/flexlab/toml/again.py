@@ -56,7 +56,9 @@ class Kept:
 
 def kept(read: Reader) -> Reader:
     """A reader that keeps what it made, where its rows take long."""
-    return Kept(read, KEPT[read.__name__]) if read.__name__ in KEPT else read
+    if read.__name__ in KEPT:
+        return Kept(read, KEPT[read.__name__])
+    return read
 
 
 class Again:
