@@ -203,9 +203,9 @@ def parser() -> argparse.ArgumentParser:
     explain.add_argument("words", metavar="WORDS", nargs="+")
 
     study = request("study", "run a cluster for each value of a list or a grid, each draw, or each seed of make",
-                    "\nSide by side, also on other hosts by GNU parallel. The folder has study.csv and study.jsonl, a line a run,\na picture, and a "
-                    "folder of each run that is kept. A study that was stopped goes on with the same words; runs\nthat have a line are not "
-                    "run again. A failed run is a line with its status.")
+                    "\nSide by side, also on other hosts by GNU parallel. The folder has study.csv and study.jsonl, a line a run,\na "
+                    "picture, and a folder of each run that is kept. A study that was stopped goes on with the same words; runs\nthat have "
+                    "a line are not run again. A failed run is a line with its status.")
     study.add_argument("file", metavar="FILE.toml", nargs="?", help="the cluster; without it, seeds by --seeds")
     study.add_argument("--vary", metavar="KEY", action="append",
                        help="TABLE.KEY or TABLE[N].KEY, as values.drift or node[2].ppm; several, each with its --values, make "

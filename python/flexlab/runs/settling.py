@@ -82,7 +82,8 @@ def settle(words: Namespace, folder: str) -> int:
     sharply, first = sharp_lines(program, cluster, paths[0], start, rate if words.rate_ppm else spread(lengths(cluster, 0)))
     older, second = older_lines(program, cluster, paths[0], start, rate, sharply)
     verdict = ("proved of sharply covered runs, and of covered ones by the older bound" if sharply and older else
-               "proved of sharply covered runs" if sharply else "proved by the older bound alone" if older else "NOT PROVED by either bound")
+               "proved of sharply covered runs" if sharply else "proved by the older bound alone" if older else "NOT PROVED by either "
+                                                                                                                "bound")
     found = field("Verdict", f"{verdict}, that clocks which begin so come into sync") + found + first + second
     outside = beyond(cluster)
     if outside and not words.rate_ppm:

@@ -302,8 +302,9 @@ def proved_lines(startup: Startup) -> list[str]:
         double = startup.run.report.in_sync
         found.append(f"what `Covered` says, from cycle {2 * double} of the run on, and that a node which listens in double cycle "
                      f"e of the run, {double} or later, takes part from its cycle 2 e + 6 on")
-    if startup.run and is_covered(startup.run) and first_of(startup.run) is not None:
-        found.append(f"what `Sharply covered` says, from cycle {2 * first_of(startup.run)} of the run on")
+    sharply = first_of(startup.run) if startup.run and is_covered(startup.run) else None
+    if sharply is not None:
+        found.append(f"what `Sharply covered` says, from cycle {2 * sharply} of the run on")
     text = "; ".join(found) if found else "nothing of this startup"
     if not startup.run:
         return lines_of("Proved", text)
@@ -325,7 +326,7 @@ def verdict_words(startup: Startup) -> str:
         synced = "but not all come into sync"
     else:
         synced = f"and all are in sync from {shown(startup.of_cycle(2 * startup.synced))} ms on"
-    return f"node {startup.cluster.called(startup.leader)} leads, {synced}; of the run then {verdict_of(startup.run).told}"
+    return f"node {startup.cluster.called(startup.leader)} leads, {synced}; of the run then {verdict_of(startup.joined).told}"
 
 
 def page(startup: Startup) -> str:
