@@ -18,7 +18,7 @@ from flexlab.design.request import nodes_of_network, wish_of_network
 from flexlab.design.solving import BEHIND, Design, NoDesign, Raise, Task, compensations, least, search
 from flexlab.design.tasks import Wish, tasks_of
 from flexlab.design.topology import read_network
-from flexlab.runs.least import Kind, holds, sharp_bounds_of
+from flexlab.runs.least import Kind, Sides, holds, sharp_bounds_of
 
 EXAMPLES = os.path.join(REPOSITORY, "examples", "design")
 # Of each topology its precision in ns, damping, both limits, macroticks a cycle, slot and action point; None where delays spread
@@ -69,7 +69,7 @@ def meets(task, p, behind):
     for number in (1, 2, 3, 4, 5, 6, 7, 8, 9) if task.join else (1, 2, 3, 4, 5):
         left, right = sides[number]
         right += 0 if number in (1, 2, 6) else margin * (1 if number in (3, 7) else macros)
-        if not holds(number, (left, right)):
+        if not holds(number, Sides(left, right)):
             return False
     # The last arrival and the bits behind it end before the slot does, by the shortest microticks in the longest slot.
     apart = sides["reach" if task.join else "near"] + margin
