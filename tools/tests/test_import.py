@@ -245,7 +245,9 @@ class Import(Bench):
                                     (("a.xml", "--set", "x=1"), 2, "there is no such parameter"),
                                     (("a.xml", "--set", "xRateBound=1"), 2, "there is no such parameter"),
                                     (("a.xml", "--set", "gMacroPerCycle=9"), 2, "a whole number from 10 to 16000"),
-                                    (("a.xml", "--leave-out", "X"), 2, "there is no such ECU"), ((), 2, "")):
+                                    (("a.xml", "--leave-out", "X"), 2, "there is no such ECU"),
+                                    (("a.xml", "--json", "-o", "-"), 2, "--json is in place of the page, and -o - prints another text"),
+                                    (("a.xml", "--json", "--list"), 2, "and --list prints another text there"), ((), 2, "")):
             with self.subTest(words=words):
                 found, _, err = self.called(*words)
                 self.assertEqual(found, status, err)

@@ -466,16 +466,29 @@ class Completion(Bench):
         self.assertLessEqual(commands, set(self.complete("flexray", "flexray", "")))
 
     def test_every_request_and_option_is_completed(self):
-        told = self.flexlab("--help")[0]
-        for request in ("new", "build", "run", "power", "settle", "precision", "worst", "explain", "study", "capture",
-                        "pcap"):
-            self.assertIn(request, told)
+        requests = self.requests()
+        self.assertLessEqual({"run", "study", "import", "export", "design", "case", "observe"}, set(requests))
+        self.assertEqual(set(self.complete("flexlab", "flexlab", "")) - set(requests) - {"-h", "--help", "-V", "--version"}, set())
+        for request in requests:
             self.assertIn(request, self.complete("flexlab", "flexlab", ""))
-            help_text = self.flexlab(request, "--help")[0]
-            options = {word.strip(",") for word in help_text.split() if word.startswith("--")}
-            options = {word for word in options if word.replace("-", "").replace("=", "").isalpha() and "=" not in word}
-            missing = options - set(self.complete("flexlab", "flexlab", request, "--"))
+            missing = self.options(request) - set(self.complete("flexlab", "flexlab", request, "--"))
             self.assertFalse(missing, request)
+
+    def test_every_request_and_option_is_in_the_manual_page(self):
+        with open(os.path.join(REPOSITORY, "docs", "flexlab.1"), encoding="utf-8") as file:
+            page = file.read().replace("\\-", "-")
+        for request in self.requests():
+            self.assertRegex(page, rf'(?m)^\.BI? "?flexlab {request}\b', request)
+            self.assertEqual([option for option in sorted(self.options(request)) if not re.search(rf"{option}(?![\w-])", page)], [], request)
+
+    def requests(self):
+        """All requests of flexlab, as its help has them."""
+        return re.search(r"\{([\w,]+)\}", self.flexlab("--help")[0])[1].split(",")
+
+    def options(self, request):
+        """The long options of a request, as its help has them."""
+        text = self.flexlab(request, "--help")[0].split("exit statuses")[0]
+        return set(re.findall(r"(?m)^  (?:-\w(?: [\w.-]+)?, )?(--[a-z][a-z-]*)", text))
 
 
 if __name__ == "__main__":

@@ -49,8 +49,8 @@ def parser() -> argparse.ArgumentParser:
     top = Parser(
         prog="flexlab", formatter_class=RAW, epilog=STATUSES, allow_abbrev=False,
         description="Tools around flexray, in the units of a bench. flexlab computes no answer of its own: what it "
-                    "shows are numbers\nthat flexray printed, converted, divided or compared. docs/FLEXLAB.md has "
-                    "more.")
+                    "shows are numbers\nthat flexray printed, converted, divided or compared; design searches by arithmetic of its "
+                    "own, and flexray\nconfirms what it finds. docs/FLEXLAB.md has more.")
     top.add_argument("-V", "--version", action="version", version=f"flexlab {version()}")
     requests = top.add_subparsers(dest="request", metavar="REQUEST", required=True)
 

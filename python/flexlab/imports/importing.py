@@ -178,6 +178,8 @@ def import_files(words: argparse.Namespace, called: str) -> int:
     renamed = renamed_of(words.map)
     if words.chip and (words.list or words.map or words.cluster or words.leave_out):
         raise Stop(USAGE, "--chip is for dumps of registers, and --list, --map, --cluster and --leave-out are for FIBEX and ARXML")
+    if words.json and (words.list or words.out == "-"):
+        raise Stop(USAGE, f"--json is in place of the page, and {'--list' if words.list else '-o -'} prints another text there")
     if words.list:
         sys.stdout.write(list_page(words, renamed))
         return DONE
