@@ -1,4 +1,5 @@
 """Names of files, folders and keys reach no other language but as data, whatever stands in them."""
+import json
 import os
 import re
 import unittest
@@ -9,7 +10,8 @@ SHORT = edited(("double_cycles = 200", "double_cycles = 8"))
 OBSERVER = "[observer]\nresolution_ns = 1\ndrift_ppm = 50\ndelay_from_ns = 0\ndelay_to_ns = 4000\n"
 # Names that would run `touch RUN` where a shell, gnuplot or make read them as their own language, and such as stand for markup.
 NAMES = ("`touch RUN`", "$(touch RUN)", "a';system('touch RUN');#", 'a";system("touch RUN");#', "@touch", "%s%n", "a b\u00e9_{x}^2~a",
-         "<b>&amp;", "|touch RUN", "!touch RUN", "{*a}", "a\\n", "=1+1", "'", "''", "\udcff\udcfe")
+         "<b>&amp;", "|touch RUN", "!touch RUN", "{*a}", "a\\n", "=1+1", "'", "''", "\udcff\udcfe", "'@GPVAL_TERM",
+         "\\047@GPVAL_TERM", "\u2192#12", "'\"@GPVAL_TERM")
 
 
 class Names(Bench):
@@ -21,7 +23,7 @@ class Names(Bench):
 
     @needs("gnuplot")
     def test_a_name_is_a_title_and_nothing_else(self):
-        """The script of one name is that of another but for the line of the name, which is a text in single quotes."""
+        """The script of one name is that of another but for the line of the name, in which no sign of gnuplot stands."""
         scripts = set()
         for at, name in enumerate(NAMES):
             with self.subTest(name=name):
@@ -30,7 +32,7 @@ class Names(Bench):
                 script = self.read(f"out{at}", "power.gnuplot")
                 line, = re.findall(r"^file = .*\n", script, re.M)
                 spelt = name.encode("utf-8", "surrogateescape").decode("utf-8", "replace")
-                self.assertEqual(line, "file = '" + spelt.replace("'", "'.\"'\".'") + ".toml'\n")
+                self.assertRegex(line, r'^file = "(?:[\w ._\x80-\U0010ffff-]|\\[01][0-7]{2})*\.toml"\n$')
                 scripts.add(script.replace(line, ""))
                 self.assertIn(f"Startup of {spelt}.toml", self.title(f"out{at}", "power.svg"))
                 self.no_command_ran()
@@ -45,6 +47,21 @@ class Names(Bench):
         for place in ((f"{name}.lab", "skew"), (f"{name}.lab", "terms"), ("study", "study")):
             self.assertIn(name, self.title(place[0], f"{place[1]}.svg"))
         self.no_command_ran()
+
+    @needs("gnuplot")
+    def test_names_of_nodes(self):
+        """gnuplot puts in a variable's text for its name behind @ where it takes quotes for closed: what one node is called was so
+        a command of another one's text."""
+        first, second, *rest = SHORT.split("[[node]]\n")
+        for at, (one, other) in enumerate((("'.system('>~/RUN').'", "'@node1"), ("'.system(\">~/RUN\").'", "'@node1"),
+                                           ('".system(">~/RUN")."', '"@node1'), ("`>~/RUN`", "'\"@node1"))):
+            with self.subTest(one=one, other=other):
+                self.write("a.toml", "[[node]]\n".join((first, f"name = {json.dumps(one)}\n{second}",
+                                                       f"name = {json.dumps(other)}\n{rest[0]}", *rest[1:])))
+                self.flexlab("run", "-p", "a.toml", "-o", f"out{at}", env={"HOME": self.room})
+                for name in (one, other):
+                    self.assertIn(name, self.title(f"out{at}", "terms.svg"))
+                self.no_command_ran()
 
     @needs("gnuplot")
     @needs("tshark")

@@ -175,6 +175,14 @@ class Studies(Bench):
             self.assertEqual(err.strip(), f"flexlab: --hosts: {host} is neither HOST nor COUNT/HOST, as in host1,8/host2,: "
                                           "where : is this machine")
 
+    def test_words_for_other_programs_that_are_none(self):
+        self.write("a.toml", SHORT)
+        for words, told in ((("--hosts", "one", "--ssh="), "--ssh: a command is wanted"),
+                            (("--hosts", "one", "--ssh", "'"), "--ssh ': a quotation"), (("--parallel='",), "--parallel ': a quotation"),
+                            (("--parallel=\\",), "--parallel \\: a quotation")):
+            err = self.flexlab("study", "a.toml", "--vary", "values.drift", "--values", "50", *words, status=2)[1]
+            self.assertTrue(err.startswith(f"flexlab: {told}"), err)
+
     @needs("parallel")
     def test_hosts_need_no_folder_in_common(self):
         far = self.path("far away")

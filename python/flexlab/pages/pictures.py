@@ -2,6 +2,7 @@
 from __future__ import annotations
 
 import os
+import re
 import tempfile
 from fractions import Fraction
 from collections.abc import Sequence
@@ -56,9 +57,17 @@ def thinned(rows: Sequence[Point]) -> list[Point]:
 
 
 def literal(text: str) -> str:
-    """A text from outside as gnuplot takes it as nothing but a text: in single quotes it runs and expands nothing, and a single
-    quote stands by itself, since gnuplot takes two of them that begin a text for an empty one."""
-    return '."\'".'.join("'" + part + "'" for part in printable(os.fsencode(text).decode("utf-8", "replace")).split("'"))
+    """A text from outside as gnuplot takes it as nothing but a text: of ASCII only letters, digits, blanks and `._-` stand as they
+    are, and the rest by its octal number. Quotes alone do not do it: gnuplot loses count of those that stand in each other, and then
+    puts in what a variable has for its name behind @."""
+    shown = printable(os.fsencode(text).decode("utf-8", "replace"))
+    # A digit behind a number would be taken for one of its own.
+    return '"' + re.sub(r"[^\w ._-][0-9]*", by_numbers, shown) + '"'
+
+
+def by_numbers(found: re.Match[str]) -> str:
+    """ASCII characters by their octal numbers; others as they are."""
+    return "".join(f"\\{ord(one):03o}" if one.isascii() else one for one in found[0])
 
 
 def draw(folder: str, name: str, script: str, size: str = "1000,560", **texts: str) -> list[str]:

@@ -430,6 +430,14 @@ class Results:
                   f"{taken * (self.total - len(self.lines)) / done:.0f} s are left", flush=True)
 
 
+def words_of(option: str, text: str) -> list[str]:
+    """The words of an option that is handed on to another program, as a shell would divide them."""
+    try:
+        return shlex.split(text)
+    except ValueError:
+        raise Stop(USAGE, f"{option} {printable(text)}: a quotation in it is not closed, or nothing stands behind a backslash")
+
+
 # What begins with - would be an option of ssh.
 HOST = re.compile(r"(?:[1-9][0-9]*/)?(?P<address>[^/\s-][^/\s]*)")
 
@@ -445,6 +453,8 @@ def hosts_of(words: Namespace) -> list[str]:
 
 def host_options(words: Namespace, hosts: list[str]) -> list[str]:
     """What GNU parallel is told of hosts: it looks which of them answer, shares the runs out, and tries one again elsewhere."""
+    if hosts and not words_of("--ssh", words.ssh):
+        raise Stop(USAGE, "--ssh: a command is wanted that reaches a host, as ssh")
     ssh = f"{words.ssh} -o BatchMode=yes -o ConnectTimeout=15" if words.ssh == "ssh" else words.ssh
     return ["--ssh", ssh, "--sshlogin", ",".join(hosts), "--filter-hosts", "--retries", "3"] if hosts else []
 
@@ -512,7 +522,7 @@ def run_all(folder: str, plan: Plan, todo: Collection[int], words: Namespace, re
     several = max(1, min(500, len(todo) // (8 * beside_of(words) * max(1, len(hosts)))))
     wanted = [parallel, "--will-cite", "--line-buffer", *(["--jobs", words.jobs] if words.jobs else []),
               *host_options(words, hosts),
-              *shlex.split(words.parallel), "--max-args", str(several),
+              *words_of("--parallel", words.parallel), "--max-args", str(several),
               f"{shlex.join([*called, 'study-run', packed(plan)])} {{}}"]
     with tempfile.TemporaryFile("w+") as jobs:
         jobs.writelines(jobs_of(plan, todo))
