@@ -7,11 +7,13 @@ const PAGE = path.join(__dirname, "..", "..", "page");
 const names = ["cluster.js", "toml.js", "words.js"];
 const context = vm.createContext({ TextEncoder, structuredClone });
 vm.runInContext(`${names.map((name) => fs.readFileSync(path.join(PAGE, name), "utf8").replace('"use strict";', "")).join("\n")}
-globalThis.page = { filesOfToml, readCluster, writeCluster, tomlOf, explain, listOf, NoToml,
+globalThis.page = { tables: Object.fromEntries(TABLES), single: SINGLE, parameters: PARAMETERS, filesOfToml, readCluster, writeCluster, tomlOf, explain, listOf, NoToml,
   left: () => [Object.getOwnPropertyNames(Object.prototype).length, Object.keys(Object.prototype).length, Object.getOwnPropertyNames(Array.prototype).length].join() };`, context);
 const { page } = context, untouched = page.left();
 
 const TASKS = new Map([
+  // The keys of each table, and the range of each parameter.
+  ["tables", () => ({ tables: page.tables, one: page.single, ranges: page.parameters })],
   // A TOML file as the three files, and these in the form, written again, and as a TOML file.
   ["toml", ({ text }) => {
     const { files, microtick, names: called } = page.filesOfToml(text), cluster = page.readCluster(files, microtick, called);

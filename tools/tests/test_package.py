@@ -479,7 +479,8 @@ class Completion(Bench):
             page = file.read().replace("\\-", "-")
         for request in self.requests():
             self.assertRegex(page, rf'(?m)^\.BI? "?flexlab {request}\b', request)
-            self.assertEqual([option for option in sorted(self.options(request)) if not re.search(rf"{option}(?![\w-])", page)], [], request)
+            missing = [option for option in self.options(request) if not re.search(rf"{option}(?![\w-])", page)]
+            self.assertFalse(missing, request)
 
     def requests(self):
         """All requests of flexlab, as its help has them."""

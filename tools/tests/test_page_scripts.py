@@ -17,9 +17,10 @@ from typing import Any
 import mutations
 from bench import EXAMPLE, REPOSITORY, TOOLS, Bench
 from mutated import Mutated
-from flexlab.base import files as flexlab_files
+from flexlab.base import files as flexlab_files, ranges
 from flexlab.base.ending import Stop
 from flexlab.toml.cluster import read_cluster
+from flexlab.toml.source import KEYS, SINGLE
 
 EXAMPLES = Path(REPOSITORY, "examples")
 FILES = ("params", "drift", "script")
@@ -64,6 +65,13 @@ class Scripts(Bench):
         if "no" in found:
             self.assertLess(len(found["no"]), 500, f"seed {SEED}")
         return found
+
+    def test_tables_keys_and_ranges_are_those_of_flexlab(self) -> None:
+        found = self.ask("tables")
+        self.assertEqual({name: sorted(keys) for name, keys in found["tables"].items()}, {name: sorted(keys) for name, keys in KEYS.items()})
+        self.assertEqual(sorted(found["one"]), sorted(SINGLE))
+        self.assertEqual({name: (least, most) for name, least, most, *_ in found["ranges"]},
+                         {name: (one.least, one.most) for name, one in {**ranges.PARAMETERS, **ranges.OF_CHANNELS}.items()})
 
     def by_flexlab(self, text: str) -> Any:
         """{file: its lines in an order of their own}, or the line of the refusal."""
