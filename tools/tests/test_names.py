@@ -15,6 +15,14 @@ NAMES = ("`touch RUN`", "$(touch RUN)", "a';system('touch RUN');#", 'a";system("
 
 
 class Names(Bench):
+    def flexlab(self, *words, env=None, **how):
+        """A call with a `touch` that leaves RUN where the test looks: gnuplot works in a folder that is gone behind it."""
+        os.makedirs(self.path("bin"), exist_ok=True)
+        with open(self.path("bin", "touch"), "w", encoding="utf-8") as file:
+            file.write(f"#!/bin/sh\n: >'{self.path('RUN')}'\n")
+        os.chmod(self.path("bin", "touch"), 0o755)
+        return super().flexlab(*words, env={"PATH": self.path("bin") + os.pathsep + os.environ["PATH"], **(env or {})}, **how)
+
     def no_command_ran(self):
         self.assertEqual([place for place, _, files in os.walk(self.room) if "RUN" in files], [])
 
