@@ -122,6 +122,19 @@ class Case(Bench):
         self.assertIsNone(found["lasts_double_cycles"])
         self.assertIn("to the end of the run, of up to 200,000 cycles", found["claim"][0])
 
+    def test_premises_that_the_file_s_own_run_breaks_are_told(self):
+        self.assertEqual(json.loads(self.case("--flutter-ns", "5", "--json"))["broken_by_the_file"], [])
+        self.assertNotIn("does not keep them", self.read("a.case.html"))
+        breaking = {"in cycle 0 the oscillator of node": self.sharp.replace("ppm = 95\n", "ppm = 950\n", 1),
+                    "in double cycle 10 no channel carries the frames of node 1 to node 2":
+                        self.sharp + '\n[[lose]]\nfrom = 1\nto = 2\ncycles = "20-21"\n'}
+        for told, text in breaking.items():
+            found = json.loads(self.case("--flutter-ns", "5", "--json", text=text))
+            self.assertEqual([line.startswith(told) for line in found["broken_by_the_file"]], [True], found["broken_by_the_file"])
+            self.assertIn(found["broken_by_the_file"][0], Tags(self.read("a.case.html")).text)
+            os.remove(self.path("a.case.html"))
+            self.assertIn(f"keeps not all premises: {told}", self.flexlab("case", "a.toml", "--flutter-ns", "5")[1])
+
     def test_words(self):
         self.assertIn("--flutter-ns", self.case(status=2))
         self.assertIn("a number of nanoseconds is wanted", self.case("--flutter-ns", "1e9", status=2))

@@ -20,12 +20,13 @@ from ..base.units import TICKS, decimal, lasting, ppm_of, us_of_ticks
 from ..base.version import version
 from ..program import calls
 from ..program.report import SharpBounds, read_sharp_bounds
+from ..runs.every_gap import every_gap
 from ..runs.least import Kind
 from ..runs.runs import broken_constraints
 from ..runs.sharp import MOST, flutter_of
 from ..toml.cluster import Cluster, read_cluster
 from .advice import SHARP_WHY
-from .gaps import sharp_check_words
+from .gaps import gap_words, sharp_check_words
 from .machine import printed
 from .page import ms_of_cycle
 
@@ -202,6 +203,11 @@ def rests_on(case: Case) -> list[tuple[str, str]]:
     ]
 
 
+def broken_by_file(case: Case) -> list[str]:
+    """Where the run that the file describes keeps no premise: the claim is not of that run."""
+    return [gap_words(gap, case.cluster)[0] for gap in every_gap(case.cluster) if gap[0] != "count"]
+
+
 def check_rows(case: Case) -> list[tuple[str, str, str, str]]:
     return [(f"C{number}", SHARP_WHY[number], f"{left} and {right}", f"{lower(Fraction(100 * right, left), 1)} %" if left else "-")
             for number, _, left, right in case.bounds.checks]
@@ -251,6 +257,9 @@ def page(case: Case, path: str) -> str:
     nodes = [(str(node.number), node.name or "-", str(node.key_slot or "-"), node.channels) for node in case.cluster.nodes.values()]
     parameters = [(key, str(value), unit) for key, value, unit in (
         (key, value, ranges.NAMES[key][2]) for key, value in case.cluster.parameters.items())]
+    broken = broken_by_file(case)
+    own = ("<p>The run that the file itself describes does not keep them, so the claim is not of that run:</p><ul>"
+           + "".join(f"<li>{html.escape(line)}</li>" for line in broken) + "</ul>") if broken else ""
     sections = [
         ("Claim", "<div class=\"claim\">" + "".join(f"<p>{html.escape(line)}</p>" for line in claim(case)) + "</div>"
          + "<p>A double cycle is an even cycle with the odd one behind it. It is in sharp sync where every correct node is active, "
@@ -259,7 +268,8 @@ def page(case: Case, path: str) -> str:
            "each length in its range (docs/GLOSSARY.md).</p>"),
         ("Premises, and who has to see to each", "<p>The claim holds where all of these do, and says nothing where one does not.</p>"
          + table(("", "Premise", "Value", "Who sees to it", "Shown by"),
-                 ((f"P{one.number}", one.text, one.value, one.who, "") for one in premises(case)), "premises")),
+                 ((f"P{one.number}", one.text, one.value, one.who, "") for one in premises(case)), "premises")
+         + own),
         ("Evidence: what the claim rests on", table(("", ""), rests_on(case))),
         ("Evidence: the checks", "<p>As the program printed them: each holds where its left side is at least its right one, C5 and C9 "
          "where it is greater.</p>"
@@ -361,11 +371,14 @@ def write_case(words: argparse.Namespace) -> int:
                  "arbitrary": case.arbitrary, "flutter_ticks": case.flutter, "joins": case.join,
                  "premises": [{"premise": f"P{one.number}", "text": one.text, "value": one.value, "who": one.who}
                               for one in premises(case)],
-                 "evidence": dict(rests_on(case)), "checks": [{"check": f"C{number}", "holds": held, "left": left, "right": right}
-                                                              for number, held, left, right in case.bounds.checks],
+                 "broken_by_the_file": broken_by_file(case), "evidence": dict(rests_on(case)),
+                 "checks": [{"check": f"C{number}", "holds": held, "left": left, "right": right}
+                            for number, held, left, right in case.bounds.checks],
                  "sha256": dict(hashes(case, words.file)), "again": [shlex.join(one) for one in again(case, words.file)],
                  "not_covered": list(NOT_COVERED)})
         return DONE
+    for line in broken_by_file(case):
+        print(f"flexlab: note: the run that {words.file} describes keeps not all premises: {line}", file=sys.stderr)
     sys.stdout.write("\n".join(claim(case)) + f"\n{path}: written, with {len(premises(case))} premises and what each asks; print it from a "
                                               "browser\n")
     return DONE
