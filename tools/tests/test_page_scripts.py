@@ -183,7 +183,7 @@ class Scripts(Bench):
             if mutated.chance.random() < 0.2:
                 cluster[mutated.chance.choice(("doubles", "microtick"))] = mutated.chance.choice(texts)
             found = self.ask("form", cluster=cluster)
-            if "0-199999/3" not in str(cluster):
+            if "0-199999/3" not in str(cluster) and not any("0-199999" in row["cycles"] for row in cluster["delays"]):
                 # Else there may be too many tables for a TOML file.
                 self.assertEqual(found["toml"] is None, bool(found["wrong"]), f"seed {SEED}: {cluster}")
             for part, at, field, why in found["wrong"]:

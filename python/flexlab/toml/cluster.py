@@ -8,7 +8,8 @@ from typing import NamedTuple
 
 from ..base import ranges, units
 from ..base.ranges import Parameters
-from .source import AMOUNTS, Drawing, Source
+from .keys import AMOUNTS
+from .source import Drawing, Source
 from .values import Table, near
 
 # Ticks by the cycle from which on they hold.

@@ -8,7 +8,8 @@ from typing import NamedTuple, TypeVar
 from ..base import ranges, units
 from ..base.ending import REFUSED, Stop
 from .cluster import Cluster, Fate, FrameAt, Join, Link, Power, Steps, amount
-from .source import TIMES, Source
+from .keys import TIMES
+from .source import Source
 from .values import Table
 
 Default = TypeVar("Default", bound="int | None")

@@ -11,42 +11,16 @@ from typing import NoReturn
 from .draws import draw
 from ..base import files, numbers
 from ..base.ending import REFUSED, Refused, Stop, printable
+from .keys import TABLES
 from .places import line_of
-from ..base.ranges import NAMES
 from .values import Table, near, shown
 
 # The seed of a draw, None for that of the file, and its number.
 Drawing = tuple[int | None, int]
-AMOUNTS = ("us", "ns", "microticks", "ticks")
-# Of the times of a startup, which are whole macroticks.
-TIMES = ("ms", "us", "macroticks")
-SCRIPT = ("cycles", "channels", *AMOUNTS)
 # The keys that a table may have; of [values] any.
-KEYS: dict[str, tuple[str, ...]] = {
-    "values": (),
-    "bench": ("microtick_ns", "bit_rate_mbit", "start_bits"),
-    "cluster": tuple(name for name in NAMES if not name.startswith("x")),
-    "limits": ("oscillator_ppm", "xRateBound", "change_ppm_per_cycle", "xChangeBound", "xDelayError",
-               *(f"delay_error_{unit}" for unit in AMOUNTS)),
-    "run": ("double_cycles", "seed"),
-    "node": ("id", "name", "channels", "key_slot", "coldstart", "arbitrary", "ppm", "rate",
-             *(f"start_{unit}" for unit in AMOUNTS)),
-    "slot": ("slot", "node", "base", "repetition"),
-    "oscillator": ("nodes", "cycles", "ppm", "ppm_from", "ppm_to"),
-    "delay": ("from", "to", "channels", "from_cycle", *AMOUNTS),
-    "two_faced": ("node", "early", "late", "on_time", *SCRIPT),
-    "say": ("node", "to", "frame", *SCRIPT),
-    "lose": ("from", "to", "cycles", "channels"),
-    "flip": ("from", "to", "cycles", "channels", "bit"),
-    "join": ("node", "reference", "double_cycle"),
-    "power": ("nodes", *(f"{switch}_{unit}" for switch in ("on", "off") for unit in TIMES)),
-    "observer": ("resolution_ns", "drift_ppm", "error_ns", "jitter_ns", "delay_from_ns", "delay_to_ns", "missed_none",
-                 "in_sync_from_cycle"),
-    "observer_delay": ("nodes", "channels", "from_ns", "to_ns"),
-    "asc": ("columns", "hexadecimal", "sums_are_exact"),
-}
+KEYS = {name: tuple(table.keys) for name, table in TABLES.items()}
 SINGLE = ("bench", "cluster", "limits", "run", "values", "observer", "asc")
-MANY = tuple(name for name in KEYS if name not in SINGLE)
+MANY = tuple(name for name, table in TABLES.items() if table.is_many)
 # Values are nested less deep than this.
 DEEPEST, DEEP = 12, "lists or tables are nested deeper here than any value is"
 MOST_TOLD = 100
