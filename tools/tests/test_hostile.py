@@ -112,14 +112,14 @@ class Devices(Bench):
 
 class Faults(Bench):
     def test_a_fault_of_flexlab_has_a_status_of_its_own(self):
-        """A program that breaks its word stands for a fault that nobody thought of."""
+        """A part of Python that breaks its word stands for a fault that nobody thought of."""
         self.write("a.toml", SHORT)
-        path = self.write("liar", "#!/bin/sh\necho precision\n")
-        os.chmod(path, 0o755)
-        err = self.flexlab("run", "a.toml", "--flexray", path, status=8)[1]
+        self.write("sitecustomize.py", "import subprocess\nsubprocess.Popen.__init__ = lambda *_, **__: [].pop()\n"
+                                       "subprocess.Popen.__del__ = lambda *_: None\n")
+        err = self.flexlab("run", "a.toml", status=8, env={"PYTHONPATH": self.room})[1]
         self.assertRegex(err, r"^flexlab: a fault of flexlab \S+, which is to be reported, with its words and files: \w+ in \w+\.py, "
                               r"line \d+: .*\n$")
-        out = self.shell(f"FLEXLAB_DEBUG=1 exec flexlab run a.toml --flexray {path}")
+        out = self.shell(f"PYTHONPATH={self.room} FLEXLAB_DEBUG=1 exec flexlab run a.toml")
         self.assertEqual(out.returncode, 8)
         self.assertIn("Traceback", out.stderr)
 

@@ -86,7 +86,7 @@ class Formulas(Case):
             self.assertIsNone(why)
             sides = least.sharp_bounds_of(found, kind)
             self.assertEqual([least.holds(number, sides[number]) for number in range(1, 6)], [True] * 5)
-            self.assertIsNone(sides["lasts"])
+            self.assertIsNone(sides.lasts)
             self.assertFalse(least.holds(1, least.sharp_bounds_of({**p, "pClusterDriftDamping": damping - 1}, kind)[1]))
         # With both sides equal the first check holds; a microtick is 999,900 ticks at least.
         self.assertEqual([least.least_sharp_damping(p, least.Kind(True, flutter, 8)) for flutter in (999901, 999902)], [2, 3])
