@@ -320,7 +320,8 @@ def stand_in(made: list[packets.Packet]) -> None:
             data = file.read(most + 1)
         if path.endswith("ng"):
             return 0, pcap_of(made), ""
-        return (0, data, "") if data[:4] == struct.pack("<I", packets.MAGIC_NS) else (2, b"", "stood in for")
+        # tshark refuses a file that ends within its head of 24 bytes, as it does one of another kind.
+        return (0, data, "") if len(data) >= 24 and data[:4] == struct.pack("<I", packets.MAGIC_NS) else (2, b"", "stood in for")
 
     def call(_: str, words: list[str], *__: Any, **___: Any) -> tuple[int, str, str]:
         return (0, "", "") if words[0] == "bound" and len(words) < 4 else (6, "", "stood in for")

@@ -9,6 +9,7 @@ import subprocess
 import sys
 import time
 import unittest
+import unittest.mock
 import zlib
 
 import mutations
@@ -368,6 +369,13 @@ class Mutations(unittest.TestCase):
                 statuses, faults = mutations.tried(kind, made, seed, 40, "")
                 self.assertEqual(faults, [])
                 self.assertEqual(sum(statuses.values()), 40)
+
+    def test_a_capture_that_ends_within_its_head(self):
+        """Also where tshark is stood in for it is refused, as tshark does it."""
+        with unittest.mock.patch.object(mutations, "of_bytes", lambda draw, data: data[:draw.randrange(24)]):
+            statuses, faults = mutations.tried("pcap", mutations.sent(), "1", 40, "")
+        self.assertEqual(faults, [])
+        self.assertGreater(statuses[5], 20)
 
     def test_what_falls_short_is_seen(self):
         """A flexlab that breaks at a word, hangs at another one or answers otherwise is told as that."""
