@@ -27,6 +27,8 @@ _MOST_POWER = 400
 
 def _exact(name: str, value: Number) -> Fraction:
     """A float is taken for the shortest decimal that it is printed as: 0.1 is a tenth."""
+    if type(value) is Fraction:
+        return value
     if isinstance(value, bool) or not isinstance(value, (int, float, str, Decimal, Fraction)) and not hasattr(value, "__index__"):
         raise TypeError(f"{name}: {shown(value)} is no number")
     try:
@@ -52,9 +54,12 @@ def _lasting(microtick_ns: Number) -> Fraction:
 
 def rounded(value: Union[int, Fraction]) -> int:
     """The nearest whole number, a half away from 0."""
-    doubled = abs(Fraction(value)) * 2 + 1
-    found = doubled.numerator // (doubled.denominator * 2)
-    return found if value >= 0 else -found
+    if isinstance(value, int):
+        return int(value)
+    exact = value if isinstance(value, Fraction) else Fraction(value)
+    numerator, denominator = exact.numerator, exact.denominator
+    found = (2 * abs(numerator) + denominator) // (2 * denominator)
+    return found if numerator >= 0 else -found
 
 
 def to_ns(ticks: int, microtick_ns: Number) -> float:

@@ -1,5 +1,6 @@
 """Studies: one line a run, the same numbers as the page's, stopped ones go on, failed ones are lines."""
 import csv
+import io
 import json
 import os
 import re
@@ -8,12 +9,13 @@ import subprocess
 import sys
 import time
 import unittest
+import unittest.mock
 from fractions import Fraction
 
 from bench import EXAMPLE, FLEXLAB, FLEXRAY, SERIES, Bench, edited, needs, needs_series
 from flexlab.base.ending import Stop
 from flexlab.cli.words import joined, parser
-from flexlab.program import calls
+from flexlab.program import calls, report
 from flexlab.runs import study
 from flexlab.toml.again import Again
 from flexlab.toml.cluster import read_cluster
@@ -291,12 +293,41 @@ class Studies(Bench):
         self.assertIn("not covered", self.read("a.study", "study.svg"))
 
 
+class OfSeries(Bench):
+    """The rows of a series are taken by their columns, and line by line where one has no skew: with the same end."""
+
+    ROWS = ("0,no,119988000,4999,no\n", "1,no,178800000,4900,no\n", "2,yes,148983950,4999,no\n", "3,yes,181796250,4900,no\n")
+    END = ("greatest,181796250,3,4900,\nsynced,yes,,,\nwithin,yes,,,\nflutter,0,,,\nsharp,150237926,beside,,\nsharp covered,yes,,,\n"
+           "sharp synced,-,,,\nsharp greatest,-,-,-,\nsharp within,-,,,\n")
+
+    def text(self, *rows):
+        return "".join([report.HEAD, *(rows or self.ROWS), self.END])
+
+    def test_both_ways_agree(self):
+        no_skew = "2,yes,-,-,yes\n"
+        for rows, by_columns in ((self.ROWS, True), ((*self.ROWS[:2], no_skew, self.ROWS[3]), False), (("0,no,5,0,yes\n",), True)):
+            text = self.text(*rows)
+            self.assertEqual(bool(report.quick_rows(report.Series(), text)), by_columns)
+            found = report.read_series(text)
+            with unittest.mock.patch.object(report, "quick_rows", return_value=0):
+                self.assertEqual(found, report.read_series(text))
+            self.assertEqual(len(found.rows), len(rows))
+        self.assertEqual(report.read_series(self.text()).rows[3], (3, True, 181796250, 4900))
+
+    def test_rows_of_another_form(self):
+        for row in ("2,yes,148983950,4999\n", "2,yes,148983950,4999,no,no\n", "2,maybe,148983950,4999,no\n", "\n",
+                    "2,yes,148983950,4999\n2,yes,148983950,4999,no,no\n"):
+            self.assertEqual(report.quick_rows(report.Series(), self.text(*self.ROWS[:2], row)), 0)
+            with self.assertRaises(Stop):
+                report.read_series(self.text(*self.ROWS[:2], row))
+
+
 STUDIES = os.path.join(os.path.dirname(os.path.realpath(__file__)), "studies")
 
 
 class AsBefore(Bench):
     """Studies of which studies/ has the results as they were when each run was made with its trace: by the programs with and without
-    flexray-series. The column of seconds is empty there."""
+    flexray-series, byte for byte. The column of seconds is empty there."""
 
     def results(self, name, env):
         folder = name + ".study"
@@ -309,15 +340,26 @@ class AsBefore(Bench):
         env = {**os.environ, "FLEXRAY": FLEXRAY, "FLEXLAB_LIBRARY": "no", **env}
         subprocess.run([sys.executable, FLEXLAB, "study", *toml, *words, "--keep", "none", "-o", folder, "--jobs", "2"], cwd=self.room,
                        env=env, capture_output=True, check=False)
-        with open(self.path(folder, "study.csv"), encoding="utf-8", newline="") as file:
-            rows = list(csv.DictReader(file))
+        with open(self.path(folder, "study.csv"), "rb") as file:
+            data = file.read()
+        head, *rows = csv.reader(io.StringIO(data.decode("utf-8"), newline=""))
+        # What is taken apart is written again byte for byte, so nothing but these two columns is other than it was.
+        self.assertEqual(self.written([head, *rows]), data)
+        seconds, told = head.index("seconds"), head.index("told")
         for row in rows:
-            row.update(seconds="", told=row["told"].replace(self.room + "/", ""))
-        return rows
+            self.assertRegex(row[seconds], r"^\d+\.\d\d$")
+            row[seconds], row[told] = "", row[told].replace(self.room + "/", "")
+        return self.written([head, *rows])
+
+    @staticmethod
+    def written(rows):
+        found = io.StringIO(newline="")
+        csv.writer(found, lineterminator="\n").writerows(rows)
+        return found.getvalue().encode("utf-8")
 
     def wanted(self, name, kind):
-        with open(os.path.join(STUDIES, f"{name}.{kind}.csv"), encoding="utf-8", newline="") as file:
-            return list(csv.DictReader(file))
+        with open(os.path.join(STUDIES, f"{name}.{kind}.csv"), "rb") as file:
+            return file.read()
 
     def names(self):
         found = sorted(name[:-6] for name in os.listdir(STUDIES) if name.endswith(".words"))

@@ -22,14 +22,14 @@ def ppm_of(length: int) -> Fraction:
 
 
 def us_of_ticks(ticks: Number, microtick_ns: Number) -> Fraction:
-    return Fraction(ticks) * microtick_ns / TICKS / 1000
+    return Fraction(ticks) * microtick_ns / (TICKS * 1000)
 
 
 def decimal(value: Number, digits: int) -> str:
     """A number with so many digits behind the point, rounded like all else here."""
-    scaled = rounded(Fraction(value) * 10 ** digits)
-    sign = "-" if scaled < 0 else ""
-    text = str(abs(scaled)).rjust(digits + 1, "0")
+    scaled = (2 * abs(value.numerator) * 10 ** digits + value.denominator) // (2 * value.denominator)
+    sign = "-" if scaled and value < 0 else ""
+    text = str(scaled).rjust(digits + 1, "0")
     return sign + (text if digits == 0 else text[:-digits] + "." + text[-digits:])
 
 

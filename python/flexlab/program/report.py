@@ -209,11 +209,31 @@ def greatest_of(numbers: Sequence[int | None]) -> Skew | None:
     return None if ticks is None or cycle is None or macrotick is None else Skew(ticks, cycle, macrotick)
 
 
+HEAD = "cycle,in_sync,skew,macrotick,sharp\n"
+
+
+def quick_rows(found: Series, text: str) -> int:
+    """Takes all rows of a series by their columns, where each has a skew, and hands back where they end; 0 where one has none, so
+    that they are read line by line."""
+    end = text.find("greatest,")
+    if end < 0 or not text.startswith(HEAD):
+        return 0
+    words = text[len(HEAD):end].replace("\n", ",").split(",")
+    columns = [words[at:-1:5] for at in range(5)]
+    if {*columns[1], *columns[4]} <= {"yes", "no"} and len({*map(len, columns)}) == 1 and all(
+            "".join(columns[at]).isdigit() and "" not in columns[at] for at in (0, 2, 3)):
+        found.rows = [SeriesCycle(*row) for row in zip(map(int, columns[0]), [word == "yes" for word in columns[1]],
+                                                       map(int, columns[2]), map(int, columns[3]))]
+        found.sharp.rows = [word == "yes" for word in columns[4]]
+        return end
+    return 0
+
+
 def read_series(text: str) -> Series:
     """What `flexray-series .. sharp` printed. The skew of a cycle without running nodes is None, as is what is not told since
     no cycle is in sync."""
     found = Series()
-    for line in text.splitlines():
+    for line in text[quick_rows(found, text):].splitlines():
         words = line.split(",")
         if len(words) == 5 and words[1] in ("yes", "no") and words[0].isdigit():
             skew, macrotick = (int(word) if word.isdigit() else None for word in words[2:4])

@@ -39,6 +39,7 @@ from .runs import Run
 from .windows import Window
 
 if TYPE_CHECKING:
+    from ..toml.cluster import Cluster
     from .quick import Caller
 
 # What a study is, and the results of a run: objects as JSON has them.
@@ -303,12 +304,25 @@ def caller_of(plan: Plan) -> "Caller":
     return CALLERS[key]
 
 
-def measure(plan: Plan, values: Sequence[str], number: int, folder: str, is_kept: bool) -> tuple[Line, dict[str, str]]:
-    """(columns, what was drawn) of a run; where it is kept, or has no series, it is one as `run` makes it, with its files in the
-    folder."""
+def run_whole(cluster: "Cluster", program: str, begin: int | None, folder: str | None) -> Run:
+    """A run as `run` makes it, but for its traces; its files are gone where no folder is named."""
+    from .runs import run_cluster
+    with contextlib.ExitStack() as room:
+        if folder is None:
+            folder = os.path.join(room.enter_context(tempfile.TemporaryDirectory(prefix="flexlab-study-")), "run")
+        make_folder(folder)
+        found = run_cluster(cluster, folder, program, begin=begin)
+        for name in ("trace.csv", os.path.join("in-sync", "trace.csv")):
+            if os.path.exists(os.path.join(folder, name)):
+                os.remove(os.path.join(folder, name))
+    return found
+
+
+def measure(plan: Plan, values: Sequence[str], number: int, folder: str | None) -> tuple[Line, dict[str, str]]:
+    """(columns, what was drawn) of a run; where a folder keeps it, or it has no series, it is one as `run` makes it."""
     from ..program.report import read_report
     from .quick import run_of
-    from .runs import answer, run_cluster
+    from .runs import answer
     from .windows import begin_of, later, ranges_of, windows
     if "make" in plan:
         report = read_report(answer(plan["flexray"], ["make", values[0], str(plan["make"])]))
@@ -322,14 +336,10 @@ def measure(plan: Plan, values: Sequence[str], number: int, folder: str, is_kept
     spans = ranges_of(plan.get("cycles") or "", cluster)
     begin = begin_of(plan.get("from"), cluster)
     is_short = plan.get("figures") == "report"
-    run = None if is_kept and not is_short else run_of(cluster, caller, begin, is_short)
-    if run is None or is_kept:
-        make_folder(folder)
-        whole_run = run_cluster(cluster, folder, plan["flexray"], begin=begin)
+    run = None if folder and not is_short else run_of(cluster, caller, begin, is_short)
+    if run is None or folder:
+        whole_run = run_whole(cluster, plan["flexray"], begin, folder)
         run = run or whole_run
-        for name in ("trace.csv", os.path.join("in-sync", "trace.csv")):
-            if os.path.exists(os.path.join(folder, name)):
-                os.remove(os.path.join(folder, name))
     unit, more = cluster.microtick_ns, {name: written(value) for name, value in cluster.drawn.items()}
     for one in windows(run, spans) if spans and not is_short else ():
         for name, ticks in (("greatest", Fraction(one.greatest)), ("99", Fraction(one.most)), ("mean", one.mean)):
@@ -353,21 +363,20 @@ def run_one(plan: Plan, number: int, values: Sequence[str], draw: int, folder: s
     if plan.get("drawn"):
         line["draw"] = draw
     line.update(dict.fromkeys(COLUMNS, ""), status=DONE)
-    with tempfile.TemporaryDirectory(prefix="flexlab-study-") as room:
-        try:
-            columns, drawn = measure(plan, values, draw, part or os.path.join(room, "run"), folder is not None)
-            line.update(columns)
-            line.update(drawn)
-        except Stop as stop:
-            if stop.status == FILE:
-                # That says nothing of the run: the study ends, and goes on with it.
-                raise
-            line.update(status=stop.status, told=stop.line.replace("\n", "; "))
-        if folder and part and os.path.isdir(part):
-            # A folder of a run is there once it is whole.
-            with named_faults(folder):
-                shutil.rmtree(folder, ignore_errors=True)
-                os.rename(part, folder)
+    try:
+        columns, drawn = measure(plan, values, draw, part)
+        line.update(columns)
+        line.update(drawn)
+    except Stop as stop:
+        if stop.status == FILE:
+            # That says nothing of the run: the study ends, and goes on with it.
+            raise
+        line.update(status=stop.status, told=stop.line.replace("\n", "; "))
+    if folder and part and os.path.isdir(part):
+        # A folder of a run is there once it is whole.
+        with named_faults(folder):
+            shutil.rmtree(folder, ignore_errors=True)
+            os.rename(part, folder)
     line["seconds"] = f"{time.monotonic() - begun:.2f}"
     return line
 

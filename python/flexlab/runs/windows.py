@@ -69,20 +69,22 @@ def settled(rows: list[Point]) -> tuple[int, int]:
     """The first of these cycles from which on the skew stays within its level, and that: the greatest of the
     second half of the rows."""
     level = max(skew for _, skew in rows[len(rows) // 2:])
-    first = rows[0][0]
-    for cycle, skew in rows:
-        if skew > level:
-            first = cycle + 1
-    return first, level
+    return next((cycle + 1 for cycle, skew in reversed(rows) if skew > level), rows[0][0]), level
+
+
+def within(rows: list[Point], first: int, last: int) -> list[Point]:
+    """Those of the cycles from first to last; rows ascend by cycle."""
+    return [row for row in rows if first <= row[0] <= last]
 
 
 def window(rows: list[Point], first: int, last: int, what: str) -> Window | None:
     """The figures of the cycles from first to last, or None where none of them has a skew."""
-    rows = [row for row in rows if first <= row[0] <= last]
+    rows = within(rows, first, last)
     if not rows:
         return None
-    cycle, greatest = max(rows, key=lambda row: (row[1], -row[0]))
     ordered = sorted(skew for _, skew in rows)
+    greatest = ordered[-1]
+    cycle = next(cycle for cycle, skew in rows if skew == greatest)
     # The least skew that no more than one of a hundred cycles is above.
     most = ordered[-(-99 * len(ordered) // 100) - 1]
     return Window(rows[0][0], rows[-1][0], what, greatest, cycle, most, Fraction(sum(ordered), len(ordered)),
@@ -152,8 +154,8 @@ def later(run: Run, first: int | None = None) -> Window | None:
         return None
     if first is None:
         spans = stretches(run)
-        begun = window(rows, *spans[0]) if spans else None
-        first = begun.settled if begun else rows[0][0]
+        begun = within(rows, spans[0].first, spans[0].last) if spans else []
+        first = settled(begun or rows[:1])[0]
     return window(rows, first, rows[-1][0], "")
 
 

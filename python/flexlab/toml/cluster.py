@@ -1,4 +1,5 @@
 """A cluster as a TOML file describes it, in the numbers of flexray's files."""
+import functools
 import json
 from collections.abc import Callable
 from dataclasses import dataclass, field
@@ -132,22 +133,27 @@ NAME_LENGTH = 128
 MOST_PPM = Fraction(149825, 100)
 
 
+@functools.lru_cache(1000)
+def span_of(unit: str, microtick_ns: Fraction, least: int, most: int) -> tuple[Fraction, Fraction]:
+    """The least and the most of some ticks in another unit."""
+    size = {"us": Fraction(1000) / microtick_ns, "ns": 1 / microtick_ns, "microticks": Fraction(1),
+            "ticks": Fraction(1, units.TICKS)}[unit]
+    return Fraction(least, units.TICKS) / size, Fraction(most, units.TICKS) / size
+
+
 def amount(table: Table, prefix: str, microtick_ns: Fraction, least: int, most: int, default: int | None = None, more: str = "") -> int:
     """Ticks of a time that is given as PREFIXus, PREFIXns, PREFIXmicroticks or PREFIXticks."""
-    given = [unit for unit in AMOUNTS if table.has(prefix + unit)]
-    keys = ", ".join(f"`{prefix}{unit}`" for unit in AMOUNTS)
+    given = [unit for unit in AMOUNTS if prefix + unit in table.entries]
     if not given and default is not None:
         return default
     if len(given) != 1:
         for other in [] if given else table.unknown():
             if near(other, [prefix + unit for unit in AMOUNTS]):
                 table.refuse_unknown(other)
+        keys = ", ".join(f"`{prefix}{unit}`" for unit in AMOUNTS)
         table.refuse(prefix + given[1] if given else None, f"it wants one of {keys}, and not {len(given)}")
     unit = given[0]
-    size = {"us": Fraction(1000) / microtick_ns, "ns": 1 / microtick_ns, "microticks": Fraction(1),
-            "ticks": Fraction(1, units.TICKS)}[unit]
-    least_here, most_here = (Fraction(bound, units.TICKS) / size for bound in (least, most))
-    value = table.number(prefix + unit, least_here, most_here, unit, more=more)
+    value = table.number(prefix + unit, *span_of(unit, microtick_ns, least, most), unit, more=more)
     if unit in ("us", "ns"):
         return units.ticks_of_ns(value * (1000 if unit == "us" else 1), microtick_ns)
     return units.ticks_of_microticks(value) if unit == "microticks" else units.rounded(value)

@@ -79,11 +79,21 @@ class Table:
     def number(self, key: str, least: Number, most: Number, unit: str = "", default: tuple[Number] | None = None,
                more: str = "") -> Fraction:
         """A number as an exact fraction, or the name of one of [values], a `-` before it allowed."""
+        written = self.written(key)
+        if written is not None and least <= written <= most:
+            return Fraction(written)
         span = f"a number from {shown(least)} to {shown(most)}{' ' + unit if unit else ''}"
         value = self.plain(key, self.take(key, span, default), span)
         if not least <= value <= most:
             self.refuse(key, f"{shown(value)} is not {span}{more}")
         return value
+
+    def written(self, key: str) -> Number | None:
+        """The number that stands at a key, where it is one without more ado: what a message would say is not made for it."""
+        value = self.entries.get(key)
+        if type(value) is int or type(value) is Fraction:
+            return value
+        return Fraction(value) if type(value) is Decimal and value.is_finite() else None
 
     def plain(self, key: str, value: object, span: str) -> Fraction:
         if isinstance(value, str):
@@ -103,6 +113,9 @@ class Table:
         return Fraction(value)
 
     def whole(self, key: str, least: int, most: int, unit: str = "", default: tuple[int] | None = None) -> int:
+        written = self.written(key)
+        if written is not None and written.denominator == 1 and least <= written <= most:
+            return int(written)
         span = f"a whole number from {least} to {most}{' ' + unit if unit else ''}"
         value = self.plain(key, self.take(key, span, default), span)
         if value.denominator != 1 or not least <= value <= most:
