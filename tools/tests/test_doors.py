@@ -8,7 +8,11 @@ from bench import REPOSITORY
 
 # Calls by which a program, a shell, code or another library is reached, by the last part of their names.
 PYTHON = {"run", "Popen", "check_output", "check_call", "call", "system", "popen", "spawnv", "spawnl", "execv", "execve", "execvp", "execl",
-          "eval", "exec", "compile", "import_module", "__import__", "loads", "load", "CDLL", "LoadLibrary", "ParserCreate", "Pool", "fork"}
+          "eval", "exec", "compile", "import_module", "__import__", "loads", "load", "CDLL", "LoadLibrary", "ParserCreate", "Pool", "fork",
+          "execle", "execlp", "execlpe", "execvpe", "spawnle", "spawnlp", "spawnlpe", "spawnve", "spawnvp", "spawnvpe", "posix_spawn",
+          "posix_spawnp", "forkpty", "startfile", "getoutput", "getstatusoutput", "create_subprocess_exec", "create_subprocess_shell",
+          "run_path", "run_module", "exec_module", "load_module", "ProcessPoolExecutor", "PyDLL", "fromstring", "XML", "iterparse",
+          "XMLParser", "XMLPullParser", "literal_eval", "Unpickler", "InteractiveInterpreter"}
 # Of these names only those of these modules are doors.
 OF = {"run": ("subprocess", ""), "call": ("subprocess",), "loads": ("pickle", "marshal"), "load": ("pickle", "marshal"),
       "compile": ("", "builtins"), "exec": ("",), "eval": ("",), "system": ("os",), "fork": ("os",), "Pool": None, "Popen": None}
