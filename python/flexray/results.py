@@ -134,8 +134,8 @@ class Report:
 
 @dataclass(frozen=True)
 class SeriesCycle:
-    """A cycle of a series: whether its double cycle is in sync, and its greatest skew. `sharp` is whether it is in sharp sync,
-    None in a series that was not asked for it."""
+    """A cycle of a series: whether its double cycle is in sync, and its greatest skew, which is 0 at macrotick 0 where no node
+    runs. `sharp` is whether it is in sharp sync, None in a series that was not asked for it."""
 
     cycle: int
     in_sync: bool

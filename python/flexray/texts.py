@@ -2,6 +2,7 @@
 from __future__ import annotations
 
 import re
+from collections.abc import Iterable, Iterator
 
 from .results import (Bound, Capture, CapturedFrame, Check, CycleRow, Deviation, FailedCheck, Frame, Heard, Join, Lead,
                       LogCounts, NodeEnd, Observation, ObservedCycle, ObservedFault, ObservedNode, ObservedSender, Report,
@@ -122,44 +123,72 @@ def report(text: str) -> Report:
                   greatest, sent_a, sent_b, heard, cut, nodes_at_end)
 
 
-def _greatest(groups: tuple[str, ...]) -> Skew | None:
-    return None if groups[0] == "-" else Skew(*_numbers(groups))
+def _greatest(lines: _Lines, name: str, comma: str) -> Skew | None:
+    groups = lines.take(rf"{name},(?:-,-,-|(\d+),(\d+),(\d+)){comma}")
+    return Skew(*_numbers(groups)) if groups[0] else None
 
 
-def _within(groups: tuple[str, ...]) -> tuple[bool | None, tuple[int, int] | None]:
-    told, cycle, macrotick = groups
+def _within(lines: _Lines, name: str, comma: str) -> tuple[bool | None, tuple[int, int] | None]:
+    told, cycle, macrotick = lines.take(rf"{name},(?:(yes|-),,|no,(\d+),(\d+)){comma}")
     return (None if told == "-" else told == "yes"), ((int(cycle), int(macrotick)) if cycle else None)
 
 
 def series(text: str) -> Series:
     lines = _Lines(text)
     lines.take("cycle,in_sync,skew,macrotick")
-    rows = lines.every(r"(\d+),(yes|no),(\d+),(\d+)")
-    cycles = tuple(SeriesCycle(int(cycle), told == "yes", int(skew), int(macrotick)) for cycle, told, skew, macrotick in rows)
-    return Series(text, cycles, *_ends(lines, ""))
+    return Series(text, tuple(_series_cycles(lines, 4)), *_ends(lines, ""))
+
+
+def _series_cycles(lines: _Lines, count: int) -> Iterator[SeriesCycle]:
+    """The rows of cycles, of so many fields each. Taken apart by their commas, since a study has a series for each run."""
+    truth = {"yes": True, "no": False}
+    while lines.more and lines.lines[lines.at][:1].isdigit():
+        line = lines.lines[lines.at]
+        words = line.split(",")
+        try:
+            if len(words) != count:
+                raise ValueError
+            yield SeriesCycle(int(words[0]), truth[words[1]], int(words[2]), int(words[3]), truth[words[4]] if count == 5 else None)
+        except (KeyError, ValueError) as fault:
+            raise Strange(line) from fault
+        lines.at += 1
 
 
 def _ends(lines: _Lines, comma: str) -> tuple[Skew | None, bool, int | None, bool | None, tuple[int, int] | None]:
-    greatest = _greatest(lines.take(rf"greatest,(-|\d+),(-|\d+),(-|\d+){comma}"))
+    greatest = _greatest(lines, "greatest", comma)
     synced, lost = lines.take(rf"synced,(yes|no),(\d*),{comma}")
-    within, beyond = _within(lines.take(rf"within,(yes|no|-),(\d*),(\d*){comma}"))
+    within, beyond = _within(lines, "within", comma)
     return greatest, synced == "yes", int(lost) if lost else None, within, beyond
 
 
 def sharp_series(text: str) -> SharpSeries:
     lines = _Lines(text)
     lines.take("cycle,in_sync,skew,macrotick,sharp")
-    cycles = tuple(SeriesCycle(int(cycle), told == "yes", int(skew), int(macrotick), sharp == "yes")
-                   for cycle, told, skew, macrotick, sharp in lines.every(r"(\d+),(yes|no),(\d+),(\d+),(yes|no)"))
+    cycles = tuple(_series_cycles(lines, 5))
     ends = _ends(lines, ",")
     flutter = lines.one(r"flutter,(\d+),,,")
     precision, kind = lines.take(r"sharp,(\d+),(alone|beside),,")
     covered, gap = lines.take(r"sharp covered,(yes|no),,,(.*)")
     synced, lasts = lines.take(r"sharp synced,(-|\d+),(on|\d*),,")
-    greatest = _greatest(lines.take(r"sharp greatest,(-|\d+),(-|\d+),(-|\d+),"))
-    within, beyond = _within(lines.take(r"sharp within,(yes|no|-),(\d*),(\d*),"))
+    greatest = _greatest(lines, "sharp greatest", ",")
+    within, beyond = _within(lines, "sharp within", ",")
     return SharpSeries(text, cycles, *ends, flutter, int(precision), kind, covered == "yes", tuple(gap.split()),
                        None if synced == "-" else int(synced), int(lasts) if lasts.isdigit() else None, greatest, within, beyond)
+
+
+def _cycle_row(line: str) -> CycleRow:
+    try:
+        _, cycle, node, start, length, rate, offset, state = line.split(",")
+        return CycleRow(int(cycle), int(node), int(start), int(length), int(rate), int(offset), state)
+    except ValueError as fault:
+        raise Strange(line) from fault
+
+
+def cycle_rows(lines: Iterable[str]) -> Iterator[CycleRow]:
+    """The `cycle` rows alone, of a file too long to be held."""
+    for line in lines:
+        if line.startswith("cycle,"):
+            yield _cycle_row(line.rstrip("\n"))
 
 
 def trace(text: str) -> Trace:
@@ -168,8 +197,7 @@ def trace(text: str) -> Trace:
     for line in text.splitlines():
         words = line.split(",")
         if words[0] == "cycle":
-            cycles.append(CycleRow(int(words[1]), int(words[2]), int(words[3]), int(words[4]), int(words[5]), int(words[6]),
-                                   words[7]))
+            cycles.append(_cycle_row(line))
         elif words[0] == "dev":
             deviations.append(Deviation(int(words[1]), int(words[2]), int(words[3]), words[4], int(words[5])))
         elif words[0] == "run":

@@ -316,6 +316,30 @@ class Explain(Bench):
         self.assertIn("no channel carries the frames of node 2 to node 4", self.flexlab("explain", *words)[0])
         self.assertIn("nothing in its answer needs", self.flexlab("explain", *self.files())[0])
 
+    def test_gaps_name_nodes_and_times(self):
+        """Files for flexray have neither names of nodes nor nanoseconds."""
+        for drift, *told in (
+                ("length,1,2,1000900,,\n", "covered no length 1 2 1000900",
+                 "in cycle 2 the oscillator of node 1 is off by -899.19 ppm", "turn limits.oscillator_ppm"),
+                ("length,1,2,1000150,,\nlength,1,3,1000120,,\n", "covered no change 1 2 150",
+                 "in cycle 2 the microtick of node 1 changes by 150 ticks (about ppm)", "turn limits.change_ppm_per_cycle"),
+                ("delay,2,4,A,1,9000000\n", "covered no delay 2 4 A 1 9000000", "at a microtick of 25 ns:",
+                 "in cycle 1 frames of node 2 travel 0.225 us to node 4 on channel A",
+                 "turn limits.delay_error_us, or pDelayCompensation")):
+            with self.subTest(drift=drift):
+                out = self.flexlab("explain", *self.files(drift=DRIFT + drift))[0]
+                for part in told:
+                    self.assertIn(part, out)
+
+    def test_gaps_by_another_file_than_flexray_read(self):
+        self.files(params="param,gdNIT,800,,\n")
+        self.write("trace.csv", "run,1,,,,,,\n")
+        for gap, name in (("length 1 2 1000900", "xRateBound"), ("change 1 2 900", "xChangeBound"), ("check 1 5 6", "xRateBound"),
+                          ("delay 1 2 A 2 9000000", "pDelayCompensationA")):
+            with self.subTest(gap=gap):
+                err = self.flexlab("explain", "--line", f"trace: not covered {gap}", "check", "params.csv", "trace.csv", status=3)[1]
+                self.assertIn(f"params.csv: it has no record of {name}; is it another file than flexray read?", err)
+
     def test_a_trace_that_breaks_a_law(self):
         self.files()
         self.write("trace.csv", self.flexray("trace", "params.csv", "drift.csv", "script.csv")[1])

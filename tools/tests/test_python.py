@@ -14,7 +14,7 @@ from concurrent.futures import ThreadPoolExecutor
 from fractions import Fraction
 from pathlib import Path
 
-from bench import FLEXRAY, REPOSITORY, SERIES, Bench, needs
+from bench import FLEXRAY, REPOSITORY, SERIES, Bench, needs, needs_series
 
 PACKAGE = os.path.join(REPOSITORY, "python")
 sys.path.insert(0, PACKAGE)
@@ -530,9 +530,33 @@ class Alone(Bench):
         self.assertEqual((found.covered, found.numbers, found.sync, found.verdict),
                          (("no", "count", "1", "1"), ("premise",), ("-", "open"), ("no", "5", "twice", "64")))
 
+    @needs_series
+    def test_a_series_in_which_all_nodes_halt(self):
+        """Where no node runs a skew is told all the same."""
+        files = [str(EXAMPLES / "walk" / f"{name}.csv") for name in ("params", "drift", "script")]
+        for parse, words, last in ((texts.series, [], flexray.SeriesCycle(179, False, 0, 0)),
+                                   (texts.sharp_series, ["sharp"], flexray.SeriesCycle(179, False, 0, 0, False))):
+            text = subprocess.run([SERIES, *files, *words], capture_output=True, text=True, check=True).stdout
+            told = parse(text)
+            self.assertEqual((told.text, len(told.cycles), told.cycles[-1]), (text, 180, last))
+            self.assertEqual((told.greatest, told.synced, told.lost), (flexray.Skew(0, 0, 0), False, 3))
+
+    def test_the_cycle_rows_of_a_trace(self):
+        text = Path(EXAMPLES, "trace", "printed.txt").read_text()
+        self.assertEqual(tuple(texts.cycle_rows(io.StringIO(text))), texts.trace(text).cycles)
+        self.assertGreater(len(texts.trace(text).deviations), 0)
+
     def test_what_is_not_understood_is_no_answer(self):
         self.assertRaises(ValueError, texts.report, "nodes 2 sync 2 arbitrary 0 doubles 2\nprecision many\n")
         self.assertRaises(ValueError, texts.trace, "run,1,,,,,,\nother,1\n")
+        for row in ("cycle,1,2", "cycle,1,2,3,4,5,six,active"):
+            self.assertRaises(texts.Strange, texts.trace, f"run,1,,,,,,\n{row}\n")
+            self.assertRaises(texts.Strange, list, texts.cycle_rows([f"{row}\n"]))
+        ends = ["greatest,5,6,7", "synced,yes,,", "within,no,6,7"]
+        self.assertEqual(texts.series("\n".join(["cycle,in_sync,skew,macrotick", *ends])).beyond, (6, 7))
+        for at, row in ((0, "greatest,5,-,7"), (2, "within,no,6,"), (2, "within,no,,"), (2, "within,yes,6,7")):
+            given = [*ends[:at], row, *ends[at + 1:]]
+            self.assertRaises(texts.Strange, texts.series, "\n".join(["cycle,in_sync,skew,macrotick", *given]))
         lines = Path(EXAMPLES, "observe", "printed.txt").read_text().splitlines(keepends=True)
         for at in (0, len(lines) - 4, len(lines) - 2, len(lines) - 1):
             self.assertRaises(ValueError, texts.observation, "".join(lines[:at] + lines[at + 1:]))

@@ -72,6 +72,17 @@ def known_of(words: Sequence[str]) -> Known:
         raise Stop(FILE, f"{path}: {fault.strerror}")
 
 
+class Given(dict[str, int]):
+    """The parameters of a file that flexray read. One that is not there ends flexlab: then this is another file."""
+
+    def __init__(self, known: Known) -> None:
+        super().__init__({name: value for name, (value, _) in known.values.items()})
+        self.known = known
+
+    def __missing__(self, name: str) -> int:
+        return self.known.value(name)
+
+
 def explain_line(line: str, words: Sequence[str]) -> list[str]:
     """Lines that explain a line of flexray's standard error; `words` are those that flexray had."""
     if line.startswith("usage:"):
@@ -265,7 +276,7 @@ def apart(record: Record, double: int) -> str:
 
 def explain_check(number: int, left: int, right: int, words: Sequence[str], way: bool = False) -> list[str]:
     known = known_of(words)
-    parameters = {name: value for name, (value, _) in known.values.items()}
+    parameters = Given(known)
     name = advise(number, right, parameters)[0]
     formula = WAY_FORMULA.get(number, FORMULA[number]) if way else FORMULA[number]
     return [f"C{number} fails: {left} against {right}", f"it asks: {formula}", f"with {LETTERS}",
@@ -276,7 +287,7 @@ def explain_sharp_check(name: str, number: int, left: int, right: int, words: Se
     """A failing check of the sharper bounds, of a kind by its name, as `bound .. sharp FLUTTER`, also with `join`, and
     `settle .. sharp FLUTTER` tell it."""
     known, way = known_of(words), words[0] == "settle"
-    parameters = {name: value for name, (value, _) in known.values.items()}
+    parameters = Given(known)
     kind = Kind(name == "beside", int(words[words.index("sharp", 2) + 1]), max(key for _, key, _ in known.keys()))
     told = (sharp_way_words if way else sharp_check_words)(number, left, right, parameters, kind)
     formula, letters = (SHARP_WAY_FORMULA, SHARP_WAY_LETTERS) if way else (SHARP_FORMULA, SHARP_LETTERS)
@@ -329,8 +340,7 @@ class Nameless:
 
 def explain_gap(gap: Sequence[str], words: Sequence[str]) -> list[str]:
     """A gap in words; files for flexray tell no nanoseconds, so a microtick of 25 ns is assumed, and said."""
-    parameters = {name: value for name, (value, _) in known_of(words).values.items()}
-    found = gap_words(gap, Nameless(parameters, Fraction(25)))
+    found = gap_words(gap, Nameless(Given(known_of(words)), Fraction(25)))
     return ["at a microtick of 25 ns:", *found] if gap[0] == "delay" else found
 
 
