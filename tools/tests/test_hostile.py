@@ -3,10 +3,12 @@ import gzip
 import json
 import os
 import random
+import resource
 import signal
 import struct
 import subprocess
 import sys
+import tempfile
 import time
 import unittest
 import unittest.mock
@@ -14,14 +16,47 @@ import zlib
 
 import mutations
 from bench import FLEXLAB, FLEXRAY, REPOSITORY, Bench, edited, needs
+from flexlab.base import ranges
 from flexlab.captures import observer
+from flexlab.cli.words import main
 
 SHORT = edited(("double_cycles = 200", "double_cycles = 8"))
 OBSERVER = "[observer]\nresolution_ns = 1\ndrift_ppm = 50\ndelay_from_ns = 0\ndelay_to_ns = 4000\n"
 MANY = "a number has at most 30 digits before the point, and as many behind it"
 
 
-class Numbers(Bench):
+class Forked(Bench):
+    """Calls are forks of this process, which has the modules already: half of what a short call takes is to have these."""
+
+    def flexlab(self, *words, status=0, env=None, cwd=None):
+        with tempfile.TemporaryFile() as out, tempfile.TemporaryFile() as err:
+            child = os.fork()
+            if child == 0:
+                ended = 70
+                try:
+                    signal.alarm(300)
+                    os.chdir(cwd or self.room)
+                    os.environ.update({"FLEXRAY": FLEXRAY, "FLEXRAY_SERIES": "", "FLEXLAB_LIBRARY": "no", **(env or {})})
+                    with open(os.devnull, "rb") as none:
+                        for to, of in enumerate((none, out, err)):
+                            os.dup2(of.fileno(), to)
+                    sys.stdout, sys.stderr = (open(to, "w", encoding="utf-8", closefd=False) for to in (1, 2))
+                    ended = main([*words])
+                    sys.stdout.flush()
+                    sys.stderr.flush()
+                finally:
+                    os._exit(ended)
+            ended = os.waitstatus_to_exitcode(os.waitpid(child, 0)[1])
+            texts = []
+            for file in (out, err):
+                file.seek(0)
+                texts.append(file.read().decode("utf-8").replace("\r\n", "\n"))
+        self.assertEqual(ended, status, f"{words}: {''.join(texts)}")
+        self.assertNotIn("Traceback", texts[1])
+        return tuple(texts)
+
+
+class Numbers(Forked):
     def refused(self, key, value, told):
         self.write("a.toml", SHORT.replace(f"\n{key} =", f"\n{key} = {value} #", 1))
         err = self.flexlab("build", "a.toml", status=5)[1]
@@ -81,18 +116,23 @@ class Numbers(Bench):
         text = edited(("double_cycles = 200", "double_cycles = 100000"))
         nodes = "".join(f'[[node]]\nid = {number}\nchannels = "AB"\nkey_slot = {number}\n' for number in range(7, 60))
         self.write("a.toml", text + nodes + '[[lose]]\nfrom = "all"\nto = "all"\ncycles = "all"\n')
-        self.assertIn("script.csv would have more than", self.flexlab("build", "a.toml", status=5)[1])
+        # Rows are made up to the most that there may be, which takes seconds: a call of the test takes a sixteenth of them.
+        with unittest.mock.patch.object(ranges, "FILE_BYTES", ranges.FILE_BYTES // 16):
+            self.assertIn("script.csv would have more than", self.flexlab("build", "a.toml", status=5)[1])
 
     def test_faults_of_a_long_file_are_told_in_time(self):
         """One line is looked for by each of thousands of faults, and no more than some are told."""
+        begun = sum(resource.getrusage(resource.RUSAGE_CHILDREN)[:2])
         self.write("a.toml", SHORT + "[[oscillator]]\nnodes = 1\nppm = true\n" * 20000)
         err = self.flexlab("build", "a.toml", status=5)[1]
         self.assertIn("a.toml: and 19900 more", err)
         self.write("a.toml", SHORT + '[[oscillator]]\nnodes = 1\ncycles = "90000-"\nppm = 1\n' * 20000)
         self.assertEqual(self.flexlab("build", "a.toml")[1].count("lies behind the end"), 20002)
+        # Some seconds of the processor; where each fault reads the file again it is minutes.
+        self.assertLess(sum(resource.getrusage(resource.RUSAGE_CHILDREN)[:2]) - begun, 40)
 
 
-class Devices(Bench):
+class Devices(Forked):
     def test_what_is_no_file(self):
         os.mkfifo(self.path("pipe"))
         self.write("a.toml", SHORT + OBSERVER)
@@ -129,7 +169,7 @@ COLUMNS = ("--columns", "time=Zeit [\u00b5s],channel=Kanal,bytes=Daten", "--time
 ROWS = ("Zeit [\u00b5s];Kanal;Daten;Text\n100;A;38 01 20 61 40;gr\u00f6\u00dfer\n200;B;38 01 20 61 40;\u00b5\n", )
 
 
-class Tables(Bench):
+class Tables(Forked):
     def log(self, data, status=0, columns=COLUMNS):
         with open(self.path("a.csv"), "wb") as file:
             file.write(data)
@@ -167,7 +207,7 @@ class Tables(Bench):
             self.assertLess(len(err), 1000)
 
 
-class Bombs(Bench):
+class Bombs(Forked):
     def test_an_option_of_a_pcapng_file_that_ends_before_its_value(self):
         options = struct.pack("<HH", 9, 1)
         data = mutations.pcapng_of(9)[:28] + struct.pack("<IIHHI", 1, 20 + len(options), 210, 0, 0) + options
@@ -181,8 +221,10 @@ class Bombs(Bench):
             one = struct.pack("<4sHHIIH6xI4x", b"LOBJ", 16, 1, 32 + len(body), 10, 2, size) + body
             with open(self.path("a.blf"), "wb") as file:
                 file.write(b"LOGG" + struct.pack("<I", 144) + bytes(136) + one * 400)
-            err = self.flexlab("capture", "a.blf", status=5)[1]
-            self.assertIn("a.blf: it unpacks to more than 256 MiB, which is the most that is taken; --most-mib raises that", err)
+            # The size that a container tells is not what bounds it: of those that lie, less is unpacked here.
+            most, words = (256, ()) if size == 4 << 20 else (16, ("--most-mib", "16"))
+            err = self.flexlab("capture", "a.blf", *words, status=5)[1]
+            self.assertIn(f"a.blf: it unpacks to more than {most} MiB, which is the most that is taken; --most-mib raises that", err)
         self.assertIn("more than 1 MiB", self.flexlab("capture", "a.blf", "--most-mib", "1", status=5)[1])
         for count in ("0", "-1", "x", "9" * 30):
             self.flexlab("capture", "a.blf", f"--most-mib={count}", status=2)
@@ -198,7 +240,7 @@ class Bombs(Bench):
         self.assertIn("100 packets", self.flexlab("capture", "a.pcap.gz", status=1)[0])
 
 
-class Stopped(Bench):
+class Stopped(Forked):
     """^C, two at once, and a file system that takes no more."""
 
     def slow(self, seconds):
@@ -366,9 +408,9 @@ class Mutations(unittest.TestCase):
         made = mutations.sent()
         for kind in mutations.KINDS:
             with self.subTest(kind=kind, seed=seed):
-                statuses, faults = mutations.tried(kind, made, seed, 40, "")
+                statuses, faults = mutations.tried(kind, made, seed, 20, "")
                 self.assertEqual(faults, [])
-                self.assertEqual(sum(statuses.values()), 40)
+                self.assertEqual(sum(statuses.values()), 20)
 
     def test_a_capture_that_ends_within_its_head(self):
         """Also where tshark is stood in for it is refused, as tshark does it."""
