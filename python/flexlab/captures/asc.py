@@ -145,7 +145,7 @@ def read_layouts(cluster: Cluster) -> tuple[list[Layout], list[str] | None, bool
         for name in hexadecimal:
             if name not in layouts[0].numbers:
                 table.refuse("hexadecimal", f"`{name}` is none of {', '.join(layouts[0].numbers)}")
-    return layouts, hexadecimal, table.flag("sums_are_exact", (False,))
+    return layouts, hexadecimal, table.flag("sums_are_exact")
 
 
 def layout_of(table: Table, text: str) -> Layout:

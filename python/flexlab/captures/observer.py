@@ -22,6 +22,7 @@ from .capture import load, sort_packets
 from ..base.ending import NO, REFUSED, USAGE, Refused, Stop, printable
 from ..base.files import LONGEST, MIB, check_is_file, named_faults, put, text_of
 from ..toml.cluster import Cluster
+from ..toml.keys import MOST_TICKS
 from ..toml.values import Table
 from .frames import crc, frame_crc
 from .packets import UNSURE
@@ -29,7 +30,7 @@ from ..pages.page import field as lines_of
 from ..toml.source import Source
 from ..base.units import TICKS, Number, decimal
 
-LAST_STAMP, MOST_TICKS, MOST_CYCLE = 9 * 10**17, 10**9, 199998
+LAST_STAMP = 9 * 10**17
 WANTED = ("a table [observer] states what is known of the analyzer: resolution_ns, drift_ppm, delay_from_ns and "
           "delay_to_ns; docs/FLEXLAB.md, \"Logs\", has more")
 SHORT, FLAWED = "frames that are not as long as they say", "frames without a trailer, with an error flag"
@@ -122,21 +123,21 @@ def up(value: Number) -> int:
 
 def read_observer(cluster: Cluster) -> Observer | None:
     """The observer that the file of a cluster states, or None where it states none."""
-    source, most = Source(cluster.path), MOST_TICKS * cluster.microtick_ns / TICKS
+    source, microtick_ns = Source(cluster.path), cluster.microtick_ns
     if "observer" not in source.entries:
         return None
     source.tell()
     table = source.table("observer")
-    resolution = table.number("resolution_ns", Fraction(1, 1000), most, "ns")
-    drift = up(table.number("drift_ppm", 0, 1000, "ppm"))
-    error = table.number("error_ns", 0, most, "ns", (Fraction(0),))
-    jitter = table.number("jitter_ns", 0, most, "ns") if table.has("jitter_ns") else None
-    is_whole, since = table.flag("missed_none", (False,)), since_of(table)
-    all_limits = limits_of(table, "delay_from_ns", "delay_to_ns", most)
+    resolution = table.number_of("resolution_ns", microtick_ns)
+    drift = up(table.number_of("drift_ppm"))
+    error = table.number_of("error_ns", microtick_ns)
+    jitter = table.number_of("jitter_ns", microtick_ns) if table.has("jitter_ns") else None
+    is_whole, since = table.flag("missed_none"), since_of(table)
+    all_limits = limits_of(table, "delay_from_ns", "delay_to_ns", microtick_ns)
     found = {End(node.number, channel): all_limits for node in cluster.nodes.values() for channel in node.channels}
     for table in source.tables("observer_delay"):
-        own = limits_of(table, "from_ns", "to_ns", most)
-        channels = table.channels("channels", ("AB",))
+        own = limits_of(table, "from_ns", "to_ns", microtick_ns)
+        channels = table.channels("channels")
         for node in table.nodes("nodes", cluster.nodes):
             found.update({End(node, channel): own for channel in cluster.nodes[node].channels if channel in channels})
     return Observer(resolution, drift, error, jitter, found, is_whole, since)
@@ -145,14 +146,14 @@ def read_observer(cluster: Cluster) -> Observer | None:
 def since_of(table: Table) -> int | None:
     if not table.has("in_sync_from_cycle"):
         return None
-    since = table.whole("in_sync_from_cycle", 0, MOST_CYCLE)
+    since = table.whole_of("in_sync_from_cycle")
     if since % 2:
         table.refuse("in_sync_from_cycle", "it is odd: a double cycle begins with an even cycle")
     return since
 
 
-def limits_of(table: Table, low: str, high: str, most: Fraction) -> Limits:
-    found = Limits(table.number(low, 0, most, "ns"), table.number(high, 0, most, "ns"))
+def limits_of(table: Table, low: str, high: str, microtick_ns: Fraction) -> Limits:
+    found = Limits(table.number_of(low, microtick_ns), table.number_of(high, microtick_ns))
     if found.low > found.high:
         table.refuse(low, f"it is above `{high}`")
     return found

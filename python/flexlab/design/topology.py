@@ -11,7 +11,7 @@ from typing import Any, NoReturn
 from ..base import numbers, ranges, units
 from ..base.ending import Refused, Stop, printable
 from ..base.files import read
-from ..toml.cluster import MOST_PPM
+from ..toml.keys import MOST_PPM
 from ..toml.places import line_of
 from ..toml.source import MOST_BYTES, Source
 from ..toml.values import Table, near, shown

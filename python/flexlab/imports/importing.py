@@ -11,7 +11,7 @@ from ..base.ending import DONE, FILE, USAGE, Stop
 from ..base.files import put_new, read
 from ..pages.machine import printed
 from ..pages.page import field
-from ..toml.cluster import MOST_PPM
+from ..toml.keys import MOST_PPM
 from ..toml.source import MOST_BYTES
 from .imported import ASKED, Asked, Imported, Importing, known_and_unused, key_of, plain
 from .names import CLUSTER, CLUSTER_CHECKED, CONTROLLER, CONTROLLER_CHECKED, CONTROLLER_OFF, KEY_SLOT_ARXML

@@ -1,5 +1,4 @@
 """A cluster as a TOML file describes it, in the numbers of flexray's files."""
-import functools
 import json
 from collections.abc import Callable
 from dataclasses import dataclass, field
@@ -9,7 +8,7 @@ from typing import NamedTuple
 
 from ..base import ranges, units
 from ..base.ranges import Parameters
-from .keys import AMOUNTS
+from .keys import AMOUNTS, NAME_LENGTH
 from .source import Drawing, Source
 from .values import Table, near
 
@@ -127,21 +126,9 @@ class Cluster:
 AMID = ("; if the delays of the cluster spread further, put cluster.pDelayCompensation amid them, or pDelayCompensationA and B amid "
         "those of each channel, and the error is half of what they spread over. Ten microticks are the range of flexray's xDelayError, "
         "and none of the standard: a greater spread wants a longer microtick, or delays that lie nearer together")
-# Of a node's name: what fits on a page beside its number.
-NAME_LENGTH = 128
-# The greatest, in hundredths of a ppm, with which the microtick of a slow oscillator is at most 1500 ticks too long.
-MOST_PPM = Fraction(149825, 100)
 
 
-@functools.lru_cache(1000)
-def span_of(unit: str, microtick_ns: Fraction, least: int, most: int) -> tuple[Fraction, Fraction]:
-    """The least and the most of some ticks in another unit."""
-    size = {"us": Fraction(1000) / microtick_ns, "ns": 1 / microtick_ns, "microticks": Fraction(1),
-            "ticks": Fraction(1, units.TICKS)}[unit]
-    return Fraction(least, units.TICKS) / size, Fraction(most, units.TICKS) / size
-
-
-def amount(table: Table, prefix: str, microtick_ns: Fraction, least: int, most: int, default: int | None = None, more: str = "") -> int:
+def amount(table: Table, prefix: str, microtick_ns: Fraction, default: int | None = None, more: str = "") -> int:
     """Ticks of a time that is given as PREFIXus, PREFIXns, PREFIXmicroticks or PREFIXticks."""
     given = [unit for unit in AMOUNTS if prefix + unit in table.entries]
     if not given and default is not None:
@@ -153,7 +140,7 @@ def amount(table: Table, prefix: str, microtick_ns: Fraction, least: int, most: 
         keys = ", ".join(f"`{prefix}{unit}`" for unit in AMOUNTS)
         table.refuse(prefix + given[1] if given else None, f"it wants one of {keys}, and not {len(given)}")
     unit = given[0]
-    value = table.number(prefix + unit, *span_of(unit, microtick_ns, least, most), unit, more=more)
+    value = table.number_of(prefix + unit, microtick_ns, more=more)
     if unit in ("us", "ns"):
         return units.ticks_of_ns(value * (1000 if unit == "us" else 1), microtick_ns)
     return units.ticks_of_microticks(value) if unit == "microticks" else units.rounded(value)
@@ -171,27 +158,29 @@ def one_of(table: Table, key: str, other: str) -> bool:
 
 def read_limits(source: Source, microtick_ns: Fraction) -> Parameters:
     table = source.table("limits")
-    found = {"xRateBound": 1500, "xChangeBound": 1500, "xDelayError": 10000000}
+    found = {name: ranges.PARAMETERS[name].most for name in ("xRateBound", "xChangeBound", "xDelayError")}
     with source.part():
         if one_of(table, "oscillator_ppm", "xRateBound"):
-            ppm = table.number("oscillator_ppm", 0, MOST_PPM, "ppm", more="; a slower oscillator has a microtick of more "
-                               "than 1500 ticks beside the nominal one. For the standard's 1500 ppm (cClockDeviationMax) "
-                               "take xRateBound = 1500 in place of it")
+            ppm = table.number_of("oscillator_ppm", more="; a slower oscillator has a microtick of more than 1500 ticks beside the "
+                                  "nominal one. For the standard's 1500 ppm (cClockDeviationMax) take xRateBound = 1500 in place of it")
             found["xRateBound"] = max(abs(units.length_of(sign * ppm) - units.TICKS) for sign in (1, -1))
         else:
-            found["xRateBound"] = table.whole("xRateBound", 0, 1500, "ticks")
+            found["xRateBound"] = table.whole_of("xRateBound")
     with source.part():
         if one_of(table, "change_ppm_per_cycle", "xChangeBound"):
-            ppm = table.number("change_ppm_per_cycle", 0, 1499, "ppm")
+            ppm = table.number_of("change_ppm_per_cycle")
             # A step is between two whole lengths, so a part of a tick counts as a whole one.
             found["xChangeBound"] = -(-ppm.numerator // ppm.denominator)
         else:
-            found["xChangeBound"] = table.whole("xChangeBound", 0, 1500, "ticks")
+            found["xChangeBound"] = table.whole_of("xChangeBound")
     with source.part():
         if table.has("xDelayError"):
-            found["xDelayError"] = table.whole("xDelayError", 0, 10000000, "ticks")
+            for key in (f"delay_error_{unit}" for unit in AMOUNTS):
+                if table.has(key):
+                    table.refuse(key, "`xDelayError` (ticks) stands beside it: it wants one of both")
+            found["xDelayError"] = table.whole_of("xDelayError")
         else:
-            found["xDelayError"] = amount(table, "delay_error_", microtick_ns, 0, 10000000, more=AMID)
+            found["xDelayError"] = amount(table, "delay_error_", microtick_ns, more=AMID)
     return found
 
 
@@ -217,15 +206,15 @@ def shown_name(name: str) -> str:
 
 
 def read_node(table: Table, nodes: dict[int, Node], microtick_ns: Fraction, rate_limit: int) -> None:
-    number = table.whole("id", 1, 64)
+    number = table.whole_of("id")
     if number in nodes:
         table.refuse("id", f"node {number} is there already")
     name = read_name(table, nodes)
-    key_slot = table.whole("key_slot", 1, 1023) if table.has("key_slot") else None
-    node = Node(number, key_slot, table.channels("channels"), table.flag("coldstart", (False,)),
-                table.flag("arbitrary", (False,)), table.number("ppm", -333333, 1000000, "ppm", (Fraction(0),)),
-                amount(table, "start_", microtick_ns, *ranges.START, default=0),
-                table.whole("rate", -rate_limit, rate_limit, "microticks", (0,)), table.index or 0, name)
+    key_slot = table.whole_of("key_slot") if table.has("key_slot") else None
+    node = Node(number, key_slot, table.channels("channels"), table.flag("coldstart"),
+                table.flag("arbitrary"), table.number_of("ppm"),
+                amount(table, "start_", microtick_ns, default=0),
+                table.whole_of("rate", -rate_limit, rate_limit), table.index or 0, name)
     if node.coldstart and key_slot is None:
         table.refuse("coldstart", "a coldstart node needs a `key_slot`")
     if node.arbitrary and key_slot is None:
@@ -248,12 +237,12 @@ def read_slots(source: Source, nodes: dict[int, Node]) -> list[Slot]:
     slots: list[Slot] = []
     for table in source.tables("slot"):
         with source.part():
-            slot = table.whole("slot", 1, 1023)
+            slot = table.whole_of("slot")
             sender = table.nodes("node", nodes)
             if len(sender) != 1:
                 table.refuse("node", "a further slot has one node")
-            base = table.whole("base", 0, 63, default=(0,))
-            repetition = table.whole("repetition", 1, 64, "cycles", (1,))
+            base = table.whole_of("base")
+            repetition = table.whole_of("repetition")
             if repetition not in ranges.REPETITIONS:
                 table.refuse("repetition", f"{repetition} is not 1, 2, 4, 8, 16, 32 or 64 cycles")
             if base >= repetition:
@@ -280,12 +269,12 @@ def read_parameters(source: Source, microtick_ns: Fraction) -> Parameters:
     found: Parameters = {}
     with source.part():
         table = source.table("cluster")
-    for name, (least, most, unit, _) in ranges.table(version_asked(source, table)).items():
+    for name, parameter in ranges.table(version_asked(source, table)).items():
         if not name.startswith("x"):
-            found[name] = most
+            found[name] = parameter.most
             with source.part():
                 if table:
-                    found[name] = table.whole(name, least, most, unit)
+                    found[name] = table.whole_of(name)
     with source.part():
         found.update(read_limits(source, microtick_ns))
     return found
@@ -308,12 +297,12 @@ def cluster_of(source: Source, readers: "tuple[Callable[[Source, Cluster], None]
     microtick_ns, bit_rate, start_bits, doubles = Fraction(1000), Fraction(10), 15, 1
     with source.part():
         bench = source.table("bench")
-        bit_rate = bench.number("bit_rate_mbit", Fraction(1), Fraction(10), "Mbit/s", (Fraction(10),))
-        start_bits = bench.whole("start_bits", 1, 15, "bits", (15,))
-        microtick_ns = bench.number("microtick_ns", Fraction(1), Fraction(1000), "ns")
+        bit_rate = bench.number_of("bit_rate_mbit")
+        start_bits = bench.whole_of("start_bits")
+        microtick_ns = bench.number_of("microtick_ns")
     parameters = read_parameters(source, microtick_ns)
     with source.part():
-        doubles = source.table("run").whole("double_cycles", *ranges.DOUBLES)
+        doubles = source.table("run").whole_of("double_cycles")
     nodes = read_nodes(source, microtick_ns, parameters["pRateCorrectionOut"])
     if len(nodes) < len(source.tables("node")) or not nodes:
         source.tell()

@@ -8,12 +8,13 @@ from collections.abc import Iterator
 from typing import Any, TypeGuard
 
 from ..base.ending import REFUSED, Stop, printable
+from .keys import TABLES
 from .places import line_of
 
 FORMS = "{ uniform = [FROM, TO] } or { normal = [MEAN, DEVIATION], limit = MOST }, and whole = true for whole numbers"
 # What tomllib hands out of a table.
 Entries = dict[str, Any]
-SEED = (0, 4294967295)
+SEED = TABLES["run"].keys["seed"].whole_span()
 TRIES = 10000
 
 

@@ -1,5 +1,6 @@
 """The tables of the TOML file and their keys: kind, unit, range, default and meaning of each. What is refused, the checks of the
 page, the schema for editors and the reference in docs/FLEXLAB.md come from here; tools/keys writes the last three."""
+import functools
 from collections.abc import Iterator, Mapping
 from dataclasses import dataclass
 from enum import Enum
@@ -46,7 +47,8 @@ def sizes(microtick_ns: Number, macrotick_ns: Number | None = None) -> dict[str,
     return found if macrotick_ns is None else {**found, "macroticks": Fraction(macrotick_ns)}
 
 
-@dataclass(frozen=True)
+# Each is itself alone, so that its ranges are soon found again.
+@dataclass(frozen=True, eq=False)
 class Key:
     """A key of a table. Its range has two ends or none; `narrower` says what else bounds it in a cluster. One that is optional
     has no default and may be left out, one of a choice where another one of it stands."""
@@ -74,6 +76,12 @@ class Key:
         """The range of a whole number, which has that unit."""
         least, most = self.span()
         return int(least), int(most)
+
+
+@functools.lru_cache(4000)
+def span_of(key: Key, microtick_ns: Fraction, macrotick_ns: Fraction | None) -> tuple[Fraction, Fraction]:
+    """The range of a key in a cluster whose microtick and macrotick last so long."""
+    return key.span(sizes(microtick_ns, macrotick_ns))
 
 
 # Of each choice exactly one alternative is given, or where it has a default at most one.

@@ -8,7 +8,7 @@ from typing import NamedTuple, TypeVar
 from ..base import ranges, units
 from ..base.ending import REFUSED, Stop
 from .cluster import Cluster, Fate, FrameAt, Join, Link, Power, Steps, amount
-from .keys import TIMES
+from .keys import FRAME_DIGITS, TIMES, sizes
 from .source import Source
 from .values import Table
 
@@ -34,13 +34,9 @@ def length(table: Table, key: str, ppm: Fraction) -> int:
     return ticks
 
 
-def ppm_number(table: Table, key: str, default: tuple[Fraction] | None = None) -> Fraction:
-    return table.number(key, Fraction(-333333), Fraction(1000000), "ppm", default)
-
-
-def reach(table: Table, cluster: Cluster, default: tuple[str] | None = None) -> tuple[int, int]:
+def reach(table: Table, cluster: Cluster) -> tuple[int, int]:
     """The cycles of a table, first and last; one that lies wholly behind the end of the run is noted."""
-    first, last = table.cycles("cycles", cluster.cycles, default)
+    first, last = table.cycles("cycles", cluster.cycles)
     behind(table, cluster, "cycles", first)
     return first, last
 
@@ -61,7 +57,7 @@ def read_lengths(source: Source, cluster: Cluster) -> None:
     plans = {node.number: [Ramp(0, cluster.cycles - 1, node.ppm, node.ppm)] for node in cluster.nodes.values()}
     for table in source.tables("node"):
         with source.part():
-            length(table, "ppm", cluster.nodes[table.whole("id", 1, 64)].ppm)
+            length(table, "ppm", cluster.nodes[table.whole_of("id")].ppm)
     for table in source.tables("oscillator"):
         with source.part():
             nodes, row = read_oscillator(table, cluster)
@@ -77,13 +73,13 @@ def read_lengths(source: Source, cluster: Cluster) -> None:
 
 def read_oscillator(table: Table, cluster: Cluster) -> tuple[list[int], Ramp]:
     nodes = table.nodes("nodes", cluster.nodes)
-    first, last = reach(table, cluster, ("all",))
+    first, last = reach(table, cluster)
     if table.has("ppm"):
-        begin = end = ppm_number(table, "ppm")
+        begin = end = table.number_of("ppm")
         if table.has("ppm_from") or table.has("ppm_to"):
             table.refuse("ppm", "it wants `ppm`, or `ppm_from` and `ppm_to`, and not both")
     else:
-        begin, end = ppm_number(table, "ppm_from"), ppm_number(table, "ppm_to")
+        begin, end = table.number_of("ppm_from"), table.number_of("ppm_to")
     length(table, "ppm" if table.has("ppm") else "ppm_from", begin)
     length(table, "ppm" if table.has("ppm") else "ppm_to", end)
     if table.entries["nodes"] != "all":
@@ -149,10 +145,10 @@ def read_delays(source: Source, cluster: Cluster) -> None:
     for table in source.tables("delay"):
         with source.part():
             senders, receivers = delay_ends(table, cluster, "from"), delay_ends(table, cluster, "to")
-            channels = table.channels("channels", ("AB",))
-            first = table.whole("from_cycle", *ranges.CYCLES, default=(0,))
+            channels = table.channels("channels")
+            first = table.whole_of("from_cycle")
             behind(table, cluster, "from_cycle", first)
-            ticks = amount(table, "", cluster.microtick_ns, *ranges.DELAY)
+            ticks = amount(table, "", cluster.microtick_ns)
             if senders and receivers:
                 for link in links(table, cluster, senders, receivers, channels, "channels"):
                     times = cluster.delays.setdefault(link, {})
@@ -190,8 +186,8 @@ def read_script(source: Source, cluster: Cluster) -> None:
                 senders = correct_only(table, "from", cluster, "says only what [[say]] says")
                 receivers = correct_only(table, "to", cluster, "hears nothing")
                 first, last = reach(table, cluster)
-                channels = table.channels("channels", ("AB",))
-                bit: int | str = table.whole("bit", 0, frame_bits - 1) if name == "flip" else ""
+                channels = table.channels("channels")
+                bit: int | str = table.whole_of("bit", most=frame_bits - 1) if name == "flip" else ""
                 for link in links(table, cluster, senders, receivers, channels, "channels"):
                     put(table, cluster, link, first, last, Fate(name, bit, ""))
 
@@ -209,7 +205,7 @@ def read_joins(source: Source, cluster: Cluster) -> None:
 
 
 def read_join(table: Table, cluster: Cluster) -> None:
-    double = table.whole("double_cycle", *ranges.DOUBLE)
+    double = table.whole_of("double_cycle")
     node, reference = one_correct(table, "node", cluster), one_correct(table, "reference", cluster)
     if node in cluster.joins:
         table.refuse("node", f"node {node} joins already")
@@ -254,12 +250,12 @@ def put(table: Table, cluster: Cluster, link: Link, first: int, last: int, row: 
 
 
 def read_two_faced(table: Table, cluster: Cluster, node: int) -> None:
-    first, last = reach(table, cluster, ("all",))
-    channels = table.channels("channels", ("AB",))
-    ticks = amount(table, "", cluster.microtick_ns, 0, ranges.SHIFT[1])
+    first, last = reach(table, cluster)
+    channels = table.channels("channels")
+    ticks = amount(table, "", cluster.microtick_ns)
     groups: dict[int, int] = {}
     for key, shift in (("early", -ticks), ("late", ticks), ("on_time", 0)):
-        for receiver in table.nodes(key, cluster.nodes, ([],)):
+        for receiver in table.nodes(key, cluster.nodes):
             if receiver in cluster.arbitrary:
                 table.refuse(key, f"node {receiver} is arbitrary, and hears nothing")
             if receiver in groups:
@@ -274,10 +270,10 @@ def read_two_faced(table: Table, cluster: Cluster, node: int) -> None:
 
 def read_say(table: Table, cluster: Cluster, node: int) -> None:
     first, last = reach(table, cluster)
-    channels = table.channels("channels", ("AB",))
+    channels = table.channels("channels")
     receivers = correct_only(table, "to", cluster, "hears nothing")
-    ticks = amount(table, "", cluster.microtick_ns, *ranges.SHIFT, default=0)
-    frame = table.hexadecimal("frame", 524)
+    ticks = amount(table, "", cluster.microtick_ns, default=0)
+    frame = table.hexadecimal("frame", FRAME_DIGITS)
     for link in links(table, cluster, [node], receivers, channels, "channels"):
         put(table, cluster, link, first, last, Fate("say", ticks, frame))
 
@@ -286,7 +282,7 @@ def read_power(source: Source, cluster: Cluster) -> None:
     """For each node when it is switched on and off, in macroticks; off may be None. Later tables of a node follow it."""
     for table in source.tables("power"):
         with source.part():
-            nodes = table.nodes("nodes", cluster.nodes, ("all",))
+            nodes = table.nodes("nodes", cluster.nodes)
             on = macroticks(table, "on", cluster, 0)
             off = macroticks(table, "off", cluster, None)
             if off is not None and off <= on:
@@ -306,5 +302,5 @@ def macroticks(table: Table, switch: str, cluster: Cluster, default: Default) ->
         return default
     if len(given) > 1:
         table.refuse(f"{switch}_{given[1]}", "it wants one of " + ", ".join(f"`{switch}_{unit}`" for unit in TIMES))
-    size = {"ms": 1000000 / cluster.macrotick_ns, "us": 1000 / cluster.macrotick_ns, "macroticks": Fraction(1)}[given[0]]
-    return units.rounded(size * table.number(f"{switch}_{given[0]}", ranges.POWER[0] / size, ranges.POWER[1] / size, given[0]))
+    lengths = sizes(cluster.microtick_ns, cluster.macrotick_ns)
+    return units.rounded(table.number_of(f"{switch}_{given[0]}", cluster.microtick_ns, cluster.macrotick_ns) * lengths[given[0]] / cluster.macrotick_ns)

@@ -161,7 +161,7 @@ class Source:
                 self.values[name] = Fraction(value)
 
     def plain_table(self, name: str) -> Table:
-        return Table(self, name, None, self.entries.get(name, {}), KEYS[name])
+        return Table(self, name, None, self.entries.get(name, {}), TABLES[name].keys)
 
     def table(self, name: str) -> Table:
         for other in self.entries:
@@ -170,4 +170,4 @@ class Source:
         return self.plain_table(name)
 
     def tables(self, name: str) -> list[Table]:
-        return [Table(self, name, index, entries, KEYS[name]) for index, entries in enumerate(self.entries.get(name, []))]
+        return [Table(self, name, index, entries, TABLES[name].keys) for index, entries in enumerate(self.entries.get(name, []))]

@@ -5,10 +5,11 @@ import difflib
 import re
 from decimal import Decimal
 from fractions import Fraction
-from collections.abc import Collection, Iterable
-from typing import TYPE_CHECKING, NoReturn
+from collections.abc import Collection, Iterable, Mapping
+from typing import TYPE_CHECKING, Any, NoReturn
 
 from ..base.ending import Refused, printable
+from .keys import Key, span_of
 from .places import line_of
 from ..base.numbers import MANY, Beyond
 from ..base.ranges import CYCLES
@@ -39,10 +40,18 @@ def near(word: str, known: Iterable[str]) -> str | None:
 
 
 class Table:
-    """One table of the file: hands out its values and refuses what does not fit."""
+    """One table of the file: hands out its values and refuses what does not fit. Keys that are described have their ranges and
+    defaults there."""
 
-    def __init__(self, source: Source, name: str, index: int | None, entries: dict[str, object], keys: Collection[str] = ()) -> None:
+    def __init__(self, source: Source, name: str, index: int | None, entries: dict[str, object],
+                 keys: Collection[str] | Mapping[str, Key] = ()) -> None:
         self.source, self.name, self.index, self.entries, self.keys = source, name, index, entries, keys
+        self.described: Mapping[str, Key] = keys if isinstance(keys, Mapping) else {}
+
+    def default(self, key: str) -> tuple[Any] | None:
+        """What a key stands for that is left out, or None where it is described as one that has to be there."""
+        found = self.described[key].default if key in self.described else None
+        return None if found is None else (found,)
 
     def key(self, key: str | None = None) -> str:
         table = self.name if self.index is None else f"{self.name}[{self.index + 1}]"
@@ -88,6 +97,12 @@ class Table:
             self.refuse(key, f"{shown(value)} is not {span}{more}")
         return value
 
+    def number_of(self, key: str, microtick_ns: Fraction | None = None, macrotick_ns: Fraction | None = None, more: str = "") -> Fraction:
+        """The number of a key that is described; the range of a time is converted by how many ns microticks and macroticks have."""
+        found = self.described[key]
+        ends = found.span() if microtick_ns is None else span_of(found, microtick_ns, macrotick_ns)
+        return self.number(key, *ends, found.unit, self.default(key), more)
+
     def written(self, key: str) -> Number | None:
         """The number that stands at a key, where it is one without more ado: what a message would say is not made for it."""
         value = self.entries.get(key)
@@ -122,8 +137,14 @@ class Table:
             self.refuse(key, f"{shown(value)} is not {span}")
         return int(value)
 
+    def whole_of(self, key: str, least: int | None = None, most: int | None = None) -> int:
+        """The whole number of a key that is described; an end that is given is that of this cluster."""
+        first, last = self.described[key].whole_span()
+        least, most = first if least is None else least, last if most is None else most
+        return self.whole(key, least, most, self.described[key].unit, self.default(key))
+
     def flag(self, key: str, default: tuple[bool] | None = None) -> bool:
-        value = self.take(key, "true or false", default)
+        value = self.take(key, "true or false", default or self.default(key))
         if not isinstance(value, bool):
             self.refuse(key, f"{shown(value)} is not true or false")
         return value
@@ -135,27 +156,27 @@ class Table:
         return value
 
     def channels(self, key: str, default: tuple[str] | None = None) -> str:
-        value = self.take(key, '"A", "B" or "AB"', default)
+        value = self.take(key, '"A", "B" or "AB"', default or self.default(key))
         if not isinstance(value, str) or value not in ("A", "B", "AB"):
             self.refuse(key, f'{shown(value)} is not "A", "B" or "AB"')
         return value
 
     def hexadecimal(self, key: str, most: int) -> str:
-        value = self.take(key, "hexadecimal digits", ("",))
+        value = self.take(key, "hexadecimal digits", self.default(key))
         if not isinstance(value, str) or not re.fullmatch(r"(?:[0-9A-Fa-f]{2})*", value):
             self.refuse(key, f"{shown(value)} is not text of hexadecimal digits, two a byte")
         if len(value) > most:
             self.refuse(key, f"{len(value)} digits are more than {most}")
         return value
 
-    def nodes(self, key: str, known: Collection[int], default: tuple[object] | None = None) -> list[int]:
+    def nodes(self, key: str, known: Collection[int]) -> list[int]:
         """Node numbers: one, a list, "all", or a text such as "1-4,6"; in ascending order."""
         wanted = 'a node number, a list of them, "all", or a text such as "1-4,6"'
-        value = self.take(key, wanted, default)
+        value = self.take(key, wanted, self.default(key))
         found: set[int] = set()
         if value == "all":
             return sorted(known)
-        parts: list[object] = value if isinstance(value, list) else [value]
+        parts: list[object] = list(value) if isinstance(value, (list, tuple)) else [value]
         if isinstance(value, str):
             parts = [part.strip() for part in value.split(",")]
         for part in parts:
@@ -171,10 +192,10 @@ class Table:
                 self.refuse(key, f"there is no node {node}; nodes are {', '.join(map(str, sorted(known)))}")
         return sorted(found)
 
-    def cycles(self, key: str, cycles: int, default: tuple[str] | None = None) -> tuple[int, int]:
+    def cycles(self, key: str, cycles: int) -> tuple[int, int]:
         """First and last cycle: one number, "all", "FROM-TO" or "FROM-". They may lie behind the end of the run."""
         wanted = f'a cycle from 0 to {CYCLES[1]}, "all", "FROM-TO" or "FROM-"'
-        value = self.take(key, wanted, default)
+        value = self.take(key, wanted, self.default(key))
         if value == "all":
             return 0, cycles - 1
         span = re.fullmatch(r"([0-9]{1,6})(\s*-\s*([0-9]{1,6})?)?", str(value))
