@@ -3,29 +3,33 @@
 // as the text that was typed or as whole ticks, and rounded to the nearest, a half away from 0, where it has to be whole.
 
 const TICKS = 1000000n;
+// Of each the range, by the table of keys, and how the form has it.
 const PARAMETERS = [
-  ["gMacroPerCycle", 10, 16000, "macroticks", "Cycle"],
-  ["pMicroPerCycle", 10, 640000, "microticks", "Cycle, before correction"],
-  ["gNumberOfStaticSlots", 1, 1023, "slots", "Static slots"],
-  ["gdStaticSlot", 2, 1000, "macroticks", "A static slot"],
-  ["gdActionPointOffset", 1, 63, "macroticks", "Action point, from the slot's start"],
-  ["gdNIT", 1, 15999, "macroticks", "All of the cycle behind the static slots"],
-  ["gPayloadLengthStatic", 0, 127, "2-byte words", "Payload of a static frame"],
-  ["gOffsetCorrectionStart", 1, 15999, "macroticks", "Offset correction starts"],
-  ["pOffsetCorrectionOut", 1, 16000, "microticks", "Limit of the offset term"],
-  ["pRateCorrectionOut", 1, 2000, "microticks", "Limit of the rate term"],
-  ["pClusterDriftDamping", 0, 100, "microticks", "Damping of the rate term"],
-  ["pDelayCompensation", 0, 200, "microticks", "Delay compensation"],
-  ["pDelayCompensationA", 0, 200, "microticks", "Delay compensation, channel A"],
-  ["pDelayCompensationB", 0, 200, "microticks", "Delay compensation, channel B"],
-  ["xRateBound", 0, 1500, "ppm", "Oscillators lie within"],
-  ["xChangeBound", 0, 1500, "ppm a cycle", "They change by at most"],
-  ["xDelayError", 0, 10000000, "ns", "Delays lie within, of the compensation"],
-  ["gMaxWithoutClockCorrectionPassive", 1, 15, "double cycles", "Without a term, until passive"],
-  ["gMaxWithoutClockCorrectionFatal", 1, 15, "double cycles", "Without a term, until it may halt"],
-  ["pAllowHaltDueToClock", 0, 1, "0 or 1", "A node may halt"],
-  ["pAllowPassiveToActive", 0, 31, "double cycles", "Good ones until active again; 0: never"],
-];
+  ["gMacroPerCycle", "macroticks", "Cycle"],
+  ["pMicroPerCycle", "microticks", "Cycle, before correction"],
+  ["gNumberOfStaticSlots", "slots", "Static slots"],
+  ["gdStaticSlot", "macroticks", "A static slot"],
+  ["gdActionPointOffset", "macroticks", "Action point, from the slot's start"],
+  ["gdNIT", "macroticks", "All of the cycle behind the static slots"],
+  ["gPayloadLengthStatic", "2-byte words", "Payload of a static frame"],
+  ["gOffsetCorrectionStart", "macroticks", "Offset correction starts"],
+  ["pOffsetCorrectionOut", "microticks", "Limit of the offset term"],
+  ["pRateCorrectionOut", "microticks", "Limit of the rate term"],
+  ["pClusterDriftDamping", "microticks", "Damping of the rate term"],
+  ["pDelayCompensation", "microticks", "Delay compensation"],
+  ["pDelayCompensationA", "microticks", "Delay compensation, channel A"],
+  ["pDelayCompensationB", "microticks", "Delay compensation, channel B"],
+  ["xRateBound", "ppm", "Oscillators lie within"],
+  ["xChangeBound", "ppm a cycle", "They change by at most"],
+  ["xDelayError", "ns", "Delays lie within, of the compensation"],
+  ["gMaxWithoutClockCorrectionPassive", "double cycles", "Without a term, until passive"],
+  ["gMaxWithoutClockCorrectionFatal", "double cycles", "Without a term, until it may halt"],
+  ["pAllowHaltDueToClock", "0 or 1", "A node may halt"],
+  ["pAllowPassiveToActive", "double cycles", "Good ones until active again; 0: never"],
+].map(([name, unit, told]) => {
+  const { least, most } = TABLES.get(name.startsWith("x") ? "limits" : "cluster").keys.get(name);
+  return [name, Number(least[0]), Number(most[0]), unit, told];
+});
 // The order of the files.
 const NAMES = ["gMacroPerCycle", "pMicroPerCycle", "gNumberOfStaticSlots", "gdStaticSlot", "gdActionPointOffset", "gdNIT",
   "gPayloadLengthStatic", "gOffsetCorrectionStart", "gMaxWithoutClockCorrectionPassive", "gMaxWithoutClockCorrectionFatal",

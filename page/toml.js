@@ -5,30 +5,9 @@
 
 class NoToml extends Error {}
 
-// The tables of flexlab with their keys; of [values] any.
-const AMOUNTS = ["us", "ns", "microticks", "ticks"], DURING = ["cycles", "channels", ...AMOUNTS];
-const TABLES = new Map([
-  ["values", []],
-  ["bench", ["microtick_ns", "bit_rate_mbit", "start_bits"]],
-  ["cluster", PARAMETERS.map(([name]) => name).filter((name) => !name.startsWith("x"))],
-  ["limits", ["oscillator_ppm", "xRateBound", "change_ppm_per_cycle", "xChangeBound", "xDelayError", ...AMOUNTS.map((unit) => `delay_error_${unit}`)]],
-  ["run", ["double_cycles", "seed"]],
-  ["node", ["id", "name", "channels", "key_slot", "coldstart", "arbitrary", "ppm", "rate", ...AMOUNTS.map((unit) => `start_${unit}`)]],
-  ["slot", ["slot", "node", "base", "repetition"]],
-  ["oscillator", ["nodes", "cycles", "ppm", "ppm_from", "ppm_to"]],
-  ["delay", ["from", "to", "channels", "from_cycle", ...AMOUNTS]],
-  ["two_faced", ["node", "early", "late", "on_time", ...DURING]],
-  ["say", ["node", "to", "frame", ...DURING]],
-  ["lose", ["from", "to", "cycles", "channels"]],
-  ["flip", ["from", "to", "cycles", "channels", "bit"]],
-  ["join", ["node", "reference", "double_cycle"]],
-  ["power", ["nodes", ...["on", "off"].flatMap((one) => ["ms", "us", "macroticks"].map((unit) => `${one}_${unit}`))]],
-  ["observer", ["resolution_ns", "drift_ppm", "error_ns", "jitter_ns", "delay_from_ns", "delay_to_ns", "missed_none", "in_sync_from_cycle"]],
-  ["observer_delay", ["nodes", "channels", "from_ns", "to_ns"]],
-  ["asc", ["columns", "hexadecimal", "sums_are_exact"]],
-]);
-const SINGLE = ["bench", "cluster", "limits", "run", "values", "observer", "asc"];
-const LISTED = [...TABLES.keys()].filter((name) => !SINGLE.includes(name));
+// TABLES, the tables of flexlab with their keys, are written by tools/keys; of [values] any key is one.
+const AMOUNTS = ["us", "ns", "microticks", "ticks"];
+const SINGLE = [...TABLES].filter(([, { many }]) => !many).map(([name]) => name), LISTED = [...TABLES.keys()].filter((name) => !SINGLE.includes(name));
 // How many bytes a file may have, how many digits a number before the point and behind it, as in flexlab, and how deep values may
 // lie in each other: more is no cluster, and takes long.
 const MOST_TOML = 4194304, MOST_DIGITS = 30, MOST_DEPTH = 8;
@@ -246,7 +225,7 @@ function shownValue(value) {
 
 class Table {
   constructor(source, name, index, entry) {
-    Object.assign(this, { source, name, index, keys: entry ? entry.keys : new Map(), line: entry ? entry.line : null });
+    Object.assign(this, { source, name, index, keys: entry ? entry.keys : new Map(), line: entry ? entry.line : null, described: TABLES.get(name).keys });
   }
 
   refuse(key, why) {
@@ -259,7 +238,8 @@ class Table {
     return this.keys.has(key);
   }
 
-  take(key, wanted, other) {
+  // What is given, or else what the key stands for where it is left out, or may stand for here.
+  take(key, wanted, other = this.described.get(key)?.other ?? undefined) {
     if (this.has(key)) {
       const { value } = this.keys.get(key);
       return value && value.drawn ? this.refuse(key, "numbers that are drawn are for flexlab alone") : value;
@@ -281,55 +261,66 @@ class Table {
     return value && value.number ? value.number : this.refuse(key, `${shownValue(value)} is not ${span}`);
   }
 
-  number(key, least, most, unit, other, more = "") {
+  // How many ns one of each unit of a time has.
+  lengths() {
+    const { microtick } = this.source;
+    return { ns: [1n, 1n], us: [1000n, 1n], microticks: microtick, ticks: product(microtick, [1n, TICKS]) };
+  }
+
+  // The ends of the range of a key, in its unit.
+  span(key) {
+    const { unit, least, most } = this.described.get(key), ns = this.lengths();
+    return [least, most].map(([over, under, of]) => (of === unit ? [over, under] : product([over, under], ns[of], inverse(ns[unit]))));
+  }
+
+  number(key, more = "") {
+    const [least, most] = this.span(key), { unit } = this.described.get(key);
     const span = `a number from ${shownNumber(least)} to ${shownNumber(most)}${unit ? ` ${unit}` : ""}`;
-    const told = this.take(key, span, other), value = Array.isArray(told) && typeof told[0] === "bigint" ? told : this.plain(key, told, span);
+    const told = this.take(key, span), value = Array.isArray(told) && typeof told[0] === "bigint" ? told : this.plain(key, told, span);
     if (below(value, fraction(least)) || below(fraction(most), value)) this.refuse(key, `${shownNumber(value)} is not ${span}${more}`);
     return value;
   }
 
-  // A whole number, as a Number.
-  whole(key, least, most, unit, other) {
+  // A whole number, as a Number; ends that are given are those of this cluster.
+  whole(key, ...ends) {
+    const [least, most] = ends.length ? ends : this.span(key).map(([over]) => Number(over)), { unit, other } = this.described.get(key);
     const span = `a whole number from ${least} to ${most}${unit ? ` ${unit}` : ""}`;
-    if (!this.has(key) && other !== undefined) return other;
+    if (!this.has(key) && other !== null) return Number(other[0]);
     const value = this.plain(key, this.take(key, span), span);
     if (value[0] % value[1] !== 0n || below(value, fraction(least)) || below(fraction(most), value)) this.refuse(key, `${shownNumber(value)} is not ${span}`);
     return Number(value[0] / value[1]);
   }
 
   flag(key) {
-    const value = this.take(key, "true or false", false);
+    const value = this.take(key, "true or false");
     return typeof value === "boolean" ? value : this.refuse(key, `${shownValue(value)} is not true or false`);
   }
 
-  channels(key, other) {
-    const value = this.take(key, '"A", "B" or "AB"', other);
+  channels(key) {
+    const value = this.take(key, '"A", "B" or "AB"');
     return ["A", "B", "AB"].includes(value) ? value : this.refuse(key, `${shownValue(value)} is not "A", "B" or "AB"`);
   }
 
   hexadecimal(key, most) {
-    const value = this.take(key, "hexadecimal digits", "");
+    const value = this.take(key, "hexadecimal digits");
     if (typeof value === "string" && value.length > most) this.refuse(key, `${value.length} digits are more than ${most}`);
     return typeof value === "string" && /^([0-9A-Fa-f]{2})*$/.test(value) ? value
       : this.refuse(key, `${shownValue(value)} is not text of hexadecimal digits, two a byte`);
   }
 
   // The ticks of a time that is given as PREFIXus, PREFIXns, PREFIXmicroticks or PREFIXticks.
-  amount(prefix, least, most, other, more = "") {
-    const given = AMOUNTS.filter((unit) => this.has(prefix + unit)), { microtick } = this.source;
+  amount(prefix, other) {
+    const given = AMOUNTS.filter((unit) => this.has(prefix + unit)), ns = this.lengths();
     if (!given.length && other !== undefined) return other;
     if (given.length !== 1) {
       this.refuse(given.length ? prefix + given[1] : null, `it wants one of ${AMOUNTS.map((unit) => `\`${prefix}${unit}\``).join(", ")}, and not ${given.length}`);
     }
-    // How many ticks one of the unit has.
-    const size = { us: product(1000 * Number(TICKS), inverse(microtick)), ns: product(TICKS, inverse(microtick)), microticks: [TICKS, 1n], ticks: [1n, 1n] }[given[0]];
-    const value = this.number(prefix + given[0], product(least, inverse(size)), product(most, inverse(size)), given[0], undefined, more);
-    return nearest(...product(value, size));
+    return nearest(...product(this.number(prefix + given[0]), ns[given[0]], inverse(ns.ticks)));
   }
 
   // Node numbers: one, a list, "all", or a text such as "1-4,6"; in ascending order.
-  nodes(key, other) {
-    const wanted = 'a node number, a list of them, "all", or a text such as "1-4,6"', value = this.take(key, wanted, other);
+  nodes(key) {
+    const wanted = 'a node number, a list of them, "all", or a text such as "1-4,6"', value = this.take(key, wanted);
     const known = this.source.nodes, found = new Set();
     if (value === "all") return [...known.keys()];
     const parts = Array.isArray(value) ? value : typeof value === "string" ? value.split(",").map((part) => part.trim()) : [value];
@@ -354,8 +345,8 @@ class Table {
   }
 
   // The first and the last cycle: one number, "all", "FROM-TO" or "FROM-". They may lie behind the end of the run.
-  cycles(other) {
-    const wanted = 'a cycle from 0 to 199999, "all", "FROM-TO" or "FROM-"', value = this.take("cycles", wanted, other), end = this.source.cycles - 1;
+  cycles() {
+    const wanted = 'a cycle from 0 to 199999, "all", "FROM-TO" or "FROM-"', value = this.take("cycles", wanted), end = this.source.cycles - 1;
     if (value === "all") return [0, end];
     const text = typeof value === "string" ? value : value && value.whole ? value.text : "";
     const span = /^(\d{1,6})(\s*-\s*(\d{1,6})?)?$/.exec(text);
@@ -374,9 +365,9 @@ class Source {
     for (const name of TABLES.keys()) {
       for (const table of SINGLE.includes(name) ? [this.single(name)] : this.many(name)) {
         for (const key of name === "values" ? [] : table.keys.keys()) {
-          if (!TABLES.get(name).includes(key)) {
-            const like = near(key, TABLES.get(name)), home = SINGLE.find((one) => TABLES.get(one).includes(key));
-            table.refuse(key, `there is no such key${home ? `: it belongs into [${home}]` : like ? `; did you mean \`${like}\`?` : `; it may have ${[...TABLES.get(name)].sort().join(", ")}`}`);
+          if (!TABLES.get(name).keys.has(key)) {
+            const known = [...TABLES.get(name).keys.keys()], like = near(key, known), home = SINGLE.find((one) => TABLES.get(one).keys.has(key));
+            table.refuse(key, `there is no such key${home ? `: it belongs into [${home}]` : like ? `; did you mean \`${like}\`?` : `; it may have ${known.sort().join(", ")}`}`);
           }
         }
       }
@@ -443,28 +434,30 @@ function limitsOf(source) {
     return table.has(key);
   };
   if (one_of("oscillator_ppm", "xRateBound")) {
-    const [over, under] = table.number("oscillator_ppm", 0, [149825n, 100n], "ppm", undefined, "; a slower oscillator has a microtick of more than 1500 ticks beside the nominal one");
+    const [over, under] = table.number("oscillator_ppm", "; a slower oscillator has a microtick of more than 1500 ticks beside the nominal one");
     const off = [1n, -1n].map((sign) => nearest(TICKS * TICKS * under, TICKS * under + sign * over) - TICKS).map((one) => (one < 0n ? -one : one));
     found.set("xRateBound", off[0] > off[1] ? off[0] : off[1]);
-  } else found.set("xRateBound", table.whole("xRateBound", 0, 1500, "ticks"));
+  } else found.set("xRateBound", table.whole("xRateBound"));
   if (one_of("change_ppm_per_cycle", "xChangeBound")) {
-    const [over, under] = table.number("change_ppm_per_cycle", 0, 1499, "ppm");
+    const [over, under] = table.number("change_ppm_per_cycle");
     found.set("xChangeBound", (over + under - 1n) / under);
-  } else found.set("xChangeBound", table.whole("xChangeBound", 0, 1500, "ticks"));
-  return found.set("xDelayError", table.has("xDelayError") ? table.whole("xDelayError", 0, 10000000, "ticks") : table.amount("delay_error_", 0, 10000000));
+  } else found.set("xChangeBound", table.whole("xChangeBound"));
+  const beside = table.has("xDelayError") && AMOUNTS.map((unit) => `delay_error_${unit}`).find((key) => table.has(key));
+  if (beside) table.refuse(beside, "`xDelayError` (ticks) stands beside it: it wants one of both");
+  return found.set("xDelayError", table.has("xDelayError") ? table.whole("xDelayError") : table.amount("delay_error_"));
 }
 
 function nodesOf(source, most_rate) {
   const tables = source.many("node"), nodes = new Map();
   if (!tables.length) throw new NoToml("the file has no [[node]]");
   for (const table of tables) {
-    const id = table.whole("id", 1, 64), key = table.has("key_slot") ? table.whole("key_slot", 1, 1023) : "";
+    const id = table.whole("id"), key = table.has("key_slot") ? table.whole("key_slot") : "";
     if (nodes.has(id)) table.refuse("id", `node ${id} is there already`);
     const name = table.take("name", "a text", ""), fault = table.has("name") ? nameFault(name, [...nodes.values()].map((node) => node.name)) : null;
     if (fault) table.refuse("name", `node ${id}: ${fault}`);
     const node = { id, name, key, channels: table.channels("channels"), cold: table.flag("coldstart"), arbitrary: table.flag("arbitrary"),
-      ppm: table.number("ppm", -333333, 1000000, "ppm", [0n, 1n]), start: table.amount("start_", 0, 1e12, 0n),
-      rate: table.whole("rate", -most_rate, most_rate, "microticks", 0), table };
+      ppm: table.number("ppm"), start: table.amount("start_", 0n),
+      rate: table.whole("rate", -most_rate, most_rate), table };
     if (node.cold && key === "") table.refuse("coldstart", "a coldstart node needs a `key_slot`");
     if (node.arbitrary && key === "") table.refuse("arbitrary", "an arbitrary node needs a `key_slot`");
     nodes.set(id, node);
@@ -475,9 +468,9 @@ function nodesOf(source, most_rate) {
 function slotsOf(source) {
   const found = new Map();
   for (const table of source.many("slot")) {
-    const slot = table.whole("slot", 1, 1023), node = table.nodes("node");
+    const slot = table.whole("slot"), node = table.nodes("node");
     if (node.length !== 1) table.refuse("node", "a further slot has one node");
-    const base = table.whole("base", 0, 63, "", 0), repetition = table.whole("repetition", 1, 64, "cycles", 1);
+    const base = table.whole("base"), repetition = table.whole("repetition");
     if (![1, 2, 4, 8, 16, 32, 64].includes(repetition)) table.refuse("repetition", `${repetition} is not 1, 2, 4, 8, 16, 32 or 64 cycles`);
     if (base >= repetition) table.refuse("base", `${base} is not below the repetition, ${repetition}`);
     if (found.has(slot)) table.refuse("slot", `slot ${slot} is there already`);
@@ -488,7 +481,7 @@ function slotsOf(source) {
 
 // What is done to frames, one record for each cycle and link: a Map by cycle.
 function framesOf(source) {
-  const words = Number(source.single("cluster").whole("gPayloadLengthStatic", 0, 127)), said = [], known = new Set(), found = new Map();
+  const words = Number(source.single("cluster").whole("gPayloadLengthStatic")), said = [], known = new Set(), found = new Map();
   const put = (table, links, [first, last], kind, value, bytes) => {
     const end = Math.min(last, source.cycles - 1);
     if (end >= first) source.room(table, (end - first + 1) * links.length);
@@ -514,15 +507,15 @@ function framesOf(source) {
     }
   }
   for (const [name, table, node] of said) {
-    const span = table.cycles(name === "say" ? undefined : "all"), channels = table.channels("channels", "AB");
+    const span = table.cycles(), channels = table.channels("channels");
     if (name === "say") {
-      const receivers = source.correctOnly(table, "to", "hears nothing"), ticks = table.amount("", -1e12, 1e12, 0n), bytes = table.hexadecimal("frame", 524);
+      const receivers = source.correctOnly(table, "to", "hears nothing"), ticks = table.amount("", 0n), bytes = table.hexadecimal("frame", FRAME_DIGITS);
       put(table, source.links(table, [node], receivers, channels, "channels"), span, "say", ticks, bytes);
       continue;
     }
-    const ticks = table.amount("", 0, 1e12), groups = new Map();
+    const ticks = table.amount(""), groups = new Map();
     for (const [key, shift] of [["early", -ticks], ["late", ticks], ["on_time", 0n]]) {
-      for (const receiver of table.nodes(key, [])) {
+      for (const receiver of table.nodes(key)) {
         if (source.nodes.get(receiver).arbitrary) table.refuse(key, `node ${receiver} is arbitrary, and hears nothing`);
         if (groups.has(receiver)) table.refuse(key, `node ${receiver} is in two of \`early\`, \`late\` and \`on_time\``);
         groups.set(receiver, shift);
@@ -534,7 +527,7 @@ function framesOf(source) {
   for (const kind of ["lose", "flip"]) {
     for (const table of source.many(kind)) {
       const senders = source.correctOnly(table, "from", "says only what [[say]] says"), receivers = source.correctOnly(table, "to", "hears nothing");
-      const span = table.cycles(), channels = table.channels("channels", "AB"), bit = kind === "flip" ? table.whole("bit", 0, 8 * (8 + 2 * words) - 1) : "";
+      const span = table.cycles(), channels = table.channels("channels"), bit = kind === "flip" ? table.whole("bit", 0, 8 * (8 + 2 * words) - 1) : "";
       put(table, source.links(table, senders, receivers, channels, "channels"), span, kind, bit, "");
     }
   }
@@ -548,7 +541,7 @@ function joinsOf(source) {
     return source.nodes.get(node).arbitrary ? table.refuse(key, `node ${node} is arbitrary, and only correct nodes join`) : node;
   };
   for (const table of tables) {
-    const double = table.whole("double_cycle", 0, 99999), node = correct(table, "node"), reference = correct(table, "reference");
+    const double = table.whole("double_cycle"), node = correct(table, "node"), reference = correct(table, "reference");
     const { start, rate } = source.nodes.get(node);
     if (found.has(node)) table.refuse("node", `node ${node} joins already`);
     if (start || rate) table.refuse("node", `node ${node} has a start or a rate, and both come of what it hears as it joins`);
@@ -575,12 +568,11 @@ function lengthsOf(source) {
     length(node.table, "ppm", node.ppm);
     plans.set(node.id, [{ first: 0, last: source.cycles - 1, begin: node.ppm, end: node.ppm, table: node.table }]);
   }
-  const ppm = (table, key) => table.number(key, -333333, 1000000, "ppm");
   for (const table of source.many("oscillator")) {
-    const nodes = table.nodes("nodes"), [first, last] = table.cycles("all");
+    const nodes = table.nodes("nodes"), [first, last] = table.cycles();
     const [one, other] = table.has("ppm") ? ["ppm", "ppm"] : ["ppm_from", "ppm_to"];
     if (table.has("ppm") && (table.has("ppm_from") || table.has("ppm_to"))) table.refuse("ppm", "it wants `ppm`, or `ppm_from` and `ppm_to`, and not both");
-    const row = { first, last, begin: ppm(table, one), end: ppm(table, other), table };
+    const row = { first, last, begin: table.number(one), end: table.number(other), table };
     length(table, one, row.begin);
     length(table, other, row.end);
     source.spend(nodes.length);
@@ -631,8 +623,8 @@ function delaysOf(source) {
   const found = new Map();
   const ends = (table, key) => (!table.has(key) || table.take(key) === "all" ? source.correct() : table.nodes(key).filter((node) => !source.nodes.get(node).arbitrary));
   for (const table of source.many("delay")) {
-    const senders = ends(table, "from"), receivers = ends(table, "to"), channels = table.channels("channels", "AB");
-    const first = table.whole("from_cycle", 0, 199999, "", 0), ticks = table.amount("", 0, 1e9);
+    const senders = ends(table, "from"), receivers = ends(table, "to"), channels = table.channels("channels");
+    const first = table.whole("from_cycle"), ticks = table.amount("");
     if (!senders.length || !receivers.length) continue;
     for (const [sender, receiver, channel] of source.links(table, senders, receivers, channels, "channels")) {
       const key = `${sender},${receiver},${channel},${first}`;
@@ -647,22 +639,22 @@ function delaysOf(source) {
 // number as a text: {files, microtick, names}; else NoToml is thrown.
 function filesOfToml(text) {
   const source = new Source(text), bench = source.single("bench"), cluster = source.single("cluster");
-  bench.number("bit_rate_mbit", 1, 10, "Mbit/s", [10n, 1n]);
-  bench.whole("start_bits", 1, 15, "bits", 15);
-  source.microtick = bench.number("microtick_ns", 1, 1000, "ns");
+  bench.number("bit_rate_mbit");
+  bench.whole("start_bits");
+  source.microtick = bench.number("microtick_ns");
   const microtick = digits(...source.microtick, 24);
   if (below(source.microtick, decimal(microtick)) || below(decimal(microtick), source.microtick)) bench.refuse("microtick_ns", "it has more than 24 digits behind the point");
-  const params = new Map(), ranges = new Map(PARAMETERS.map((row) => [row[0], row]));
+  const params = new Map();
   const of_channels = ["pDelayCompensationA", "pDelayCompensationB"], given = of_channels.find((name) => cluster.has(name));
   if (given && cluster.has("pDelayCompensation")) {
     cluster.refuse(given, "`pDelayCompensation` stands beside it, which is for both channels: give that one, or `pDelayCompensationA` and `pDelayCompensationB`");
   }
-  for (const name of TABLES.get("cluster")) {
-    if (given ? name !== "pDelayCompensation" : !of_channels.includes(name)) params.set(name, cluster.whole(name, ...ranges.get(name).slice(1, 4)));
+  for (const name of TABLES.get("cluster").keys.keys()) {
+    if (given ? name !== "pDelayCompensation" : !of_channels.includes(name)) params.set(name, cluster.whole(name));
   }
   for (const [name, value] of limitsOf(source)) params.set(name, value);
-  const doubles = source.single("run").whole("double_cycles", 1, 100000);
-  source.single("run").whole("seed", 0, 4294967295, "", 1);
+  const doubles = source.single("run").whole("double_cycles");
+  source.single("run").whole("seed");
   source.cycles = 2 * doubles;
   nodesOf(source, params.get("pRateCorrectionOut"));
   const slots = slotsOf(source), frames = framesOf(source), joins = joinsOf(source), lengths = lengthsOf(source), delays = delaysOf(source);

@@ -4,10 +4,10 @@
 const fs = require("fs"), path = require("path"), readline = require("readline"), vm = require("vm");
 
 const PAGE = path.join(__dirname, "..", "..", "page");
-const names = ["cluster.js", "toml.js", "words.js"];
+const names = ["keys.js", "cluster.js", "toml.js", "words.js"];
 const context = vm.createContext({ TextEncoder, structuredClone });
 vm.runInContext(`${names.map((name) => fs.readFileSync(path.join(PAGE, name), "utf8").replace('"use strict";', "")).join("\n")}
-globalThis.page = { tables: Object.fromEntries(TABLES), single: SINGLE, parameters: PARAMETERS, filesOfToml, readCluster, writeCluster, tomlOf, explain, listOf, NoToml,
+globalThis.page = { tables: Object.fromEntries([...TABLES].map(([name, { keys }]) => [name, [...keys.keys()]])), single: SINGLE, parameters: PARAMETERS, filesOfToml, readCluster, writeCluster, tomlOf, explain, listOf, NoToml,
   left: () => [Object.getOwnPropertyNames(Object.prototype).length, Object.keys(Object.prototype).length, Object.getOwnPropertyNames(Array.prototype).length].join() };`, context);
 const { page } = context, untouched = page.left();
 

@@ -23,7 +23,7 @@ from flexlab.toml import keys
 from flexlab.toml.cluster import read_cluster
 from flexlab.toml.keys import Key, Kind
 
-WRITTEN = ("docs/flexlab.schema.json", "docs/FLEXLAB.md")
+WRITTEN = ("page/keys.js", "docs/flexlab.schema.json", "docs/FLEXLAB.md")
 
 
 def tool() -> ModuleType:

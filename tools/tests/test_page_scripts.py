@@ -7,6 +7,7 @@ there are. bench/mutate-page has more of them.
 import json
 import os
 import random
+import re
 import shutil
 import subprocess
 import time
@@ -72,6 +73,25 @@ class Scripts(Bench):
         self.assertEqual(sorted(found["one"]), sorted(SINGLE))
         self.assertEqual({name: (least, most) for name, least, most, *_ in found["ranges"]},
                          {name: (one.least, one.most) for name, one in {**ranges.PARAMETERS, **ranges.OF_CHANNELS}.items()})
+
+    def test_refusals_of_numbers_are_those_of_flexlab(self) -> None:
+        bench = (EXAMPLES / "bench" / "bench.toml").read_text()
+        tried = 0
+        for table, key in (("bench", "microtick_ns"), ("cluster", "gPayloadLengthStatic"), ("cluster", "pAllowHaltDueToClock"),
+                           ("limits", "oscillator_ppm"), ("limits", "delay_error_us"), ("run", "double_cycles"), ("node", "ppm"),
+                           ("node", "key_slot"), ("node", "start_us"), ("delay", "microticks"), ("oscillator", "ppm_from")):
+            for number in ("-1e15", "1e15", '"x"'):
+                text = re.sub(rf"(?ms)^(\[+{table}\].*?^){key} = [^\n]*", rf"\g<1>{key} = {number}", bench, count=1)
+                self.assertNotEqual(text, bench, key)
+                told = re.sub(r"^line \d+: ", "", self.ask("toml", text=text)["no"])
+                self.assertRegex(told, rf"^{table}(\[\d\])?\.{key}: .* (is not|is neither) a (whole )?number from ")
+                self.assertIn(told, self.by_flexlab(text))
+                tried += 1
+        self.assertEqual(tried, 33)
+        beside = bench.replace("[limits]\n", "[limits]\nxDelayError = 5\n").replace("[limits] ", "[limits]\nxDelayError = 5\n#")
+        told = re.sub(r"^line \d+: ", "", self.ask("toml", text=beside)["no"])
+        self.assertEqual(told, "limits.delay_error_us: `xDelayError` (ticks) stands beside it: it wants one of both")
+        self.assertIn(told, self.by_flexlab(beside))
 
     def by_flexlab(self, text: str) -> Any:
         """{file: its lines in an order of their own}, or the line of the refusal."""

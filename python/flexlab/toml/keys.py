@@ -200,7 +200,6 @@ def logged(table: str, name: str, meaning: str, least: Bound = Bound(Fraction(0)
 
 
 TABLES: Mapping[str, Entry] = {one.name: one for one in (
-    entry("values", False, "names of numbers; any key is a name, and a number elsewhere may be that name as a text"),
     entry("bench", False, "the units of the bench",
           number("bench", "microtick_ns", 1, LONGEST_MICROTICK, "ns", "how long a nominal microtick lasts"),
           number("bench", "bit_rate_mbit", 1, 10, "Mbit/s", "for the warning where a frame is too long for its slot", default=10),
@@ -219,6 +218,7 @@ TABLES: Mapping[str, Entry] = {one.name: one for one in (
     entry("run", False, "the run",
           whole("run", "double_cycles", ranges.DOUBLES, "", "how many double cycles it has"),
           whole("run", "seed", (0, 4294967295), "", "the seed of numbers that are drawn", default=1), is_needed=True),
+    entry("values", False, "names of numbers; any key is a name, and a number elsewhere may be that name as a text"),
     entry("node", True, "a node",
           whole("node", "id", (1, 64), "", "its number"),
           plain("node", "name", Kind.TEXT, "its name, of each node another one; pages, pictures and `--json` have it beside the number",

@@ -303,4 +303,5 @@ def macroticks(table: Table, switch: str, cluster: Cluster, default: Default) ->
     if len(given) > 1:
         table.refuse(f"{switch}_{given[1]}", "it wants one of " + ", ".join(f"`{switch}_{unit}`" for unit in TIMES))
     lengths = sizes(cluster.microtick_ns, cluster.macrotick_ns)
-    return units.rounded(table.number_of(f"{switch}_{given[0]}", cluster.microtick_ns, cluster.macrotick_ns) * lengths[given[0]] / cluster.macrotick_ns)
+    value = table.number_of(f"{switch}_{given[0]}", cluster.microtick_ns, cluster.macrotick_ns)
+    return units.rounded(value * lengths[given[0]] / cluster.macrotick_ns)

@@ -19,7 +19,7 @@ from .values import Table, near, shown
 Drawing = tuple[int | None, int]
 # The keys that a table may have; of [values] any.
 KEYS = {name: tuple(table.keys) for name, table in TABLES.items()}
-SINGLE = ("bench", "cluster", "limits", "run", "values", "observer", "asc")
+SINGLE = tuple(name for name, table in TABLES.items() if not table.is_many)
 MANY = tuple(name for name, table in TABLES.items() if table.is_many)
 # Values are nested less deep than this.
 DEEPEST, DEEP = 12, "lists or tables are nested deeper here than any value is"
