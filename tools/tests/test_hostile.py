@@ -164,6 +164,15 @@ class Faults(Bench):
         self.assertEqual(out.returncode, 8)
         self.assertIn("Traceback", out.stderr)
 
+    def test_a_program_that_prints_nothing(self):
+        """An answer without a bound is no bound that has no checks."""
+        path = self.write("mute", "#!/bin/sh\nexit 0\n")
+        os.chmod(path, 0o755)
+        self.write("a.toml", SHORT)
+        for words in (("precision",), ("run",), ("pcap",), ("settle",)):
+            err = self.flexlab(*words, "a.toml", "--flexray", path, status=6)[1]
+            self.assertRegex(err, "^flexlab: flexray printed a [a-z]+ that is not understood: the end of the text\n$")
+
 
 COLUMNS = ("--columns", "time=Zeit [\u00b5s],channel=Kanal,bytes=Daten", "--time-unit", "us")
 ROWS = ("Zeit [\u00b5s];Kanal;Daten;Text\n100;A;38 01 20 61 40;gr\u00f6\u00dfer\n200;B;38 01 20 61 40;\u00b5\n", )
