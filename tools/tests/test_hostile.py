@@ -173,6 +173,15 @@ class Faults(Bench):
             err = self.flexlab(*words, "a.toml", "--flexray", path, status=6)[1]
             self.assertRegex(err, "^flexlab: flexray printed a [a-z]+ that is not understood: the end of the text\n$")
 
+    def test_a_control_character_of_a_record_is_spelt_out(self):
+        self.write("a.toml", SHORT)
+        self.flexlab("build", "a.toml", "-o", "x")
+        self.write("a.csv", "delay,2,1,\x18" + "0" * 400 + ",,\n")
+        out = self.flexlab("explain", "--line", "drift: record 1: Link", "run", "x/params.csv", "a.csv", "x/script.csv", status=1)[0]
+        self.assertIn("the channel is \\x180", out)
+        self.assertTrue(all(one.isprintable() for one in out.replace("\n", "")), repr(out))
+        self.assertLess(max(map(len, out.splitlines())), 300)
+
 
 COLUMNS = ("--columns", "time=Zeit [\u00b5s],channel=Kanal,bytes=Daten", "--time-unit", "us")
 ROWS = ("Zeit [\u00b5s];Kanal;Daten;Text\n100;A;38 01 20 61 40;gr\u00f6\u00dfer\n200;B;38 01 20 61 40;\u00b5\n", )

@@ -11,7 +11,7 @@ from .advice import (FORMULA, LETTERS, SHARP_FORMULA, SHARP_LETTERS, SHARP_WAY_F
 from ..toml.constraints import broken, explain_constraint
 from ..base.ending import USAGE as WORDS
 from ..base.files import check_is_file
-from ..base.ending import DONE, FILE, NO, Stop
+from ..base.ending import DONE, FILE, NO, Stop, printable
 from ..program.forms import FORMS
 from .gaps import check_words, gap_words, sharp_check_words, sharp_way_words
 from ..base.ranges import Parameters
@@ -221,7 +221,8 @@ def explain_record(role: str, number: int, reason: str, words: Sequence[str]) ->
         return [f"{path}: this is a TOML file, and flexray reads its own three files: `flexlab run {shlex.quote(path)}` writes and "
                 "runs them"]
     try:
-        causes = list(EXPLAIN[reason](role, record, cluster, found[:number - 1]))
+        # Whatever a cause quotes of the record, no control character of it reaches the terminal.
+        causes = ["".join(map(printable, cause)) for cause in EXPLAIN[reason](role, record, cluster, found[:number - 1])]
     except (LookupError, ValueError):
         # A line that is given need not be one of these files: what it tells is then not there to be shown.
         causes = []

@@ -310,14 +310,14 @@ def link(role: str, record: Record, cluster: Known, earlier: list[Record]) -> It
     if role == "log":
         node = sure(record.fields[1])
         if node in cluster.nodes:
-            yield (f"the channel is {record.fields[2]}, and node {node} has {cluster.nodes[node].channels} "
+            yield (f"the channel is {short(record.fields[2])}, and node {node} has {cluster.nodes[node].channels} "
                    f"(line {cluster.nodes[node].record.line} of the parameters)")
         return
     first = 1 if record.fields[0] == "delay" else 2
     sender, receiver, channel = sure(record.fields[first]), sure(record.fields[first + 1]), record.fields[first + 2]
     for name, node in (("sender", sender), ("receiver", receiver)):
         if node in cluster.nodes and channel not in cluster.nodes[node].channels:
-            yield (f"the channel is {channel}, and the {name}, node {node}, has {cluster.nodes[node].channels} "
+            yield (f"the channel is {short(channel)}, and the {name}, node {node}, has {cluster.nodes[node].channels} "
                    f"(line {cluster.nodes[node].record.line} of the parameters)")
 
 
