@@ -787,13 +787,18 @@ async function textOf(file, most) {
 async function opened(list) {
   const chosen = [...list], toml = chosen.find((file) => /\.toml$/i.test(file.name)), roles = new Map();
   if (!chosen.length) return;
+  // From now on what is shown is of the cluster before; who chooses something else meanwhile is answered, and this is not.
+  clearTimeout(page.timer);
+  page.turn += 1;
+  const { turn } = page;
+  state("busy", "reading");
   const roleOf = (file) => ["params", "drift", "script"].find((name) => file.name.toLowerCase().includes(name));
   let name = chosen[0].name;
   try {
     if (toml) {
       ({ name } = toml);
-      const left = chosen.filter((file) => file !== toml).map((file) => cut(file.name)).join(", ");
-      await taken({ job: "toml", text: await textOf(toml, MOST_TOML) }, { kind: "toml", name, left: cut(left, 200) });
+      const left = chosen.filter((file) => file !== toml).map((file) => cut(file.name)).join(", "), text = await textOf(toml, MOST_TOML);
+      if (turn === page.turn) await taken({ job: "toml", text }, { kind: "toml", name, left: cut(left, 200) });
       return;
     }
     for (const file of chosen) {
@@ -805,9 +810,10 @@ async function opened(list) {
     ({ name } = chosen[0]);
     if (!roles.size) throw new NoToml("A .toml file is wanted, or files whose names hold params, drift or script.");
   } catch (why) {
-    unopened(name, why instanceof NoToml ? why.message : `The browser cannot read it: ${why.message}`);
+    if (turn === page.turn) unopened(name, why instanceof NoToml ? why.message : `The browser cannot read it: ${why.message}`);
     return;
   }
+  if (turn !== page.turn) return;
   const files = { ...page.files };
   for (const [role, { text }] of roles) files[role] = text;
   await taken({ job: "read", files, microtick: page.microtick, names: namesOf(page.cluster) }, { kind: "files", name: [...roles.values()].map((one) => cut(one.name)).join(", "),

@@ -3,6 +3,7 @@ import contextlib
 import io
 import os
 import shutil
+import signal
 import subprocess
 import sys
 import tempfile
@@ -16,6 +17,10 @@ sys.dont_write_bytecode = True
 
 from flexlab.cli.words import main  # noqa: E402
 from flexlab.program import calls as program  # noqa: E402
+
+# What a shell runs in the background hears no ^C, nor does what that runs; the programs that are tried here are told of one.
+if signal.getsignal(signal.SIGINT) == signal.SIG_IGN:
+    signal.signal(signal.SIGINT, signal.default_int_handler)
 
 FLEXRAY = program.flexray()
 SERIES = program.series(FLEXRAY)

@@ -19,7 +19,8 @@ EXAMPLES = Path(REPOSITORY, "examples")
 FILES = ("params", "drift", "script")
 WHY = ("chromium is not installed" if not chromium() else
        "the page is not built: tools/page builds it" if not os.path.exists(PAGE) else None)
-IDLE = 'document.documentElement.dataset.state !== "busy"'
+STATE = "document.documentElement.dataset.state"
+IDLE = f'{STATE} !== "busy"'
 
 
 def significant(text):
@@ -269,8 +270,10 @@ class Page(Bench):
         made = json.dumps([[name.replace("_", "."), text] for name, text in files.items()])
         event = ('$("files").files = all.files; $("files").dispatchEvent(new Event("change"));' if by == "choice" else
                  'document.body.dispatchEvent(new DragEvent("drop", { dataTransfer: all, bubbles: true, cancelable: true }));')
-        self.run_in(f"(() => {{ const all = new DataTransfer(); for (const [name, text] of {made}) all.items.add(new File([typeof text === "
-                    f"'string' ? text : Uint8Array.from(text)], name)); {event} }})()")
+        state = self.run_in(f"(() => {{ const all = new DataTransfer(); for (const [name, text] of {made}) all.items.add(new File([typeof "
+                            f"text === 'string' ? text : Uint8Array.from(text)], name)); {event} return {STATE}; }})()")
+        # What is shown is of the cluster before as soon as there is a file, and not when it is read.
+        self.assertEqual(state, "busy")
         self.settle()
 
     def test_an_example_brings_its_microtick(self):
