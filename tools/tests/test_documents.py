@@ -1,4 +1,4 @@
-"""tools/statement, tools/house and tools/promises, over a small repository that is written here."""
+"""tools/statement, tools/house, tools/promises and tools/prose, over a small repository that is written here."""
 import os
 import subprocess
 import tempfile
@@ -206,6 +206,60 @@ class Promises(Case):
         self.assertIn("`a_law` of `fr_low` (`src/laws.rt`), `other` of `fr_high` (`src/others.rt`)", mended)
         self.assertIn("[`IsPart`](../crates/fr_low/specs/Piece.antt)", mended)
         self.ends(0, "7 names and clauses", "promises")
+
+
+class Prose(Case):
+    def counts(self, text):
+        """How many sentences a document has, and how many words they have together."""
+        self.write("docs/ONE.md", text)
+        ran = self.run_tool("prose", "--only", os.path.join(self.top, "docs/ONE.md"))
+        row = ran.stdout.splitlines()[1].split()
+        return int(row[2]), int(row[3])
+
+    def test_sentences_and_words(self):
+        for text, sentences, words in (
+            ("One two three. Four `five six`, seven!\n", 2, 6),
+            ("One [two three](docs/ONE.md#four-five). *Six* seven? 8 nine\n", 3, 7),
+            ("One two, e.g. Three, and version 2.1 of it .. Four.\n", 1, 10),
+            ("One two\nthree. Four\nfive\n\nsix\n", 3, 6),
+            ("- **one**: two\n  three\n- four. Five\n  1. six\n", 4, 6),
+            ("# One two\n\n| three | four. Five |\n|---|---|\n\n![six](seven.svg)\n\n[`it`]: crates/it\n\n---\n", 0, 0),
+            ("One:\n\n```\ntwo. Three four\n\nfive\n```\n\nSix:\n\n    seven eight.\n\n    Nine\n\nTen\n", 3, 3),
+            ("- one\n\n  two three\n\n      four. Five\n\n  *By* `six`, `seven` of `eight`.\n\nNine\n", 3, 4),
+            ("- one\n\nTwo\n\n    three four\n", 2, 2),
+        ):
+            with self.subTest(text=text):
+                self.assertEqual(self.counts(text), (sentences, words))
+
+    def test_a_long_sentence(self):
+        self.write("docs/ONE.md", "Short.\n\n" + "word " * 38 + "end.\n")
+        self.ends(0, "docs/ONE.md:3: 39 words: word word", "prose", "--longest", "1")
+        self.write("docs/ONE.md", "Short.\n\n" + "word " * 40 + "end.\n")
+        self.ends(1, "docs/ONE.md: 21.0 words a sentence, and at most 20 are allowed", "prose")
+        self.ends(0, "docs/PROMISES.md", "prose", "--only", os.path.join(self.top, "docs/PROMISES.md"))
+
+    def test_listed_words(self):
+        for text, told in (
+            ("It holds,\nbut for one.\n", 'docs/ONE.md:2: "but for": except for'),
+            ("| a | it Is told |\n", 'docs/ONE.md:1: "Is told"'),
+            ("# What is seen of a run\n", 'docs/ONE.md:1: "seen of"'),
+            ("- one\n- six wrong bodies\n", 'docs/ONE.md:2: "wrong bodies": mutant'),
+        ):
+            with self.subTest(text=text):
+                self.write("docs/ONE.md", text)
+                self.ends(1, told, "prose")
+        for text in ("`it is told`, and tools/edits/try-all\n", "```\nbut for one\n```\n", "[it](amid/amid.md), they are told apart\n"):
+            with self.subTest(text=text):
+                self.write("docs/ONE.md", text)
+                self.ends(0, "ONE.md", "prose")
+
+    def test_lines(self):
+        self.write("CHANGELOG.md", "\n" * 5484)
+        self.ends(0, "5,500 (at most 5,500)", "prose")
+        self.write("examples/README.md", "\n" * 10)
+        self.ends(0, "5,500 (at most 5,500)", "prose")
+        self.write("CONTRIBUTING.md", "\n")
+        self.ends(1, "5,501 lines, and at most 5,500 are allowed", "prose")
 
 
 if __name__ == "__main__":
