@@ -292,7 +292,7 @@ class Release(Bench):
         super().setUp()
         self.top = self.path("repository")
         os.makedirs(self.top)
-        for name in ("README.md", "CHANGELOG.md", "VERSION", "TOOLCHAIN", "HANDLES", ".gitignore", "crates.txt", "flexray", "flexray-series"):
+        for name in ("README.md", "CHANGELOG.md", "CONTRIBUTING.md", "VERSION", "TOOLCHAIN", "HANDLES", ".gitignore", "crates.txt", "flexray", "flexray-series"):
             shutil.copy2(os.path.join(REPOSITORY, name), self.top)
         for name in ("docs", "examples", "include", "page", "python", "tools"):
             shutil.copytree(os.path.join(REPOSITORY, name), os.path.join(self.top, name), symlinks=True,
