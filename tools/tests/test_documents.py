@@ -21,6 +21,11 @@ FILES = {
           *By* the laws `a_law`, `other` of `fr_low` (`src/laws.rt`); `Thing::ask` of `fr_high` (`src/thing.rt`): `ends`, by
           `IsWhole` of `fr_high` (`specs/Whole.antt`).
 
+        | Claim | Carried by |
+        |---|---|
+        | **In a row.** So it is. | theorems `a_law`, `other` of `fr_low` (`src/laws.rt`); `Thing::ask` of `fr_high` (`src/thing.rt`): `ends`, theorem `a_law` of `fr_low` (`src/laws.rt`) |
+        | **Of all.** So it is. | every function |
+
         ## What is trusted
 
         - **Second.** See `IsWhole` in `crates/fr_high/specs/Whole.antt` and [`IsPart`](../crates/fr_low/specs/Part.antt).
@@ -176,7 +181,7 @@ class House(Case):
 
 class Promises(Case):
     def test_all_is_there(self):
-        self.ends(0, "7 names and clauses", "promises")
+        self.ends(0, "12 names and clauses", "promises")
 
     def test_what_is_not_there_is_told(self):
         for path, old, new, told in (
@@ -186,6 +191,10 @@ class Promises(Case):
             ("docs/PROMISES.md", "## What is proved", "## What holds", "no heading what-is-proved"),
             ("docs/PROMISES.md", "## What is trusted\n\n", "", "nothing is said to carry this"),
             ("docs/PROMISES.md", "## What is trusted", "## What is believed", "no part What is trusted of PROMISES"),
+            ("docs/PROMISES.md", "| every function |", "| |", "nothing is said to carry this"),
+            ("docs/PROMISES.md", "| every function |", "| some of it |", "nothing is said to carry this"),
+            ("docs/PROMISES.md", "| Claim | Carried by |", "| Claim | Place |", "nothing is said to carry this"),
+            ("docs/PROMISES.md", "(`src/thing.rt`): `ends`, theorem", "(`src/thing.rt`): `goes`, theorem", "no clause goes"),
             ("docs/ARCHITECTURE.md", "# A map", "# A map of `fr_gone`, `IsGone`", "no crate fr_gone"),
         ):
             with self.subTest(told=told):
@@ -205,7 +214,8 @@ class Promises(Case):
         mended = " ".join(self.read("docs/PROMISES.md").split())
         self.assertIn("`a_law` of `fr_low` (`src/laws.rt`), `other` of `fr_high` (`src/others.rt`)", mended)
         self.assertIn("[`IsPart`](../crates/fr_low/specs/Piece.antt)", mended)
-        self.ends(0, "7 names and clauses", "promises")
+        self.assertIn("(`src/others.rt`); `Thing::ask` of `fr_high` (`src/thing.rt`): `ends`, theorem `a_law` of `fr_low` (`src/laws.rt`) |", mended)
+        self.ends(0, "12 names and clauses", "promises")
 
 
 class Prose(Case):
@@ -254,7 +264,7 @@ class Prose(Case):
                 self.ends(0, "ONE.md", "prose")
 
     def test_lines(self):
-        self.write("CHANGELOG.md", "\n" * 5484)
+        self.write("CHANGELOG.md", "\n" * 5479)
         self.ends(0, "5,500 (at most 5,500)", "prose")
         self.write("examples/README.md", "\n" * 10)
         self.ends(0, "5,500 (at most 5,500)", "prose")
