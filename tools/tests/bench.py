@@ -8,6 +8,9 @@ import subprocess
 import sys
 import tempfile
 import unittest
+from collections.abc import Iterator
+from pathlib import Path
+from typing import NamedTuple
 
 TOOLS = os.path.dirname(os.path.dirname(os.path.realpath(__file__)))
 REPOSITORY = os.path.dirname(TOOLS)
@@ -26,6 +29,35 @@ FLEXRAY = program.flexray()
 SERIES = program.series(FLEXRAY)
 with open(os.path.join(REPOSITORY, "python", "flexlab", "toml", "example.toml"), encoding="utf-8") as example:
     EXAMPLE = example.read()
+
+
+class ExampleCall(NamedTuple):
+    """A call of examples/SUBJECT/CALL: its name as SUBJECT/CALL, the folder of its subject, from which its words name files, and
+    what the program ends with."""
+    name: str
+    folder: Path
+    words: list[str]
+    is_series: bool
+    status: int
+    text: bytes
+    line: bytes
+
+    @property
+    def files(self) -> list[Path]:
+        """Those that the words name, in their order."""
+        return [self.folder / word for word in self.words if (self.folder / word).is_file()]
+
+
+def example_calls() -> Iterator[ExampleCall]:
+    for words in sorted(Path(REPOSITORY, "examples").glob("*/*/words")):
+        call = words.parent
+        status, text, line = ((call / part).read_bytes() if (call / part).exists() else b"" for part in ("status", "printed.txt", "told.txt"))
+        yield ExampleCall(f"{call.parent.name}/{call.name}", call.parent, words.read_text("utf-8").splitlines(), (call / "program").exists(),
+                          int(status or 0), text, line)
+
+
+def example_call(name: str) -> ExampleCall:
+    return next(call for call in example_calls() if call.name == name)
 
 
 def needs(name):

@@ -222,8 +222,8 @@ def example(path: str) -> bytes:
 
 
 # The files of flexray, which `explain` reads: of each role one of the examples, and the words in which it stands.
-RECORDS = {"params": "offset/params.csv", "drift": "offset/drift.csv", "script": "arbitrary/script.csv", "trace": "check/trace.csv",
-           "nm": "nm/vectors.csv", "power": "startup/power.csv", "log": "observe/log.csv"}
+RECORDS = {"params": "offset/params.csv", "drift": "offset/drift.csv", "script": "faults/arbitrary/script.csv",
+           "trace": "offset/check/trace.csv", "nm": "frame/vectors.csv", "power": "reference/cold/power.csv", "log": "observe/log.csv"}
 WORDS = {"params": ["bound", 0], "drift": ["run", "p.csv", 0, "s.csv"], "script": ["run", "p.csv", "d.csv", 0], "trace": ["check", "p.csv", 0],
          "nm": ["nm", "4", 0], "power": ["cold", "p.csv", 0], "log": ["observe", "p.csv", 0]}
 REASONS = ("Shape", "UnknownName", "NotNumber", "OutOfRange", "UnknownNode", "BadChannel", "Role", "Link", "NotHex", "Repeated")

@@ -6,7 +6,7 @@ import unittest
 from bench import REPOSITORY, Bench
 from flexlab.pages import explain
 
-OFFSET = os.path.join(REPOSITORY, "examples", "channels")
+OFFSET = os.path.join(REPOSITORY, "examples", "faults")
 
 
 def load(name):
@@ -148,7 +148,7 @@ class Explain(Bench):
             self.assertIn(reason, seen)
 
     def test_the_way_to_sync(self):
-        with open(os.path.join(REPOSITORY, "examples", "settle", "params.csv"), encoding="ascii") as file:
+        with open(os.path.join(REPOSITORY, "examples", "reference", "params.csv"), encoding="ascii") as file:
             self.write("params.csv", file.read())
         out = self.flexlab("explain", "settle", "params.csv", "190438201", "30005200")[0]
         self.assertIn("it asks: pOffsetCorrectionOut * Qm >= peak + E1 + Qp", out)
@@ -364,7 +364,7 @@ class Explain(Bench):
             lines[number - 1:number] = [text] if text is not None else []
             return "".join(f"{one}\n" for one in lines)
 
-        with open(os.path.join(REPOSITORY, "examples", "joins-trace", "printed.txt"), encoding="utf-8") as file:
+        with open(os.path.join(REPOSITORY, "examples", "joins", "trace", "printed.txt"), encoding="utf-8") as file:
             trace = file.read()
         with open(os.path.join(REPOSITORY, "examples", "joins", "params.csv"), encoding="utf-8") as file:
             params = file.read()
@@ -387,7 +387,7 @@ class Explain(Bench):
                 status, _, err = self.flexray(*words)
                 self.assertEqual((status, err), (5 if ": " in told else 1, f"trace: {told}"))
                 self.assertIn(says, self.explained(err, words))
-        with open(os.path.join(REPOSITORY, "examples", "apart", "trace.csv"), encoding="utf-8") as file:
+        with open(os.path.join(REPOSITORY, "examples", "joins", "apart", "trace.csv"), encoding="utf-8") as file:
             late = file.read()
         for made, told, says in (
                 (late, "record 41 apart 4", "node 3 has its first row here, and in double cycle 4 (cycles 8 and 9)"),

@@ -9,7 +9,7 @@ import time
 import unittest
 import zipfile
 
-from bench import REPOSITORY, TOOLS, Bench
+from bench import REPOSITORY, TOOLS, Bench, example_call, example_calls
 from flexlab.program import stamp
 from flexray import library
 
@@ -36,17 +36,9 @@ def read(path, default=b""):
         return file.read()
 
 
-def examples():
-    """Of each example that is a call: its folder, its words, its status, its text and its line."""
-    for name in sorted(os.listdir(EXAMPLES)):
-        folder = os.path.join(EXAMPLES, name)
-        if os.path.exists(os.path.join(folder, "words")):
-            words = read(os.path.join(folder, "words")).decode().split("\n")
-            words = words[:-1] if words[-1] == "" else words
-            if read(os.path.join(folder, "program")).strip() == b"flexray_series_cli":
-                words = ["flexray-series", *words]
-            yield (folder, words, int(read(os.path.join(folder, "status"), b"0")), read(os.path.join(folder, "printed.txt")),
-                   read(os.path.join(folder, "told.txt")))
+def spelt(call):
+    """The words of a call of examples/, that of its program before them where it is the second one."""
+    return ["flexray-series", *call.words] if call.is_series else call.words
 
 
 def built(*words):
@@ -83,9 +75,9 @@ class Library(Bench):
 
     def every_example(self, caller, how):
         count = 0
-        for folder, words, status, text, line in examples():
-            ended = self.call(caller, how, words, folder)
-            self.assertEqual((ended.returncode, ended.stdout, ended.stderr), (status, text, line), folder)
+        for one in example_calls():
+            ended = self.call(caller, how, spelt(one), one.folder)
+            self.assertEqual((ended.returncode, ended.stdout, ended.stderr), (one.status, one.text, one.line), one.name)
             count += 1
         self.assertGreater(count, 30)
 
@@ -107,12 +99,12 @@ class Library(Bench):
         if compiler is None:
             self.skipTest("no compiler has the sanitizers of addresses and of undefined behaviour")
         caller = self.compile("-fsanitize=address,undefined", "-fno-sanitize-recover=all", compiler=compiler)
-        for folder, words, status, text, line in examples():
-            ended = self.call(caller, "typed", words, folder, ASAN_OPTIONS="detect_leaks=0")
-            self.assertEqual((ended.returncode, ended.stdout, ended.stderr), (status, text, line), folder)
-        for name in ("offset", "breach", "capture"):
-            folder, words = next((one[0], one[1]) for one in examples() if one[0].endswith("/" + name))
-            self.assertEqual(self.fine(self.call(caller, "places", words, folder, ASAN_OPTIONS="detect_leaks=0")), "37 rooms\n")
+        for one in example_calls():
+            ended = self.call(caller, "typed", spelt(one), one.folder, ASAN_OPTIONS="detect_leaks=0")
+            self.assertEqual((ended.returncode, ended.stdout, ended.stderr), (one.status, one.text, one.line), one.name)
+        for name in ("offset/run", "offset/breach", "frame/capture"):
+            one = example_call(name)
+            self.assertEqual(self.fine(self.call(caller, "places", spelt(one), one.folder, ASAN_OPTIONS="detect_leaks=0")), "37 rooms\n")
         self.fine(self.call(caller, "bad", ASAN_OPTIONS="detect_leaks=0"))
 
     def test_nothing_of_a_call_stays(self):
@@ -135,30 +127,30 @@ int main(void) {
 
     def test_places_of_every_room(self):
         caller = self.compile()
-        for folder, words, _, _, _ in examples():
-            if os.path.basename(folder) not in ("made", "walk", "driven-bench", "bench"):
-                self.assertEqual(self.fine(self.call(caller, "places", words, folder)), "37 rooms\n", folder)
+        for one in example_calls():
+            if one.name not in ("make/long", "sharp/walk", "worst/bench", "bench/run"):
+                self.assertEqual(self.fine(self.call(caller, "places", spelt(one), one.folder)), "37 rooms\n", one.name)
 
     def test_eight_threads(self):
         caller = self.compile()
-        for name in ("offset", "breach", "capture", "sharp-series"):
-            folder, words = next((one[0], one[1]) for one in examples() if one[0].endswith("/" + name))
-            self.assertEqual(self.fine(self.call(caller, "threads", words, folder)), "8 threads\n", folder)
+        for name in ("offset/run", "offset/breach", "frame/capture", "sharp/series"):
+            one = example_call(name)
+            self.assertEqual(self.fine(self.call(caller, "threads", spelt(one), one.folder)), "8 threads\n", name)
 
     def test_stack(self):
         caller = self.compile()
-        for folder, words, _, _, _ in examples():
-            used = int(self.fine(self.call(caller, "stack", words, folder)))
-            self.assertLess(used, MOST_STACK // 2, f"{folder}: half of what the header says stays free")
+        for one in example_calls():
+            used = int(self.fine(self.call(caller, "stack", spelt(one), one.folder)))
+            self.assertLess(used, MOST_STACK // 2, f"{one.name}: half of what the header says stays free")
 
     def test_no_memory(self):
         """As many blocks as a call needs, and every number below: 6, with no text, and at most a line."""
         caller = self.compile("-DCOUNTS_BLOCKS", "-Wl,--wrap=malloc", "-Wl,--wrap=realloc")
-        for name in ("offset", "frame", "breach", "capture", "nm", "startup", "settle", "series", "sharp-series", "upgrade", "make", "check",
-                     "joins-trace", "observe"):
-            folder, words = next((one[0], one[1]) for one in examples() if one[0].endswith("/" + name))
-            blocks = int(self.fine(self.call(caller, "memory", words, folder)))
-            self.assertGreater(blocks, 5, folder)
+        for name in ("offset/run", "frame/frame", "offset/breach", "frame/capture", "frame/nm", "reference/cold", "reference/settle",
+                     "offset/series", "sharp/series", "reference/upgrade", "make/short", "offset/check", "joins/trace", "observe/observe"):
+            one = example_call(name)
+            blocks = int(self.fine(self.call(caller, "memory", spelt(one), one.folder)))
+            self.assertGreater(blocks, 5, name)
 
     def test_bad_words_bytes_and_places(self):
         usage = "usage: flexray COMMAND WORDS"
@@ -180,11 +172,11 @@ int main(void) {
                                      "2047 0 63 1 1 0"])
 
     def test_a_recording_in_pieces(self):
-        folder, _, _, text, _ = next(one for one in examples() if one[0].endswith("/capture"))
-        found = re.findall(r"^at (\d+) id (\d+)", text.decode(), re.M)
-        end = re.search(r"^frames 2 bytes (\d+)$", text.decode(), re.M).group(1)
-        bytes_given = os.path.getsize(os.path.join(folder, "capture.bin"))
-        told = self.fine(self.call(self.compile(), "pieces", ["capture.bin"], folder))
+        one = example_call("frame/capture")
+        found = re.findall(r"^at (\d+) id (\d+)", one.text.decode(), re.M)
+        end = re.search(r"^frames 2 bytes (\d+)$", one.text.decode(), re.M).group(1)
+        bytes_given = os.path.getsize(os.path.join(one.folder, "capture.bin"))
+        told = self.fine(self.call(self.compile(), "pieces", ["capture.bin"], one.folder))
         wanted = " ".join(f"{place}/{number}" for place, number in found)
         self.assertEqual(told, "".join(f"{size}: {wanted} then 1 at {end} of {bytes_given}\n" for size in (1, 7, 100, 4096)))
 
@@ -197,10 +189,10 @@ int main(void) {
     def test_the_program_of_the_examples(self):
         ended = built("cc", *STRICT, f"-I{os.path.dirname(HEADER)}", os.path.join(EXAMPLES, "c", "run.c"), ARCHIVE, "-o", self.path("run"))
         self.assertEqual(ended.returncode, 0, ended.stderr)
-        for folder, words, status, text, line in examples():
-            if words[0] == "run":
-                ended = self.call(self.path("run"), words[1], words[2:], folder)
-                self.assertEqual((ended.returncode, ended.stdout, ended.stderr), (status, text, line), folder)
+        for one in example_calls():
+            if one.words[0] == "run":
+                ended = self.call(self.path("run"), one.words[1], one.words[2:], one.folder)
+                self.assertEqual((ended.returncode, ended.stdout, ended.stderr), (one.status, one.text, one.line), one.name)
         ended = self.call(self.path("run"), "none.csv", ["drift.csv", "script.csv"], os.path.join(EXAMPLES, "offset"))
         self.assertEqual((ended.returncode, ended.stdout, ended.stderr), (3, b"", b"none.csv: No such file or directory\n"))
 

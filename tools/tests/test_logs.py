@@ -241,7 +241,7 @@ class Logs(Bench):
 
     def test_numbers_that_are_a_premise(self):
         """Where limits are so wide that clocks in sync could come half a cycle off, that is said."""
-        with open(os.path.join(REPOSITORY, "examples", "observe", "printed.txt"), encoding="ascii") as file:
+        with open(os.path.join(REPOSITORY, "examples", "observe", "observe", "printed.txt"), encoding="ascii") as file:
             text = file.read()
         for word, is_said in (("sure", False), ("premise", True)):
             told = texts.observation(text.replace("numbers,sure", f"numbers,{word}"))

@@ -14,7 +14,7 @@ from fractions import Fraction
 
 import clocks_peer as clocks
 import observe_peer as peer
-from bench import REPOSITORY, Bench
+from bench import REPOSITORY, Bench, example_call
 from flexlab.captures.frames import crc, frame_bytes
 
 RUNS = int(os.environ.get("FLEXRAY_OBSERVE_RUNS", "40"))
@@ -328,10 +328,10 @@ class Observed(Bench):
             self.assertLessEqual(number, int(high), row)
 
     def test_the_worked_row(self):
-        for name in ("params.csv", "log.csv", "printed.txt"):
+        for name in ("params.csv", "log.csv"):
             with open(os.path.join(EXAMPLE, name), encoding="ascii") as file:
                 self.write(name, file.read())
-        self.assertEqual(self.told(self.read("log.csv")), self.read("printed.txt"))
+        self.assertEqual(self.told(self.read("log.csv")), example_call("observe/observe").text.decode())
 
     def test_random_runs(self):
         tally, said, held = dict.fromkeys(peer.KINDS, 0), dict.fromkeys(("within", "over", "open"), 0), 0

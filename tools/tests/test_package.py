@@ -12,7 +12,7 @@ import tempfile
 import time
 import unittest
 
-from bench import EXAMPLE, FLEXRAY, REPOSITORY, SERIES, TOOLS, Bench, needs
+from bench import EXAMPLE, FLEXRAY, REPOSITORY, SERIES, TOOLS, Bench, example_call, needs
 from flexlab.program import stamp
 
 with open(FLEXRAY, "rb") as program:
@@ -92,7 +92,7 @@ class Package(Bench):
         examples = os.path.join(root, "usr/share/doc/flexray/examples")
         printed = self.installed(root, os.path.join(root, "usr/bin/flexray"), "bound",
                                  os.path.join(examples, "reference/params.csv"))
-        with open(os.path.join(REPOSITORY, "examples/reference/printed.txt"), encoding="ascii") as file:
+        with open(os.path.join(REPOSITORY, "examples/reference/bound/printed.txt"), encoding="ascii") as file:
             self.assertEqual(printed, file.read())
         for name in ("README.md", "docs/FORMATS.md", "docs/FLEXLAB.md", "docs/GLOSSARY.md", "docs/skew.svg"):
             self.assertTrue(os.path.exists(os.path.join(root, "usr/share/doc/flexray", name)), name)
@@ -117,7 +117,7 @@ class Package(Bench):
         for words in ([self.path("run"), *(os.path.join(bench, f"{name}.csv") for name in ("params", "drift", "script"))],
                       [sys.executable, os.path.join(examples, "python/run.py")]):
             ended = subprocess.run(words, capture_output=True, text=True, check=False, env=env, cwd=self.room)
-            with open(os.path.join(bench, "printed.txt"), encoding="ascii") as file:
+            with open(os.path.join(bench, "run", "printed.txt"), encoding="ascii") as file:
                 self.assertEqual((ended.stdout, ended.stderr, ended.returncode), (file.read(), "", 0))
 
     @needs("dpkg-deb")
@@ -134,7 +134,7 @@ class Package(Bench):
         root = self.bare()
         examples = "/usr/share/doc/flexray/examples"
         offset = [f"{examples}/offset/{name}.csv" for name in ("params", "drift", "script")]
-        with open(os.path.join(REPOSITORY, "examples/offset/printed.txt"), encoding="ascii") as file:
+        with open(os.path.join(REPOSITORY, "examples/offset/run/printed.txt"), encoding="ascii") as file:
             printed = file.read()
         self.assertEqual(self.in_root(root, "/usr/bin/flexray", "run", *offset), (0, printed, ""))
         self.assertEqual(self.in_root(root, "flexray", "run", *offset), (0, printed, ""))
@@ -359,10 +359,10 @@ class Release(Bench):
         subprocess.run(["tar", "xf", self.path("one", tar)], cwd=self.path("any where"), check=True)
         top = self.path("any where", tar.removesuffix(".tar.gz"))
         env = {**self.env(), "PATH": os.path.join(top, "bin") + ":" + os.environ["PATH"]}
-        for words, folder in ((["flexray", "bound", "params.csv"], "reference"), (["flexray", "run", "params.csv", "drift.csv", "script.csv"], "offset")):
-            ended = subprocess.run(words, capture_output=True, text=True, check=False, env=env, cwd=os.path.join(REPOSITORY, "examples", folder))
-            with open(os.path.join(REPOSITORY, "examples", folder, "printed.txt"), encoding="ascii") as file:
-                self.assertEqual((ended.returncode, ended.stdout, ended.stderr), (0, file.read(), ""))
+        for name in ("reference/bound", "offset/run"):
+            one = example_call(name)
+            ended = subprocess.run(["flexray", *one.words], capture_output=True, text=True, check=False, env=env, cwd=one.folder)
+            self.assertEqual((ended.returncode, ended.stdout, ended.stderr), (0, one.text.decode(), ""))
         self.write("a.toml", EXAMPLE)
         os.symlink(os.path.join(top, "bin", "flexlab"), self.path("linked"))
         for flexlab in ("flexlab", self.path("linked")):

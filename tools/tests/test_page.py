@@ -10,7 +10,7 @@ import tomllib
 import unittest
 from pathlib import Path
 
-from bench import FLEXRAY, REPOSITORY, SERIES, TOOLS, Bench, edited
+from bench import FLEXRAY, REPOSITORY, SERIES, TOOLS, Bench, edited, example_call, example_calls
 from browser import Browser, chromium
 from test_python import examples
 
@@ -89,20 +89,20 @@ class Page(Bench):
             with self.subTest(name):
                 self.take(name)
                 self.assertEqual(self.run_in("document.documentElement.dataset.state"), "ready")
-                folder = EXAMPLES / name
-                printed = "series" if (folder / "program").exists() else "report"
-                self.assertEqual(self.text_of(printed), (folder / "printed.txt").read_text())
+                call = example_call(name)
+                printed = "series" if call.is_series else "report"
+                self.assertEqual(self.text_of(printed), call.text.decode())
                 self.run_in(f'page.printed = "{printed}"; selectTab("answers", "As printed")')
-                self.assertEqual(self.run_in('$("printed").textContent'), (folder / "printed.txt").read_text())
+                self.assertEqual(self.run_in('$("printed").textContent'), call.text.decode())
                 self.run_in('selectTab("answers", "Summary")')
                 cycles = self.run_in("page.found.series.skew.length")
-                self.assertEqual(cycles, 2 * int(re.search(r"^doubles,(\d+)", (folder / "drift.csv").read_text(), re.M)[1]))
+                self.assertEqual(cycles, 2 * int(re.search(r"^doubles,(\d+)", call.files[1].read_text(), re.M)[1]))
 
     def test_the_form_writes_what_it_read(self):
-        for folder in sorted(EXAMPLES.iterdir()):
-            if (folder / "drift.csv").exists():
-                with self.subTest(folder.name):
-                    files = {name: (folder / f"{name}.csv").read_text() for name in FILES}
+        for call in example_calls():
+            if len(call.files) == 3:
+                with self.subTest(call.name):
+                    files = {name: path.read_text() for name, path in zip(FILES, call.files)}
                     written = self.run_in(f"(() => {{ const read = readCluster({json.dumps(files)}, '25'); return typeof read === "
                                           "'string' ? read : writeCluster(read); })()")
                     self.assertEqual(written["wrong"], [])
@@ -110,17 +110,17 @@ class Page(Bench):
                         self.assertEqual(significant(written["files"][name]), significant(files[name]))
 
     def test_an_edit_is_what_the_program_answers(self):
-        self.take("bench")
+        self.take("bench/run")
         self.run_in('selectTab("editor", "Nodes")')
         self.put('[aria-label="ppm, node 1"]', "200")
         self.settle()
         files = [(EXAMPLES / "bench" / f"{name}.csv").read_text() for name in FILES]
         files[1] = files[1].replace("length,1,0,999850,,", "length,1,0,999800,,")
         self.assertEqual([self.text_of("report"), self.text_of("series")][:len(self.by_program(files))], self.by_program(files))
-        self.assertNotEqual(self.text_of("report"), (EXAMPLES / "bench" / "printed.txt").read_text())
+        self.assertNotEqual(self.text_of("report"), (EXAMPLES / "bench" / "run" / "printed.txt").read_text())
 
     def test_units_of_a_bench(self):
-        self.take("offset")
+        self.take("offset/run")
         self.run_in('selectTab("editor", "Nodes")')
         self.assertEqual(self.run_in("document.querySelector('[aria-label=\"start, us, node 2\"]').value"), "0.0625")
         for given, ticks in (("0.1", "4000000"), ("1.23456789", "49382716"), ("0,5", "20000000")):
@@ -131,7 +131,7 @@ class Page(Bench):
             self.assertEqual(self.run_in(f"String(lengthOf('{ppm}'))"), str(length))
 
     def test_a_ramp_is_that_of_flexlab(self):
-        self.take("bench")
+        self.take("bench/run")
         self.run_in('selectTab("editor", "Clocks and delays")')
         row = [self.run_in(f"document.querySelector('[aria-label=\"{head}, change 1\"]').value")
                for head in ("node", "from cycle", "ppm", "to cycle", "ppm there")]
@@ -159,10 +159,10 @@ class Page(Bench):
 
     def test_the_form_as_toml(self):
         """flexlab makes of the TOML file of each example what its files are; and so does the page."""
-        for folder in sorted(EXAMPLES.iterdir()):
-            if (folder / "drift.csv").exists():
-                with self.subTest(folder.name):
-                    files = {name: (folder / f"{name}.csv").read_text() for name in FILES}
+        for call in example_calls():
+            if len(call.files) == 3:
+                with self.subTest(call.name):
+                    files = {name: path.read_text() for name, path in zip(FILES, call.files)}
                     text = self.run_in(f"tomlOf(readCluster({json.dumps(files)}, '25'))")
                     self.flexlab("build", "-o", self.path("made"), self.write("form.toml", text))
                     self.same_files(files, "made")
@@ -198,7 +198,7 @@ class Page(Bench):
 
     def test_toml_that_cannot_be_read(self):
         bench = (EXAMPLES / "bench" / "bench.toml").read_text()
-        self.take("bench")
+        self.take("bench/run")
         self.run_in('selectTab("editor", "TOML")')
         for old, new, wanted in (("ppm = 150", "ppm = { uniform = [0, 1] }",
                                   "line 39: node[1].ppm: numbers that are drawn are for flexlab alone"),
@@ -234,14 +234,14 @@ class Page(Bench):
                            "return box.height > 0 && box.top >= 0 && box.bottom <= innerHeight; })()")
 
     def test_what_is_not_understood_is_marked_and_nothing_is_run(self):
-        self.take("offset")
+        self.take("offset/run")
         self.run_in('selectTab("editor", "Nodes")')
         self.put('[aria-label="ppm, node 1"]', "fast")
         self.settle()
         self.assertEqual(self.run_in("document.querySelector('[aria-label=\"ppm, node 1\"]').getAttribute('aria-invalid')"), "true")
         self.assertEqual(self.run_in('$("state").textContent'), "1 field is not understood")
         self.assert_stale("1 field is not understood", "Nodes, node 1, ppm “fast”: a number of ppm is wanted.")
-        self.assertEqual(self.text_of("report"), (EXAMPLES / "offset" / "printed.txt").read_text())
+        self.assertEqual(self.text_of("report"), (EXAMPLES / "offset" / "run" / "printed.txt").read_text())
         # From another tab the field is found again, with what was typed.
         self.run_in('selectTab("editor", "Cluster"); [...document.querySelectorAll("#stale button")].at(-1).click()')
         self.assertEqual(self.run_in("[page.editor, document.activeElement.getAttribute('aria-label'), document.activeElement.value]"),
@@ -252,7 +252,7 @@ class Page(Bench):
                          ["ready", "", ""])
 
     def test_a_microtick_that_is_none(self):
-        self.take("offset")
+        self.take("offset/run")
         self.run_in('selectTab("editor", "Cluster")')
         for text in ("x", "0", "-25", "1001", ""):
             self.put("#microtick", text)
@@ -278,7 +278,7 @@ class Page(Bench):
 
     def test_an_example_brings_its_microtick(self):
         bench = (EXAMPLES / "bench" / "bench.toml").read_text()
-        self.take("bench")
+        self.take("bench/run")
         wanted = self.run_in('$("verdict").innerText')
         self.assertIn("3.756 us", wanted)
         self.hand_in(mine_toml=bench.replace("microtick_ns = 25", "microtick_ns = 50"))
@@ -287,12 +287,12 @@ class Page(Bench):
         self.hand_in(drift_csv=(EXAMPLES / "bench" / "drift.csv").read_text())
         self.assertEqual(self.run_in('$("source").textContent'), "drift.csv: a microtick lasts 50 ns, as the field under Cluster says, "
                          "since such files have ticks alone. params and script as before.")
-        self.take("bench")
-        self.assertEqual(self.run_in('[page.microtick, $("source").textContent]'), ["25", "Example bench: a microtick lasts 25 ns."])
+        self.take("bench/run")
+        self.assertEqual(self.run_in('[page.microtick, $("source").textContent]'), ["25", "Example bench/run: a microtick lasts 25 ns."])
         self.assertEqual(self.run_in('$("verdict").innerText'), wanted)
 
     def test_a_file_that_is_none(self):
-        self.take("offset")
+        self.take("offset/run")
         bench = (EXAMPLES / "bench" / "bench.toml").read_text()
         for files, title, why in (({"mine_toml": "this is none"}, "mine.toml is not opened", "line 1: this is none stands in no table"),
                                   ({"mine_toml": bench.replace("microtick_ns = 25", "microtick_ns = 0")}, "mine.toml is not opened",
@@ -303,7 +303,7 @@ class Page(Bench):
                                   ({"drift_csv": "x", "drift2_csv": "y"}, "drift2.csv is not opened", "one file of each is wanted")):
             self.hand_in(**files)
             self.assert_stale(title, why)
-            self.assertEqual(self.run_in('$("example").value'), "offset")
+            self.assertEqual(self.run_in('$("example").value'), "offset/run")
         self.run_in('document.querySelector("#stale button").click()')
         self.settle()
         self.assertEqual(self.run_in('[document.documentElement.dataset.state, $("notice").innerText]'), ["ready", ""])
@@ -316,7 +316,7 @@ class Page(Bench):
         self.assertEqual(self.run_in("page.cluster.doubles"), "9")
 
     def test_a_file_that_is_dropped_is_taken(self):
-        self.take("offset")
+        self.take("offset/run")
         self.hand_in("drop", mine_toml=(EXAMPLES / "bench" / "bench.toml").read_text())
         self.assertEqual(self.run_in('[page.source.name, page.cluster.nodes.length]'), ["mine.toml", 5])
 
@@ -335,7 +335,7 @@ class Page(Bench):
         self.assert_stale("open.toml is not opened", "a list has no ] at its end")
 
     def test_reading_can_be_stopped(self):
-        self.take("offset")
+        self.take("offset/run")
         bench = (EXAMPLES / "bench" / "bench.toml").read_text()
         text = bench.replace("double_cycles = 200", "double_cycles = 90000")
         self.run_in(f"opened([new File([{json.dumps(text)}], 'long.toml')]); 0")
@@ -348,7 +348,7 @@ class Page(Bench):
     def test_a_refusal_is_in_sight_and_so_is_the_field(self):
         self.browser.size(1280, 800)
         self.addCleanup(self.browser.size, 1400, 1000)
-        self.take("bench")
+        self.take("bench/run")
         self.run_in('selectTab("editor", "Cluster")')
         for name in ("pAllowPassiveToActive", "gMacroPerCycle", "xRateBound"):
             field = f"#parameter-{name}"
@@ -365,7 +365,7 @@ class Page(Bench):
         self.addCleanup(self.browser.size, 1400, 1000)
         for width in (1280, 1366, 1600):
             self.browser.size(width, 800)
-            for name in ("growing", "bench"):
+            for name in ("joins/growing", "bench/run"):
                 self.take(name)
                 for tab in ("Nodes", "Clocks and delays", "Faults"):
                     self.run_in(f"selectTab('editor', '{tab}')")
@@ -373,7 +373,7 @@ class Page(Bench):
                                                  "one.scrollWidth - one.clientWidth))"), 0, (width, name, tab))
 
     def test_the_focus_stays_where_rows_come_and_go(self):
-        self.take("bench")
+        self.take("bench/run")
         self.run_in('selectTab("editor", "Clocks and delays")')
         count = self.run_in("page.cluster.delays.length")
         for at in range(count, 0, -1):
@@ -388,7 +388,7 @@ class Page(Bench):
         self.settle()
 
     def test_panels_have_names_and_the_curve_has_numbers(self):
-        self.take("bench")
+        self.take("bench/run")
         for which, tab in (("editor", "Faults"), ("answers", "Checks")):
             self.run_in(f'selectTab("{which}", "{tab}")')
         self.assertEqual(self.run_in("[...document.querySelectorAll('[role=tabpanel]')].map((one) => "
@@ -408,7 +408,7 @@ class Page(Bench):
         return self.run_in('$("refusal").innerText')
 
     def test_refusals_are_explained(self):
-        self.take("bench")
+        self.take("bench/run")
         self.run_in('selectTab("editor", "Cluster")')
         self.put("#parameter-gdNIT", "2001")
         told = self.refused()
@@ -428,7 +428,7 @@ class Page(Bench):
                                    ("drift", "length,1,0,999900,,\n", "says how many double cycles the run has"),
                                    ("drift", "speed,1,0,999900,,\n", "“speed” is none of doubles, start, length, delay"),
                                    ("params", "param,gMacroPerCycle,5000,,\n", "gives no such line")):
-            self.take("bench")
+            self.take("bench/run")
             self.run_in('selectTab("editor", "Files")')
             self.put(f"#file-{name}", text)
             told = self.refused()
@@ -438,28 +438,28 @@ class Page(Bench):
                 self.assertIn(wanted, told)
 
     def test_a_file_that_the_form_cannot_show_is_run_all_the_same(self):
-        self.take("offset")
+        self.take("offset/run")
         self.run_in('selectTab("editor", "Files")')
         quoted = (EXAMPLES / "offset" / "drift.csv").read_text().replace("doubles,2", '"doubles",2')
         self.put("#file-drift", quoted)
         self.settle()
-        self.assertEqual(self.text_of("report"), (EXAMPLES / "offset" / "printed.txt").read_text())
+        self.assertEqual(self.text_of("report"), (EXAMPLES / "offset" / "run" / "printed.txt").read_text())
         self.run_in('selectTab("editor", "Nodes")')
         self.assertIn("cannot show these files", self.run_in('$("editor-panel").innerText'))
 
     def test_gaps_are_told(self):
-        self.take("lost")
+        self.take("offset/lost")
         self.assertIn("no channel carries the frames of node 1 to node 2", self.run_in('$("verdict").innerText'))
 
     def bounds_of(self, name, *words):
         """What `flexray bound` prints of the parameters of an example."""
-        return subprocess.run([FLEXRAY, "bound", str(EXAMPLES / name / "params.csv"), *words], capture_output=True, text=True,
+        return subprocess.run([FLEXRAY, "bound", str(example_call(name).files[0]), *words], capture_output=True, text=True,
                               check=True).stdout
 
     def test_three_precisions_stand_beside_the_curve(self):
-        self.take("bench")
+        self.take("bench/run")
         told = self.run_in('$("precisions").innerText')
-        for text, size in ((self.bounds_of("bench", "sharp", "0"), 40000000), (self.bounds_of("bench"), 40000000)):
+        for text, size in ((self.bounds_of("bench/run", "sharp", "0"), 40000000), (self.bounds_of("bench/run"), 40000000)):
             for ticks in re.findall(r"^(?:\w+ )?precision (\d+)$", text, re.M):
                 self.assertIn(f"{int(ticks) / size:.3f} us", told)
         self.assertRegex(self.run_in('document.querySelector("#precisions strong").innerText'), "beside arbitrary nodes")
@@ -468,7 +468,7 @@ class Page(Bench):
 
     def test_checks_of_nodes_that_join(self):
         """The bounds are those of a cluster that nodes join, and whether C6 to C9 hold is told."""
-        for name in ("sharp-series-joins", "joins", "growing", "missed"):
+        for name in ("sharp/series-joins", "joins/run", "joins/growing", "joins/missed"):
             with self.subTest(name):
                 self.take(name)
                 texts = [self.bounds_of(name, "sharp", self.run_in("String(page.found.flutter)"), "join"), self.bounds_of(name, "join")]
@@ -486,7 +486,7 @@ class Page(Bench):
                 self.run_in('selectTab("answers", "Summary")')
 
     def test_keys(self):
-        self.take("offset")
+        self.take("offset/run")
         self.run_in('selectTab("editor", "Cluster"); $("tab-editor-Cluster").focus()')
         for key, wanted in (("ArrowRight", "Nodes"), ("ArrowLeft", "Cluster"), ("ArrowLeft", "TOML")):
             self.browser.key(key)
@@ -497,7 +497,7 @@ class Page(Bench):
         self.assertEqual(self.run_in("page.turn"), turn + 1)
 
     def test_every_field_has_a_name(self):
-        self.take("bench")
+        self.take("bench/run")
         for tab in self.run_in("Object.keys(EDITOR)"):
             self.run_in(f"selectTab('editor', {json.dumps(tab)})")
             self.assertEqual(self.run_in("[...document.querySelectorAll('#editor-panel input, #editor-panel select, #editor-panel "
@@ -509,7 +509,7 @@ class Page(Bench):
         self.addCleanup(self.browser.size, 1400, 1000)
         for width in (1400, 820, 390, 320):
             self.browser.size(width, 900)
-            for name in ("growing", "walk"):
+            for name in ("joins/growing", "sharp/walk"):
                 self.take(name)
                 for tab in self.run_in("Object.keys(EDITOR)"):
                     for answer in self.run_in("Object.keys(RESULTS)"):
@@ -519,7 +519,7 @@ class Page(Bench):
     def test_words_can_be_read_in_both_colours(self):
         """The contrast of what is written to what is behind it, as WCAG reckons it."""
         self.addCleanup(self.browser.dark, False)
-        self.take("lost")
+        self.take("offset/lost")
         contrast = """(() => {
             const light = (text) => { const parts = text.match(/[\\d.]+/g).slice(0, 3).map((one) => one / 255)
                 .map((one) => (one <= 0.04045 ? one / 12.92 : ((one + 0.055) / 1.055) ** 2.4));
@@ -541,7 +541,7 @@ class Page(Bench):
         self.assertIn("is covered by no proof", text)
 
     def test_a_long_run_can_be_stopped(self):
-        self.take("offset")
+        self.take("offset/run")
         self.run_in('selectTab("editor", "Cluster")')
         self.put("#doubles", "100000")
         self.browser.until('document.documentElement.dataset.state === "busy" && program.waiting.size === 1')
@@ -550,7 +550,7 @@ class Page(Bench):
         self.assert_stale("Stopped before it was computed", "")
         self.put("#doubles", "2")
         self.settle()
-        self.assertEqual(self.text_of("report"), (EXAMPLES / "offset" / "printed.txt").read_text())
+        self.assertEqual(self.text_of("report"), (EXAMPLES / "offset" / "run" / "printed.txt").read_text())
 
 
 class Builder(Bench):

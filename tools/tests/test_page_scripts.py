@@ -16,7 +16,7 @@ from pathlib import Path
 from typing import Any
 
 import mutations
-from bench import EXAMPLE, REPOSITORY, TOOLS, Bench
+from bench import EXAMPLE, REPOSITORY, TOOLS, Bench, ExampleCall, example_calls
 from mutated import Mutated
 from flexlab.base import files as flexlab_files, ranges
 from flexlab.base.ending import Stop
@@ -34,8 +34,8 @@ REASONS = ("Shape", "UnknownName", "NotNumber", "OutOfRange", "UnknownNode", "Ba
 OF_FLEXLAB = ("power[", "power:", "observer", "asc")
 
 
-def runs() -> list[Path]:
-    return [folder for folder in sorted(EXAMPLES.iterdir()) if (folder / "drift.csv").exists()]
+def runs() -> list[ExampleCall]:
+    return [call for call in example_calls() if len(call.files) == 3]
 
 
 @unittest.skipUnless(shutil.which("node"), "node is not installed: the Debian package is nodejs")
@@ -161,16 +161,16 @@ class Scripts(Bench):
     def test_mutated_files_of_records(self) -> None:
         """What the form shows of three files is what they say, or it says that it cannot; each refusal is explained."""
         mutated, shown = Mutated(SEED + 1), 0
-        folders = [folder for folder in runs() if (folder / "drift.csv").stat().st_size < 20000]
+        small = [call for call in runs() if call.files[1].stat().st_size < 20000]
         for number in range(COUNT):
-            folder = folders[number % len(folders)]
-            files = {name: (folder / f"{name}.csv").read_text() for name in FILES}
+            call = small[number % len(small)]
+            files = {name: path.read_text() for name, path in zip(FILES, call.files)}
             role = FILES[number % 3]
             files[role] = mutated.records(files[role])
             count = len([line for line in files[role].splitlines() if line])
             line = f"{role}: record {1 + mutated.chance.randrange(count + 2)}: {mutated.chance.choice(REASONS)}"
             found = self.ask("files", files=files, microtick="25", line=line)
-            told = f"seed {SEED}, number {number}, {folder.name}, {line}\n{files[role]}"
+            told = f"seed {SEED}, number {number}, {call.name}, {line}\n{files[role]}"
             self.assertLess(sum(map(len, found["told"])), 2500, told)
             if found["form"] == "object" and not found["wrong"]:
                 shown += 1

@@ -14,7 +14,7 @@ from concurrent.futures import ThreadPoolExecutor
 from fractions import Fraction
 from pathlib import Path
 
-from bench import FLEXRAY, REPOSITORY, SERIES, Bench, needs, needs_series
+from bench import FLEXRAY, REPOSITORY, SERIES, Bench, example_call, example_calls, needs, needs_series
 
 PACKAGE = os.path.join(REPOSITORY, "python")
 sys.path.insert(0, PACKAGE)
@@ -38,19 +38,12 @@ OFFSET = [Path(EXAMPLES, "offset", f"{name}.csv") for name in ("params", "drift"
 
 def examples():
     """(name, whether it is of flexray-series, words, files in the order of the words, status, text, line)."""
-    for folder in sorted(EXAMPLES.iterdir()):
-        if (folder / "words").exists():
-            words = (folder / "words").read_text().split("\n")[:-1]
-            files, spelt = [], []
-            for word in words:
-                if (folder / word).is_file():
-                    spelt.append(("first", "second", "third")[len(files)])
-                    files.append((folder / word).read_bytes())
-                else:
-                    spelt.append(word)
-            text, told, status = ((folder / name).read_text() if (folder / name).exists() else ""
-                                  for name in ("printed.txt", "told.txt", "status"))
-            yield folder.name, (folder / "program").exists(), spelt, files, int(status or 0), text, told.strip()
+    for call in example_calls():
+        spelt = list(call.words)
+        for path, name in zip(call.files, ("first", "second", "third")):
+            spelt[spelt.index(str(path.relative_to(call.folder)))] = name
+        yield (call.name, call.is_series, spelt, [path.read_bytes() for path in call.files], call.status, call.text.decode(),
+               call.line.decode().strip())
 
 
 class Index:
@@ -203,7 +196,7 @@ class Calls(Bench):
     def test_what_a_log_tells(self):
         params, log = (Path(EXAMPLES, "observe", f"{name}.csv") for name in ("params", "log"))
         found = flexray.observe(params, log)
-        self.assertEqual(found, texts.observation(Path(EXAMPLES, "observe", "printed.txt").read_text()))
+        self.assertEqual(found, texts.observation(Path(EXAMPLES, "observe", "observe", "printed.txt").read_text()))
         self.assertEqual(found.precision, flexray.bound(params).precision)
         self.assertEqual((found.faults, found.covered, found.sync, found.verdict),
                          ((), ("open",), ("0", "seen"), ("within", "0", "2")))
@@ -211,7 +204,7 @@ class Calls(Bench):
         self.assertEqual(found.numbers, ("sure",))
         odd = flexray.observe(params, re.sub("(head,5007000,)A(.*)", r"\1A\2\n\1B\2", log.read_text()))
         self.assertEqual(odd.faults, (flexray.ObservedFault(1, 1, "stranger", ("B", "5007000", "1", "-")),))
-        wrong = flexray.observe(*(Path(EXAMPLES, "observe-fault", f"{name}.csv") for name in ("params", "log")))
+        wrong = flexray.observe(*example_call("bench/fault").files)
         self.assertEqual(wrong.verdict, ("no", "11", "offset", "3"))
         self.assertEqual(wrong.faults[0], flexray.ObservedFault(11, 3, "offset", ("29", "32", "-12", "15")))
         silent = flexray.observe(params, re.sub("head,.*\n", "", log.read_text()))
@@ -228,7 +221,7 @@ class Calls(Bench):
         self.assertEqual(raised.exception.role, "log")
 
     def test_gaps_are_words(self):
-        report = flexray.run(*(Path(EXAMPLES, "lost", f"{name}.csv") for name in ("params", "drift", "script")))
+        report = flexray.run(*example_call("offset/lost").files)
         self.assertEqual((report.covered, report.gap[0]), (False, "link"))
 
     def test_bytes_texts_and_paths_are_the_same(self):
@@ -276,7 +269,7 @@ class Calls(Bench):
         self.assertRaises(ValueError, flexray.request, ["bound", "first\njoin"], OFFSET[0].read_bytes())
 
     def test_small_places(self):
-        text = (EXAMPLES / "offset" / "printed.txt").read_text()
+        text = (EXAMPLES / "offset" / "run" / "printed.txt").read_text()
         files = [path.read_bytes() for path in OFFSET]
         for room in (0, 1, len(text) - 1, len(text), len(text) + 1):
             self.assertEqual(flexray.request(["run", "first", "second", "third"], *files, room=room).text, text)
@@ -313,7 +306,7 @@ class Calls(Bench):
             thread.join()
         finally:
             threading.stack_size(before)
-        self.assertEqual(found, [(EXAMPLES / "bench" / "printed.txt").read_text()])
+        self.assertEqual(found, [(EXAMPLES / "bench" / "run" / "printed.txt").read_text()])
 
     def test_a_run_that_the_examples_do_not_have(self):
         """Where the programs are built: a long series, whose text does not fit the first place, and a trace."""
@@ -338,7 +331,7 @@ class Calls(Bench):
         for name in ("bench", "offset"):
             ended = subprocess.run([sys.executable, EXAMPLES / "python" / "run.py", EXAMPLES / name], capture_output=True, text=True,
                                    check=False, env=env)
-            self.assertEqual((ended.stdout, ended.stderr), ((EXAMPLES / name / "printed.txt").read_text(), ""))
+            self.assertEqual((ended.stdout, ended.stderr), ((EXAMPLES / name / "run" / "printed.txt").read_text(), ""))
         ended = subprocess.run([sys.executable, EXAMPLES / "python" / "study.py"], capture_output=True, text=True, check=False, env=env)
         self.assertEqual((ended.returncode, ended.stderr), (0, ""))
         self.assertIn("\n      100 %       yes     3.420 us", ended.stdout)
@@ -354,7 +347,7 @@ class Calls(Bench):
         env = {"PYTHONPATH": self.path("site"), "PATH": os.environ["PATH"]}
         ended = subprocess.run([sys.executable, "-c", "import flexray; print(flexray.make(7, 1).text, end=''); "
                                 "print(flexray.library.path())"], capture_output=True, text=True, check=True, env=env, cwd=self.room)
-        self.assertEqual(ended.stdout, (EXAMPLES / "make" / "printed.txt").read_text()
+        self.assertEqual(ended.stdout, (EXAMPLES / "make" / "short" / "printed.txt").read_text()
                          + os.path.realpath(self.path("site", "flexray", "libflexray.so.0")) + "\n")
 
 
@@ -487,13 +480,13 @@ class Alone(Bench):
         self.assertIn("tools/library builds it", ended.stdout)
 
     def test_irregular_frames_of_a_log(self):
-        lines = Path(EXAMPLES, "observe", "printed.txt").read_text().splitlines(keepends=True)
+        lines = Path(EXAMPLES, "observe", "observe", "printed.txt").read_text().splitlines(keepends=True)
         found = texts.observation("".join([*lines[:5], "fault,1,1,stranger,B,9,1,-\nfault,1,2,form,A,9,2,-\n", *lines[5:]]))
         self.assertEqual(found.faults, (flexray.ObservedFault(1, 1, "stranger", ("B", "9", "1", "-")),
                                         flexray.ObservedFault(1, 2, "form", ("A", "9", "2", "-"))))
 
     def test_what_an_observation_says(self):
-        text = Path(EXAMPLES, "observe", "printed.txt").read_text()
+        text = Path(EXAMPLES, "observe", "observe", "printed.txt").read_text()
         found = texts.observation(text)
         self.assertEqual((found.text, found.precision), (text, 252043600))
         self.assertEqual(found.log, flexray.LogCounts(8, 0, 0, 0, 0, 0))
@@ -533,7 +526,7 @@ class Alone(Bench):
     @needs_series
     def test_a_series_in_which_all_nodes_halt(self):
         """Where no node runs a skew is told all the same."""
-        files = [str(EXAMPLES / "walk" / f"{name}.csv") for name in ("params", "drift", "script")]
+        files = list(map(str, example_call("sharp/walk").files))
         for parse, words, last in ((texts.series, [], flexray.SeriesCycle(179, False, 0, 0)),
                                    (texts.sharp_series, ["sharp"], flexray.SeriesCycle(179, False, 0, 0, False))):
             text = subprocess.run([SERIES, *files, *words], capture_output=True, text=True, check=True).stdout
@@ -542,7 +535,7 @@ class Alone(Bench):
             self.assertEqual((told.greatest, told.synced, told.lost), (flexray.Skew(0, 0, 0), False, 3))
 
     def test_the_cycle_rows_of_a_trace(self):
-        text = Path(EXAMPLES, "trace", "printed.txt").read_text()
+        text = Path(EXAMPLES, "offset", "trace", "printed.txt").read_text()
         self.assertEqual(tuple(texts.cycle_rows(io.StringIO(text))), texts.trace(text).cycles)
         self.assertGreater(len(texts.trace(text).deviations), 0)
 
@@ -557,7 +550,7 @@ class Alone(Bench):
         for at, row in ((0, "greatest,5,-,7"), (2, "within,no,6,"), (2, "within,no,,"), (2, "within,yes,6,7")):
             given = [*ends[:at], row, *ends[at + 1:]]
             self.assertRaises(texts.Strange, texts.series, "\n".join(["cycle,in_sync,skew,macrotick", *given]))
-        lines = Path(EXAMPLES, "observe", "printed.txt").read_text().splitlines(keepends=True)
+        lines = Path(EXAMPLES, "observe", "observe", "printed.txt").read_text().splitlines(keepends=True)
         for at in (0, len(lines) - 4, len(lines) - 2, len(lines) - 1):
             self.assertRaises(ValueError, texts.observation, "".join(lines[:at] + lines[at + 1:]))
         self.assertRaises(ValueError, texts.observation, "".join(lines).replace("within", "beneath"))

@@ -38,7 +38,7 @@ class LittleRoom(unittest.TestCase):
 
     @needs_series
     def test_so_it_is_of_the_series(self) -> None:
-        seen = self.ends_whole(str(SERIES), "series", ["params.csv", "drift.csv", "script.csv"], resource.RLIMIT_STACK, range(160, 640, 16))
+        seen = self.ends_whole(str(SERIES), "offset", ["params.csv", "rates/drift.csv", "script.csv"], resource.RLIMIT_STACK, range(160, 640, 16))
         self.assertIn(0, seen)
 
 

@@ -81,8 +81,8 @@ class Examples(Bench):
     """What docs/PRECISION.md says of kept runs stands in their files."""
 
     def test_how_tight_it_is(self):
-        for name, least, most in (("edge", 98.8, 98.9), ("driven", 16.1, 16.2), ("driven-one", 40.3, 40.4),
-                                  ("driven-two", 57.5, 57.7), ("driven-bench", 39.9, 40.1)):
+        for name, least, most in (("offset/edge", 98.8, 98.9), ("worst/alone", 16.1, 16.2), ("worst/one", 40.3, 40.4),
+                                  ("worst/two", 57.5, 57.7), ("worst/bench", 39.9, 40.1)):
             with open(os.path.join(REPOSITORY, "examples", name, "printed.txt"), encoding="ascii") as file:
                 text = file.read()
             self.assertIn("\ncovered yes\nin sync 0\n", text)

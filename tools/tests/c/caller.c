@@ -16,6 +16,7 @@
 #include <stdio.h>
 #include <stdlib.h>
 #include <string.h>
+#include <sys/stat.h>
 #include <unistd.h>
 
 typedef struct {
@@ -57,8 +58,10 @@ static void *room_of(size_t size) {
     return block;
 }
 
+/* A folder is none, whatever a word of the call is called like. */
 static int whole(const char *name, piece *to) {
-    FILE *file = fopen(name, "rb");
+    struct stat told;
+    FILE *file = stat(name, &told) == 0 && S_ISREG(told.st_mode) ? fopen(name, "rb") : NULL;
     long length;
     if (!file) return 0;
     fseek(file, 0, SEEK_END);
