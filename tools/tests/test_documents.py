@@ -1,6 +1,10 @@
-"""tools/statement, tools/house, tools/promises and tools/prose, over a small repository that is written here."""
+"""tools/statement, tools/house, tools/promises and tools/prose, over a small repository that is written here; and tools/pictures."""
+import importlib.machinery
+import importlib.util
 import os
+import shutil
 import subprocess
+import sys
 import tempfile
 import textwrap
 import unittest
@@ -270,6 +274,66 @@ class Prose(Case):
         self.ends(0, "5,500 (at most 5,500)", "prose")
         self.write("CONTRIBUTING.md", "\n")
         self.ends(1, "5,501 lines, and at most 5,500 are allowed", "prose")
+
+
+class Pictures(unittest.TestCase):
+    def setUp(self):
+        room = tempfile.TemporaryDirectory()
+        self.addCleanup(room.cleanup)
+        self.top, here = room.name, os.path.dirname(TOOLS)
+        shutil.copy(os.path.join(here, "crates.txt"), self.top)
+        shutil.copytree(os.path.join(here, "examples"), os.path.join(self.top, "examples"))
+        os.mkdir(os.path.join(self.top, "docs"))
+        for name in os.listdir(os.path.join(here, "docs")):
+            if name.endswith(".svg"):
+                shutil.copy(os.path.join(here, "docs", name), os.path.join(self.top, "docs"))
+
+    def check(self):
+        """What it tells of the pictures that are not as they would be drawn."""
+        ran = subprocess.run([os.path.join(TOOLS, "pictures"), "--check", "--top", self.top], capture_output=True, text=True, check=False)
+        self.assertEqual(ran.returncode, 1 if ran.stderr else 0, ran.stderr)
+        return ran.stderr
+
+    def change(self, path, old, new):
+        path = os.path.join(self.top, path)
+        with open(path, encoding="utf-8") as file:
+            text = file.read()
+        self.assertIn(old, text)
+        with open(path, "w", encoding="utf-8") as file:
+            file.write(text.replace(old, new, 1))
+
+    def test_they_are_as_they_are_drawn(self):
+        self.assertEqual(self.check(), "")
+
+    def test_each_is_drawn_of_its_numbers(self):
+        for path, old, new, told in (
+            ("crates.txt", "fr_nm: fr_base fr_crc fr_text fr_frame fr_program csv", "fr_nm: fr_base csv", "docs/crates.svg"),
+            ("examples/offset/trace/printed.txt", "dev,0,2,1,A,-3", "dev,0,2,1,A,-2", "docs/double-cycle.svg"),
+            ("examples/observe/log.csv", "head,37062,", "head,37052,", "docs/observer.svg"),
+            ("examples/joins/script.csv", "join,1,3,1", "join,2,3,1", "docs/joining.svg"),
+            ("examples/sharp/burst/printed.txt", "28,yes,47382720", "28,yes,57382720", "docs/burst.svg"),
+            ("examples/sharp/burst/script.csv", "lose,12,", "lose,16,", "docs/burst.svg"),
+            ("examples/sharp/burst/printed.txt", "sharp covered,no", "sharp covered,yes", "examples/sharp/burst does not print"),
+            ("crates.txt", "fr_nm: ", "fr_new: ", "of no group, or of no line of crates.txt: fr_new, fr_nm"),
+            ("docs/promises.svg", "burst", "first", "docs/promises.svg is not as it would be drawn"),
+        ):
+            with self.subTest(told=told, new=new):
+                kept = os.path.join(self.top, "kept")
+                shutil.copy(os.path.join(self.top, path), kept)
+                self.change(path, old, new)
+                self.assertIn(told, self.check())
+                shutil.copy(kept, os.path.join(self.top, path))
+
+    def test_the_numbers_of_losses(self):
+        loader = importlib.machinery.SourceFileLoader("pictures", os.path.join(TOOLS, "pictures"))
+        sys.dont_write_bytecode = True
+        pictures = importlib.util.module_from_spec(importlib.util.spec_from_loader("pictures", loader))
+        loader.exec_module(pictures)
+        params = pictures.Files(self.top).params("sharp")
+        # Those of docs/PRECISION.md, "Where frames are lost", computed there from the definitions, with a flutter of 250 ticks.
+        self.assertEqual(pictures.bounds(params, 250, [True, False, True]), [36005494, 48007094, 75011786])
+        # Behind three double cycles in which all is heard it is the precision again.
+        self.assertEqual(pictures.bounds(params, 0, [False, True, True, True])[0::3], [48005594, 36003994])
 
 
 if __name__ == "__main__":
