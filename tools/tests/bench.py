@@ -32,8 +32,8 @@ with open(os.path.join(REPOSITORY, "python", "flexlab", "toml", "example.toml"),
 
 
 class ExampleCall(NamedTuple):
-    """A call of examples/SUBJECT/CALL: its name as SUBJECT/CALL, the folder of its subject, from which its words name files, and
-    what the program ends with."""
+    """A call of examples/SUBJECT/CALL: its name as SUBJECT/CALL, its folder, from which its words name files, and what the program
+    ends with."""
     name: str
     folder: Path
     words: list[str]
@@ -52,7 +52,7 @@ def example_calls() -> Iterator[ExampleCall]:
     for words in sorted(Path(REPOSITORY, "examples").glob("*/*/words")):
         call = words.parent
         status, text, line = ((call / part).read_bytes() if (call / part).exists() else b"" for part in ("status", "printed.txt", "told.txt"))
-        yield ExampleCall(f"{call.parent.name}/{call.name}", call.parent, words.read_text("utf-8").splitlines(), (call / "program").exists(),
+        yield ExampleCall(f"{call.parent.name}/{call.name}", call, words.read_text("utf-8").splitlines(), (call / "program").exists(),
                           int(status or 0), text, line)
 
 

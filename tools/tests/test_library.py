@@ -175,8 +175,8 @@ int main(void) {
         one = example_call("frame/capture")
         found = re.findall(r"^at (\d+) id (\d+)", one.text.decode(), re.M)
         end = re.search(r"^frames 2 bytes (\d+)$", one.text.decode(), re.M).group(1)
-        bytes_given = os.path.getsize(os.path.join(one.folder, "capture.bin"))
-        told = self.fine(self.call(self.compile(), "pieces", ["capture.bin"], one.folder))
+        bytes_given = one.files[0].stat().st_size
+        told = self.fine(self.call(self.compile(), "pieces", [str(one.files[0])], one.folder))
         wanted = " ".join(f"{place}/{number}" for place, number in found)
         self.assertEqual(told, "".join(f"{size}: {wanted} then 1 at {end} of {bytes_given}\n" for size in (1, 7, 100, 4096)))
 

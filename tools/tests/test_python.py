@@ -39,9 +39,8 @@ OFFSET = [Path(EXAMPLES, "offset", f"{name}.csv") for name in ("params", "drift"
 def examples():
     """(name, whether it is of flexray-series, words, files in the order of the words, status, text, line)."""
     for call in example_calls():
-        spelt = list(call.words)
-        for path, name in zip(call.files, ("first", "second", "third")):
-            spelt[spelt.index(str(path.relative_to(call.folder)))] = name
+        names = iter(("first", "second", "third"))
+        spelt = [next(names) if (call.folder / word).is_file() else word for word in call.words]
         yield (call.name, call.is_series, spelt, [path.read_bytes() for path in call.files], call.status, call.text.decode(),
                call.line.decode().strip())
 

@@ -16,7 +16,6 @@
 #include <stdio.h>
 #include <stdlib.h>
 #include <string.h>
-#include <sys/stat.h>
 #include <unistd.h>
 
 typedef struct {
@@ -58,10 +57,8 @@ static void *room_of(size_t size) {
     return block;
 }
 
-/* A folder is none, whatever a word of the call is called like. */
 static int whole(const char *name, piece *to) {
-    struct stat told;
-    FILE *file = stat(name, &told) == 0 && S_ISREG(told.st_mode) ? fopen(name, "rb") : NULL;
+    FILE *file = fopen(name, "rb");
     long length;
     if (!file) return 0;
     fseek(file, 0, SEEK_END);
