@@ -101,7 +101,7 @@ def near_oscillators(draw, doubles):
     """A network in which an offset term of node 1 that is a microtick too great is told soon, seen to 1 ns: its oscillator is
     16 ppm faster than that of node 2, and that one as much faster than that of node 3. Their cycles lie some 3.2 microticks
     apart, which the damping of 3 takes for no difference mostly, so the rate term of node 1 is now 0, now 1. The action
-    points lie at fifths of the cycle: see docs/OBSERVE.md."""
+    points lie at fifths of the cycle: see bench/figures.md."""
     middle = MILLION + draw.randrange(-150, 151)
     return Network([34, 150, 84], [middle - 16, middle, middle + 16], [draw.randrange(3 * MILLION) for _ in range(3)], doubles)
 

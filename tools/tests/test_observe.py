@@ -619,7 +619,7 @@ class Observed(Bench):
         return [found[at:at + count] for at in range(0, len(found), count)]
 
     def test_one_microtick_too_many(self):
-        """A node that corrects its offset by one microtick too many, in the network of docs/OBSERVE.md: it is told of this
+        """A node that corrects its offset by one microtick too many, in the network of bench/figures.md: it is told of this
         node in each double cycle behind which its rate term falls, which is one in five, and in no other one."""
         for seed in range(6):
             with self.subTest(seed=seed):
