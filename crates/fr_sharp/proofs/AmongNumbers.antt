@@ -23,7 +23,7 @@ unfolding lost_spread
 lost_spread_goes p flutter whole k = goes_by (whole k) p flutter (lost_spread p flutter whole k)
 
 -- the next numbers, where it is known what is heard
-next_is : (p : Values) (flutter : ℕ) (whole : ℕ → Bool) (k : ℕ) (heard : Bool) → whole k ≡ heard → lost_spread p flutter whole (suc k) ≡ next_lost_spread heard p flutter (lost_spread p flutter whole k)
+pub next_is : (p : Values) (flutter : ℕ) (whole : ℕ → Bool) (k : ℕ) (heard : Bool) → whole k ≡ heard → lost_spread p flutter whole (suc k) ≡ next_lost_spread heard p flutter (lost_spread p flutter whole k)
 unfolding lost_spread
 next_is p flutter whole k heard is = ap (λ b. next_lost_spread b p flutter (lost_spread p flutter whole k)) is
 
@@ -38,14 +38,14 @@ heard_again p flutter whole k first second =
 -- ---- at least one of any two
 
 -- after one in which all is heard, or at first: starts within pi and lambda, but for a microtick, and lengths within lambda
-record IsCalm (p : Values) (flutter : ℕ) (s : Spread) : Type 0 where
-  start : s.starts + longest_micro p ≤ sharp_pi false p flutter + sharp_lambda false p flutter
-  long : s.lengths ≡ sharp_lambda false p flutter
+pub record IsCalm (p : Values) (flutter : ℕ) (s : Spread) : Type 0 where
+  pub start : s.starts + longest_micro p ≤ sharp_pi false p flutter + sharp_lambda false p flutter
+  pub long : s.lengths ≡ sharp_lambda false p flutter
 
 -- after one in which something was lost
-record IsStirred (p : Values) (flutter : ℕ) (s : Spread) : Type 0 where
-  start : s.starts + longest_micro p ≤ sharp_pi false p flutter + 3 * sharp_lambda false p flutter + 2 * cycle_change p + 2 * arrival_error p + 3 * longest_micro p
-  long : s.lengths + longest_micro p ≡ 2 * sharp_lambda false p flutter
+pub record IsStirred (p : Values) (flutter : ℕ) (s : Spread) : Type 0 where
+  pub start : s.starts + longest_micro p ≤ sharp_pi false p flutter + 3 * sharp_lambda false p flutter + 2 * cycle_change p + 2 * arrival_error p + 3 * longest_micro p
+  pub long : s.lengths + longest_micro p ≡ 2 * sharp_lambda false p flutter
 
 lambda_is : (p : Values) (flutter : ℕ)
     → sharp_lambda false p flutter ≡ 2 * steady_error p flutter + longest_micro p + 2 * (amount p name.pClusterDriftDamping * longest_micro p) + 2 * cycle_change p
@@ -82,7 +82,7 @@ stirred_long : (p : Values) (flutter : ℕ) (s : Spread) → IsStirred p flutter
 stirred_long p flutter s stirred = omega (arith, stirred.long)
 
 -- each is calm, or stirred and then all is heard in it
-Holds : (p : Values) (flutter : ℕ) (whole : ℕ → Bool) (k : ℕ) → Type 0
+unfoldable pub Holds : (p : Values) (flutter : ℕ) (whole : ℕ → Bool) (k : ℕ) → Type 0
 Holds p flutter whole k = IsCalm p flutter (lost_spread p flutter whole k) ⊎ (IsStirred p flutter (lost_spread p flutter whole k) × (whole k ≡ true))
 
 first_calm : (p : Values) (flutter : ℕ) (whole : ℕ → Bool) → IsCalm p flutter (lost_spread p flutter whole zero)
@@ -95,7 +95,7 @@ first_calm p flutter whole = record {
     step : (pi lam e q c j : ℕ) → lam ≡ 2 * e + q + 2 * c + 2 * j → pi + q ≤ pi + lam
     step pi lam e q c j is = omega (arith, is)
 
-holds : (p : Values) (flutter : ℕ) (whole : ℕ → Bool) → ((k : ℕ) → (whole k ≡ true) ⊎ (whole (suc k) ≡ true)) → (k : ℕ) → Holds p flutter whole k
+pub holds : (p : Values) (flutter : ℕ) (whole : ℕ → Bool) → ((k : ℕ) → (whole k ≡ true) ⊎ (whole (suc k) ≡ true)) → (k : ℕ) → Holds p flutter whole k
 unfolding Holds
 holds p flutter whole one zero = inl (first_calm p flutter whole)
 holds p flutter whole one (suc k) = by (holds p flutter whole one k)

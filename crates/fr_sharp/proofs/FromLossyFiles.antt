@@ -1,5 +1,5 @@
 -- The run that files decide where frames are lost: it is as the law of losses asks for, so it keeps to the numbers by what is heard.
-use Rattle.std.proofs.Common.{◌≡◌, ◌⊎◌, ℕ, zero, suc, ◌+◌, ◌*◌, ◌<◌, ◌≤◌, ◌==◌, Bool, true, false, not, ◌&&◌, ◌||◌, Option, Some, None, List, [], ◌∷◌, refl, ap, sym, ◌∙◌, subst, inl, inr, arith, add-one}
+use Rattle.std.proofs.Common.{◌≡◌, ◌⊎◌, ℕ, ◌+◌, ◌*◌, ◌<◌, ◌≤◌, ◌==◌, Bool, true, false, not, ◌&&◌, ◌||◌, Option, Some, None, List, [], ◌∷◌, refl, ap, sym, ◌∙◌, subst, inl, inr, arith, add-one}
 use Rattle.std.specs.Prelude.{Contains, is_some}
 use Rattle.std.specs.List.{list_all, list_any}
 use Rattle.std.proofs.lemmas.Bool.{and_parts, eq-eqb, ne_eqb, not-true, or_cases}
@@ -12,11 +12,8 @@ use Rattle.fr_cluster.proofs.KeyNodes.{Contains-cons_cases}
 use Rattle.fr_cluster.proofs.Elements.{Contains-here, Contains-there}
 use Rattle.fr_cluster.specs.Questions.{has_channel}
 use Rattle.fr_cluster.specs.Setting.{is_correct}
-use Rattle.fr_cluster.specs.Values.{Values, amount}
-use Rattle.fr_cluster.specs.declared.names.ParamName.TheVariants as name
+use Rattle.fr_cluster.specs.Values.{Values}
 use Rattle.fr_cluster.specs.declared.nodes.NodeSpec.{NodeSpec}
-use Rattle.fr_bound.specs.Bounds.{arrival_error, cycle_change, longest_micro}
-use Rattle.fr_bound.specs.declared.settling.Spread.{Spread}
 use Rattle.fr_drift.specs.Questions.{doubles_of}
 use Rattle.fr_drift.specs.View.{DriftView}
 use Rattle.fr_script.specs.Events.{event_of}
@@ -26,14 +23,14 @@ use Rattle.fr_coverage.specs.Flutter.{flutter_of}
 use Rattle.fr_coverage.specs.Links.{is_carried, is_carried_on, is_free, is_link, is_regular, is_sync, shares}
 use Rattle.fr_runs.specs.Links.{IsCarried, IsLinked}
 use Rattle.fr_runs.proofs.Nodes.{correct_node}
-use Rattle.fr_sharp.specs.Among.{lost_spread, next_lost_spread}
+use Rattle.fr_sharp.specs.Among.{lost_spread}
 use Rattle.fr_sharp.specs.Losses.{HearsSome, NoneIsDeaf}
 use Rattle.fr_sharp.specs.LossStatement.{hears_in, whole_in, without_losses, CoveredFilesKeepThroughLosses, FilesKeepThroughLosses, LaterIsNoFurther, LossyFilesGiveRuns}
-use Rattle.fr_sharp.specs.SharpBounds.{sharp_lambda, sharp_pi, steady_error}
 use Rattle.fr_sharp.specs.SharpSettling.{sharply_near_in}
 use Rattle.fr_sharp.specs.SteadyRuns.{IsTimedSetting, IsWhole, MayHaveArbitrary}
 use Rattle.fr_sharp.proofs.FromFiles.{arbitrary_is_told, files_are_steady}
 use Rattle.fr_sharp.proofs.JoinBounds.{near_grows}
+use Rattle.fr_sharp.proofs.LossOrder.{later_below}
 use Rattle.fr_sharp.proofs.LostHistories.{histories_keep_through_losses_lem}
 
 -- ---- lists
@@ -166,81 +163,6 @@ lossy_files_give_runs p d s flutter reach h sane covered run =
     }
 
 -- ---- numbers from a later double cycle on
-
-record IsBelow (s t : Spread) : Type 0 where
-  start : s.starts ≤ t.starts
-  long : s.lengths ≤ t.lengths
-
-module _ (p : Values) (flutter : ℕ) where
-  next_below : (whole : Bool) (s t : Spread) → IsBelow s t → IsBelow (next_lost_spread whole p flutter s) (next_lost_spread whole p flutter t)
-  next_below true s t below = record {
-    start = clean s.lengths t.lengths (cycle_change p) (arrival_error p) (longest_micro p) below.long;
-    long = itself (sharp_lambda false p flutter);
-  }
-    where
-      clean : (l m j e q : ℕ) → l ≤ m → (l + 2 * j) + 2 * e + 3 * q ≤ (m + 2 * j) + 2 * e + 3 * q
-      clean l m j e q le = omega (arith, le)
-
-      itself : (n : ℕ) → n ≤ n
-      itself n = omega arith
-  next_below false s t below = record {
-    start = lost s.starts s.lengths t.starts t.lengths (cycle_change p) (arrival_error p) (longest_micro p) below.start below.long;
-    long = longer s.lengths t.lengths (2 * steady_error p flutter + 2 * (amount p name.pClusterDriftDamping * longest_micro p) + 2 * cycle_change p) below.long;
-  }
-    where
-      lost : (s l t m j e q : ℕ) → s ≤ t → l ≤ m → s + l + (l + 2 * j) + 2 * e + 3 * q ≤ t + m + (m + 2 * j) + 2 * e + 3 * q
-      lost s l t m j e q a b = omega (arith, a, b)
-
-      longer : (l m n : ℕ) → l ≤ m → l + n ≤ m + n
-      longer l m n le = omega (arith, le)
-
-  abbrev calm : Spread
-  calm = record { starts = sharp_pi false p flutter; lengths = sharp_lambda false p flutter }
-
-  -- none is less than in sharp sync
-  next_calm : (whole : Bool) → IsBelow calm (next_lost_spread whole p flutter calm)
-  next_calm true = record { start = itself (sharp_pi false p flutter); long = itself (sharp_lambda false p flutter) }
-    where
-      itself : (n : ℕ) → n ≤ n
-      itself n = omega arith
-  next_calm false = record {
-    start = more (sharp_lambda false p flutter) (cycle_change p) (arrival_error p) (longest_micro p);
-    long = longer (sharp_lambda false p flutter) (2 * steady_error p flutter + 2 * (amount p name.pClusterDriftDamping * longest_micro p) + 2 * cycle_change p);
-  }
-    where
-      more : (l j e q : ℕ) → (l + 2 * j) + 2 * e + 3 * q ≤ ((l + 2 * j) + 2 * e + 3 * q) + l + (l + 2 * j) + 2 * e + 3 * q
-      more l j e q = omega arith
-
-      longer : (l n : ℕ) → l ≤ l + n
-      longer l n = omega arith
-
-  through : (s t u : Spread) → IsBelow s t → IsBelow t u → IsBelow s u
-  through s t u one other = record { start = both s.starts t.starts u.starts one.start other.start; long = both s.lengths t.lengths u.lengths one.long other.long }
-    where
-      both : (a b c : ℕ) → a ≤ b → b ≤ c → a ≤ c
-      both a b c d e = omega (arith, d, e)
-
-  never_less : (whole : ℕ → Bool) (k : ℕ) → IsBelow calm (lost_spread p flutter whole k)
-  unfolding lost_spread
-  never_less whole zero = record { start = itself (sharp_pi false p flutter); long = itself (sharp_lambda false p flutter) }
-    where
-      itself : (n : ℕ) → n ≤ n
-      itself n = omega arith
-  never_less whole (suc k) =
-      through calm (next_lost_spread (whole k) p flutter calm) (next_lost_spread (whole k) p flutter (lost_spread p flutter whole k)) (next_calm (whole k))
-      (next_below (whole k) calm (lost_spread p flutter whole k) (never_less whole k))
-
-  later_below : (whole : ℕ → Bool) (double k : ℕ) → IsBelow (lost_spread p flutter (λ m. whole (double + m)) k) (lost_spread p flutter whole (double + k))
-  unfolding lost_spread
-  later_below whole double zero =
-      let same : double ≡ double + 0 = omega arith in
-      let At : ℕ → Type 0 = λ n. IsBelow calm (lost_spread p flutter whole n) in
-      subst At same (never_less whole double)
-  later_below whole double (suc k) =
-      let same : suc (double + k) ≡ double + suc k = omega arith in
-      let At : ℕ → Type 0 = λ n. IsBelow (next_lost_spread (whole (double + k)) p flutter (lost_spread p flutter (λ m. whole (double + m)) k)) (lost_spread p flutter whole n) in
-      subst At same
-      (next_below (whole (double + k)) (lost_spread p flutter (λ m. whole (double + m)) k) (lost_spread p flutter whole (double + k)) (later_below whole double k))
 
 pub later_is_no_further : LaterIsNoFurther
 later_is_no_further p flutter whole double k = let below = later_below p flutter whole double k in (below.start, below.long)

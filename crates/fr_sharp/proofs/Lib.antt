@@ -13,6 +13,11 @@ pub mod HearingLemmas
 pub mod StepLemmas
 pub mod AmongSteps
 pub mod AmongNumbers
+pub mod DigitTexts
+pub mod LossOrder
+pub mod LossLemmas
+pub mod LossNumbers
+pub mod LossRows
 pub mod RoundLemmas
 pub mod HeardInPart
 pub mod SettlingLemmas

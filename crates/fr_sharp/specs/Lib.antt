@@ -9,6 +9,8 @@ pub mod Hearing
 pub mod JoinedFiles
 pub mod JoinedHistories
 pub mod Lengths
+pub mod LossCosts
+pub mod LossSteps
 pub mod Losses
 pub mod LossStatement
 pub mod LongRun

@@ -173,7 +173,7 @@ fn share(params: &Params, ticks: u64) -> u64
     last_action(params) * ticks / macros
 }
 
-fn last_action(params: &Params) -> u64
+pub(crate) fn last_action(params: &Params) -> u64
     ensures value { result ≡ last_action params.now }
     ensures within { result ≤ amount params.now name.gMacroPerCycle }
 {

@@ -1,0 +1,19 @@
+use Rattle.std.proofs.Common.{◌≡◌, ◌∙◌, ℕ, false, ap, sym, arith}
+use Rattle.fr_sharp.specs.Among.{lost_spread, next_lost_spread}
+use Rattle.fr_sharp.proofs.LossNumbers.{never, never_more, same_yet}
+use Rattle.fr_sharp.proofs.loss_costs.behind.Goals as goal
+
+pub loop-double-preserved : goal.loop-double-preserved
+loop-double-preserved c =
+    let p = c.args.params.now in
+    let was = c.loop-double.invariant in
+    record {
+      spread = c.step.ensures.spread ∙ ap (next_lost_spread false p c.args.flutter) was.spread ∙ never_more p c.args.flutter c.loop-double._double;
+      passed = omega (arith, c.step.ensures.passed, was.passed);
+    }
+
+pub returns : goal.returns
+returns c =
+    let p = c.args.params.now in
+    let end : c.loop-double._double ≡ c.args.count = omega (arith, c.loop-double.auto._double-end, c.loop-double-test.false) in
+    c.loop-double.invariant.spread ∙ ap (λ (n : ℕ). lost_spread p c.args.flutter never n) end ∙ sym (same_yet p c.args.flutter c.args.count c.args.count (omega arith))

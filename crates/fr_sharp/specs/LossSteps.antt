@@ -1,0 +1,36 @@
+-- How far clocks may lie apart through losses, from one double cycle to the next, in ticks.
+use Rattle.std.specs.Prelude.{ℕ, ◌+◌, ◌*◌, ◌≤◌, max, Bool}
+use Rattle.fr_cluster.specs.Values.{Values}
+use Rattle.fr_bound.specs.Bounds.{longest_micro}
+use Rattle.fr_bound.specs.declared.settling.Spread.{Spread}
+use Rattle.fr_sharp.specs.Among.{next_lost_spread}
+use Rattle.fr_sharp.specs.SharpBounds.{precision_by}
+
+-- how far starts and even lengths may lie apart
+abbrev pub spread_of : ℕ → ℕ → Spread
+spread_of starts lengths = record { starts = starts; lengths = lengths }
+
+-- so far in a double cycle, and how many passed before it since one in sharp sync
+pub record LossDouble : Type 0 where
+  pub spread : Spread
+  pub passed : ℕ
+
+-- no more may pass
+abbrev pub most_passed : ℕ
+most_passed = 1_000_000
+
+-- in so many the numbers grow no further than so
+pub record IsReckoned (starts lengths passed : ℕ) : Type 0 where
+  pub few : passed ≤ 1_000_000
+  pub starts_fit : starts ≤ 43_000_000_000 + passed * 30_000_000_000_000_000
+  pub lengths_fit : lengths ≤ 13_000_000_000 + passed * 13_000_000_000
+
+-- nothing lies further apart than this, in ticks, and no reach may be greater
+abbrev pub most_lost : ℕ
+most_lost = 100_000_000_000_000_000_000_000
+
+-- how far macroticks may lie apart in a double cycle, by whether all is heard in it: as far as its starts and lengths say, or
+-- as the next starts do
+abbrev pub apart_by : Bool → Values → ℕ → Spread → ℕ
+apart_by whole p flutter s =
+    max (precision_by p s.starts s.lengths) ((next_lost_spread whole p flutter s).starts + longest_micro p)

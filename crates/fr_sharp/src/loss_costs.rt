@@ -1,0 +1,106 @@
+ghost use Rattle.std.specs.Prelude.{◌≡◌, ◌≤◌, ◌<◌, ◌+◌, ◌-◌, None, Some};
+ghost use Rattle.fr_sharp.specs.Among.{lost_spread};
+ghost use Rattle.fr_sharp.specs.LossCosts.{IsLongest, IsLossCost, IsSecondCost, heard_behind};
+ghost use Rattle.fr_sharp.specs.LossSteps.{most_lost};
+ghost use Rattle.fr_sharp.specs.SharpBounds.{most_flutter};
+
+use crate::loss_checks::limits_hold;
+use crate::loss_steps::LossSpread;
+use fr_cluster::{ParamName, Params};
+
+/// What it costs, in ticks, where any frames may be lost in so many double cycles in a row, from one in sharp sync on
+/// without arbitrary sync nodes.
+#[derive(Clone, Copy, Debug, PartialEq, Eq)]
+pub struct LossCost {
+    /// How far macroticks may lie apart in these double cycles and behind them.
+    pub peak: u128,
+    /// How far instants of the same action point may lie apart there.
+    pub reach: u128,
+    /// From which double cycle on, counted from the first of them, macroticks lie no further apart than the sharper
+    /// precision.
+    pub back: u32,
+}
+
+/// What it costs, in ticks, where they may be lost in every second double cycle for ever.
+#[derive(Clone, Copy, Debug, PartialEq, Eq)]
+pub struct SecondCost {
+    /// How far macroticks may lie apart.
+    pub peak: u128,
+    /// How far instants of the same action point may lie apart.
+    pub reach: u128,
+}
+
+/// What it costs where any frames may be lost in so many double cycles in a row, 1 to 1000, and delays flutter by no more
+/// than so many ticks, 0 to 1,000,000,000.
+pub fn loss_cost(params: &Params, flutter: u64, count: u32) -> LossCost
+    requires from { 1 ≤ count }
+    requires to { count ≤ 1000 }
+    requires flutter { flutter ≤ most_flutter }
+    ensures is { IsLossCost params.now flutter count result }
+    ensures soon { result.back ≡ count + 2 }
+    ensures most { result.reach ≤ most_lost }
+{
+    let _macros = params.value(ParamName::gMacroPerCycle);
+    let spread = behind(params, flutter, count);
+    LossCost {
+        peak: spread.apart(params, flutter, true),
+        reach: spread.near(params),
+        back: count + 2,
+    }
+}
+
+// The spread behind so many double cycles in which anything may be lost.
+fn behind(params: &Params, flutter: u64, count: u32) -> LossSpread
+    requires count { count ≤ 1000 }
+    requires flutter { flutter ≤ most_flutter }
+    ensures { result.spread ≡ lost_spread params.now flutter (heard_behind count) count }
+{
+    let mut spread = LossSpread::first(params, flutter);
+    for _double in 0..count {
+        spread.step(params, flutter, false);
+    }
+    spread
+}
+
+/// What it costs where they may be lost in every second double cycle, so that of any two adjacent ones all is heard in
+/// one, and delays flutter by no more than so many ticks, 0 to 1,000,000,000.
+pub fn every_second_cost(params: &Params, flutter: u64) -> SecondCost
+    requires { flutter ≤ most_flutter }
+    ensures is { IsSecondCost params.now flutter result }
+    ensures most { result.reach ≤ most_lost }
+{
+    let _macros = params.value(ParamName::gMacroPerCycle);
+    let mut spread = LossSpread::first(params, flutter);
+    spread.step(params, flutter, false);
+    spread.step(params, flutter, true);
+    spread.step(params, flutter, false);
+    SecondCost {
+        peak: spread.apart(params, flutter, true),
+        reach: spread.near(params),
+    }
+}
+
+/// In how many double cycles in a row any frames may be lost so that the checks of the limits hold with the reach of that,
+/// 0 to 98; none where they fail though nothing is lost. Delays flutter by no more than so many ticks, 0 to 1,000,000,000.
+pub fn longest_loss(params: &Params, flutter: u64) -> Option<u32>
+    requires { flutter ≤ most_flutter }
+    ensures { IsLongest params.now flutter result }
+{
+    let _macros = params.value(ParamName::gMacroPerCycle);
+    let mut spread = LossSpread::first(params, flutter);
+    for count in 0..100 {
+        if !limits_hold(params, flutter, spread.near(params)) {
+            return before(count);
+        }
+        spread.step(params, flutter, false);
+    }
+    unreachable!()
+}
+
+// The number before this one.
+fn before(count: u32) -> Option<u32>
+    ensures none { count ≡ 0 → result ≡ None }
+    ensures some { 0 < count → result ≡ Some (count - 1) }
+{
+    if count == 0 { None } else { Some(count - 1) }
+}

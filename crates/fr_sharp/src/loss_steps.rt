@@ -1,0 +1,141 @@
+ghost use Rattle.std.specs.Prelude.{Bool, ℕ, ◌≡◌, ◌≤◌, ◌<◌, ◌+◌, ◌*◌, ◌/◌};
+ghost use Rattle.fr_bound.specs.Bounds.{cycle_change, longest_micro};
+ghost use Rattle.fr_cluster.specs.Values.{amount};
+ghost use Rattle.fr_cluster.specs.declared.names.ParamName.TheVariants as name;
+ghost use Rattle.fr_sharp.specs.Among.{lost_spread, next_lost_spread};
+ghost use Rattle.fr_sharp.specs.LossSteps.{LossDouble, IsReckoned, apart_by, most_lost, most_passed, spread_of};
+ghost use Rattle.fr_sharp.specs.SharpBounds.{last_action, most_flutter, odd_spread, precision_by, steady_error};
+ghost use Rattle.fr_sharp.specs.SharpSettling.{sharply_near_in};
+
+use crate::bounding::{lambda, last_action, pi, steady_error};
+use fr_bound::{arrival_error, cycle_change, longest_microtick};
+use fr_cluster::{ParamName, Params};
+use std::marker::Model;
+
+/// How far starts and even lengths may lie apart in a double cycle by what was heard since one in sharp sync, without
+/// arbitrary sync nodes, in ticks; and how many double cycles passed since then.
+#[derive(Drop)]
+pub struct LossSpread {
+    starts: u128,
+    lengths: u128,
+    passed: u32,
+}
+
+impl Model for LossSpread {
+    ghost Value = { LossDouble };
+
+    ghost view = { λ s. record { spread = spread_of s.starts s.lengths; passed = s.passed } };
+
+    ghost invariant = { λ s. IsReckoned s.starts s.lengths s.passed };
+}
+
+impl LossSpread {
+    /// That of a double cycle in sharp sync, where delays flutter by no more than so many ticks, 0 to 1,000,000,000.
+    pub fn first(params: &Params, flutter: u64) -> LossSpread
+        requires { flutter ≤ most_flutter }
+        ensures spread { (whole : ℕ → Bool) → result.spread ≡ lost_spread params.now flutter whole 0 }
+        ensures passed { result.passed ≡ 0 }
+    {
+        LossSpread {
+            starts: u128::from(pi(params, false, flutter)),
+            lengths: u128::from(lambda(params, false, flutter)),
+            passed: 0,
+        }
+    }
+
+    /// Goes on to the next double cycle, by whether all is heard in this one; up to 1,000,000 may pass.
+    pub fn step(&mut self, params: &Params, flutter: u64, whole: bool)
+        requires few { self.old.passed < most_passed }
+        requires flutter { flutter ≤ most_flutter }
+        ensures spread { self.new.spread ≡ next_lost_spread whole params.now flutter self.old.spread }
+        ensures passed { self.new.passed ≡ self.old.passed + 1 }
+    {
+        let (starts, lengths) = next(params, flutter, whole, self.starts, self.lengths);
+        self.starts = starts;
+        self.lengths = lengths;
+        self.passed += 1;
+    }
+
+    /// How far macroticks may lie apart in this double cycle, by whether all is heard in it, in ticks.
+    pub fn apart(&self, params: &Params, flutter: u64, whole: bool) -> u128
+        requires { flutter ≤ most_flutter }
+        ensures value { result ≡ apart_by whole params.now flutter self.now.spread }
+        ensures most { result ≤ most_lost }
+    {
+        let (next_starts, _) = next(params, flutter, whole, self.starts, self.lengths);
+        let behind = next_starts + u128::from(longest_microtick(params));
+        macroticks(params, self.starts, self.lengths).max(behind)
+    }
+
+    /// How far instants of the same action point may lie apart in this double cycle, up to that of the last key slot, in
+    /// ticks.
+    pub fn near(&self, params: &Params) -> u128
+        ensures value { result ≡ sharply_near_in params.now self.now.spread }
+        ensures most { result ≤ most_lost }
+    {
+        let odds = share(params, odd(params, self.lengths));
+        self.starts + self.lengths + odds + u128::from(longest_microtick(params))
+    }
+}
+
+// The next starts and the next lengths.
+fn next(params: &Params, flutter: u64, whole: bool, starts: u128, lengths: u128) -> (u128, u128)
+    requires starts { starts ≤ 30_000_100_000_000_000_000_000 }
+    requires lengths { lengths ≤ 14_000_000_000_000_000 }
+    requires flutter { flutter ≤ most_flutter }
+    ensures next { spread_of result.0 result.1 ≡ next_lost_spread whole params.now flutter (spread_of starts lengths) }
+    ensures starts { result.0 ≤ starts + 30_000_000_000_000_000 }
+    ensures lengths { result.1 ≤ lengths + 13_000_000_000 }
+{
+    let error = u128::from(arrival_error(params));
+    let longest = u128::from(longest_microtick(params));
+    let clean = odd(params, lengths) + 2 * error + 3 * longest;
+    if whole {
+        (clean, u128::from(lambda(params, false, flutter)))
+    } else {
+        (
+            starts + lengths + clean,
+            lengths + u128::from(lengthened(params, flutter)),
+        )
+    }
+}
+
+// By how much lengths may come further apart where something is lost.
+fn lengthened(params: &Params, flutter: u64) -> u64
+    requires { flutter ≤ most_flutter }
+    ensures value { result ≡ 2 * steady_error params.now flutter
+        + 2 * (amount params.now name.pClusterDriftDamping * longest_micro params.now) + 2 * cycle_change params.now }
+    ensures most { result ≤ 13_000_000_000 }
+{
+    let damped = params.natural(ParamName::pClusterDriftDamping) * longest_microtick(params);
+    2 * steady_error(params, flutter) + 2 * damped + 2 * cycle_change(params)
+}
+
+// How far the lengths of odd cycles may lie apart.
+fn odd(params: &Params, lengths: u128) -> u128
+    requires { lengths ≤ 14_000_000_000_000_000 }
+    ensures value { result ≡ odd_spread params.now lengths }
+    ensures most { result ≤ lengths + 2_000_000_000 }
+{
+    lengths + 2 * u128::from(cycle_change(params))
+}
+
+// How far macroticks may lie apart by starts and even lengths.
+fn macroticks(params: &Params, starts: u128, lengths: u128) -> u128
+    requires starts { starts ≤ 30_000_100_000_000_000_000_000 }
+    requires lengths { lengths ≤ 14_000_000_000_000_000 }
+    ensures value { result ≡ precision_by params.now starts lengths }
+    ensures most { result ≤ most_lost }
+{
+    starts + lengths + odd(params, lengths) + 2 * u128::from(longest_microtick(params))
+}
+
+// The share of such ticks of a cycle that lies before the last action point.
+fn share(params: &Params, ticks: u128) -> u128
+    requires { ticks ≤ 15_000_000_000_000_000 }
+    ensures value { result ≡ last_action params.now * ticks / amount params.now name.gMacroPerCycle }
+    ensures most { result ≤ 15_000_000_000_000_000 }
+{
+    let macros = u128::from(params.natural(ParamName::gMacroPerCycle));
+    u128::from(last_action(params)) * ticks / macros
+}
