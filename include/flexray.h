@@ -176,6 +176,15 @@ static inline uint32_t flexray_bound_sharp_join(const uint8_t *params, size_t pa
     return FLEXRAY_INLINE_REQUEST(params, params_length, &none, 0, &none, 0);
 }
 
+/* `flexray bound PARAMS sharp FLUTTER lost COUNT`: how far clocks come apart if any frames are lost in COUNT double cycles in a
+   row, 1 to 1000. */
+static inline uint32_t flexray_bound_lost(const uint8_t *params, size_t params_length, uint64_t flutter, uint32_t count,
+                                          uint8_t *out, size_t out_room, uint8_t *err, size_t err_room,
+                                          flexray_texts *texts) {
+    FLEXRAY_INLINE_WORDS("bound\nfirst\nsharp\n%llu\nlost\n%llu", (unsigned long long)flutter, (unsigned long long)count);
+    return FLEXRAY_INLINE_REQUEST(params, params_length, &none, 0, &none, 0);
+}
+
 /* `flexray settle PARAMS START RATE`: how many double cycles it takes at most to be in sync; START and RATE in ticks, at most
    1,000,000,000,000. */
 static inline uint32_t flexray_settle(const uint8_t *params, size_t params_length, uint64_t start, uint64_t rate,

@@ -11,10 +11,10 @@ from typing import Union
 from . import texts
 from .errors import BY_STATUS, FlexrayError, NoFrame, ReadFault, Usage
 from .library import DONE, MOST, NO, Answer, given_bytes, request, series_request, shown, whole
-from .results import (Bound, Capture, Frame, Observation, Report, Series, Settled, SharpBound, SharpSeries,
+from .results import (Bound, Capture, Frame, LostBound, Observation, Report, Series, Settled, SharpBound, SharpSeries,
                       SharpSettled, Startup, Trace, Upgraded, Vectors, Verdict)
 
-__all__ = ["Input", "Raw", "bound", "sharp_bound", "run", "series", "sharp_series", "trace", "check", "observe",
+__all__ = ["Input", "Raw", "bound", "sharp_bound", "lost_bound", "run", "series", "sharp_series", "trace", "check", "observe",
            "settle", "sharp_settle", "cold", "frame", "capture", "nm", "make", "upgrade"]
 
 #: A file of records: its bytes, its text, or its path.
@@ -27,6 +27,7 @@ Raw = Union[bytes, bytearray, memoryview, "os.PathLike[str]"]
 _USAGE = "usage: flexray COMMAND WORDS"
 # The ranges of the numbers among the words (docs/FORMATS.md).
 _TICKS, _FLUTTER, _WIDTH, _SEED, _DOUBLES = (0, 1_000_000_000_000), (0, 20_000_000), (1, 12), (0, 4_294_967_295), (1, 10_000)
+_LOST = (1, 1_000)
 
 
 def _content(role: str, given: Input, raw: bool = False) -> bytes:
@@ -97,6 +98,13 @@ def sharp_bound(params: Input, flutter: int = 0, *, join: bool = False) -> Sharp
     """The sharper bounds where delays flutter by at most so many ticks, 0 to 20,000,000; with `join` the reach and the checks
     of a cluster that nodes join too."""
     return texts.sharp_bound(_asked("bound", "first", "sharp", _whole("flutter", flutter, _FLUTTER), *_join(join), params=params), join)
+
+
+def lost_bound(params: Input, flutter: int = 0, count: int = 1) -> LostBound:
+    """How far clocks come apart where any frames are lost in so many double cycles in a row, 1 to 1,000, and delays flutter by at
+    most so many ticks, 0 to 20,000,000; without arbitrary sync nodes."""
+    return texts.lost_bound(_asked("bound", "first", "sharp", _whole("flutter", flutter, _FLUTTER), "lost", _whole("count", count, _LOST),
+                                   params=params))
 
 
 def upgrade(params: Input) -> Upgraded:

@@ -4,7 +4,7 @@ from __future__ import annotations
 
 from dataclasses import dataclass, field
 
-__all__ = ["Check", "Bound", "SharpSide", "SharpBound", "Skew", "Sent", "Heard", "NodeEnd", "Report", "SeriesCycle", "Series",
+__all__ = ["Check", "Bound", "SharpSide", "SharpBound", "LostBound", "Skew", "Sent", "Heard", "NodeEnd", "Report", "SeriesCycle", "Series",
            "SharpSeries", "CycleRow", "Deviation", "Join", "Trace", "Verdict", "ObservedCycle", "ObservedNode",
            "ObservedFault", "ObservedSender",
            "LogCounts", "Observation", "FailedCheck", "Settled", "SharpWay", "SharpSettled", "Lead", "Startup", "Frame",
@@ -67,6 +67,34 @@ class SharpBound:
     lasts: int | None
     joins: bool = False
     first_rates_last: int | None = None
+
+
+@dataclass(frozen=True)
+class LostBound:
+    """How far clocks come apart where any frames are lost in `lost` double cycles in a row, and all is heard in each later one;
+    without arbitrary sync nodes. `apart` is by double cycle, up to `back`, from which on it is `precision`. `every_second` is for
+    ever, where all is heard in one of any two in a row, and `every_second_holds` whether the checks from 3 to 5 hold for that.
+    `longest` is how many in a row they bear, None where they fail though nothing is lost; `lasts` as of `SharpBound`."""
+
+    text: str = field(repr=False)
+    flutter: int
+    lost: int
+    lambda_: int
+    pi: int
+    precision: int
+    apart: tuple[int, ...]
+    peak: int
+    reach: int
+    checks: tuple[Check, ...]
+    lasts: int | None
+    back: int
+    every_second: int
+    every_second_holds: bool
+    longest: int | None
+
+    @property
+    def failing(self) -> tuple[Check, ...]:
+        return tuple(check for check in self.checks if not check.holds)
 
 
 @dataclass(frozen=True)

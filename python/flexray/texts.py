@@ -5,7 +5,7 @@ import re
 from collections.abc import Iterable, Iterator
 
 from .results import (Bound, Capture, CapturedFrame, Check, CycleRow, Deviation, FailedCheck, Frame, Heard, Join, Lead,
-                      LogCounts, NodeEnd, Observation, ObservedCycle, ObservedFault, ObservedNode, ObservedSender, Report,
+                      LogCounts, LostBound, NodeEnd, Observation, ObservedCycle, ObservedFault, ObservedNode, ObservedSender, Report,
                       Sent, Series, SeriesCycle, Settled, SharpBound, SharpSeries, SharpSettled, SharpSide, SharpWay, Skew,
                       Startup, Trace, Upgraded, Vector, Vectors, Verdict)
 
@@ -95,6 +95,21 @@ def sharp_bound(text: str, join: bool = False) -> SharpBound:
         rates = lines.take(r"first rates last (on|\d+)")[0]
     return SharpBound(text, flutter, sides["alone"], sides["beside"], None if lasts == "on" else int(lasts), join,
                       None if rates == "on" else int(rates))
+
+
+def lost_bound(text: str) -> LostBound:
+    lines = _Lines(text)
+    flutter, lost = lines.one(r"flutter (\d+)"), lines.one(r"lost (\d+)")
+    lambda_, pi, precision = (lines.one(rf"alone {name} (\d+)") for name in ("lambda", "pi", "precision"))
+    apart = tuple(int(ticks) for _, ticks in lines.every(r"apart (\d+) (\d+)"))
+    peak, reach = lines.one(r"peak (\d+)"), lines.one(r"reach (\d+)")
+    checks = _checks(lines.every(CHECK))
+    lasts = lines.take(r"lasts (on|\d+)")[0]
+    back = lines.one(r"back (\d+)")
+    second, fails = lines.take(r"every second (\d+)( fails)?")
+    longest = lines.take(r"longest (none|\d+)")[0]
+    return LostBound(text, flutter, lost, lambda_, pi, precision, apart, peak, reach, checks, None if lasts == "on" else int(lasts), back,
+                     int(second), not fails, None if longest == "none" else int(longest))
 
 
 def _skew_line(lines: _Lines) -> Skew:

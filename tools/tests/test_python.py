@@ -162,6 +162,8 @@ class Calls(Bench):
                 told = [word for word in words if word not in ("first", "second", "third")]
                 if is_series:
                     found = (flexray.sharp_series if told else flexray.series)(*files)
+                elif words[0] == "bound" and "lost" in told:
+                    found = flexray.lost_bound(*files, flutter=int(told[2]), count=int(told[4]))
                 elif words[0] == "bound" and "sharp" in told:
                     found = flexray.sharp_bound(*files, flutter=int(told[2]), join="join" in told)
                 elif words[0] == "bound":
@@ -182,7 +184,7 @@ class Calls(Bench):
                 if line:
                     self.assertEqual((found.passes, found.line), (False, line))
                 seen.add(type(found).__name__)
-        self.assertEqual(len(seen), 15, sorted(seen))
+        self.assertEqual(len(seen), 16, sorted(seen))
 
     def test_what_a_report_says(self):
         report = flexray.run(*OFFSET)

@@ -115,6 +115,8 @@ static uint32_t typed(int count, char **given, uint8_t *out, size_t out_room, ui
     if (!strcmp(name, "bound") && count == 2) return flexray_bound(FIRST, PLACES);
     if (!strcmp(name, "bound") && count == 3) return flexray_bound_join(FIRST, PLACES);
     if (!strcmp(name, "bound") && count == 5) return flexray_bound_sharp_join(FIRST, number(given[3]), PLACES);
+    if (!strcmp(name, "bound") && count == 6)
+        return flexray_bound_lost(FIRST, number(given[3]), (uint32_t)number(given[5]), PLACES);
     if (!strcmp(name, "bound")) return flexray_bound_sharp(FIRST, number(given[3]), PLACES);
     if (!strcmp(name, "settle") && count == 4) return flexray_settle(FIRST, number(given[2]), number(given[3]), PLACES);
     if (!strcmp(name, "settle"))
