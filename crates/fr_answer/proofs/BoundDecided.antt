@@ -8,11 +8,17 @@ use Rattle.fr_bound.specs.declared.settling.Settling.{Settling}
 use Rattle.fr_bound.proofs.Settled.{one_double, one_peak, one_verdict}
 use Rattle.fr_params.specs.Files.{params_file}
 use Rattle.fr_sharp.specs.declared.way.SharpWay.{SharpWay}
+use Rattle.fr_sharp.specs.LossCosts.{OneLongest, OneLossCost, OneSecondCost}
+use Rattle.fr_sharp.specs.declared.loss_costs.LossCost.{LossCost}
+use Rattle.fr_sharp.specs.declared.loss_costs.SecondCost.{SecondCost}
 use Rattle.fr_sharp.specs.SharpWay.{OneSharpWay}
 use Rattle.fr_text.specs.Kind.{HasOneAnswer}
 use Rattle.fr_text.specs.Files.{IsDecided}
 use Rattle.fr_text.proofs.Commands.{decided}
 use Rattle.fr_answer.specs.BoundAnswer.{bound_files, join_files, sharp_files, sharp_join_files}
+use Rattle.fr_answer.specs.declared.bound_lost.LossFigures.{LossFigures}
+use Rattle.fr_answer.specs.LossAnswer.{loss_files}
+use Rattle.fr_answer.specs.LossText.{loss_text}
 use Rattle.fr_answer.specs.SettleAnswer.{IsSettlingFor, settle_files, sharp_settle_files}
 use Rattle.fr_answer.specs.SettleText.{settle_text}
 use Rattle.fr_answer.specs.SharpSettleText.{sharp_settle_text}
@@ -28,6 +34,22 @@ one_sharp_bounds one flutter = decided (sharp_files flutter) (one, λ p written 
 
 pub one_sharp_join_bounds : HasOneAnswer params_file → (flutter : ℕ) → IsDecided (sharp_join_files flutter)
 one_sharp_join_bounds one flutter = decided (sharp_join_files flutter) (one, λ p written again is more. is ∙ sym more)
+
+same_figures : (one other : LossFigures) → one.row ≡ other.row → one.second ≡ other.second → one.longest ≡ other.longest → one ≡ other
+same_figures one other row second longest =
+    let made : LossCost → SecondCost → Option ℕ → LossFigures = λ a b c. record { row = a; second = b; longest = c } in
+    ap (λ (a : LossCost). made a one.second one.longest) row ∙ ap (λ (b : SecondCost). made other.row b one.longest) second ∙ ap (made other.row other.second) longest
+
+pub one_losses : HasOneAnswer params_file → OneLossCost → OneSecondCost → OneLongest → (flutter count : ℕ) → IsDecided (loss_files flutter count)
+one_losses one row second longest flutter count =
+    decided (loss_files flutter count) (
+      one,
+      λ p written again is more.
+          let figures : is.figures ≡ more.figures =
+          same_figures is.figures more.figures (row p flutter count is.figures.row more.figures.row is.are.row more.are.row) (second p flutter is.figures.second more.figures.second is.are.second more.are.second)
+          (longest p flutter is.figures.longest more.figures.longest is.are.longest more.are.longest) in
+          is.shown ∙ ap (loss_text p flutter count) figures ∙ sym more.shown,
+    )
 
 -- numbers that are not negative are the same where their amounts are
 same_amount : (a b : ℤ) → pos 0 ≤ℤ a → pos 0 ≤ℤ b → nat_abs a ≡ nat_abs b → a ≡ b

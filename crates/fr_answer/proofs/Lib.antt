@@ -1,3 +1,4 @@
+pub mod LossLines
 pub mod Requests
 pub mod Undone
 pub mod FrameDecided

@@ -6,13 +6,17 @@ use Rattle.fr_params.specs.Files.{params_file}
 use Rattle.fr_params.specs.Told.{params_says}
 use Rattle.fr_params.specs.Texts.{upgraded_text}
 use Rattle.fr_params.specs.UpgradeAnswer.{IsUpgrade, upgrade_files}
-use Rattle.fr_params.specs.Upgrades.{FilesAreUpgraded}
+use Rattle.fr_params.specs.Upgrades.{AcceptedAreSane, FilesAreUpgraded}
+use Rattle.fr_sharp.specs.LossCosts.{SomeLongest, SomeLossCost, SomeSecondCost}
 use Rattle.fr_text.specs.Defined.{DefinesOneStatus}
 use Rattle.fr_text.specs.Files.{IsNeverSaid, file, text}
 use Rattle.fr_text.specs.Kind.{AreBytes, HasOneAnswer, HasSomeAnswer}
 use Rattle.fr_text.proofs.Defining.{one_status, some_status}
 use Rattle.fr_answer.specs.BoundAnswer.{bound_files, join_files, sharp_files, sharp_join_files}
 use Rattle.fr_answer.specs.BoundText.{bound_text, with_join_text}
+use Rattle.fr_answer.specs.declared.bound_lost.LossFigures.{LossFigures}
+use Rattle.fr_answer.specs.LossAnswer.{IsLossText, loss_files}
+use Rattle.fr_answer.specs.LossText.{loss_text}
 use Rattle.fr_answer.specs.SettleAnswer.{IsSettling, IsSharpSettling, settle_files, sharp_settle_files}
 use Rattle.fr_answer.specs.SettleText.{settle_text}
 use Rattle.fr_answer.specs.SharpSettleText.{sharp_settle_text}
@@ -41,6 +45,17 @@ sharp_status one some flutter = of_params (λ p written. written ≡ sharp_text 
 pub sharp_join_status : HasOneAnswer params_file → HasSomeAnswer params_file → (flutter : ℕ) → DefinesOneStatus (sharp_join_files flutter) 1
 sharp_join_status one some flutter =
     of_params (λ p written. written ≡ sharp_with_join_text p flutter) one some (λ bytes p accepted. (sharp_with_join_text p flutter, refl))
+
+pub loss_status : HasOneAnswer params_file → HasSomeAnswer params_file → AcceptedAreSane → SomeLossCost → SomeSecondCost → SomeLongest → (flutter count : ℕ) → 1 ≤ count → DefinesOneStatus (loss_files flutter count) 1
+loss_status one some sane row second longest flutter count from =
+    of_params (λ p. IsLossText p flutter count) one some
+    (λ bytes p accepted.
+    let proper = sane p bytes accepted.accepted in
+    let costs = row p flutter count proper from in
+    let others = second p flutter proper in
+    let most = longest p flutter proper in
+    let figures : LossFigures = record { row = costs.0; second = others.0; longest = most.0 } in
+    (loss_text p flutter count figures, record { figures = figures; are = record { row = costs.1; second = others.1; longest = most.1 }; shown = refl }))
 
 pub upgrade_status : HasOneAnswer params_file → HasSomeAnswer params_file → FilesAreUpgraded → DefinesOneStatus upgrade_files 1
 upgrade_status one some upgraded =

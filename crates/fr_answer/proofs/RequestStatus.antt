@@ -11,7 +11,8 @@ use Rattle.fr_report.specs.Files.{run_files}
 use Rattle.fr_report.specs.TraceAnswer.{IsTraceText}
 use Rattle.fr_answer.specs.BoundAnswer.{bound_files, join_files, sharp_files, sharp_join_files}
 use Rattle.fr_answer.specs.FrameAnswer.{frame_files}
-use Rattle.fr_answer.specs.Request.{bound, bound_join, bound_sharp, bound_sharp_join, capture, check, cold, frame, make, nm, run, settle, settle_sharp, trace, upgrade}
+use Rattle.fr_answer.specs.LossAnswer.{loss_files}
+use Rattle.fr_answer.specs.Request.{bound, bound_join, bound_lost, bound_sharp, bound_sharp_join, most_stated_lost, capture, check, cold, frame, make, nm, run, settle, settle_sharp, trace, upgrade}
 use Rattle.fr_answer.specs.RunAnswer.{IsKeptRunText}
 use Rattle.fr_answer.specs.SettleAnswer.{settle_files, sharp_settle_files}
 use Rattle.fr_answer.specs.Statuses.{HasOneStatusEach}
@@ -26,6 +27,7 @@ pub record Commands : Type 0 where
   pub joins : DefinesOneStatus join_files 1
   pub sharps : (flutter : ℕ) → DefinesOneStatus (sharp_files flutter) 1
   pub sharp_joins : (flutter : ℕ) → DefinesOneStatus (sharp_join_files flutter) 1
+  pub losses : (flutter count : ℕ) → 1 ≤ count → DefinesOneStatus (loss_files flutter count) 1
   pub upgrades : DefinesOneStatus upgrade_files 1
   pub settles : (start rate : ℕ) → start ≤ most_stated → rate ≤ most_stated → DefinesOneStatus (settle_files start rate) 1
   pub sharp_settles : (start rate flutter : ℕ) → start ≤ most_stated → rate ≤ most_stated → DefinesOneStatus (sharp_settle_files start rate flutter) 1
@@ -43,6 +45,7 @@ each_request commands words (bound file) asks = commands.bounds
 each_request commands words (bound_join file) asks = commands.joins
 each_request commands words (bound_sharp file flutter) asks = commands.sharps flutter
 each_request commands words (bound_sharp_join file flutter) asks = commands.sharp_joins flutter
+each_request commands words (bound_lost file flutter count) asks = commands.losses flutter count (natural_read 1 most_stated_lost asks.count_text count asks.count_is).0
 each_request commands words (upgrade file) asks = commands.upgrades
 each_request commands words (settle file start rate) asks =
     commands.settles start rate (natural_read 0 most_stated asks.start_text start asks.start_is).1 (natural_read 0 most_stated asks.rate_text rate asks.rate_is).1

@@ -13,7 +13,7 @@ use Rattle.fr_base.specs.declared.numbers.NumberFault.{NumberFault}
 use Rattle.fr_bound.specs.Settling.{most_stated}
 use Rattle.fr_text.specs.Fields.{natural_of}
 use Rattle.fr_program.specs.Program.{texts}
-use Rattle.fr_answer.specs.Request.{most_stated_flutter, Asked, AsksFor, frame, bound, bound_join, bound_sharp, bound_sharp_join, upgrade, settle, settle_sharp, run, capture, nm, cold, make, trace, check}
+use Rattle.fr_answer.specs.Request.{most_stated_flutter, most_stated_lost, Asked, AsksFor, frame, bound, bound_join, bound_sharp, bound_sharp_join, bound_lost, upgrade, settle, settle_sharp, run, capture, nm, cold, make, trace, check}
 
 -- two numbers that are there
 abbrev settle_in : List ℕ → Result ℕ NumberFault → Result ℕ NumberFault → Option Asked
@@ -42,6 +42,11 @@ bound_sharp_in file word (Err fault) = None
 abbrev bound_sharp_join_in : List ℕ → Result ℕ NumberFault → Option Asked
 bound_sharp_join_in file (Ok flutter) = Some (bound_sharp_join file flutter)
 bound_sharp_join_in file (Err fault) = None
+
+abbrev bound_lost_in : List ℕ → List ℕ → Result ℕ NumberFault → List ℕ → Result ℕ NumberFault → Option Asked
+bound_lost_in file word (Ok flutter) last (Ok count) =
+    if bytes_eq word (codes "sharp") then (if bytes_eq last (codes "lost") then Some (bound_lost file flutter count) else None) else None
+bound_lost_in file word flutter last count = None
 
 -- three words
 abbrev asked_in_three : List ℕ → List ℕ → List ℕ → Option Asked
@@ -72,7 +77,8 @@ asked_in_five command first second third fourth =
 -- six words
 abbrev asked_in_six : List ℕ → List ℕ → List ℕ → List ℕ → List ℕ → List ℕ → Option Asked
 asked_in_six command first second third fourth fifth =
-    if bytes_eq command (codes "settle") then settle_sharp_in first (natural_of 0 most_stated second) (natural_of 0 most_stated third) fourth (natural_of 0 most_stated_flutter fifth) else None
+    if bytes_eq command (codes "settle") then settle_sharp_in first (natural_of 0 most_stated second) (natural_of 0 most_stated third) fourth (natural_of 0 most_stated_flutter fifth)
+    else (if bytes_eq command (codes "bound") then bound_lost_in first second (natural_of 0 most_stated_flutter third) fourth (natural_of 1 most_stated_lost fifth) else None)
 
 -- what words ask for, read back by their number
 abbrev asked_in : List (List ℕ) → Option Asked
@@ -90,6 +96,8 @@ asked_again words (bound file) asks = ap asked_in asks
 asked_again words (bound_join file) asks = ap asked_in asks
 asked_again words (bound_sharp file flutter) asks = ap asked_in asks.spelt ∙ ap (bound_sharp_in file (codes "sharp")) asks.flutter_is
 asked_again words (bound_sharp_join file flutter) asks = ap asked_in asks.spelt ∙ ap (bound_sharp_join_in file) asks.flutter_is
+asked_again words (bound_lost file flutter count) asks =
+    ap asked_in asks.spelt ∙ ap₂ (λ f c. bound_lost_in file (codes "sharp") f (codes "lost") c) asks.flutter_is asks.count_is
 asked_again words (upgrade file) asks = ap asked_in asks
 asked_again words (settle file start rate) asks = ap asked_in asks.spelt ∙ ap₂ (settle_in file) asks.start_is asks.rate_is
 asked_again words (settle_sharp file start rate flutter) asks =
@@ -120,6 +128,7 @@ asks_length words (bound file) asks = has_length words 2 (ap length asks) (lit�
 asks_length words (bound_join file) asks = has_length words 3 (ap length asks) (lit≤ tt) (lit≤ tt)
 asks_length words (bound_sharp file flutter) asks = has_length words 4 (ap length asks.spelt) (lit≤ tt) (lit≤ tt)
 asks_length words (bound_sharp_join file flutter) asks = has_length words 5 (ap length asks.spelt) (lit≤ tt) (lit≤ tt)
+asks_length words (bound_lost file flutter count) asks = has_length words 6 (ap length asks.spelt) (lit≤ tt) (lit≤ tt)
 asks_length words (upgrade file) asks = has_length words 2 (ap length asks) (lit≤ tt) (lit≤ tt)
 asks_length words (settle file start rate) asks = has_length words 4 (ap length asks.spelt) (lit≤ tt) (lit≤ tt)
 asks_length words (settle_sharp file start rate flutter) asks = has_length words 6 (ap length asks.spelt) (lit≤ tt) (lit≤ tt)

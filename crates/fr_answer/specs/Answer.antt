@@ -10,11 +10,12 @@ use Rattle.fr_capture.specs.CaptureAnswer.{capture_command}
 use Rattle.fr_check.specs.CheckAnswer.{check_command}
 use Rattle.fr_cold.specs.ColdAnswer.{cold_command}
 use Rattle.fr_answer.specs.FrameAnswer.{frame_command}
+use Rattle.fr_answer.specs.LossAnswer.{loss_command}
 use Rattle.fr_nm.specs.NmAnswer.{nm_command}
 use Rattle.fr_report.specs.MakeAnswer.{make_command}
 use Rattle.fr_report.specs.TraceAnswer.{IsTraceText}
 use Rattle.fr_params.specs.UpgradeAnswer.{upgrade_command}
-use Rattle.fr_answer.specs.Request.{Asked, AsksFor, frame, bound, bound_join, bound_sharp, bound_sharp_join, upgrade, settle, settle_sharp, run, capture, nm, cold, make, trace, check}
+use Rattle.fr_answer.specs.Request.{Asked, AsksFor, frame, bound, bound_join, bound_sharp, bound_sharp_join, bound_lost, upgrade, settle, settle_sharp, run, capture, nm, cold, make, trace, check}
 
 -- the files of what was asked for, and what may be written of them
 abbrev pub command_of : Asked → Command
@@ -23,6 +24,7 @@ command_of (bound file) = bound_command file
 command_of (bound_join file) = join_command file
 command_of (bound_sharp file flutter) = sharp_command file flutter
 command_of (bound_sharp_join file flutter) = sharp_join_command file flutter
+command_of (bound_lost file flutter count) = loss_command file flutter count
 command_of (upgrade file) = upgrade_command file
 command_of (settle file start rate) = settle_command file start rate
 command_of (settle_sharp file start rate flutter) = sharp_settle_command file start rate flutter

@@ -3,6 +3,8 @@ pub mod Answer
 pub mod Request
 pub mod FrameAnswer
 pub mod FrameText
+pub mod LossAnswer
+pub mod LossText
 pub mod BoundAnswer
 pub mod BoundText
 pub mod SettleAnswer

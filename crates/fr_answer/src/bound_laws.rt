@@ -1,10 +1,11 @@
 ghost use Rattle.std.specs.Prelude.{ℕ};
 ghost use Rattle.fr_text.specs.Files.{IsDecided};
 ghost use Rattle.fr_answer.specs.BoundAnswer.{bound_files, join_files, sharp_files, sharp_join_files};
+ghost use Rattle.fr_answer.specs.LossAnswer.{loss_files};
 ghost use Rattle.fr_answer.specs.SettleAnswer.{settle_files, sharp_settle_files};
 
 use fr_bound::one_settling;
-use fr_sharp::one_sharp_way;
+use fr_sharp::{costs_are_one, one_sharp_way};
 
 /// A law: the bytes of the file decide what is written. Two texts that the answer's clause allows for files of
 /// the same bytes are the same.
@@ -32,6 +33,14 @@ pub fn file_decides_the_sharper_bounds()
 pub fn file_decides_the_sharper_bounds_of_joining()
     ensures { (flutter : ℕ) → IsDecided (sharp_join_files flutter) }
 {
+    fr_params::one_answer();
+}
+
+/// A law: so do the bytes of the file, the flutter, in ticks, and the number of double cycles decide what losses cost.
+pub fn file_decides_the_costs_of_losses()
+    ensures { (flutter count : ℕ) → IsDecided (loss_files flutter count) }
+{
+    costs_are_one();
     fr_params::one_answer();
 }
 

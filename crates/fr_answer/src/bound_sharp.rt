@@ -80,7 +80,7 @@ fn bound_lines(params: &Params, flutter: u64) -> [Option<Line>; 7]
     ]
 }
 
-fn lambda_line(params: &Params, beside: bool, flutter: u64) -> Line
+pub(crate) fn lambda_line(params: &Params, beside: bool, flutter: u64) -> Line
     requires { flutter ≤ most_flutter }
     ensures { result ≡ lambda_line beside params.now flutter }
 {
@@ -91,7 +91,7 @@ fn lambda_line(params: &Params, beside: bool, flutter: u64) -> Line
     )
 }
 
-fn pi_line(params: &Params, beside: bool, flutter: u64) -> Line
+pub(crate) fn pi_line(params: &Params, beside: bool, flutter: u64) -> Line
     requires { flutter ≤ most_flutter }
     ensures { result ≡ pi_line beside params.now flutter }
 {
@@ -102,7 +102,7 @@ fn pi_line(params: &Params, beside: bool, flutter: u64) -> Line
     )
 }
 
-fn precision_line(params: &Params, beside: bool, flutter: u64) -> Line
+pub(crate) fn precision_line(params: &Params, beside: bool, flutter: u64) -> Line
     requires { flutter ≤ most_flutter }
     ensures { result ≡ precision_line beside params.now flutter }
 {
@@ -164,7 +164,7 @@ fn sharp_line(front: &[u8], params: &Params, beside: bool, flutter: u64, number:
     ])
 }
 
-fn lasts_line(params: &Params, flutter: u64) -> Line
+pub(crate) fn lasts_line(params: &Params, flutter: u64) -> Line
     requires { flutter ≤ most_flutter }
     ensures { result ≡ lasts_text params.now flutter }
 {

@@ -11,6 +11,9 @@ use fr_text::natural;
 // The greatest flutter that may be stated, in ticks.
 const MOST_FLUTTER: u64 = 20_000_000;
 
+// The greatest number of double cycles in a row that may lose frames.
+const MOST_LOST: u64 = 1_000;
+
 // The greatest number of ticks that may be stated.
 const MOST_STATED: u64 = 1_000_000_000_000;
 
@@ -39,6 +42,13 @@ pub enum Request<'a> {
     BoundSharpJoin {
         file: &'a str,
         flutter: u64,
+    },
+    /// Print what it costs where any frames may be lost in so many double cycles in a row, 1 to 1000, and delays flutter by
+    /// no more than so many ticks.
+    BoundLost {
+        file: &'a str,
+        flutter: u64,
+        count: u32,
     },
     /// Print the parameters in the file as a file of version 2.
     Upgrade {
@@ -313,6 +323,7 @@ fn request_of_six<'a>(
 {
     match command {
         "settle" => settle_by_word(first, second, third, fourth, fifth),
+        "bound" => lost_by_word(first, second, third, fourth, fifth),
         _ => None,
     }
 }
@@ -331,6 +342,57 @@ fn settle_by_word<'a>(
     match word {
         "sharp" => settle_sharp_request(file, start, rate, flutter),
         _ => None,
+    }
+}
+
+fn lost_by_word<'a>(
+    file: &'a str,
+    word: &str,
+    flutter: &str,
+    last: &str,
+    count: &str,
+) -> Option<Request<'a>>
+    ensures asks { IsRequestOf
+        (codes "bound" ∷ file.now ∷ word.now ∷ flutter.now ∷ last.now ∷ count.now ∷ []) result }
+    ensures range { IfSome result IsInRange }
+{
+    match word {
+        "sharp" => lost_by_last_word(file, flutter, last, count),
+        _ => None,
+    }
+}
+
+fn lost_by_last_word<'a>(
+    file: &'a str,
+    flutter: &str,
+    last: &str,
+    count: &str,
+) -> Option<Request<'a>>
+    ensures asks { IsRequestOf
+        (codes "bound" ∷ file.now ∷ codes "sharp" ∷ flutter.now ∷ last.now ∷ count.now ∷ []) result }
+    ensures range { IfSome result IsInRange }
+{
+    match last {
+        "lost" => lost_request(file, flutter, count),
+        _ => None,
+    }
+}
+
+fn lost_request<'a>(file: &'a str, flutter: &str, count: &str) -> Option<Request<'a>>
+    ensures asks { IsRequestOf
+        (codes "bound" ∷ file.now ∷ codes "sharp" ∷ flutter.now ∷ codes "lost" ∷ count.now ∷ []) result }
+    ensures range { IfSome result IsInRange }
+{
+    match natural(flutter.as_bytes(), 0, MOST_FLUTTER) {
+        Ok(flutter) => match natural(count.as_bytes(), 1, MOST_LOST) {
+            Ok(count) => Some(Request::BoundLost {
+                file,
+                flutter,
+                count: count as u32,
+            }),
+            Err(_) => None,
+        },
+        Err(_) => None,
     }
 }
 

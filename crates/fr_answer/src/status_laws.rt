@@ -10,6 +10,7 @@ ghost use Rattle.fr_report.specs.Files.{run_files};
 ghost use Rattle.fr_text.specs.Defined.{DefinesOneStatus};
 ghost use Rattle.fr_answer.specs.BoundAnswer.{bound_files, join_files, sharp_files, sharp_join_files};
 ghost use Rattle.fr_answer.specs.FrameAnswer.{frame_files};
+ghost use Rattle.fr_answer.specs.LossAnswer.{loss_files};
 ghost use Rattle.fr_answer.specs.RunAnswer.{IsKeptRunText};
 ghost use Rattle.fr_answer.specs.SettleAnswer.{settle_files, sharp_settle_files};
 ghost use Rattle.fr_answer.specs.Statuses.{HasOneStatusEach};
@@ -20,7 +21,8 @@ use fr_frame::{a_fault_is_no_frame, what_is_read_is_there};
 use fr_params::{accepted_are_sane, files_are_upgraded};
 use fr_report::{a_made_run_has_one_status, a_run_is_lawful, a_trace_has_one_status};
 use fr_sharp::{
-    covered_files_keep_sharply, covered_files_keep_sharply_joined, lossy_files_give_runs,
+    costs_are_there, covered_files_keep_sharply, covered_files_keep_sharply_joined,
+    lossy_files_give_runs,
 };
 use fr_verdict::a_passing_trace_keeps_its_precision;
 
@@ -46,6 +48,17 @@ pub fn settlings_have_one_status()
 {
     fr_params::one_answer();
     fr_params::some_answer();
+}
+
+/// A law: so do those of a request for what losses cost, with a flutter in ticks and a number of double cycles that is
+/// not 0.
+pub fn losses_have_one_status()
+    ensures { (flutter count : ℕ) → 1 ≤ count → DefinesOneStatus (loss_files flutter count) 1 }
+{
+    fr_params::one_answer();
+    fr_params::some_answer();
+    accepted_are_sane();
+    costs_are_there();
 }
 
 /// A law: so do those of a request for an upgrade.
@@ -132,6 +145,7 @@ pub fn each_request_has_one_status()
 {
     a_frame_has_one_status();
     bounds_have_one_status();
+    losses_have_one_status();
     an_upgrade_has_one_status();
     settlings_have_one_status();
     a_run_has_one_status();

@@ -99,6 +99,11 @@ fn carry_out<S: Shelf, O: Sink>(
         Request::BoundSharpJoin { file, flutter } => {
             crate::answer_bound_sharp_join(alloc, file, flutter, shelf, out)
         }
+        Request::BoundLost {
+            file,
+            flutter,
+            count,
+        } => crate::answer_bound_lost(alloc, file, flutter, count, shelf, out),
         Request::Upgrade { file } => fr_params::answer_upgrade(alloc, file, shelf, out),
         Request::Settle { file, start, rate } => {
             crate::answer_settle(alloc, file, start, rate, shelf, out)

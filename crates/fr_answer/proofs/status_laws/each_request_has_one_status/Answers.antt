@@ -8,6 +8,7 @@ returns c = each_request (record {
   joins = c.bounds_have_one_status.ensures.join;
   sharps = c.bounds_have_one_status.ensures.sharp;
   sharp_joins = c.bounds_have_one_status.ensures.sharp_join;
+  losses = c.losses_have_one_status.ensures;
   upgrades = c.an_upgrade_has_one_status.ensures;
   settles = c.settlings_have_one_status.ensures.older;
   sharp_settles = c.settlings_have_one_status.ensures.sharp;

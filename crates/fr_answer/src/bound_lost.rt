@@ -1,0 +1,248 @@
+ghost use Rattle.std.specs.Prelude.{◌≡◌, ◌≤◌, ◌+◌, ◌++◌, codes, length};
+ghost use Rattle.std.specs.Fmt.{decimal};
+ghost use Rattle.fr_base.specs.Device.{Puts};
+ghost use Rattle.fr_sharp.specs.Losses.{lost_apart};
+ghost use Rattle.fr_sharp.specs.LossCosts.{heard_behind};
+ghost use Rattle.fr_sharp.specs.LossSteps.{most_lost};
+ghost use Rattle.fr_sharp.specs.SharpBounds.{most_flutter};
+ghost use Rattle.fr_text.specs.Lines.{joined_lines};
+ghost use Rattle.fr_text.specs.Pieces.{line};
+ghost use Rattle.fr_program.specs.Around.{around_of};
+ghost use Rattle.fr_program.specs.Command.{CommandEnds};
+ghost use Rattle.fr_program.specs.Failure.{EndingWritesNothing};
+ghost use Rattle.fr_answer.specs.LossAnswer.{AreLossFigures, loss_command};
+ghost use Rattle.fr_answer.specs.LossText.{fails_text, longest_line, loss_apart_line, loss_apart_lines, loss_bounds_text};
+ghost use Rattle.fr_answer.specs.LossText.{loss_check_line, loss_figures_text, loss_text, second_line};
+
+use crate::bound::value_line;
+use crate::bound_sharp::{lambda_line, lasts_line, pi_line, precision_line};
+use fr_base::{PutFault, Shelf, Sink};
+use fr_cluster::Params;
+use fr_params::ParamsFile;
+use fr_program::Failure;
+use fr_sharp::{
+    Digits, LossCost, LossSides, LossSpread, SecondCost, every_second_cost, limits_hold,
+    longest_loss, loss_cost, loss_side,
+};
+use fr_text::Piece::{Natural, Word};
+use fr_text::{Line, accepted, line_of, put_line, put_lines};
+use std::alloc::Global;
+
+/// What losses cost, as a request for it tells.
+#[derive(Clone, Copy, Debug, PartialEq, Eq)]
+pub struct LossFigures {
+    /// So many double cycles in a row.
+    pub row: LossCost,
+    /// Every second double cycle for ever.
+    pub second: SecondCost,
+    /// How many double cycles in a row the limits bear; none where they do not though nothing is lost.
+    pub longest: Option<u32>,
+}
+
+/// Reads the parameters in the file, and writes how far clocks may lie apart where any frames may be lost in so many
+/// double cycles in a row, 1 to 1000, without arbitrary sync nodes, and delays flutter by no more than so many ticks, 0 to
+/// 1,000,000,000; with the checks for that, each line in one put. It loads the file once. A failure comes where the file
+/// can't be loaded, is not accepted, or memory runs out (`Stopped`), or where the sink counted a fault (`WriteFault`).
+pub fn answer_bound_lost<S: Shelf, O: Sink>(
+    alloc: Global,
+    file: &str,
+    flutter: u64,
+    count: u32,
+    shelf: &mut S,
+    out: &mut O,
+) -> Result<(), Failure>
+    requires flutter { flutter ≤ most_flutter }
+    requires from { 1 ≤ count }
+    requires to { count ≤ 1000 }
+    ensures ends { CommandEnds (loss_command file.now flutter count)
+        (around_of (S.state shelf.old) (S.state shelf.new) (O.state out.old) (O.state out.new)) result }
+    ensures unwritten { EndingWritesNothing result → out.new ≡ out.old }
+{
+    let params = accepted(alloc, &ParamsFile {}, file, shelf)?;
+    let figures = figures_of(&params, flutter, count);
+    print_losses(&params, flutter, count, &figures, out)?;
+    Ok(())
+}
+
+fn figures_of(params: &Params, flutter: u64, count: u32) -> LossFigures
+    requires flutter { flutter ≤ most_flutter }
+    requires from { 1 ≤ count }
+    requires to { count ≤ 1000 }
+    ensures are { AreLossFigures params.now flutter count result }
+    ensures row { result.row.reach ≤ most_lost }
+    ensures second { result.second.reach ≤ most_lost }
+    ensures back { result.row.back ≤ 1002 }
+{
+    LossFigures {
+        row: loss_cost(params, flutter, count),
+        second: every_second_cost(params, flutter),
+        longest: longest_loss(params, flutter),
+    }
+}
+
+fn print_losses<O: Sink>(
+    params: &Params,
+    flutter: u64,
+    count: u32,
+    figures: &LossFigures,
+    out: &mut O,
+) -> Result<(), PutFault>
+    requires flutter { flutter ≤ most_flutter }
+    requires row { figures.now.row.reach ≤ most_lost }
+    requires second { figures.now.second.reach ≤ most_lost }
+    requires back { figures.now.row.back ≤ 1002 }
+    ensures { Puts result (O.state out.old) (O.state out.new) (loss_text params.now flutter count figures.now) }
+{
+    put_lines(&bound_lines(params, flutter, count), out)?;
+    put_behind(params, flutter, count, figures, out)
+}
+
+// Writes what comes behind the bounds.
+fn put_behind<O: Sink>(
+    params: &Params,
+    flutter: u64,
+    count: u32,
+    figures: &LossFigures,
+    out: &mut O,
+) -> Result<(), PutFault>
+    requires flutter { flutter ≤ most_flutter }
+    requires row { figures.now.row.reach ≤ most_lost }
+    requires second { figures.now.second.reach ≤ most_lost }
+    requires back { figures.now.row.back ≤ 1002 }
+    ensures { Puts result (O.state out.old) (O.state out.new)
+        (loss_apart_lines params.now flutter count 0 (figures.now.row.back + 1)
+        ++ loss_figures_text params.now flutter figures.now) }
+{
+    put_aparts(params, flutter, count, figures.row.back + 1, out)?;
+    put_lines(&figure_lines(params, flutter, figures), out)
+}
+
+// The flutter, the number of double cycles, and the bounds.
+fn bound_lines(params: &Params, flutter: u64, count: u32) -> [Option<Line>; 5]
+    requires { flutter ≤ most_flutter }
+    ensures { joined_lines result ≡ loss_bounds_text params.now flutter count }
+{
+    [
+        Some(value_line(b"flutter ", flutter)),
+        Some(value_line(b"lost ", u64::from(count))),
+        Some(lambda_line(params, false, flutter)),
+        Some(pi_line(params, false, flutter)),
+        Some(precision_line(params, false, flutter)),
+    ]
+}
+
+// Writes a line for each of so many double cycles, from the first that loses frames on.
+fn put_aparts<O: Sink>(
+    params: &Params,
+    flutter: u64,
+    count: u32,
+    doubles: u32,
+    out: &mut O,
+) -> Result<(), PutFault>
+    requires flutter { flutter ≤ most_flutter }
+    requires doubles { doubles ≤ 1003 }
+    ensures { Puts result (O.state out.old) (O.state out.new)
+        (loss_apart_lines params.now flutter count 0 doubles) }
+{
+    let mut spread = LossSpread::first(params, flutter);
+    for double in 0..doubles {
+        let whole = count <= double;
+        put_line(
+            &apart_line(double, spread.apart(params, flutter, whole)),
+            out,
+        )?;
+        spread.step(params, flutter, whole);
+    }
+    Ok(())
+}
+
+fn apart_line(double: u32, apart: u128) -> Line
+    ensures { result ≡ line (codes "apart " ++ decimal double ++ codes " " ++ decimal apart) }
+{
+    let digits = Digits::of(apart);
+    line_of(&[
+        Word(b"apart "),
+        Natural(u64::from(double)),
+        Word(b" "),
+        Word(digits.bytes()),
+    ])
+}
+
+// The peak, the reach, the checks with it, how long the walk lasts, and the way back; and what is of the parameters alone.
+fn figure_lines(params: &Params, flutter: u64, figures: &LossFigures) -> [Option<Line>; 11]
+    requires flutter { flutter ≤ most_flutter }
+    requires row { figures.now.row.reach ≤ most_lost }
+    requires second { figures.now.second.reach ≤ most_lost }
+    ensures { joined_lines result ≡ loss_figures_text params.now flutter figures.now }
+{
+    let reach = figures.row.reach;
+    [
+        Some(wide_line(b"peak ", figures.row.peak)),
+        Some(wide_line(b"reach ", reach)),
+        Some(check_line(params, flutter, reach, 1)),
+        Some(check_line(params, flutter, reach, 2)),
+        Some(check_line(params, flutter, reach, 3)),
+        Some(check_line(params, flutter, reach, 4)),
+        Some(check_line(params, flutter, reach, 5)),
+        Some(lasts_line(params, flutter)),
+        Some(value_line(b"back ", u64::from(figures.row.back))),
+        Some(second_line(params, flutter, &figures.second)),
+        Some(longest_line(figures.longest)),
+    ]
+}
+
+fn wide_line(label: &[u8], value: u128) -> Line
+    requires { length label.now ≤ 20 }
+    ensures { result ≡ line (label.now ++ decimal value) }
+{
+    let digits = Digits::of(value);
+    line_of(&[Word(label), Word(digits.bytes())])
+}
+
+fn check_line(params: &Params, flutter: u64, reach: u128, number: u8) -> Line
+    requires from { 1 ≤ number }
+    requires to { number ≤ 5 }
+    requires flutter { flutter ≤ most_flutter }
+    requires reach { reach ≤ most_lost }
+    ensures { result ≡ loss_check_line number flutter reach params.now }
+{
+    let LossSides { left, right, holds } = loss_side(params, flutter, reach, number);
+    let digits = Digits::of(right);
+    line_of(&[
+        Word(b"C"),
+        Natural(u64::from(number)),
+        Word(if holds { b" holds " } else { b" fails " }),
+        Natural(left),
+        Word(b" "),
+        Word(digits.bytes()),
+    ])
+}
+
+fn second_line(params: &Params, flutter: u64, second: &SecondCost) -> Line
+    requires flutter { flutter ≤ most_flutter }
+    requires reach { second.now.reach ≤ most_lost }
+    ensures { result ≡ second_line params.now flutter second.now }
+{
+    let digits = Digits::of(second.peak);
+    line_of(&[
+        Word(b"every second "),
+        Word(digits.bytes()),
+        Word(fails(limits_hold(params, flutter, second.reach))),
+    ])
+}
+
+fn fails(holds: bool) -> &'static [u8]
+    ensures text { result.now ≡ fails_text holds }
+    ensures short { length result.now ≤ 6 }
+{
+    if holds { b"" } else { b" fails" }
+}
+
+fn longest_line(longest: Option<u32>) -> Line
+    ensures { result ≡ longest_line longest }
+{
+    match longest {
+        None => line_of(&[Word(b"longest none")]),
+        Some(longest) => line_of(&[Word(b"longest "), Natural(u64::from(longest))]),
+    }
+}
