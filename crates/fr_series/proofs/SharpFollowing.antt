@@ -12,7 +12,7 @@ use Rattle.fr_history.specs.Unfollowed.{is_none}
 use Rattle.fr_history.proofs.RunsExist.{length-cycles_of}
 use Rattle.fr_sharp.specs.SharpTested.{IsFirstSharpSync, first_sharp_sync_of, is_in_sharp_sync}
 use Rattle.fr_sharp.proofs.FreeLemmas.{first_free-next, first_free-none, first_sharp_sync_is, sharp_sync_within}
-use Rattle.fr_series.specs.Basis.{sharp_figures_of, sharp_scale_of, sharply_followed, tallied, tally_of, scales_of}
+use Rattle.fr_series.specs.Basis.{sharp_figures_of, sharp_scale_of, sharply_followed, tally_of}
 use Rattle.fr_series.specs.Figures.{figures_by, lost_by}
 use Rattle.fr_series.specs.Scale.{next_synced}
 use Rattle.fr_series.specs.SharpText.{sharp_double_by, sharp_rows}
@@ -20,7 +20,6 @@ use Rattle.fr_series.specs.declared.figures.Figures.{Figures}
 use Rattle.fr_series.specs.declared.tally.Tally.{Tally}
 use Rattle.fr_series.proofs.Doubles.{GrowsBy, cycles-two, followed_at, rows_at}
 use Rattle.fr_series.proofs.Following.{IsNoLater, figures-none, figures_by-next}
-use Rattle.fr_series.proofs.SeriesRows.{figures-at}
 
 -- ---- the first double cycle in sharp sync
 
@@ -63,7 +62,7 @@ sharp_figures-next beside p flutter h even odd double long =
     figures_by-next (sharp_scale_of beside p flutter) test h even odd double (test even.told.rows odd.told.rows) following first (first_sharp_sync_of beside p flutter (odd ∷ even ∷ h))
     long (sharp_low beside p flutter h double first long refl) refl (sharp_synced-next beside p flutter h even odd double long)
 
-sharp_figures-at : (beside : Bool) (flutter : ℕ) (x : Setting) (double : ℕ) →
+pub sharp_figures-at : (beside : Bool) (flutter : ℕ) (x : Setting) (double : ℕ) →
     sharp_figures_of beside x.params flutter (cycles_of x (2 * (double + 1)))
     ≡ sharply_followed (sharp_scale_of beside x.params flutter) double (rows_at x (2 * double)) (rows_at x (2 * double + 1)) (followed_at x (2 * double) || followed_at x (2 * double + 1)) (sharp_figures_of beside x.params flutter (cycles_of x (2 * double)))
 sharp_figures-at beside flutter x double =
@@ -76,11 +75,6 @@ pub tally-none : (beside : Bool) (p : Values) (flutter : ℕ) (tally : Tally) �
     → tally.sharp ≡ record { synced = None; greatest = None; lost = None; above = None } → tally ≡ tally_of beside p flutter []
 tally-none beside p flutter tally older sharp =
     ap₂ (λ (one other : Figures). record { older = one; sharp = other }) (older ∙ sym (figures-none p)) (sharp ∙ sym (sharp_figures-none beside p flutter))
-
-pub tally-at : (beside : Bool) (flutter : ℕ) (x : Setting) (double : ℕ) →
-    tally_of beside x.params flutter (cycles_of x (2 * (double + 1)))
-    ≡ tallied (scales_of beside x.params flutter) double (rows_at x (2 * double)) (rows_at x (2 * double + 1)) (followed_at x (2 * double) || followed_at x (2 * double + 1)) (tally_of beside x.params flutter (cycles_of x (2 * double)))
-tally-at beside flutter x double = rw (figures-at x double, sharp_figures-at beside flutter x double) refl
 
 -- ---- the text
 

@@ -10,6 +10,8 @@ pub mod Basis
 pub mod SharpAnswer
 pub mod SharpCovered
 pub mod SharpMeaning
+pub mod SharpReport
+pub mod SharpReportAnswer
 pub mod SharpText
 pub mod Stopping
 pub mod Statuses

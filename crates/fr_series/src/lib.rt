@@ -1,4 +1,5 @@
-//! What is printed of a run cycle by cycle: its series, its sharper series, and the command `flexray-series`.
+//! What is printed of a run cycle by cycle: its series, its sharper series, and the command `flexray-series`; and the
+//! report of a run by the sharper bounds.
 #![tactic(auto)]
 
 mod basis;
@@ -6,12 +7,16 @@ mod figure_laws;
 mod figures;
 mod laws;
 mod lines;
+mod report_lines;
 mod request;
 mod scale;
 mod series;
 mod sharp_covered;
+mod sharp_gathering;
 mod sharp_laws;
 mod sharp_lines;
+mod sharp_report;
+mod sharp_report_laws;
 mod sharp_series;
 mod sharp_writing;
 mod spread;
@@ -28,10 +33,13 @@ pub use laws::{a_covered_run_stays_in_sync, a_series_is_lawful, files_decide_the
 pub use request::{Request, request_of};
 pub use scale::Scale;
 pub use series::answer_series;
+pub use sharp_gathering::write_sharp_report;
 pub use sharp_laws::{
     a_covered_run_stays_in_sharp_sync, a_gap_is_told, a_sharp_series_is_lawful,
     files_decide_the_sharp_series,
 };
+pub use sharp_report::answer_sharp_report;
+pub use sharp_report_laws::{a_sharp_report_is_lawful, files_decide_the_sharp_report};
 pub use sharp_series::answer_sharp_series;
 pub use sharp_writing::write_sharp_series;
 pub use status_laws::{a_series_has_one_status, each_series_request_has_one_status};

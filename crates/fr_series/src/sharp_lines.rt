@@ -147,7 +147,7 @@ fn precision_line(precision: i64, beside: bool) -> Line
     ])
 }
 
-fn kind(beside: bool) -> Piece<'static>
+pub(crate) fn kind(beside: bool) -> Piece<'static>
     ensures { Spells result (beside_or_alone beside) 6 }
 {
     if beside {
@@ -181,7 +181,7 @@ fn sharp_synced_line(synced: Option<u32>, lasts: Option<u64>) -> Line
     }
 }
 
-fn lasts_piece(lasts: Option<u64>) -> Piece<'static>
+pub(crate) fn lasts_piece(lasts: Option<u64>) -> Piece<'static>
     ensures { Spells result (doubles_or_on lasts) 20 }
 {
     match lasts {

@@ -144,7 +144,7 @@ fn put_sharp_double<O: Sink>(
 }
 
 // Whether the clocks are in sharp sync in a double cycle.
-fn are_in_sharp_sync(scale: &Scale, even: &[NodeRow], odd: &[NodeRow]) -> bool
+pub(crate) fn are_in_sharp_sync(scale: &Scale, even: &[NodeRow], odd: &[NodeRow]) -> bool
     requires scale { IsScale scale.now }
     requires even { All (IsPlacedRow scale.now.grid) even.now }
     requires odd { All (IsPlacedRow scale.now.grid) odd.now }

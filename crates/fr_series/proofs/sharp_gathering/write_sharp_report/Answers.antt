@@ -1,0 +1,47 @@
+use Rattle.std.proofs.Common.{◌≡◌, ◌∙◌, ◌*◌, List, ◌++◌, ℕ, ap, ap₂, refl, subst, rules}
+use Rattle.std.specs.Result.{result_err}
+use Rattle.fr_base.specs.Device.{Puts}
+use Rattle.fr_base.proofs.Putting.{cut, then}
+use Rattle.fr_coverage.specs.Coverage.{first_gap}
+use Rattle.fr_drift.specs.Questions.{doubles_of}
+use Rattle.fr_history.specs.Cycles.{Cycles}
+use Rattle.fr_history.specs.Next.{cycles_of}
+use Rattle.fr_report.specs.RunText.{run_text}
+use Rattle.fr_report.specs.Worlds.{world_text}
+use Rattle.fr_text.specs.Lines.{joined_lines}
+use Rattle.fr_world.specs.World.{WorldView, setting_after}
+use Rattle.fr_series.specs.Basis.{basis_of}
+use Rattle.fr_series.specs.SharpReport.{sharp_lines_by, sharp_lines_of}
+use Rattle.fr_series.specs.declared.basis.Basis.{Basis}
+use Rattle.fr_series.proofs.SharpFollowing.{sharp_figures-none}
+use Rattle.std.proofs.Common.{sym}
+use Rattle.fr_series.proofs.sharp_gathering.write_sharp_report.Goals as goal
+
+abbrev run_of : WorldView → Cycles
+run_of w = cycles_of (setting_after w) (2 * doubles_of w.drift)
+
+pub run_all-requires-clause-none : goal.run_all-requires-clause-none
+run_all-requires-clause-none g c = c.none-figures.ensures ∙ sym (sharp_figures-none c.of-basis.result.beside c.args.world.now.params c.of-basis.result.flutter)
+
+pub returns-in_err-put_lines-clause-text : goal.returns-in_err-put_lines-clause-text
+returns-in_err-put_lines-clause-text g c =
+    let w : WorldView = c.args.world.now in
+    let b : Basis = c.of-basis.result in
+    let is : b ≡ basis_of w.params w.drift w.script = c.of-basis.ensures.value ∙ rw (c.params.ensures.value, c.drift.ensures.value, c.script.ensures.value) refl in
+    let lines : joined_lines c.sharp_report_lines.result ≡ sharp_lines_by w.params b (run_of w) = c.sharp_report_lines.ensures ∙ ap (sharp_lines_of b) c.run_all.ensures.figures in
+    let rest : List ℕ = run_text w.params w.drift w.script in
+    let P : List ℕ → Type 0 = λ l. Puts c.from_residual.result (g.O.Sink.state c.args.out.now) (g.O.Sink.state c.put_lines.new.out) (l ++ rest) in
+    subst P (lines ∙ ap (λ (x : Basis). sharp_lines_by w.params x (run_of w)) is) (cut c.from_residual.result rest c.in_err-put_lines.ensures c.from_residual.ensures.0)
+
+pub returns-clause-text : goal.returns-clause-text
+returns-clause-text g c =
+    let w : WorldView = c.args.world.now in
+    let v : WorldView = c.run_all.new.world in
+    let b : Basis = c.of-basis.result in
+    let is : b ≡ basis_of w.params w.drift w.script = c.of-basis.ensures.value ∙ rw (c.params.ensures.value, c.drift.ensures.value, c.script.ensures.value) refl in
+    let lines : joined_lines c.sharp_report_lines.result ≡ sharp_lines_by w.params b (run_of w) = c.sharp_report_lines.ensures ∙ ap (sharp_lines_of b) c.run_all.ensures.figures in
+    let gap : result_err c.covered-gap.result ≡ first_gap v.params v.drift v.script = search rules in
+    let report : world_text v ≡ run_text w.params w.drift w.script = ap world_text c.run_all.ensures.ran in
+    let P : List ℕ → Type 0 = λ l. Puts c.write_report.result (g.O.Sink.state c.args.out.now) (g.O.Sink.state c.write_report.new.out) l in
+    subst P (ap₂ (λ (l m : List ℕ). l ++ m) (lines ∙ ap (λ (x : Basis). sharp_lines_by w.params x (run_of w)) is) report)
+    (then {rest = world_text v} c.write_report.result c.in_ok-put_lines.ensures (c.write_report.ensures.first gap))

@@ -1,0 +1,82 @@
+-- The report of a run by the sharper bounds as a text, line by line: what they say of the run, and then its report.
+use Rattle.std.specs.Prelude.{ℕ, ℤ, ◌*◌, Bool, List, ◌++◌, codes, Option, Some, None}
+use Rattle.std.specs.Fmt.{decimal, signed_decimal}
+use Rattle.std.specs.Option.{option_map}
+use Rattle.fr_cluster.specs.Values.{Values}
+use Rattle.fr_coverage.specs.Decided.{setting_of}
+use Rattle.fr_coverage.specs.Phrases.{gap_text}
+use Rattle.fr_coverage.specs.declared.gap.Gap.{Gap}
+use Rattle.fr_drift.specs.Questions.{doubles_of}
+use Rattle.fr_drift.specs.View.{DriftView}
+use Rattle.fr_script.specs.View.{ScriptView}
+use Rattle.fr_skew.specs.declared.peak.Peak.{Peak}
+use Rattle.fr_history.specs.Cycles.{Cycles}
+use Rattle.fr_history.specs.Next.{cycles_of}
+use Rattle.fr_report.specs.RunText.{run_text}
+use Rattle.fr_text.specs.Lines.{shown}
+use Rattle.fr_text.specs.Pieces.{line}
+use Rattle.fr_series.specs.Basis.{basis_of, sharp_figures_of}
+use Rattle.fr_series.specs.SharpText.{beside_or_alone, doubles_or_on}
+use Rattle.fr_series.specs.declared.basis.Basis.{Basis}
+use Rattle.fr_series.specs.declared.figures.Figures.{Figures}
+
+-- ---- the lines
+
+-- the flutter of the run, in ticks
+abbrev pub flutter_told : ℕ → List ℕ
+flutter_told flutter = codes "sharp flutter " ++ decimal flutter
+
+-- the sharper precision, in ticks, and whether it is that beside arbitrary sync nodes
+abbrev pub precision_told : ℤ → Bool → List ℕ
+precision_told precision beside = codes "sharp precision " ++ signed_decimal precision ++ codes " " ++ beside_or_alone beside
+
+-- whether the run is sharply covered, or why it is not
+abbrev pub covered_told : Option Gap → List ℕ
+covered_told None = codes "sharp covered yes"
+covered_told (Some gap) = gap_text (codes "sharp covered no ") gap
+
+-- the first double cycle in sharp sync in which no node follows, and for how many since then it stays so
+abbrev pub synced_told : Option ℕ → Option ℕ → List ℕ
+synced_told None lasts = codes "sharp in sync no"
+synced_told (Some double) lasts = codes "sharp in sync " ++ decimal double ++ codes " " ++ doubles_or_on lasts
+
+-- the greatest skew since then, in ticks, and its first place
+abbrev pub greatest_told : Peak → List ℕ
+greatest_told peak =
+    codes "sharp greatest skew " ++ signed_decimal peak.skew
+    ++ codes " cycle " ++ decimal peak.cycle ++ codes " macrotick " ++ decimal peak.macrotick
+
+abbrev pub greatest_shown : Peak → List ℕ
+greatest_shown peak = line (greatest_told peak)
+
+-- whether no skew since then was above the sharper precision, or the first that was, and its place
+abbrev pub above_told : Option Peak → List ℕ
+above_told None = codes "sharp within yes"
+above_told (Some peak) =
+    codes "sharp within no " ++ signed_decimal peak.skew
+    ++ codes " cycle " ++ decimal peak.cycle ++ codes " macrotick " ++ decimal peak.macrotick
+
+abbrev pub within_told : Option ℕ → Option Peak → List ℕ
+within_told None above = codes "sharp within -"
+within_told (Some double) above = above_told above
+
+-- ---- the text
+
+-- what the sharper bounds say, by what a run rests on and by the figures of sharp sync; where no double cycle is in sharp sync there
+-- is no line of a greatest skew
+unfoldable pub sharp_lines_of : Basis → Figures → List ℕ
+sharp_lines_of basis figures =
+    line (flutter_told basis.flutter)
+    ++ line (precision_told basis.scales.sharp.precision basis.beside)
+    ++ line (covered_told basis.gap)
+    ++ line (synced_told figures.synced basis.lasts)
+    ++ shown (option_map greatest_shown figures.greatest)
+    ++ line (within_told figures.synced figures.above)
+
+-- what they say of some cycles
+abbrev pub sharp_lines_by : Values → Basis → Cycles → List ℕ
+sharp_lines_by p basis h = sharp_lines_of basis (sharp_figures_of basis.beside p basis.flutter h)
+
+-- of the run of some parameters, a drift and a script, over all its cycles, with the report of that run
+abbrev pub sharp_report_text : Values → DriftView → ScriptView → List ℕ
+sharp_report_text p d s = sharp_lines_by p (basis_of p d s) (cycles_of (setting_of p d s) (2 * doubles_of d)) ++ run_text p d s

@@ -1,0 +1,112 @@
+ghost use Rattle.std.specs.Prelude.{◌≡◌, ◌++◌, ◌≤◌, codes, length};
+ghost use Rattle.std.specs.Fmt.{decimal, signed_decimal};
+ghost use Rattle.std.specs.Option.{option_map};
+ghost use Rattle.fr_series.specs.SharpReport.{above_told, covered_told, flutter_told, greatest_shown, precision_told, sharp_lines_of, synced_told, within_told};
+ghost use Rattle.fr_text.specs.Lines.{joined_lines};
+ghost use Rattle.fr_text.specs.Pieces.{line};
+
+use crate::basis::Basis;
+use crate::figures::Figures;
+use crate::sharp_lines::{kind, lasts_piece};
+use fr_coverage::{Gap, gap_line};
+use fr_skew::Peak;
+use fr_text::Piece::{Natural, Signed, Word};
+use fr_text::{Line, line_of};
+
+// What the sharper bounds say of a run.
+#[tactic(auto, unfolding(crate::specs::SharpReport::sharp_lines_of))]
+pub(crate) fn sharp_report_lines(basis: &Basis, figures: &Figures) -> [Option<Line>; 6]
+    ensures { joined_lines result ≡ sharp_lines_of basis.now figures.now }
+{
+    [
+        Some(flutter_line(basis.flutter)),
+        Some(precision_line(basis.scales.sharp.precision, basis.beside)),
+        Some(covered_line(basis.gap)),
+        Some(synced_line(figures.synced, basis.lasts)),
+        greatest_line(figures.greatest),
+        Some(within_line(figures.synced, figures.above)),
+    ]
+}
+
+fn flutter_line(flutter: u64) -> Line
+    ensures { result ≡ line (flutter_told flutter) }
+{
+    line_of(&[Word(b"sharp flutter "), Natural(flutter)])
+}
+
+fn precision_line(precision: i64, beside: bool) -> Line
+    ensures { result ≡ line (precision_told precision beside) }
+{
+    line_of(&[
+        Word(b"sharp precision "),
+        Signed(precision),
+        Word(b" "),
+        kind(beside),
+    ])
+}
+
+fn covered_line(gap: Option<Gap>) -> Line
+    ensures { result ≡ line (covered_told gap) }
+{
+    match gap {
+        None => line_of(&[Word(b"sharp covered yes")]),
+        Some(gap) => gap_line(b"sharp covered no ", gap),
+    }
+}
+
+fn synced_line(synced: Option<u32>, lasts: Option<u64>) -> Line
+    ensures { result ≡ line (synced_told synced lasts) }
+{
+    match synced {
+        None => line_of(&[Word(b"sharp in sync no")]),
+        Some(double) => line_of(&[
+            Word(b"sharp in sync "),
+            Natural(u64::from(double)),
+            Word(b" "),
+            lasts_piece(lasts),
+        ]),
+    }
+}
+
+fn greatest_line(greatest: Option<Peak>) -> Option<Line>
+    ensures { result ≡ option_map greatest_shown greatest }
+{
+    match greatest {
+        None => None,
+        Some(peak) => Some(place_line(b"sharp greatest skew ", peak)),
+    }
+}
+
+fn within_line(synced: Option<u32>, above: Option<Peak>) -> Line
+    ensures { result ≡ line (within_told synced above) }
+{
+    match synced {
+        None => line_of(&[Word(b"sharp within -")]),
+        Some(_) => above_line(above),
+    }
+}
+
+fn above_line(above: Option<Peak>) -> Line
+    ensures { result ≡ line (above_told above) }
+{
+    match above {
+        None => line_of(&[Word(b"sharp within yes")]),
+        Some(peak) => place_line(b"sharp within no ", peak),
+    }
+}
+
+// A skew and its place, behind a word.
+fn place_line(front: &[u8], peak: Peak) -> Line
+    requires { length front.now ≤ 20 }
+    ensures { result ≡ line (front.now ++ signed_decimal peak.skew
+        ++ codes " cycle " ++ decimal peak.cycle ++ codes " macrotick " ++ decimal peak.macrotick) }
+{
+    line_of(&[
+        Word(front),
+        Signed(peak.skew),
+        Word(b" cycle "),
+        Natural(u64::from(peak.cycle)),
+        Word(b" macrotick "),
+        Natural(u64::from(peak.macrotick)),
+    ])
+}
