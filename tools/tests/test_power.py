@@ -42,7 +42,7 @@ class Power(Bench):
             self.assertAlmostEqual(float(found[node][4]), 30.001 + first * 25 / 10 ** 12, delta=0.00051)
         self.assertEqual(found[1], ("leads", "0.000", "0.000", "-", "30.001"))
         self.assertIn(f"All in sync     from {found[6][4]} ms on", page)
-        self.assertIn("Covered         yes", page)
+        self.assertIn("  covered       yes", page)
         self.assertIn("that it is the one switched on first", self.one_line(page))
         for part in ("Proved", "Seen", "Left out"):
             self.assertIn(f"\n{part} ", page)
@@ -88,10 +88,10 @@ class Power(Bench):
 
     def test_limits_that_do_not_suffice(self):
         page = self.one_line(self.power(PLAIN.replace("pOffsetCorrectionOut = 572", "pOffsetCorrectionOut = 320")))
-        self.assertIn("Covered NO by the older bound", page)
-        self.assertIn("check C7 of the older bound fails, see below", page)
-        self.assertRegex(page, r"Checks C1 to C9 hold, those of the sharp precision; .* Older checks C7 of the older bound, above called "
-                               r"Precision, fails; the sharp precision does not rest on them")
+        self.assertIn("covered NO: nothing is promised by the classical bound", page)
+        self.assertIn("check C7 fails, see below", page)
+        self.assertRegex(page, r"Checks C1 to C9 hold, those of the precision; .* checks C7 of the classical bound fails; the precision does "
+                               r"not rest on them")
 
     def test_one_coldstart_node(self):
         text = re.sub(r"(key_slot = [23]\n(?:channels = \"AB\"\n)?)coldstart = true\n", r"\1", PLAIN)
@@ -136,13 +136,13 @@ class Settle(Bench):
         told = self.flexray("settle", "a.lab/params.csv", "60000000", "60000000")[1]
         double, peak = re.search(r"settles (\d+)", told)[1], int(re.search(r"peak (\d+)", told)[1])
         self.assertIn("first starts lie at most 1.500 us apart, the lengths of the first two cycles 1.500 us (300.00 ppm)", page)
-        self.assertIn(f"In sync in double cycle {double} at the latest (cycle {2 * int(double)}, {10 * int(double)}.000 ms)", page)
+        self.assertIn(f"Classical in sync by the classical bound in double cycle {double} at the latest (cycle {2 * int(double)}, {10 * int(double)}.000 ms)", page)
         self.assertIn(f"further apart than {peak * 25 / 10 ** 9:.3f} us", page)
 
     def test_as_far_apart_as_is_said(self):
         page = self.settle(PLAIN, "--start-us", "4", "--rate-ppm", "100.5")
         told = self.flexray("settle", "a.lab/params.csv", "160000000", "20100000")[1]
-        self.assertIn("In sync in double cycle " + re.search(r"settles (\d+)", told)[1], page)
+        self.assertIn("in sync by the classical bound in double cycle " + re.search(r"settles (\d+)", told)[1], page)
         self.settle(PLAIN, "--start-us", "x", status=2)
         self.settle(PLAIN, "--start-us", "99999999", status=2)
 
@@ -150,23 +150,23 @@ class Settle(Bench):
         page = self.settle(PLAIN)
         told = self.flexray("settle", "a.lab/params.csv", "60000000", "60000000", "sharp", "0")[1]
         double, peak = re.search(r"alone settles (\d+)", told)[1], int(re.search(r"alone peak (\d+)", told)[1])
-        self.assertIn(f"In sharp sync in double cycle {double} at the latest (cycle {2 * int(double)}, {10 * int(double)}.000 ms): "
-                      "proved of sharply covered runs that begin so, without arbitrary nodes", page)
+        self.assertIn(f"In sync in double cycle {double} at the latest (cycle {2 * int(double)}, {10 * int(double)}.000 ms): "
+                      "proved of covered runs that begin so, without arbitrary nodes", page)
         self.assertIn(f"further apart than {peak * 25 / 10 ** 9:.3f} us", page)
         page = self.settle(EXAMPLE)
         told = self.flexray("settle", "a.lab/params.csv", "60000000", "60000000", "sharp", "0")[1]
-        self.assertIn(f"In sharp sync in double cycle {re.search(r'beside settles (.*)', told)[1]} at the latest", page)
-        self.assertIn("In sync NOT PROVED: a check of the older bound for the way there fails check C3 for the way fails", page)
+        self.assertIn(f"In sync in double cycle {re.search(r'beside settles (.*)', told)[1]} at the latest", page)
+        self.assertIn("Classical NOT PROVED: a check of the classical bound for the way there fails check C3 for the way fails", page)
         self.assertNotIn("turn pOffsetCorrectionOut", page)
-        # In sharp sync lengths of even cycles count alone.
+        # In sync by the precision lengths of even cycles count alone.
         page = self.settle(PLAIN + '[[oscillator]]\nnodes = 1\ncycles = "1-"\nppm = 199\n')
         self.assertIn(f"further apart than {peak * 25 / 10 ** 9:.3f} us, ", page)
         self.assertIn("(349.00 ppm)", page)
 
     def test_a_check_for_the_way_fails(self):
         page = self.settle(edited(("start_us = 1.5", "start_us = 9")), status=1)
-        self.assertIn("In sharp sync NOT PROVED: a check for the way there fails check C3 for the way fails", page)
-        self.assertIn("In sync NOT PROVED: a check of the older bound for the way there fails check C3 for the way fails", page)
+        self.assertIn("In sync NOT PROVED: a check for the way there fails check C3 for the way fails", page)
+        self.assertIn("Classical NOT PROVED: a check of the classical bound for the way there fails check C3 for the way fails", page)
         self.assertEqual(page.count("give a lower START or RATE"), 2)
         told = self.flexlab("explain", "settle", "a.lab/params.csv", "360000000", "60000000", "sharp", "0")[0]
         self.assertIn("it asks: pOffsetCorrectionOut * Qm >= reach + E1 + Qp", told)

@@ -31,11 +31,11 @@ class Pages(Bench):
         double = int(re.search(r"^in sync (\d+)$", report, re.M)[1])
         precision = Fraction(re.search(r"^precision (\d+)$", report, re.M)[1])
         self.assertIn("covered yes", report)
-        self.assertIn(f"In sync yes, from double cycle {double} on (cycle {2 * double}, {10 * double}.000 ms), and "
+        self.assertIn(f"in sync yes, from double cycle {double} on (cycle {2 * double}, {10 * double}.000 ms), and "
                       "still in sync at the end", page)
-        self.assertIn("Covered yes:", page)
-        self.assertIn(f"Precision {float(precision * 25 / 10**9):.3f} us", page)
-        self.assertIn("Within yes", page)
+        self.assertIn("covered yes:", page)
+        self.assertIn(f"Classical the bound that flexray run prints: {float(precision * 25 / 10**9):.3f} us", page)
+        self.assertIn("within yes", page)
         self.assertIn("C1 to C5 hold", page)
         self.assertNotIn("WARNING", page)
 
@@ -54,7 +54,7 @@ class Pages(Bench):
     def test_the_skew_in_sync_is_that_of_the_rest_of_the_run(self):
         page = self.page(edited(("drift = 150", "drift = 200")))
         self.assertIn("before sync, so it is not to be held against the precision", page)
-        told = re.search(r"Skew in sync ([\d.]+) us at most, ([\d.]+) % of the precision \(cycle (\d+)", page)
+        told = re.search(r"skew in sync ([\d.]+) us at most, ([\d.]+) % of the bound \(cycle (\d+)", page)
         report = self.read("a.lab", "report.txt")
         first = 2 * int(re.search(r"^in sync (\d+)$", report, re.M)[1])
         self.assertGreaterEqual(int(told[3]), first)
@@ -65,10 +65,10 @@ class Pages(Bench):
 
     def test_sync_that_is_lost(self):
         page = self.page(EXAMPLE + '[[oscillator]]\nnodes = 1\ncycles = "200-"\nppm = -1400\n')
-        self.assertRegex(page, r"In sync NOT AT THE END: from double cycle \d+ on .* lost in double cycle 10\d ")
-        self.assertIn("Covered NO: nothing is promised", page)
-        self.assertIn("Within NO", page)
-        self.assertRegex(page, r"Skew since [\d.]+ us at most since it was first in sync, 1\d\d\.\d % of the precision")
+        self.assertRegex(page, r"in sync NOT AT THE END: from double cycle \d+ on .* lost in double cycle 10\d ")
+        self.assertIn("covered NO: nothing is promised", page)
+        self.assertIn("within NO", page)
+        self.assertRegex(page, r"skew in sync [\d.]+ us at most since it was first in sync, 1\d\d\.\d % of the bound")
         self.assertIn("in cycle 200 the oscillator of node 1 is off by -1400.04 ppm (its microtick lasts 1001402 "
                       "ticks)", page)
 
@@ -82,7 +82,7 @@ class Pages(Bench):
     def test_never_in_sync(self):
         page = self.page(edited(("start_us = 1.5", "start_us = 900"), ("double_cycles = 200", "double_cycles = 91"),
                                 ('cycles = "181-"', "cycles = 181")))
-        self.assertIn("In sync NEVER", page)
+        self.assertIn("in sync NEVER", page)
         self.assertIn("there is none", page)
 
     def test_a_node_that_joins(self):
@@ -112,7 +112,7 @@ class Pages(Bench):
         # From its first double cycle in sync on the run is run again, and there too the node joins.
         page = self.page(edited(("drift = 150", "drift = 200"), text=text))
         self.assertIn("before sync, so it is not to be held against the precision", page)
-        self.assertRegex(page, r"Skew in sync [\d.]+ us at most")
+        self.assertRegex(page, r"skew in sync [\d.]+ us at most")
         first = int(re.search(r"^in sync (\d+)$", self.read("a.lab", "report.txt"), re.M)[1])
         self.assertEqual(self.read("a.lab", "in-sync", "script.csv").splitlines()[1], f"join,{20 - first},4,1,,,")
 
@@ -139,7 +139,7 @@ class Pages(Bench):
                                                                                            "arbitrary ones")):
             with self.subTest(told=told):
                 page = self.page(edited(*([changes] if changes else [])) + more)
-                self.assertIn("Covered NO", page)
+                self.assertIn("covered NO", page)
                 self.assertIn(told, page)
 
     def test_advice_is_tried_and_holds(self):
@@ -202,13 +202,13 @@ class Pages(Bench):
         self.write("a.toml", EXAMPLE)
         env = self.series("greatest,80000000,5,4900,", "synced,yes,,,", "within,yes,,,")
         page = self.one_line(self.flexlab("run", "a.toml", env=env)[0])
-        self.assertIn("Skew in sync 2.000 us at most", page)
+        self.assertIn("skew in sync 2.000 us at most", page)
         self.assertIn("(cycle 5, macrotick 4900)", page)
-        self.assertIn("Within yes:", page)
+        self.assertIn("within yes:", page)
         self.assertNotIn("Not installed", page)
         env = self.series("greatest,400000000,5,4900,", "synced,yes,,,", "within,no,5,17,")
         page = self.one_line(self.flexlab("run", "a.toml", env=env)[0])
-        self.assertIn("Within NO: since it was first in sync the skew was above the precision, first in cycle 5, "
+        self.assertIn("within NO: since it was first in sync the skew was above the bound, first in cycle 5, "
                       "macrotick 17", page)
         self.assertIn("not understood: within,maybe", self.flexlab("run", "a.toml", env=self.series("within,maybe"),
                                                                    status=6)[1])
@@ -222,7 +222,7 @@ class Pages(Bench):
             without, page = self.page(text), self.page(text, env={"FLEXRAY_SERIES": SERIES})
             self.assertIn("Not installed", without)
             self.assertNotIn("Not installed", page)
-            for words in (r"In sync .*? Covered", r"Skew (?:in sync|since) [\d.]+ us at most.*? \(", r"Within \w+"):
+            for words in (r"in sync (?:yes|N).*? covered", r"skew in sync [\d.]+ us at most.*? \(", r"within (?:yes|NO)"):
                 found = re.search(words, without)
                 if found:
                     self.assertIn(found[0], page)

@@ -127,29 +127,29 @@ class Pages(Case):
         bounds = self.told(0)["alone"]
         self.assertEqual((bounds.precision, bounds.gap, bounds.lasts), (36003994, None, None))
         self.assertIn("covered no check 1", self.read("a.lab", "report.txt"))
-        self.assertIn("Covered NO by the older bound; by the sharper one yes, as below", page)
-        self.assertIn("Sharply covered yes: in sharp sync no macroticks of correct nodes lie further apart than the sharp "
+        self.assertIn("covered NO: nothing is promised by the classical bound of this run", page)
+        self.assertIn("Covered yes: while in sync no macroticks of correct nodes lie further apart than the "
                       "precision; that is proved of such runs", page)
-        self.assertIn("Sharp precision 0.900 us (36.004 microticks), without arbitrary nodes, for delays that flutter by 0.000 us",
+        self.assertIn("Precision 0.900 us (36.004 microticks), without arbitrary nodes, for delays that flutter by 0.000 us",
                       page)
         told = report.read_series(self.read("a.lab", "series.csv")).sharp
-        self.assertIn(f"In sharp sync yes, from double cycle {told.synced} on (cycle {2 * told.synced}, {10 * told.synced}.000 ms), "
+        self.assertIn(f"In sync yes, from double cycle {told.synced} on (cycle {2 * told.synced}, {10 * told.synced}.000 ms), "
                       "and still so at the end", page)
         skew, cycle, macrotick = told.greatest
-        self.assertRegex(page, rf"Sharp skew {skew * 25 / 10 ** 9:.3f} us at most since it was first in sharp sync, [\d.]+ % of the "
-                               rf"sharp precision \(cycle {cycle}, macrotick {macrotick}\) Sharply within yes")
-        self.assertRegex(page, r"Later skew .*? % of the sharp precision")
-        self.assertIn("before sharp sync, so it is not to be held against the sharp precision", page)
-        self.assertIn("C1 to C5 hold, those of the sharp precision; C1 is the tightest, used to 50.0 %; a damping of 1 would "
+        self.assertRegex(page, rf"Skew in sync {skew * 25 / 10 ** 9:.3f} us at most since it was first in sync, [\d.]+ % of the "
+                               rf"precision \(cycle {cycle}, macrotick {macrotick}\) Within yes")
+        self.assertRegex(page, r"Later skew .*? % of the precision")
+        self.assertIn("before sync, so it is not to be held against the precision", page)
+        self.assertIn("C1 to C5 hold, those of the precision; C1 is the tightest, used to 50.0 %; a damping of 1 would "
                       "suffice", page)
 
     @needs_series
-    def test_where_the_sharper_checks_hold_no_damping_is_advised(self):
+    def test_where_the_checks_hold_no_damping_is_advised(self):
         page = self.page(produced(SHORT))
         self.assertNotIn("Ways", page)
         self.assertNotIn("turn pClusterDriftDamping", page)
-        asked = re.search(r"C1, C3 and C4 of the older bound, above called Precision, fail; the sharp precision does not rest on "
-                          r"them\. They ask for (.*?) besides; the older bound is then ([\d.]+) us, and simulated skew ([\d.]+) us at "
+        asked = re.search(r"C1, C3 and C4 of the classical bound fail; the precision does not rest on "
+                          r"them\. They ask for (.*?) besides; the classical bound is then ([\d.]+) us, and simulated skew ([\d.]+) us at "
                           r"most from cycle (\d+) on, ([\d.]+) times what it is now: that makes the clocks worse", page)
         self.assertIsNotNone(asked, page)
         self.assertGreater(float(asked[5]), 3)
@@ -160,32 +160,32 @@ class Pages(Case):
             text = re.sub(rf"^{name} = \d+", f"{name} = {value}", text, flags=re.M)
         again = self.page(text, "--from", asked[4])
         self.assertIn("Covered yes", again)
-        self.assertIn("Older checks those of the older bound, above called Precision, hold too", again)
-        self.assertIn(f"Precision {asked[2]} us", again)
+        self.assertIn(" checks those of the classical bound hold too", again)
+        self.assertIn(f"that flexray run prints: {asked[2]} us", again)
         self.assertIn(f"as asked: {asked[3]} us at most", again)
 
     @needs_series
     def test_beside_an_arbitrary_node(self):
         page = self.page(produced(SHORT) + TWO_FACED)
-        self.assertIn("Sharply covered yes", page)
-        self.assertIn("Sharp precision 2.475 us (99.011 microticks), beside arbitrary nodes", page)
+        self.assertIn("Covered yes", page)
+        self.assertIn("Precision 2.475 us (99.011 microticks), beside arbitrary nodes", page)
         text = re.sub(r"(id = [5-8]\n)key_slot = \d\n(.*\n)coldstart = true\n", r"\1\2", produced(SHORT))
         other = TWO_FACED.replace("node = 4", "node = 3")
         page = self.page(text + "".join(one.replace("[1, 3]", "1").replace("[2, 5]", "2") for one in (TWO_FACED, other)))
-        self.assertIn("Sharply covered NO: nothing is promised of this run's sharp precision 2 correct sync nodes do not outweigh 2 "
+        self.assertIn("Covered NO: nothing is promised of this run's precision 2 correct sync nodes do not outweigh 2 "
                       "arbitrary ones", page)
 
     @needs_series
     def test_the_first_check_decides_how_long_it_is_proved(self):
         page = self.page(produced(("Damping = 2", "Damping = 0"), SHORT))
-        self.assertIn("Sharply covered yes", page)
+        self.assertIn("Covered yes", page)
         self.assertIn("proved of 560 double cycles from there (5600.000 ms), since C1 fails and the rates of all may walk together: "
                       "to the end of this run", page)
         self.assertIn("turn pClusterDriftDamping: it is 0, and with all else as it is C1 asks for 1 at least", page)
-        self.assertIn("1. all checks hold with pClusterDriftDamping = 1. Sharp precision 0.750 us; covered yes", page)
+        self.assertIn("1. all checks hold with pClusterDriftDamping = 1. Precision 0.750 us; covered yes", page)
         page = self.page(produced(*WALK, ("double_cycles = 60", "double_cycles = 70")) + EVEN_AND_ODD)
         self.assertIn("for delays that flutter by 0.250 us", page)
-        first = int(re.search(r"In sharp sync yes, from double cycle (\d+) on", page)[1])
+        first = int(re.search(r"In sync yes, from double cycle (\d+) on", page)[1])
         self.assertRegex(page, r"but for lengths that leave their range from double cycle \d+ on")
         self.assertIn("PROVED IN PART, of 62 double cycles from there (620.000 ms), since C1 fails and the rates of all may walk "
                       f"together: not from cycle {2 * (first + 62)} on", page)
@@ -198,29 +198,29 @@ class Pages(Case):
         self.assertEqual(self.told(10000000)["alone"].lasts, 0)
         self.assertIn("NOT PROVED: C1 fails, and the rate limit holds the walk of all rates for no double cycle", page)
         self.assertIn("is proved of no double cycles", page)
-        self.assertIn("In sharp sync NOT ALL THE WAY: from double cycle 0 on", page)
+        self.assertIn("In sync NOT ALL THE WAY: from double cycle 0 on", page)
 
     @needs_series
     def test_each_way_holds_and_has_the_skew_that_it_tells(self):
         text = produced(SHORT, ("pOffsetCorrectionOut = 127", "pOffsetCorrectionOut = 50"),
                         ("gdActionPointOffset = 4", "gdActionPointOffset = 1")) + TWO_FACED
         page = self.page(text)
-        self.assertIn("Sharply covered NO: nothing is promised of this run's sharp precision check C3 fails, see below", page)
+        self.assertIn("Covered NO: nothing is promised of this run's precision check C3 fails, see below", page)
         self.assertRegex(page, r"Later skew .*? % of the precision; 99 % of cycles")
         ways = re.findall(r"\d\. (all checks hold with .*?)(?=\d\. all|Frames)", page)
         self.assertEqual(len(ways), 2, page)
         skews = []
         for way in ways:
-            told = re.search(r"with (.*?)\. Sharp precision ([\d.]+) us; covered yes; simulated skew ([\d.]+) us at most from cycle "
+            told = re.search(r"with (.*?)\. Precision ([\d.]+) us; covered yes; simulated skew ([\d.]+) us at most from cycle "
                              r"(\d+) on", way)
             taken = text
             for name, value in (one.split(" = ") for one in told[1].split(", ")):
                 taken, count = re.subn(rf"^{name} = \d+", f"{name} = {value}", taken, flags=re.M)
                 self.assertEqual(count, 1, name)
             again = self.page(taken, "--from", told[4])
-            self.assertIn("Sharply covered yes", again)
-            self.assertIn("C1 to C5 hold, those of the sharp precision", again)
-            self.assertIn(f"Sharp precision {told[2]} us", again)
+            self.assertIn("Covered yes", again)
+            self.assertIn("C1 to C5 hold, those of the precision", again)
+            self.assertIn(f"Precision {told[2]} us", again)
             self.assertIn(f"as asked: {told[3]} us at most", again)
             skews.append(float(told[3]))
         self.assertEqual(skews, sorted(skews))
@@ -229,11 +229,11 @@ class Pages(Case):
     @needs_series
     def test_the_picture_has_the_precision_that_is_proved(self):
         page = self.page(produced(SHORT), "--pictures")
-        first = re.search(r"In sharp sync yes, from double cycle \d+ on \(cycle (\d+)", page)[1]
-        skew = re.search(r"Sharp skew ([\d.]+) us .*?\(cycle (\d+)", page)
+        first = re.search(r"In sync yes, from double cycle \d+ on \(cycle (\d+)", page)[1]
+        skew = re.search(r"Skew in sync ([\d.]+) us .*?\(cycle (\d+)", page)
         picture, data = self.read("a.lab", "skew.svg"), self.read("a.lab", "skew.gnuplot")
-        for told in ("sharp precision, 0.900 us", f"in sharp sync from cycle {first}",
-                     f"greatest skew in sharp sync, {skew[1]} us in cycle {skew[2]}"):
+        for told in ("precision, 0.900 us", f"in sync from cycle {first}",
+                     f"greatest skew in sync, {skew[1]} us in cycle {skew[2]}"):
             self.assertIn(told, picture)
         self.assertNotIn("12.352", picture)
         self.assertIn(f"$bound0 << end\n{first} 0.900100\n40 0.900100\nend", data)
@@ -248,9 +248,9 @@ class Pages(Case):
     def test_sharp_sync_that_is_lost(self):
         page = self.page(produced(SHORT, *WALK) + '[[oscillator]]\nnodes = 1\ncycles = "20-"\nppm = -1400\n')
         cycle, macrotick = report.read_series(self.read("a.lab", "series.csv")).sharp.within[1:]
-        self.assertIn("In sharp sync NOT ALL THE WAY: from double cycle 0 on (cycle 0, 0.000 ms) at first; lost in double cycle 10",
+        self.assertIn("In sync NOT ALL THE WAY: from double cycle 0 on (cycle 0, 0.000 ms) at first; lost in double cycle 10",
                       page)
-        self.assertIn("Sharply within NO: since then the skew was above the sharp precision, first in cycle "
+        self.assertIn("Within NO: since then the skew was above the precision, first in cycle "
                       f"{cycle}, macrotick {macrotick}", page)
 
     def test_a_way_counts_where_flexray_says_that_it_holds(self):
@@ -266,37 +266,37 @@ class Pages(Case):
     @needs_series
     def test_nodes_that_join(self):
         page = self.page(produced(SHORT) + JOINS)
-        self.assertIn("Sharply covered yes: in sharp sync no macroticks of correct nodes lie further apart than the sharp precision", page)
-        self.assertIn("Sharp precision 0.900 us", page)
-        self.assertIn("Checks C1 to C9 hold, those of the sharp precision", page)
-        self.assertRegex(page, r"Older checks C1, .* of the older bound, above called Precision, fail; the sharp precision does not rest on")
+        self.assertIn("Covered yes: while in sync no macroticks of correct nodes lie further apart than the precision", page)
+        self.assertIn("Precision 0.900 us", page)
+        self.assertIn("Checks C1 to C9 hold, those of the precision", page)
+        self.assertRegex(page, r" checks C1, .* of the classical bound fail; the precision does not rest on")
         page = self.page(produced(SHORT) + JOINS + TWO_FACED)
-        self.assertIn("Sharply covered NO: nothing is promised of this run's sharp precision check C7 fails, see below", page)
+        self.assertIn("Covered NO: nothing is promised of this run's precision check C7 fails, see below", page)
         self.assertIn("Checks check C7 fails: 126987300 against 136866544; the offset limit has to suffice for the reach of a node that "
                       "joins turn pOffsetCorrectionOut: it is 127, and with all else as it is C7 asks for 137 at least", page)
         page = self.page(produced(SHORT) + JOINS, series=False)
-        self.assertIn("Sharply covered not known: a check of the older bound fails", page)
+        self.assertIn("Covered not known: a check of the classical bound fails", page)
 
     def test_what_is_known_without_the_second_program(self):
         page = self.page(produced(SHORT), series=False)
-        self.assertIn("Sharply covered not known: a check of the older bound fails", page)
-        self.assertIn("Sharp precision 0.900 us", page)
-        self.assertIn("Sharp skew not known: flexray-series tells it, which is not installed", page)
+        self.assertIn("Covered not known: a check of the classical bound fails", page)
+        self.assertIn("Precision 0.900 us", page)
+        self.assertIn("Skew in sync not known: flexray-series tells it, which is not installed", page)
         page = self.page(produced(SHORT, *WALK), series=False)
-        self.assertIn("Sharp skew 0.400 us at most since it was first in sharp sync", page)
+        self.assertIn("Skew in sync 0.400 us at most since it was first in sync", page)
         page = self.page(EXAMPLE, series=False)
-        self.assertIn("Sharply covered yes", page)
-        self.assertIn("Older checks those of the older bound, above called Precision, hold too", page)
+        self.assertIn("Covered yes", page)
+        self.assertIn(" checks those of the classical bound hold too", page)
         page = self.page(produced(SHORT, ("pOffsetCorrectionOut = 127", "pOffsetCorrectionOut = 9")), series=False)
-        self.assertIn("Sharply covered NO: nothing is promised of this run's sharp precision check C3 fails, see below", page)
+        self.assertIn("Covered NO: nothing is promised of this run's precision check C3 fails, see below", page)
         page = self.page(edited(("microticks = 0.3", "microticks = 0.7")), series=False)
-        self.assertIn("Sharply covered NO: nothing is promised of this run's sharp precision in cycle 0 frames of node 1 travel", page)
+        self.assertIn("Covered NO: nothing is promised of this run's precision in cycle 0 frames of node 1 travel", page)
 
     @needs_series
     def test_delays_that_flutter_more_than_any_limit_allows(self):
         text = produced(SHORT) + "[[delay]]\nfrom = 1\nto = 2\nns = 2000\nfrom_cycle = 7\n"
         page = self.page(text)
-        self.assertIn("Sharply covered NO: nothing is promised of this run's sharp precision a delay differs by 1.700 us between the two "
+        self.assertIn("Covered NO: nothing is promised of this run's precision a delay differs by 1.700 us between the two "
                       "cycles of a double cycle", page)
         self.assertIn("without arbitrary nodes, for delays that flutter by 0.500 us", page)
         self.assertIn("xDelayError would have to be 73000000, and is 10000000 at most", page)
@@ -307,7 +307,7 @@ class Pages(Case):
 
     def test_never_in_sharp_sync(self):
         page = self.page(produced(("double_cycles = 60", "double_cycles = 1")))
-        self.assertIn("In sharp sync NEVER: no double cycle of the run is in sharp sync", page)
+        self.assertIn("In sync NEVER: no double cycle of the run is in sync", page)
         self.assertNotIn("Sharp skew", page)
 
     @needs_series
@@ -342,11 +342,11 @@ class Table(Case):
         page = self.table(produced(SHORT))
         self.assertRegex(page, r"\nthe standard, best case +0\.900 +36\.0 ")
         self.assertRegex(page, r"\nthe standard, worst case +2\.550 +102\.0 ")
-        self.assertRegex(page, r"\nsharp, no arbitrary +0\.900 +36\.0 +none +on +100\.0 %  from sharp sync on; that of this cluster\n")
-        self.assertRegex(page, r"\nsharp, beside arbitrary +2\.475 +99\.0 +none +on +275\.0 %  from sharp sync on\n")
-        self.assertRegex(page, r"\nthe older bound +12\.352 +494\.1 +C1, C3, C4 +1372\.2 % ")
-        self.assertRegex(page, r"\nsimulated, sharp sync +0\.\d+ ")
-        self.assertIn("Sharp proved of this run, without arbitrary nodes: in sharp sync no macroticks", self.one_line(page))
+        self.assertRegex(page, r"\nproved, no arbitrary +0\.900 +36\.0 +none +on +100\.0 %  from `In sync` on; that of this cluster\n")
+        self.assertRegex(page, r"\nproved, beside arbitrary +2\.475 +99\.0 +none +on +275\.0 %  from `In sync` on\n")
+        self.assertRegex(page, r"\nthe classical bound +12\.352 +494\.1 +C1, C3, C4 +1372\.2 % ")
+        self.assertRegex(page, r"\nsimulated, in sync +0\.\d+ ")
+        self.assertIn("Precision proved of this run, without arbitrary nodes: in sync no macroticks", self.one_line(page))
 
     @needs_series
     def test_another_flutter(self):
@@ -362,10 +362,10 @@ class Table(Case):
     @needs_series
     def test_where_nothing_is_proved(self):
         page = self.one_line(self.table(produced(SHORT, ("pOffsetCorrectionOut = 127", "pOffsetCorrectionOut = 20"))))
-        self.assertRegex(page, r"Sharp nothing is proved of this run, which has a gap \(check 3 \d+ \d+\)")
+        self.assertRegex(page, r"Precision nothing is proved of this run, which has a gap \(check 3 \d+ \d+\)")
         page = self.one_line(self.table(produced(SHORT, ("pOffsetCorrectionOut = 127", "pOffsetCorrectionOut = 50")) + JOINS))
-        self.assertRegex(page, r"Sharp nothing is proved of this run, which has a gap \(check 7 \d+ \d+\)")
-        self.assertIn("Sharp proved of this run, without arbitrary nodes", self.one_line(self.table(produced(SHORT) + JOINS)))
+        self.assertRegex(page, r"Precision nothing is proved of this run, which has a gap \(check 7 \d+ \d+\)")
+        self.assertIn("Precision proved of this run, without arbitrary nodes", self.one_line(self.table(produced(SHORT) + JOINS)))
 
 
 class Machines(Case):

@@ -41,7 +41,7 @@ class Studies(Bench):
         self.assertIn("length,1,0,999875,,\n", drift)
         self.write("a.toml", edited(("drift = 150", "drift = 125"), text=SHORT))
         page = self.one_line(self.flexlab("run", "a.toml")[0])
-        self.assertIn(f"Skew in sync {float(lines[1]['skew_in_sync_us']):.3f} us", page)
+        self.assertIn(f"skew in sync {float(lines[1]['skew_in_sync_us']):.3f} us", page)
 
     def test_a_run_that_is_not_covered_names_its_gap(self):
         self.write("a.toml", SHORT)

@@ -60,7 +60,7 @@ class Verdicts(Bench):
     def test_what_is_proved(self):
         self.write("a.toml", SHORT)
         out = self.flexlab("run", "a.toml")[0]
-        told = "Verdict proved: from cycle 4 on no macroticks of correct nodes lie further apart than 3.756 us, the sharp precision Cluster"
+        told = "Verdict proved: from cycle 4 on no macroticks of correct nodes lie further apart than 3.756 us, the precision Cluster"
         self.assertTrue(self.one_line(out).startswith(told), out)
         found = json.loads(self.flexlab("run", "a.toml", "--json")[0])
         self.assertEqual((found["verdict"]["proved"], found["verdict"]["from_cycle"], found["verdict"]["until_cycle"], found["gaps"]),
@@ -69,14 +69,14 @@ class Verdicts(Bench):
         for request in ("precision", "settle", "power"):
             self.assertTrue(self.flexlab(request, "a.toml")[0].startswith("Verdict "), request)
 
-    def test_nodes_that_join_by_the_sharper_checks(self):
-        """A check of the sharper bound is told in front, and the page does not advise by the older one."""
+    def test_nodes_that_join_by_the_checks(self):
+        """A check of the precision is told in front, and the page does not advise by the classical bound."""
         text = EXAMPLE.replace("double_cycles = 200", "double_cycles = 40") + "\n[[join]]\nnode = 5\nreference = 1\ndouble_cycle = 10\n"
         self.write("a.toml", text + '\n[[lose]]\nfrom = 1\nto = "all"\nchannels = "B"\ncycles = "40-"\n')
         page = self.one_line(self.flexlab("run", "a.toml")[0])
         self.assertTrue(page.startswith("Verdict NOT PROVED: "), page[:100])
-        self.assertIn("check C6 of the sharp precision fails", page)
-        self.assertIn("all checks hold with pRateCorrectionOut = 82. Sharp precision", page)
+        self.assertIn("check C6 fails", page)
+        self.assertIn("all checks hold with pRateCorrectionOut = 82. Precision", page)
         self.assertIn("it is the reference of node 5", page)
 
 

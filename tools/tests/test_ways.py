@@ -46,10 +46,10 @@ class Ways(Bench):
         return text
 
     def test_each_way_holds_and_has_the_skew_that_it_tells(self):
-        """Of a cluster that nodes join they are by the sharper checks, C6 to C9 among them."""
+        """Of a cluster that nodes join they are by the checks of the precision, C6 to C9 among them."""
         text = edited(("delay_error_us = 0.0125", "delay_error_ns = 125")) + JOINS
         page = self.page(text)
-        ways = re.findall(r"all checks hold with (.*?)\. Sharp precision ([\d.]+) us; simulated starts ([\d.]+) us at most from cycle "
+        ways = re.findall(r"all checks hold with (.*?)\. Precision ([\d.]+) us; simulated starts ([\d.]+) us at most from cycle "
                           r"(\d+) on", page)
         self.assertEqual(len(ways), 4)
         self.assertEqual([float(way[2]) for way in ways], sorted(float(way[2]) for way in ways))
@@ -59,25 +59,25 @@ class Ways(Bench):
                 continue
             self.write("b.toml", self.taken(values, text))
             again = self.one_line(self.flexlab("run", "--from", begin, "b.toml")[0])
-            self.assertIn("Checks C1 to C9 hold, those of the sharp precision", again)
-            self.assertIn(f"Sharp precision {precision} us", again)
+            self.assertIn("Checks C1 to C9 hold, those of the precision", again)
+            self.assertIn(f"Precision {precision} us", again)
             self.assertIn(f"as asked: {skew} us at most", again)
             tried += 1
         self.assertEqual(tried, 2)
 
     def test_what_the_older_bound_asks_besides(self):
-        """It is told and held to, and no way: the sharper checks of this cluster hold."""
+        """It is told and held to, and no way: the checks of the precision of this cluster hold."""
         text = edited(*WIDE) + JOINS
         page = self.page(text)
         self.assertNotIn("Ways", page)
-        asked = re.search(r"Older checks C1, C7 and C8 of the older bound, above called Precision, fail; the sharp precision does not "
-                          r"rest on them\. They ask for (.*?) besides; the older bound is then ([\d.]+) us, and simulated starts "
+        asked = re.search(r" checks C1, C7 and C8 of the classical bound fail; the precision does not "
+                          r"rest on them\. They ask for (.*?) besides; the classical bound is then ([\d.]+) us, and simulated starts "
                           r"([\d.]+) us at most from cycle (\d+) on, [\d.]+ times what it is now: that makes the clocks worse", page)
         self.write("b.toml", self.taken(asked[1], text))
         again = self.one_line(self.flexlab("run", "--from", asked[4], "b.toml")[0])
-        self.assertIn("Covered yes", again)
-        self.assertIn("Older checks those of the older bound, above called Precision, hold too", again)
-        self.assertIn(f"Precision {asked[2]} us", again)
+        self.assertIn("covered yes", again)
+        self.assertIn(" checks those of the classical bound hold too", again)
+        self.assertIn(f"that flexray run prints: {asked[2]} us", again)
         self.assertIn(f"as asked: {asked[3]} us at most", again)
 
     def test_slots_that_do_not_fit(self):

@@ -60,7 +60,7 @@ class Worst(Bench):
         self.assertIn("Left out nodes that join", page)
 
     def test_where_no_run_is_covered(self):
-        for text, told in ((edited(("pClusterDriftDamping = 5", "pClusterDriftDamping = 2"), text=SMALL), "C1 of the older bound fails, so no run"),
+        for text, told in ((edited(("pClusterDriftDamping = 5", "pClusterDriftDamping = 2"), text=SMALL), "C1 of the classical bound fails, so no run"),
                            (SMALL.replace("late = [2, 4]", "late = 2").replace("to = [3, 4]", "to = 3") + "[[say]]\nnode = 4\nto = 1\ncycles = 3\n",
                             "3 correct sync nodes do not outweigh 2 arbitrary ones"),
                            (re.sub(r'channels = "AB"(\ncoldstart = true\nppm = "drift")', r'channels = "B"\1', SMALL).replace(

@@ -192,8 +192,8 @@ def parser() -> argparse.ArgumentParser:
     settle.add_argument("--rate-ppm", metavar="PPM", help="how far the first lengths of cycles may lie apart")
     for one in (run, power):
         one.add_argument("--require", metavar="LIST",
-                         help="some of covered,in-sync,within=USEC (the skew in sync),sharply-covered: status 7 where one is not "
-                              "met")
+                         help="some of sharply-covered, and by the classical bound covered,in-sync,within=USEC (the skew in sync): "
+                              "status 7 where one is not met")
 
     explain = request("explain", "explain a refusal of flexray, a check that fails or a gap",
                       "\nWORDS are those that flexray had: flexlab explain run params.csv drift.csv script.csv\n"

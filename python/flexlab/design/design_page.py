@@ -201,8 +201,8 @@ def page(answer: Answer) -> str:
         lines += field("Now", f"the file's own parameters have {us(ticks_ns(answer.now['precision'], design))}"
                               + ("" if all(holds(number, answer.now[number]) for number in (1, 2, 3, 4, 5))
                                  else ", and a check fails with them"))
-    lines += field("Precision", f"{us(design.precision_ns)} ({decimal(Fraction(design.bounds['precision'], TICKS), 3)} microticks), the "
-                                "sharp one, proved from sharp sync on")
+    lines += field("Precision", f"{us(design.precision_ns)} ({decimal(Fraction(design.bounds['precision'], TICKS), 3)} microticks), "
+                                "proved from sync on")
     lines += field("Slots", f"{us(design.slot_ns)} each; {design.fitting} of them would fit into the cycle")
     lines += parameter_lines(answer) + check_lines(answer) + turned_lines(answer) + [""] + other_lines(answer)
     for number, one in enumerate(answer.chain):

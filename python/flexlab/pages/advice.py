@@ -55,13 +55,13 @@ WAY_WHY = {
 WAY_FORMULA = {number: FORMULA[number].replace("precision", "peak") for number in WAY_WHY}
 WAY_OR = {number: "let clocks begin nearer together, so give a lower START or RATE (the peak grows with both), or " + text
           for number, text in ((3, OR[3]), (4, OR[4]), (5, OR[5]))}
-# The sharper checks have how far action points lie apart in sharp sync in place of the precision ("Where delays flutter
+# The checks of the precision have how far action points lie apart in sync in place of the classical bound ("Where delays flutter
 # little").
 SHARP_WHY = {
     1: "the damping has to outweigh the rounding of arrivals and what delays flutter, or the rates of all may walk away "
        "together",
     2: WHY[2],
-    3: "the offset limit has to suffice for how far action points lie apart in sharp sync",
+    3: "the offset limit has to suffice for how far action points lie apart in sync",
     **{number: WHY[number] for number in (4, 5, 6, 7, 8, 9)},
 }
 SHARP_FORMULA = {
@@ -71,7 +71,7 @@ SHARP_FORMULA = {
     **{number: FORMULA[number] for number in (7, 8, 9)},
 }
 SHARP_LETTERS = (LETTERS + "; J1 = (pMicroPerCycle + pRateCorrectionOut + pOffsetCorrectionOut + 1) * xChangeBound, and near is "
-                 "how far action points lie apart in sharp sync, reach how far those of a node that follows lie from the others")
+                 "how far action points lie apart in sync, reach how far those of a node that follows lie from the others")
 SHARP_OR = {
     1: "let delays flutter less within a double cycle, or lower xChangeBound",
     2: OR[2],
@@ -83,13 +83,12 @@ SHARP_OR = {
     8: "lower these (as for C7), or make a macrotick longer",
     9: "lower these (as for C7), or gdActionPointOffset",
 }
-# Those for the way to sharp sync have how far action points lie apart on it; the first one is asked where the walk does not
+# Those for the way to sync have how far action points lie apart on it; the first one is asked where the walk does not
 # last so long.
 SHARP_WAY_WHY = {number: WHY[number] if number != 3 else "the offset limit has to suffice for how far action points lie apart on "
                  "the way" for number in (3, 4, 5)}
 SHARP_WAY_FORMULA = {number: text.replace("near", "reach") for number, text in SHARP_FORMULA.items()}
-SHARP_WAY_LETTERS = SHARP_LETTERS.split(", and near is")[0] + (", and reach is how far action points lie apart on the way to "
-                                                               "sharp sync")
+SHARP_WAY_LETTERS = SHARP_LETTERS.split(", and near is")[0] + (", and reach is how far action points lie apart on the way to sync")
 TURNS = {1: "pClusterDriftDamping", 2: "pRateCorrectionOut", 3: "pOffsetCorrectionOut",
          4: "gdActionPointOffset", 5: "gdStaticSlot", 6: "pRateCorrectionOut", 7: "pOffsetCorrectionOut",
          8: "gdActionPointOffset", 9: "gdStaticSlot"}

@@ -37,7 +37,7 @@ LAWS = {False: ("files_keep_sharp_precision", "crates/fr_sharp/src/files.rt", "F
         True: ("joined_files_keep_sharp_precision", "crates/fr_sharp/src/joined_files.rt", "JoinedFilesKeepSharpPrecision",
                "crates/fr_sharp/specs/JoinedFiles.antt")}
 NOT_COVERED = (
-    "Wake-up, and the startup until the cluster is in sharp sync (that it comes into it is premise P9).",
+    "Wake-up, and the startup until the cluster is in sync (that it comes into it is premise P9).",
     "The dynamic segment, the symbol window and network management; what frames carry, and what hosts make of it.",
     "How long a frame is: in the model it is one instant. Bit coding, sampling, collisions and bus guardians.",
     "Frames with four or more inverted bits that pass both CRCs: one, two or three are always seen.",
@@ -122,7 +122,7 @@ def claim(case: Case) -> list[str]:
                     "something else to each receiver."}[case.arbitrary]
     span = (f"to the end of the run, of up to {ranges.CYCLES[1] + 1:,} cycles" if bounds.lasts is None else
             f"for the {bounds.lasts} double cycles from there on ({lasting(ms_of_cycle(2 * bounds.lasts, cluster))})")
-    found = [f"From each double cycle in sharp sync on, {span}, no two corresponding macroticks of correct nodes lie further apart than "
+    found = [f"From each double cycle in sync on, {span}, no two corresponding macroticks of correct nodes lie further apart than "
              f"{precision} us ({bounds.precision} ticks), no correction term is cut or missing, and each correct node is "
              "active.", with_whom]
     if case.join:
@@ -172,7 +172,7 @@ def premises(case: Case) -> list[Premise]:
                                                                                         "ECU"),
         ("The program that printed the evidence is one whose functions were proved before it was built.",
          f"{os.path.basename(case.program)}, SHA-256 {sha256_of(case.program)}", "you: build it from the sources by the gate, and compare"),
-        ("The cluster comes into sharp sync.", "seen or proved otherwise", "test: flexlab settle, power or observe; startup tests on the "
+        ("The cluster comes into sync.", "seen or proved otherwise", "test: flexlab settle, power or observe; startup tests on the "
                                                                            "bus"),
     ]
     return [Premise(number, *row) for number, row in enumerate(rows, 1)]
@@ -192,7 +192,7 @@ def rests_on(case: Case) -> list[tuple[str, str]]:
     law, place, statement, specs = LAWS[case.join]
     return [
         ("Statement", f"{statement} ({specs}), word by word in docs/STATEMENT.md"),
-        ("Law", f"{law} ({place}): of all parameters, clocks, delays and scripts that are sharply "
+        ("Theorem", f"{law} ({place}): of all parameters, clocks, delays and scripts that are sharply "
                 f"covered{' to join' if case.join else ''}"),
         ("What is printed", "is the answer that the rules give, for every file: the clause `ends` of `flexray` (docs/PROMISES.md)"),
         ("Gate", ".ci/run of the sources proves every function of every crate, builds both programs and holds them to worked cases"),
@@ -262,7 +262,7 @@ def page(case: Case, path: str) -> str:
            + "".join(f"<li>{html.escape(line)}</li>" for line in broken) + "</ul>") if broken else ""
     sections = [
         ("Claim", "<div class=\"claim\">" + "".join(f"<p>{html.escape(line)}</p>" for line in claim(case)) + "</div>"
-         + "<p>A double cycle is an even cycle with the odd one behind it. It is in sharp sync where every correct node is active, "
+         + "<p>A double cycle is an even cycle with the odd one behind it. It is in sync where every correct node is active, "
            f"and starts and lengths of their cycles lie within {case.bounds.pi} and {case.bounds.lambda_} ticks of each other (pi and "
            "lambda), "
            "each length in its range (docs/GLOSSARY.md).</p>"),

@@ -88,11 +88,23 @@ def sharp_object(run: Run) -> Object:
             "flutter": {"ticks": run.sharp.flutter, "us": us(run.sharp.flutter, cluster)},
             "precision": {"ticks": bounds.precision, "us": us(bounds.precision, cluster)},
             "in_sharp_sync": sync_object(first_of(run), lost_of(run), cluster),
+            "in_sync": sync_object(first_of(run), lost_of(run), cluster),
             "lasts_double_cycles": bounds.lasts, "proved_before_double_cycle": ends_of(run),
             "skew": skew_object(skew_of(run), cluster), "within_precision": is_within(run),
             "checks": [{"check": f"C{check.number}", "holds": check.holds, "left": check.left, "right": check.right,
                         **({} if check.holds else {"told": sharp_check_words(check.number, check.left, check.right, p, kind)})}
                        for check in bounds.checks]}
+
+
+def classical_object(run: Run) -> Object:
+    """What flexray run prints of the classical bound; these stand beside the other fields of a run too."""
+    cluster, report = run.cluster, run.report
+    return {"covered": report.gap is None, "gap": report.gap and " ".join(report.gap),
+            "gap_told": gap_words(report.gap, cluster) if report.gap else [],
+            "in_sync": {**sync_object(report.in_sync, run.lost, cluster), "at_end": run.at_end},
+            "precision": {"ticks": report.precision, "us": us(report.precision, cluster)},
+            "skew_in_sync": skew_object(run.in_sync_skew, cluster), "within_precision": within(run),
+            "checks": checks_of(run.bounds, cluster.parameters)}
 
 
 def nodes_of(run: Run) -> list[Object]:
@@ -142,7 +154,7 @@ def ways_object(ways: Ways | None, cluster: Cluster) -> Object | None:
 
 def run_object(run: Run) -> Object:
     """A run as an object: names and units stand in docs/FLEXLAB.md, "For machines"."""
-    cluster, report = run.cluster, run.report
+    cluster, report, classical = run.cluster, run.report, classical_object(run)
     return {
         "file": cluster.path, "folder": run.folder,
         "cluster": {"nodes": report.nodes, "sync_nodes": report.sync, "arbitrary": cluster.arbitrary,
@@ -152,14 +164,8 @@ def run_object(run: Run) -> Object:
         "verdict": verdict_object(run), "gaps": [" ".join(gap) for gap in every_gap(cluster)], "gaps_told": gaps_told(run),
         "lost": [{"sender": sender, "first_cycle": first, "last_cycle": last, "times": count, "channels": channels}
                  for sender, first, last, count, channels in lost_frames(cluster)],
-        "covered": report.gap is None, "gap": report.gap and " ".join(report.gap),
-        "gap_told": gap_words(report.gap, cluster) if report.gap else [],
-        "in_sync": {**sync_object(report.in_sync, run.lost, cluster), "at_end": run.at_end},
-        "precision": {"ticks": report.precision, "us": us(report.precision, cluster)},
-        "sharp": sharp_object(run),
-        "skew_in_sync": skew_object(run.in_sync_skew, cluster), "within_precision": within(run),
-        "greatest_skew": skew_object(Skew(report.skew, report.cycle, report.macrotick), cluster),
-        "checks": checks_of(run.bounds, cluster.parameters), "ways": ways_object(run.ways, cluster),
+        **classical, "classical": classical, "sharp": sharp_object(run),
+        "greatest_skew": skew_object(Skew(report.skew, report.cycle, report.macrotick), cluster), "ways": ways_object(run.ways, cluster),
         "later_skew": later_object(run),
         "skew_of_cycles": [window_object(one, cluster) for one in windows(run, run.asked)], "drawn": drawn_object(cluster),
         "sent": {channel: {"frames": count, "xor": total} for channel, (count, total) in sorted(report.sent.items())},

@@ -9,8 +9,7 @@ from .model import warnings
 from ..program.calls import coming
 from ..runs.every_gap import every_gap, lost_frames
 from ..runs.sharp import ends_of, first_of, is_covered
-from .sharp_page import check_lines as sharp_check_lines
-from .sharp_page import sharp_lines
+from .sharp_page import check_lines, sharp_lines
 from .verdict import verdict_of
 from ..runs.sync import starts_apart
 from ..base.units import Number, decimal, microseconds, percent, ppm_of, signed, us_of_ticks
@@ -61,49 +60,57 @@ def drawn_lines(cluster: Cluster) -> list[str]:
     return field("Drawn", told)
 
 
-def verdict_lines(run: Run) -> list[str]:
+def classical_lines(run: Run) -> list[str]:
+    """What flexray run prints by the classical bound, one below the other under its name."""
+    report, unit = run.report, run.cluster.microtick_ns
+    microticks = decimal(Fraction(report.precision, 1000000), 3)
+    return (field("Classical", f"the bound that flexray run prints: {microseconds(report.precision, unit)} ({microticks} microticks), "
+                               "computed from the parameters")
+            + classical_sync_lines(run) + classical_skew_lines(run) + older_lines(run, field))
+
+
+def classical_sync_lines(run: Run) -> list[str]:
     cluster, report = run.cluster, run.report
     if report.in_sync is None:
-        found = field("In sync", "NEVER: no double cycle of the run is in sync")
+        found = field("  in sync", "NEVER: no double cycle of the run is in sync by it")
     else:
         cycle = 2 * report.in_sync
         begin = (f"from double cycle {report.in_sync} on (cycle {cycle}, "
                  f"{decimal(ms_of_cycle(cycle, cluster), 3)} ms)")
         if run.lost is None:
-            found = field("In sync", f"yes, {begin}, and still in sync at the end")
+            found = field("  in sync", f"yes, {begin}, and still in sync at the end")
         elif run.at_end:
-            found = field("In sync", f"NOT ALL THE WAY: first {begin}; lost in double cycle {run.lost} (cycle "
+            found = field("  in sync", f"NOT ALL THE WAY: first {begin}; lost in double cycle {run.lost} (cycle "
                                      f"{2 * run.lost}), and in sync again at the end")
         else:
-            found = field("In sync", f"NOT AT THE END: {begin} at first; lost in double cycle {run.lost} (cycle "
+            found = field("  in sync", f"NOT AT THE END: {begin} at first; lost in double cycle {run.lost} (cycle "
                                      f"{2 * run.lost}, {decimal(ms_of_cycle(2 * run.lost, cluster), 3)} ms)")
     if report.gap is None:
-        what = ("yes: while in sync no macroticks of correct nodes lie further apart than the precision; that is "
+        what = ("yes: while in sync no macroticks of correct nodes lie further apart than the bound; that is "
                 "proved of such runs" if report.in_sync is not None else
                 "yes; but what is proved begins with the first double cycle in sync, and there is none")
-        return found + field("Covered", what)
+        return found + field("  covered", what)
     words = gap_words(report.gap, cluster) if report.gap[0] != "check" else [f"check C{report.gap[1]} fails, see below"]
-    if is_covered(run):
-        return found + field("Covered", "NO by the older bound; by the sharper one yes, as below", *words)
-    return found + field("Covered", "NO: nothing is promised of this run's precision", *words)
+    return found + field("  covered", "NO: nothing is promised by the classical bound of this run", *words)
+
+
+def classical_skew_lines(run: Run) -> list[str]:
+    report, unit = run.report, run.cluster.microtick_ns
+    if run.in_sync_skew:
+        skew, cycle, macrotick = run.in_sync_skew
+        since = "" if run.lost is None else " since it was first in sync"
+        return field("  skew in sync", f"{microseconds(skew, unit)} at most{since}, {percent(skew, report.precision)} of the "
+                                       f"bound (cycle {cycle}, macrotick {macrotick})") + within_lines(run, skew)
+    if report.in_sync is None:
+        return []
+    apart = max(starts_apart(rows) for rows in run.cycles[2 * report.in_sync:])
+    return field("  skew in sync", f"not known within cycles; starts of cycles lie {microseconds(apart, unit)} "
+                                   f"apart at most, {percent(apart, report.precision)} of the bound")
 
 
 def skew_lines(run: Run) -> list[str]:
     report, unit = run.report, run.cluster.microtick_ns
-    microticks = decimal(Fraction(report.precision, 1000000), 3)
-    found = field("Precision", f"{microseconds(report.precision, unit)} ({microticks} microticks), computed from the "
-                               "parameters")
-    if run.in_sync_skew:
-        skew, cycle, macrotick = run.in_sync_skew
-        name, since = ("Skew in sync", "") if run.lost is None else ("Skew since", " since it was first in sync")
-        found += field(name, f"{microseconds(skew, unit)} at most{since}, {percent(skew, report.precision)} of the "
-                             f"precision (cycle {cycle}, macrotick {macrotick})")
-        found += within_lines(run, skew)
-    elif report.in_sync is not None:
-        apart = max(starts_apart(rows) for rows in run.cycles[2 * report.in_sync:])
-        found += field("Skew in sync", f"not known within cycles; starts of cycles lie {microseconds(apart, unit)} "
-                                       f"apart at most, {percent(apart, report.precision)} of the precision")
-    found += later_lines(run)
+    found = later_lines(run)
     if run.cycles:
         apart = max(starts_apart(rows) for rows in run.cycles[-2:])
         precision, name = held_against(run, len(run.cycles) - 2)
@@ -115,33 +122,29 @@ def skew_lines(run: Run) -> list[str]:
 
 def early_words(run: Run) -> str:
     """Against what the greatest skew of the run is not to be held, since it lies before."""
-    report = run.report
-    if report.in_sync is None:
-        return ": not in sync, so it is not to be held against the precision"
-    if report.cycle < 2 * report.in_sync:
-        return ": before sync, so it is not to be held against the precision"
-    first = first_of(run)
-    if is_covered(run) and (first is None or report.cycle < 2 * first):
-        return ": before sharp sync, so it is not to be held against the sharp precision"
-    return ""
+    covered = is_covered(run)
+    first, bound = (first_of(run), "the precision") if covered else (run.report.in_sync, "the classical bound")
+    if first is None:
+        return f": not in sync, so it is not to be held against {bound}"
+    return f": before sync, so it is not to be held against {bound}" if run.report.cycle < 2 * first else ""
 
 
 def within_lines(run: Run, skew: int) -> list[str]:
-    """Whether the skew stayed within the precision since the first double cycle in sync."""
+    """Whether the skew stayed within the classical bound since the first double cycle in sync."""
     if skew <= run.report.precision:
-        return field("Within", "yes: since it was first in sync the skew was never above the precision")
+        return field("  within", "yes: since it was first in sync the skew was never above the bound")
     place = ""
     if run.series and run.series.within:
         place = f", first in cycle {run.series.within.cycle}, macrotick {run.series.within.macrotick}"
-    return field("Within", f"NO: since it was first in sync the skew was above the precision{place}")
+    return field("  within", f"NO: since it was first in sync the skew was above the bound{place}")
 
 
 def held_against(run: Run, cycle: int) -> tuple[int, str]:
-    """What the skew of cycles from this one on is held against: the sharper precision where that is proved of them."""
+    """What the skew of cycles from this one on is held against: the precision where that is proved of them, else the classical bound."""
     first = first_of(run)
     if is_covered(run) and first is not None and cycle >= 2 * first and ends_of(run) is None:
-        return run.sharp.bounds.precision, "sharp precision"
-    return run.report.precision, "precision"
+        return run.sharp.bounds.precision, "precision"
+    return run.report.precision, "classical bound"
 
 
 def later_lines(run: Run) -> list[str]:
@@ -174,11 +177,6 @@ def window_lines(run: Run) -> list[str]:
         lines.append(f".. and {len(found) - MOST} more")
     return lines + ["", *field("", "in us. settled: the cycle from which on the skew stays within its later level, the "
                                    "greatest of the second half of these cycles.")]
-
-
-def check_lines(run: Run) -> list[str]:
-    """The sharper checks, and the older ones."""
-    return sharp_check_lines(run, field) + older_lines(run, field)
 
 
 def bracketed(name: str) -> str:
@@ -252,8 +250,8 @@ def frame_lines(run: Run) -> list[str]:
 
 
 def page(run: Run) -> str:
-    found = field("Verdict", verdict_of(run).told) + head_lines(run) + verdict_lines(run) + sharp_lines(run, field, ms_of_cycle)
-    found += skew_lines(run) + check_lines(run) + gap_lines(run)
+    found = field("Verdict", verdict_of(run).told) + head_lines(run) + sharp_lines(run, field, ms_of_cycle)
+    found += skew_lines(run) + check_lines(run, field) + gap_lines(run) + classical_lines(run)
     if run.ways:
         found += way_lines(run.ways, run.cluster, field)
     found += frame_lines(run) + lost_lines(run)

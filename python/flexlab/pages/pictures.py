@@ -130,31 +130,32 @@ def plain_axes() -> str:
 
 
 def precisions(run: Run) -> list[Bound]:
-    """The lines that the skew is held against: the older bound where that is proved of the run or nothing is, and the sharper one
-    where it is, from sharp sync on."""
+    """The lines that the skew is held against: the precision where that is proved of the run, from sync on, and the classical bound
+    where that is or nothing is."""
     unit, first, last = run.cluster.microtick_ns, sharp_cycle(run), len(run.cycles)
     found: list[Bound] = []
     if first is not None:
         ends = ends_of(run)
         end = last if ends is None else 2 * ends
-        found.append(Bound("sharp precision", us_of_ticks(run.sharp.bounds.precision, unit), (first, end), "#009e73"))
+        found.append(Bound("precision", us_of_ticks(run.sharp.bounds.precision, unit), (first, end), "#009e73"))
     if run.report.gap is None or first is None:
-        found.append(Bound("precision", us_of_ticks(run.report.precision, unit), (0, last), "#b00020"))
+        found.append(Bound("classical bound", us_of_ticks(run.report.precision, unit), (0, last), "#b00020"))
     return found
 
 
 def sharp_cycle(run: Run) -> int | None:
-    """The first cycle in sharp sync of a run of which the sharper precision is proved, or None."""
+    """The first cycle in sync of a run of which the precision is proved, or None."""
     first = first_of(run) if is_covered(run) else None
     return None if first is None else 2 * first
 
 
 def marks(run: Run) -> Marks:
-    """Of sharp sync where the sharper precision alone is drawn, else of sync."""
-    if sharp_cycle(run) is not None and run.report.gap is not None:
-        return Marks(sharp_cycle(run), "in sharp sync", skew_of(run), "in sharp sync")
+    """Of sync where the precision is drawn, else of sync by the classical bound."""
+    if sharp_cycle(run) is not None:
+        return Marks(sharp_cycle(run), "in sync", skew_of(run), "in sync")
     first = None if run.report.in_sync is None else 2 * run.report.in_sync
-    return Marks(first, "in sync", run.in_sync_skew, "in sync" if run.lost is None else "since sync")
+    return Marks(first, "in sync by the classical bound", run.in_sync_skew,
+                 "in sync by that bound" if run.lost is None else "since sync by that bound")
 
 
 def skew_script(run: Run) -> str:

@@ -1,4 +1,4 @@
-"""The lines of a page that tell of the sharper bounds: how far the clocks of this run lie apart where delays flutter little."""
+"""The lines of a page that tell of the precision: how far the clocks of this run lie apart where delays flutter little."""
 from __future__ import annotations
 
 from fractions import Fraction
@@ -25,32 +25,32 @@ def kind_words(sharp: Sharp, unit: Fraction) -> str:
 
 
 def covered_words(run: Run) -> list[str]:
-    """Sentences on whether the run is sharply covered."""
+    """Sentences on whether the run is covered."""
     known, gap = gap_of(run)
     if not known:
-        return ["not known: a check of the older bound fails, and what else is asked flexray-series tells, which is not "
+        return ["not known: a check of the classical bound fails, and what else is asked flexray-series tells, which is not "
                 "installed"]
     if gap is None:
         never = first_of(run) is None
-        return ["yes; but what is proved begins with the first double cycle in sharp sync, and there is none" if never else
-                "yes: in sharp sync no macroticks of correct nodes lie further apart than the sharp precision; that is proved "
-                "of such runs"]
+        return ["yes; but what is proved begins with the first double cycle in sync, and there is none" if never else
+                "yes: while in sync no macroticks of correct nodes lie further apart than the precision; that is proved of such "
+                "runs"]
     words = gap_words(gap, run.cluster) if gap[0] != "check" else [f"check C{gap[1]} fails, see below"]
-    return ["NO: nothing is promised of this run's sharp precision", *words]
+    return ["NO: nothing is promised of this run's precision", *words]
 
 
 def sync_words(run: Run, ms_of_cycle: Callable[[int, Cluster], Fraction]) -> str:
     first, lost, cluster = first_of(run), lost_of(run), run.cluster
     if first is None:
-        return "NEVER: no double cycle of the run is in sharp sync"
+        return "NEVER: no double cycle of the run is in sync"
 
     def place(double: int) -> str:
         return f"cycle {2 * double}, {decimal(ms_of_cycle(2 * double, cluster), 3)} ms"
 
     ends = ends_of(run)
     if lost is None:
-        return f"yes, from double cycle {first} on ({place(first)}), and still so at the end"
-    # As long as the walk lasts, lengths may leave their range; nothing else of sharp sync is lost.
+        return f"yes, from double cycle {first} on ({place(first)}), and still in sync at the end"
+    # As long as the walk lasts, lengths may leave their range; nothing else of sync is lost.
     if is_covered(run) and lost < (run.report.doubles if ends is None else ends):
         return (f"yes, from double cycle {first} on ({place(first)}), but for lengths that leave their range from double cycle "
                 f"{lost} on ({place(lost)})")
@@ -73,41 +73,40 @@ def lasting_words(run: Run, ms_of_cycle: Callable[[int, Cluster], Fraction]) -> 
 
 
 def skew_lines(run: Run, field: Lines) -> list[str]:
-    """How far clocks lay apart since they were first in sharp sync."""
+    """How far clocks lay apart since they were first in sync."""
     skew, sharp, unit = skew_of(run), run.sharp, run.cluster.microtick_ns
     if skew is None:
-        return [] if first_of(run) is None else field("Sharp skew", "not known: flexray-series tells it, which is not installed")
-    found = field("Sharp skew", f"{microseconds(skew.ticks, unit)} at most since it was first in sharp sync, "
-                                f"{percent(skew.ticks, sharp.bounds.precision)} of the sharp precision (cycle {skew.cycle}, macrotick "
-                                f"{skew.macrotick})")
+        return [] if first_of(run) is None else field("Skew in sync", "not known: flexray-series tells it, which is not installed")
+    found = field("Skew in sync", f"{microseconds(skew.ticks, unit)} at most since it was first in sync, "
+                                  f"{percent(skew.ticks, sharp.bounds.precision)} of the precision (cycle {skew.cycle}, macrotick "
+                                  f"{skew.macrotick})")
     if is_within(run):
-        return found + field("Sharply within", "yes: since then the skew was never above the sharp precision")
+        return found + field("Within", "yes: since then the skew was never above the precision")
     place = ""
     if sharp.told and sharp.told.within:
         place = f", first in cycle {sharp.told.within.cycle}, macrotick {sharp.told.within.macrotick}"
-    return found + field("Sharply within", f"NO: since then the skew was above the sharp precision{place}")
+    return found + field("Within", f"NO: since then the skew was above the precision{place}")
 
 
 def sharp_lines(run: Run, field: Lines, ms_of_cycle: Callable[[int, Cluster], Fraction]) -> list[str]:
     """The lines of the page."""
-    found = field("Sharply covered", *covered_words(run))
     bounds, unit = run.sharp.bounds, run.cluster.microtick_ns
     proved = lasting_words(run, ms_of_cycle)
-    found += field("In sharp sync", sync_words(run, ms_of_cycle), *([proved] if proved else []))
-    found += field("Sharp precision", f"{microseconds(bounds.precision, unit)} ({decimal(Fraction(bounds.precision, 1000000), 3)} "
-                                      f"microticks), {kind_words(run.sharp, unit)}")
+    found = field("In sync", sync_words(run, ms_of_cycle), *([proved] if proved else []))
+    found += field("Covered", *covered_words(run))
+    found += field("Precision", f"{microseconds(bounds.precision, unit)} ({decimal(Fraction(bounds.precision, 1000000), 3)} "
+                                f"microticks), {kind_words(run.sharp, unit)}")
     return found + skew_lines(run, field)
 
 
 def check_lines(run: Run, field: Lines) -> list[str]:
-    """The sharper checks: those that fail, or which is the tightest."""
+    """The checks of the precision: those that fail, or which is the tightest."""
     bounds, p = run.sharp.bounds, run.cluster.parameters
     kind, found = kind_of(run.cluster, run.sharp.flutter), list[str]()
     for check in bounds.failing:
         words = sharp_check_words(check.number, check.left, check.right, p, kind)
         if check.number == 1:
-            words.append(f"without that the sharp precision is proved of {bounds.lasts or 'no'} double cycles from the first in "
-                         "sharp sync on")
+            words.append(f"without that the precision is proved of {bounds.lasts or 'no'} double cycles from the first in sync on")
         found += field("" if found else "Checks", *words)
     if found:
         return found
@@ -115,5 +114,5 @@ def check_lines(run: Run, field: Lines) -> list[str]:
     count = len(bounds.checks)
     own, least = p["pClusterDriftDamping"], least_sharp_damping(p, kind)
     less = f"; a damping of {least} would suffice" if least < own else ""
-    return field("Checks", f"C1 to C{count} hold, those of the sharp precision; C{tight.number} is the tightest, used to "
+    return field("Checks", f"C1 to C{count} hold, those of the precision; C{tight.number} is the tightest, used to "
                            f"{percent(tight.right, tight.left)}{less}")

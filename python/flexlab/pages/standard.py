@@ -1,5 +1,5 @@
-"""The precisions of one cluster side by side: the standard's formulas, the sharper bounds without and beside arbitrary nodes,
-the older bound, and what was simulated."""
+"""The precisions of one cluster side by side: the standard's formulas, the precision without and beside arbitrary nodes,
+the classical bound, and what was simulated."""
 from dataclasses import dataclass
 from fractions import Fraction
 
@@ -72,10 +72,10 @@ def failing(bounds: Bounds | SharpBounds) -> str:
 def simulated(run: Run) -> list[Row]:
     found = []
     if run.in_sync_skew:
-        found.append(Row("simulated, in sync", run.in_sync_skew.ticks, f"the greatest skew, in cycle {run.in_sync_skew.cycle}"))
+        found.append(Row("simulated, classical sync", run.in_sync_skew.ticks, f"the greatest skew, in cycle {run.in_sync_skew.cycle}"))
     skew = None if run.cluster.joins else sharp.skew_of(run)
     if skew:
-        found.append(Row("simulated, sharp sync", skew.ticks, f"the greatest skew, in cycle {skew.cycle}"))
+        found.append(Row("simulated, in sync", skew.ticks, f"the greatest skew, in cycle {skew.cycle}"))
     figures = later(run, run.begin)
     if figures:
         name = "simulated, later" if exact(run) else "starts, later"
@@ -93,10 +93,10 @@ def rows(run: Run, both: dict[str, SharpBounds], worst: int = WORST) -> tuple[li
                  f"({worst} + {WORST_DAMPING} damping) microticks + {WORST_DELAYS} greatest delays")]
     for kind, bounds in both.items():
         mine = kind == run.sharp.bounds.kind and not run.cluster.joins
-        found.append(Row(f"sharp, {'no' if kind == 'alone' else 'beside'} arbitrary", bounds.precision,
-                         "from sharp sync on" + ("; that of this cluster" if mine else ""), failing(bounds),
+        found.append(Row(f"proved, {'no' if kind == 'alone' else 'beside'} arbitrary", bounds.precision,
+                         "from `In sync` on" + ("; that of this cluster" if mine else ""), failing(bounds),
                          "on" if bounds.lasts is None else str(bounds.lasts)))
-    found.append(Row("the older bound", run.report.precision, "from `in sync` on", failing(run.bounds)))
+    found.append(Row("the classical bound", run.report.precision, "from sync by that bound on", failing(run.bounds)))
     own = run.report.precision if run.cluster.joins else both[run.sharp.bounds.kind].precision
     return found + simulated(run), own
 
@@ -119,13 +119,13 @@ def compared(run: Run, program: str, worst: int = WORST, flutter_ns: str | None 
         lines.append(f"{row.name:<26}{decimal(us_of_ticks(row.ticks, unit), 3):>9}{decimal(Fraction(row.ticks, TICKS), 1):>12}"
                      f"{row.fails:>13}{row.lasts:>9}{percent(row.ticks, mine):>10}  {row.what}")
     lines += ["", *field("", "fails: which of its checks do. lasts: for how many double cycles it holds, on: on and on. part: of "
-                             + ("the older bound." if cluster.joins else "the sharp number of this cluster."))]
-    lines += field("Sharp", sharp_words(run, both[run.sharp.bounds.kind], flutter))
-    return "\n".join(lines + field("Older", older_words(run)) + closing_lines(worst)) + "\n"
+                             + ("the classical bound." if cluster.joins else "the precision of this cluster."))]
+    lines += field("Precision", sharp_words(run, both[run.sharp.bounds.kind], flutter))
+    return "\n".join(lines + field("Classical", older_words(run)) + closing_lines(worst)) + "\n"
 
 
 def sharp_words(run: Run, bounds: SharpBounds, flutter: int) -> str:
-    """Whether the sharp number of this cluster is proved of this run, with delays that flutter so much."""
+    """Whether the precision of this cluster is proved of this run, with delays that flutter so much."""
     known, gap = sharp.gap_of(run)
     if gap and gap[0] == "check" or bounds.gap:
         gap = bounds.gap
@@ -135,7 +135,7 @@ def sharp_words(run: Run, bounds: SharpBounds, flutter: int) -> str:
         return f"nothing is proved of this run, which has a gap ({' '.join(gap)})"
     if not known:
         return "whether it is proved of this run is not known: flexray-series tells it, which is not installed"
-    told = (f"proved of this run, {KINDS[bounds.kind]}: in sharp sync no macroticks of correct nodes lie further apart than its "
+    told = (f"proved of this run, {KINDS[bounds.kind]}: in sync no macroticks of correct nodes lie further apart than its "
             "number")
     if bounds.lasts is None:
         return told
@@ -144,15 +144,15 @@ def sharp_words(run: Run, bounds: SharpBounds, flutter: int) -> str:
 
 
 def older_words(run: Run) -> str:
-    """Whether the older bound is proved of this run."""
+    """Whether the classical bound is proved of this run."""
     failing_checks = [f"C{check.number}" for check in run.bounds.failing]
     if failing_checks:
         verb = "fails" if len(failing_checks) == 1 else "fail"
-        return f"nothing of this cluster is proved by the older bound, since {', '.join(failing_checks)} {verb}"
+        return f"nothing of this cluster is proved by the classical bound, since {', '.join(failing_checks)} {verb}"
     if run.report.gap is not None:
-        return (f"nothing of this run is proved by the older bound, since it has a gap ({' '.join(run.report.gap)}); of the "
+        return (f"nothing of this run is proved by the classical bound, since it has a gap ({' '.join(run.report.gap)}); of the "
                 "cluster its checks hold")
-    return "while in sync no macroticks of correct nodes lie further apart than the older bound: that is proved too"
+    return "in sync by it, no macroticks of correct nodes lie further apart than the classical bound: that is proved too"
 
 
 def closing_lines(worst: int) -> list[str]:
@@ -165,4 +165,4 @@ def closing_lines(worst: int) -> list[str]:
                                    "clocks may still lie as far apart as sync allows; it counts an oscillator that changes, "
                                    "delays that differ, and up to two nodes that say anything. The simulated numbers are of "
                                    "this one run. docs/PRECISION.md, \"Beside the standard\", has more; `flexlab worst` looks "
-                                   "for the run that comes closest to the older bound"))
+                                   "for the run that comes closest to the classical bound"))

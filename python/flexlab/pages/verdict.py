@@ -24,29 +24,29 @@ class Verdict:
 
 
 def verdict_of(run: "Run") -> Verdict:
-    """By the sharper bound where that is proved of the run, else by the older one."""
+    """By the precision where that is proved of the run, else by the classical bound."""
     unit, first, older = run.cluster.microtick_ns, first_of(run), run.report.in_sync
     if is_covered(run) and first is not None and run.sharp.bounds.lasts != 0:
         ticks, until = run.sharp.bounds.precision, ends_of(run)
         span = f"from cycle {2 * first} on" if until is None else f"from cycle {2 * first} to {2 * until - 1}, and no further"
         return Verdict(True, f"proved: {span} no macroticks of correct nodes lie further apart than {microseconds(ticks, unit)}, the "
-                             "sharp precision", ticks, 2 * first, None if until is None else 2 * until)
+                             "precision", ticks, 2 * first, None if until is None else 2 * until)
     if run.report.gap is None and older is not None:
         ticks = run.report.precision
-        return Verdict(True, f"proved by the older bound alone: from cycle {2 * older} on no macroticks of correct nodes lie further apart "
+        return Verdict(True, f"proved by the classical bound alone: from cycle {2 * older} on no macroticks of correct nodes lie further apart "
                              f"than {microseconds(ticks, unit)}", ticks, 2 * older)
     if is_covered(run):
-        why = "no double cycle is in sharp sync" if first is None else "C1 fails, and the rate limit holds the walk for no double cycle"
+        why = "no double cycle is in sync" if first is None else "C1 fails, and the rate limit holds the walk for no double cycle"
         return Verdict(False, f"NOT PROVED: nothing is, since {why}")
     known, gap = gap_of(run)
     told = gaps_told(run)
     if run.sharp.bounds.gap:
-        told.append(f"check C{run.sharp.bounds.gap[1]} of the sharp precision fails")
+        told.append(f"check C{run.sharp.bounds.gap[1]} fails")
     if told:
         return Verdict(False, f"NOT PROVED: {told[0]}" + (f" (and {len(told) - 1} more, below)" if len(told) > 1 else ""))
     if not known:
-        return Verdict(None, "NOT KNOWN: a check of the older bound fails, and whether the sharper one is proved of this run is told by "
-                             "flexray-series, which is not installed")
+        return Verdict(None, "NOT KNOWN: a check of the classical bound fails, and whether the precision is proved of this run is told "
+                             "by flexray-series, which is not installed")
     if gap is not None:
         return Verdict(False, f"NOT PROVED: {gap_words(gap, run.cluster)[0]}")
     return Verdict(False, "NOT PROVED: no double cycle of the run is in sync")

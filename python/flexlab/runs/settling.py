@@ -81,9 +81,8 @@ def settle(words: Namespace, folder: str) -> int:
                            + ("" if words.start_us and words.rate_ppm else ", as the file has them"))
     sharply, first = sharp_lines(program, cluster, paths[0], start, rate if words.rate_ppm else spread(lengths(cluster, 0)))
     older, second = older_lines(program, cluster, paths[0], start, rate, sharply)
-    verdict = ("proved of sharply covered runs, and of covered ones by the older bound" if sharply and older else
-               "proved of sharply covered runs" if sharply else "proved by the older bound alone" if older else "NOT PROVED by either "
-                                                                                                                "bound")
+    verdict = ("proved of covered runs, and of covered ones by the classical bound" if sharply and older else
+               "proved of covered runs" if sharply else "proved by the classical bound alone" if older else "NOT PROVED by either bound")
     found = field("Verdict", f"{verdict}, that clocks which begin so come into sync") + found + first + second
     outside = beyond(cluster)
     if outside and not words.rate_ppm:
@@ -110,7 +109,7 @@ def latest(cluster: Cluster, double: int) -> str:
 
 
 def sharp_lines(program: str, cluster: Cluster, path: str, start: int, rate: int) -> tuple[bool, list[str]]:
-    """(whether it is proved, lines) of when clocks are in sharp sync, of the kind and the flutter of the file."""
+    """(whether it is proved, lines) of when clocks are in sync, of the kind and the flutter of the file."""
     flutter = flutter_of(cluster)
     kind = kind_of(cluster, flutter)
     bounds = read_sharp_bounds(answer(program, sharp_words(path, flutter)))[kind.name]
@@ -120,21 +119,21 @@ def sharp_lines(program: str, cluster: Cluster, path: str, start: int, rate: int
     what = f"{KINDS[kind.name]}, for delays that flutter by {microseconds(flutter, cluster.microtick_ns)}"
     if way.failed:
         why = sharp_way_words(way.failed.number, way.failed.left, way.failed.right, cluster.parameters, kind)
-        found = field("In sharp sync", "NOT PROVED: a check for the way there fails", *why)
+        found = field("In sync", "NOT PROVED: a check for the way there fails", *why)
     else:
-        found = field("In sharp sync", latest(cluster, way.double or 0) + f"proved of sharply covered runs that begin so, {what}")
-    return not way.failed, found + way_lines(cluster, way.double, way.peak, bounds.precision, "sharp precision")
+        found = field("In sync", latest(cluster, way.double or 0) + f"proved of covered runs that begin so, {what}")
+    return not way.failed, found + way_lines(cluster, way.double, way.peak, bounds.precision, "precision")
 
 
 def older_lines(program: str, cluster: Cluster, path: str, start: int, rate: int, sharply: bool) -> tuple[bool, list[str]]:
-    """(whether it is proved, lines) of when clocks are in sync by the older bound; what to turn for it is told where nothing is
-    proved by the sharper one."""
+    """(whether it is proved, lines) of when clocks are in sync by the classical bound; what to turn for it is told where nothing is
+    proved by the other one."""
     bounds = read_bounds(answer(program, ["bound", path]))
     told = understood(texts.settled, "way to sync", answer(program, ["settle", path, str(start), str(rate)]))
     if told.failed:
         why = check_words(told.failed.number, told.failed.left, told.failed.right, cluster.parameters, True)
-        found = field("In sync", "NOT PROVED: a check of the older bound for the way there fails", *why[:1 if sharply else None])
+        found = field("Classical", "NOT PROVED: a check of the classical bound for the way there fails", *why[:1 if sharply else None])
     else:
-        found = field("In sync", latest(cluster, told.double or 0)
-                      + "proved of covered runs that begin so, with all correct nodes active")
-    return not told.failed, found + way_lines(cluster, told.double, told.peak, bounds.precision, "precision")
+        found = field("Classical", "in sync by the classical bound " + latest(cluster, told.double or 0)
+                      + "proved of runs that it covers and that begin so, with all correct nodes active")
+    return not told.failed, found + way_lines(cluster, told.double, told.peak, bounds.precision, "classical bound")

@@ -17,8 +17,8 @@ from ..base import ranges
 from ..base.ending import DONE, NO
 from ..pages.gaps import gap_words
 from ..pages.machine import ended, printed, run_object, wanted
-from ..pages.page import ORIGIN, check_lines, gap_lines, lost_lines, ms_of_cycle, field as lines_of
-from ..pages.sharp_page import sharp_lines
+from ..pages.page import ORIGIN, classical_lines, gap_lines, lost_lines, ms_of_cycle, field as lines_of
+from ..pages.sharp_page import check_lines, sharp_lines
 from ..pages.verdict import verdict_of
 from .sharp import first_of, is_covered
 from ..program.calls import flexray
@@ -271,22 +271,8 @@ def sync_lines(startup: Startup) -> list[str]:
         lost = next((at for at in range(synced, len(run.synced)) if not run.synced[at]), None)
         if lost is not None:
             found += lines_of("", f"but sync was lost in double cycle {lost} of the run ({shown(startup.of_cycle(2 * lost))} ms)")
-    if run.report.gap is None:
-        found += lines_of("Covered", "yes: from the first double cycle in sync on that no node follows, clocks of nodes that "
-                                     "take part lie within the precision")
-    else:
-        words = (gap_words(run.report.gap, cluster) if run.report.gap[0] != "check"
-                 else [f"check C{run.report.gap[1]} of the older bound fails, see below"])
-        found += lines_of("Covered", "NO by the older bound; by the sharper one yes, as below" if is_covered(run)
-                          else "NO by the older bound", *words)
     found += sharp_lines(run, lines_of, ms_of_cycle)
-    found += lines_of("Precision", microseconds(run.report.precision, cluster.microtick_ns))
-    if run.in_sync_skew:
-        skew, cycle, macrotick = run.in_sync_skew
-        found += lines_of("Skew in sync", f"{microseconds(skew, cluster.microtick_ns)} at most, "
-                                          f"{percent(skew, run.report.precision)} of the precision (cycle {cycle} of the run, "
-                                          f"macrotick {macrotick})")
-    return found + check_lines(run) + gap_lines(run) + lost_lines(run)
+    return found + check_lines(run, lines_of) + gap_lines(run) + classical_lines(run) + lost_lines(run)
 
 
 def proved_lines(startup: Startup) -> list[str]:
@@ -300,11 +286,11 @@ def proved_lines(startup: Startup) -> list[str]:
                          "macrotick after that, since none is switched off")
     if startup.run and startup.run.report.gap is None and startup.run.report.in_sync is not None:
         double = startup.run.report.in_sync
-        found.append(f"what `Covered` says, from cycle {2 * double} of the run on, and that a node which listens in double cycle "
+        found.append(f"what `Classical` says, from cycle {2 * double} of the run on, and that a node which listens in double cycle "
                      f"e of the run, {double} or later, takes part from its cycle 2 e + 6 on")
     sharply = first_of(startup.run) if startup.run and is_covered(startup.run) else None
     if sharply is not None:
-        found.append(f"what `Sharply covered` says, from cycle {2 * sharply} of the run on")
+        found.append(f"what `Covered` says, from cycle {2 * sharply} of the run on")
     text = "; ".join(found) if found else "nothing of this startup"
     if not startup.run:
         return lines_of("Proved", text)

@@ -373,7 +373,7 @@ def way_words(way: Way, ways: Ways, cluster: Cluster) -> str:
     unit, (known, gap) = cluster.microtick_ns, ways.checks.gap(way.run)
     text = "; ".join(way.first) + ": " if way.first else ""
     text += "all checks hold" if not getattr(way.bounds, "failing", None) else "all checks but C1 hold"
-    text += f" with {values_words(way.changed, cluster)}. {ways.checks.name} {microseconds(way.bounds.precision, unit)}"
+    text += f" with {values_words(way.changed, cluster)}. Precision {microseconds(way.bounds.precision, unit)}"
     text += lasting_words(way, cluster)
     if known:
         text += "; covered yes" if gap is None else f"; covered no ({' '.join(gap)})"
@@ -414,18 +414,18 @@ def named_checks(numbers: list[int]) -> str:
 
 
 def older_lines(run: Run, field_: Lines) -> list[str]:
-    """The line of the older checks: whether they hold, or what they ask besides, and what that does to the clocks."""
+    """The line of the checks of the classical bound: whether they hold, or what they ask besides, and what that does to the clocks."""
     failing, ways, unit = [check.number for check in run.bounds.failing], run.ways, run.cluster.microtick_ns
     if not failing:
-        return field_("Older checks", "those of the older bound, above called Precision, hold too")
-    text = (f"{named_checks(failing)} of the older bound, above called Precision, {'fails' if len(failing) == 1 else 'fail'}; "
-            "the sharp precision does not rest on them")
+        return field_("  checks", "those of the classical bound hold too")
+    text = (f"{named_checks(failing)} of the classical bound {'fails' if len(failing) == 1 else 'fail'}; the precision does not rest "
+            "on them")
     if ways is None or ways.older is None:
-        return field_("Older checks", text + (f". No values are found with which they hold: {ways.no_older}" if ways else ""))
+        return field_("  checks", text + (f". No values are found with which they hold: {ways.no_older}" if ways else ""))
     way, besides = ways.older, " besides the first way" if ways.held else " besides"
     asks = f"They ask for {values_words(way.changed, run.cluster)}{besides}" if way.changed else "They hold with the first way too"
-    text += f". {asks}; the older bound is then {microseconds(way.bounds.precision, unit)}, and {skew_words(way, ways, unit)}"
+    text += f". {asks}; the classical bound is then {microseconds(way.bounds.precision, unit)}, and {skew_words(way, ways, unit)}"
     damped = way.changed.get("pClusterDriftDamping", 0) > run.cluster.parameters["pClusterDriftDamping"]
     if damped and way.skew > ways.skew:
         text += ": that makes the clocks worse, since damping is taken off each rate term (docs/PRECISION.md)"
-    return field_("Older checks", text)
+    return field_("  checks", text)

@@ -357,8 +357,8 @@ def worst(cluster: Cluster, folder: str, program: str, words: Namespace) -> int:
     begin, unit, first = time.monotonic(), cluster.microtick_ns, Bench(cluster, program, 1)
     if first.bounds.failing:
         named = ", ".join(f"C{check.number}" for check in first.bounds.failing)
-        raise Stop(NO, f"{cluster.path}: {named} of the older bound fails, so no run of this cluster is covered by it, and the "
-                       "search is of covered runs: `flexlab run` tells what it asks for, and of the sharper bound")
+        raise Stop(NO, f"{cluster.path}: {named} of the classical bound fails, so no run of this cluster is covered by it, and "
+                       "the search is of such runs: `flexlab run` tells what it asks for, and of the precision")
     drift, script, pair = edge(first)
     told = (f"nodes {pair[0]} and {pair[1]} begin as far apart as `in sync` allows: their starts by pi, the lengths of their "
             "cycles by lambda, as near as whole ticks come to it. There is one double cycle.\n")
@@ -366,7 +366,7 @@ def worst(cluster: Cluster, folder: str, program: str, words: Namespace) -> int:
     if report.gap is not None:
         raise Stop(NO, f"{cluster.path}: no run of this cluster is covered: " + "; ".join(gap_words(report.gap, cluster)))
     bench, hand, best = search(cluster, program, words)
-    page = lines_of("Precision", f"{microseconds(report.precision, unit)} ({report.precision} ticks), which no macroticks of "
+    page = lines_of("Classical bound", f"{microseconds(report.precision, unit)} ({report.precision} ticks), which no macroticks of "
                                  "correct nodes lie further apart than in sync: that is proved")
     page += lines_of("Edge of sync", *edge_words(first, report))
     if best is None or hand is None:
