@@ -303,19 +303,19 @@ function showVerdict() {
   const kind = last.sharp[1], first = last["sharp synced"][0], lasts = last["sharp synced"][1];
   const covered = last["sharp covered"][0] === "yes", cycle = Number(first) * 2;
   const ending = lasts === "on" || lasts === "" ? "" : `proved for ${lasts} double cycles from there on`;
-  cards.push(card(covered ? "good" : "bad", "Sharply covered", covered ? "yes" : "no",
-    covered ? "in sharp sync no macroticks lie further apart than the sharp precision" : gapWords(last["sharp covered"][3], show),
+  cards.push(card(covered ? "good" : "bad", "Covered", covered ? "yes" : "no",
+    covered ? "in sync no macroticks lie further apart than the precision" : gapWords(last["sharp covered"][3], show),
     joins && `nodes that join: ${ofJoins(sharp, kind).text}`));
-  cards.push(card(first === "-" ? "bad" : "good", "In sharp sync", first === "-" ? "never" : `from ${msOfCycle(cycle, known)} ms`,
+  cards.push(card(first === "-" ? "bad" : "good", "In sync", first === "-" ? "never" : `from ${msOfCycle(cycle, known)} ms`,
     first === "-" ? null : `double cycle ${first}, cycle ${cycle}`, ending));
   const skew = last["sharp greatest"][0];
-  cards.push(card("", `Sharp precision, ${kind === "beside" ? "beside arbitrary nodes" : "no arbitrary node"}`, `${us(last.sharp[0])} us`,
+  cards.push(card("", `Precision, ${kind === "beside" ? "beside arbitrary nodes" : "no arbitrary node"}`, `${us(last.sharp[0])} us`,
     skew === "-" ? null : `the skew was ${us(skew)} us at most since, ${percent(skew, last.sharp[0])} of it`));
-  cards.push(card(run.covered ? "good" : "bad", "Covered, by the older bound", run.covered ? "yes" : "no",
+  cards.push(card(run.covered ? "good" : "bad", "Covered, by the classical bound", run.covered ? "yes" : "no",
     run.covered ? null : gapWords(run.gap, show), run.inSync === null ? "never in sync" : `in sync from double cycle ${run.inSync} (${msOfCycle(2 * run.inSync, known)} ms)`,
     joins && `nodes that join: ${ofJoins(bound).text}`));
   const since = last.greatest[0];
-  cards.push(card("", "Older precision", `${us(run.precision)} us`,
+  cards.push(card("", "Classical bound, of flexray run", `${us(run.precision)} us`,
     since === "-" ? null : `the skew in sync was ${us(since)} us at most, ${percent(since, run.precision)} of it`));
   cards.push(card("", "Greatest skew of all", `${us(run.greatest.ticks)} us`, `cycle ${run.greatest.cycle}, macrotick ${run.greatest.macrotick}`,
     run.inSync === null || run.greatest.cycle < 2 * run.inSync ? "before sync, so not to be held against a precision" : null));
@@ -377,19 +377,19 @@ function precisionsLine() {
   const one = (name, text, ofThisRun) => element(ofThisRun ? "strong" : "span", { class: `key ${name}` }, ofThisRun ? `${text}, this run's` : text);
   const checks = (told) => element("span", { class: told.holds ? "good-text" : "bad-text" }, told.text);
   return element("p", { id: "precisions" }, element("span", {}, "Precisions:"),
-    one("alone", `sharp, no arbitrary node ${us(sharp["alone precision"])} us`, kind === "alone"),
-    one("beside", `sharp, beside arbitrary nodes ${us(sharp["beside precision"])} us`, kind === "beside"),
-    one("older", `older ${us(run.precision)} us`, false),
-    joins && element("span", {}, "Nodes that join: sharper ", checks(ofJoins(sharp, kind)), ", older ", checks(ofJoins(bound))));
+    one("alone", `no arbitrary node ${us(sharp["alone precision"])} us`, kind === "alone"),
+    one("beside", `beside arbitrary nodes ${us(sharp["beside precision"])} us`, kind === "beside"),
+    one("older", `classical ${us(run.precision)} us`, false),
+    joins && element("span", {}, "Nodes that join: ", checks(ofJoins(sharp, kind)), ", by the classical bound ", checks(ofJoins(bound))));
 }
 
 function showChart() {
   const { run, series, sharp } = page.found, { last, skew } = series;
   const points = skew.map(usNumber), first = last["sharp synced"][0];
   const since = run.inSync === null ? null : 2 * run.inSync, sharply = first === "-" ? null : 2 * Number(first);
-  const levels = [{ value: usNumber(run.precision), name: `older precision ${us(run.precision)}`, class: "older" },
-    { value: usNumber(sharp["beside precision"]), name: `sharp, beside arbitrary nodes ${us(sharp["beside precision"])}`, class: "beside" },
-    { value: usNumber(sharp["alone precision"]), name: `sharp, no arbitrary node ${us(sharp["alone precision"])}`, class: "alone" }];
+  const levels = [{ value: usNumber(run.precision), name: `classical bound ${us(run.precision)}`, class: "older" },
+    { value: usNumber(sharp["beside precision"]), name: `beside arbitrary nodes ${us(sharp["beside precision"])}`, class: "beside" },
+    { value: usNumber(sharp["alone precision"]), name: `no arbitrary node ${us(sharp["alone precision"])}`, class: "alone" }];
   const most = Math.max(...levels.map(({ value }) => value), ...(points.length < 50000 ? points : [usNumber(run.greatest.ticks)])) * 1.14 || 1;
   const width = Math.max(320, Math.min(1100, $("chart").clientWidth || 760));
   const charts = [chart(points, levels, { most, since, sharp: sharply, width, label: "Greatest skew of each cycle, beside the precisions" }), precisionsLine()];
@@ -423,14 +423,14 @@ const RESULTS = {
     const add = (name, text) => list.push([name, text]);
     add("Cluster", `${run.counts.nodes} nodes, ${run.counts.sync} with a key slot, ${run.counts.arbitrary} arbitrary`);
     add("Run", `${2 * run.counts.doubles} cycles of ${msOfCycle(1, known)} ms, ${msOfCycle(2 * run.counts.doubles, known)} ms in all`);
-    add("In sync at the end", last.synced[0] === "yes" ? "yes" : `no: from double cycle ${last.synced[1]} on none is`);
-    add("Within the older precision", within(last.within));
-    add("Within the sharp precision", within(last["sharp within"]));
+    add("In sync at the end, by the classical bound", last.synced[0] === "yes" ? "yes" : `no: from double cycle ${last.synced[1]} on none is`);
+    add("Within the precision", within(last["sharp within"]));
+    add("Within the classical bound", within(last.within));
     add("Delays flutter by", `${show.ns(last.flutter[0])} ns at most within a double cycle`);
     add("Frames sent", `${run.sentA} on channel A, ${run.sentB} on B`);
     add("Heard", run.heard);
     add("Terms cut to their limit", run.cut);
-    if (joins) add("Nodes that join", `by the sharper bound ${ofJoins(sharp, last.sharp[1]).text}, by the older one ${ofJoins(bound).text}`);
+    if (joins) add("Nodes that join", `${ofJoins(sharp, last.sharp[1]).text}, by the classical bound ${ofJoins(bound).text}`);
     return plainTable(["", ""], list);
   },
   Nodes() {
@@ -444,12 +444,12 @@ const RESULTS = {
     const { bound, sharp, series, joins } = page.found, kind = series.last.sharp[1], lasts = sharp[joins ? "first rates last" : "lasts"];
     const of = (checks) => checks.map((check) => [`C${check.number}`, element("span", { class: check.holds ? "good-text" : "bad-text" }, check.holds ? "holds" : "fails"),
       percent(check.right, check.left), check.holds ? WHY[check.number][0] : `${WHY[check.number][0]}: turn ${WHY[check.number][1]}`]);
-    return element("div", {}, element("h3", {}, `Of the sharper bound, ${kind === "beside" ? "beside arbitrary nodes" : "without arbitrary nodes"}`),
+    return element("div", {}, element("h3", {}, `Of the precision, ${kind === "beside" ? "beside arbitrary nodes" : "without arbitrary nodes"}`),
       plainTable(["check", "", " used", "what it is for"], of(sharp.checks.filter((check) => !check.side || check.side === kind))),
-      element("h3", {}, "Of the older bound"), plainTable(["check", "", " used", "what it is for"], of(bound.checks)),
+      element("h3", {}, "Of the classical bound"), plainTable(["check", "", " used", "what it is for"], of(bound.checks)),
       joins && element("p", { class: "note" }, "C6 to C9 are of nodes that join: the action points of one that follows lie at most "
-        + `${us(sharp[`${kind} reach`])} us from those of the others, by the older bound ${us(bound.reach)} us.`),
-      element("p", { class: "note" }, "That an older check fails is no fault where the sharper ones hold: the sharper precision does not rest on it. "
+        + `${us(sharp[`${kind} reach`])} us from those of the others, by the classical bound ${us(bound.reach)} us.`),
+      element("p", { class: "note" }, "That a check of the classical bound fails is no fault if those of the precision hold: it does not rest on them. "
         + `The rate limit holds the walk of rates${joins ? ", and suffices for first rates," : ""} ${lasts === "on" ? "on and on" : `for ${lasts} double cycles`}.`));
   },
   "As printed"() {

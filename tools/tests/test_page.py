@@ -477,7 +477,7 @@ class Page(Bench):
                 for text in texts:
                     failing = re.findall(rf"^(?:{kind} )?(C[6-9]) fails", text, re.M)
                     told.append(f"{', '.join(failing)} fail{'s' if len(failing) == 1 else ''}" if failing else "C6 to C9 hold")
-                self.assertIn(f"Nodes that join: sharper {told[0]}, older {told[1]}", self.run_in('$("precisions").innerText'))
+                self.assertIn(f"Nodes that join: {told[0]}, by the classical bound {told[1]}", self.run_in('$("precisions").innerText'))
                 for part in told:
                     self.assertIn(f"nodes that join: {part}", self.run_in('$("verdict").innerText'))
                 self.run_in('selectTab("answers", "Checks")')
