@@ -173,7 +173,7 @@ def premises(case: Case) -> list[Premise]:
         ("The program that printed the evidence is one whose functions were proved before it was built.",
          f"{os.path.basename(case.program)}, SHA-256 {sha256_of(case.program)}", "you: build it from the sources by the gate, and compare"),
         ("The cluster comes into sync.", "seen or proved otherwise", "test: flexlab settle, power or observe; startup tests on the "
-                                                                           "bus"),
+                                                                     "bus"),
     ]
     return [Premise(number, *row) for number, row in enumerate(rows, 1)]
 
@@ -193,7 +193,7 @@ def rests_on(case: Case) -> list[tuple[str, str]]:
     return [
         ("Statement", f"{statement} ({specs}), word by word in docs/STATEMENT.md"),
         ("Theorem", f"{law} ({place}): of all parameters, clocks, delays and scripts that are sharply "
-                f"covered{' to join' if case.join else ''}"),
+                    f"covered{' to join' if case.join else ''}"),
         ("What is printed", "is the answer that the rules give, for every file: the clause `ends` of `flexray` (docs/PROMISES.md)"),
         ("Gate", ".ci/run of the sources proves every function of every crate, builds both programs and holds them to worked cases"),
         ("Kit", toolchain()),

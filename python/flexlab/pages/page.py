@@ -81,10 +81,10 @@ def classical_sync_lines(run: Run) -> list[str]:
             found = field("  in sync", f"yes, {begin}, and still in sync at the end")
         elif run.at_end:
             found = field("  in sync", f"NOT ALL THE WAY: first {begin}; lost in double cycle {run.lost} (cycle "
-                                     f"{2 * run.lost}), and in sync again at the end")
+                                       f"{2 * run.lost}), and in sync again at the end")
         else:
             found = field("  in sync", f"NOT AT THE END: {begin} at first; lost in double cycle {run.lost} (cycle "
-                                     f"{2 * run.lost}, {decimal(ms_of_cycle(2 * run.lost, cluster), 3)} ms)")
+                                       f"{2 * run.lost}, {decimal(ms_of_cycle(2 * run.lost, cluster), 3)} ms)")
     if report.gap is None:
         what = ("yes: while in sync no macroticks of correct nodes lie further apart than the bound; that is "
                 "proved of such runs" if report.in_sync is not None else

@@ -15,7 +15,6 @@ from flexray import results, texts
 
 from ..base import ranges
 from ..base.ending import DONE, NO
-from ..pages.gaps import gap_words
 from ..pages.machine import ended, printed, run_object, wanted
 from ..pages.page import ORIGIN, classical_lines, gap_lines, lost_lines, ms_of_cycle, field as lines_of
 from ..pages.sharp_page import check_lines, sharp_lines
@@ -26,7 +25,7 @@ from ..program.report import understood
 from ..toml.cluster import Cluster, Join, Power
 from .runs import Run, answer, bound_words, keep, run_cluster
 from ..base.files import hold, whole, write_files
-from ..base.units import decimal, microseconds, percent
+from ..base.units import decimal
 
 LISTENING, RESOLVING = 2, 4
 
@@ -258,7 +257,7 @@ def head_lines(startup: Startup) -> list[str]:
 
 
 def sync_lines(startup: Startup) -> list[str]:
-    run, cluster, synced = startup.joined, startup.cluster, startup.synced
+    run, synced = startup.joined, startup.synced
     late = [number for number in startup.listens if run.first_row(number) is None]
     if synced is None:
         why = (f"nodes {', '.join(map(str, late))} take no part in {run.cluster.cycles} cycles" if late

@@ -367,7 +367,7 @@ def worst(cluster: Cluster, folder: str, program: str, words: Namespace) -> int:
         raise Stop(NO, f"{cluster.path}: no run of this cluster is covered: " + "; ".join(gap_words(report.gap, cluster)))
     bench, hand, best = search(cluster, program, words)
     page = lines_of("Classical bound", f"{microseconds(report.precision, unit)} ({report.precision} ticks), which no macroticks of "
-                                 "correct nodes lie further apart than in sync: that is proved")
+                                       "correct nodes lie further apart than in sync: that is proved")
     page += lines_of("Edge of sync", *edge_words(first, report))
     if best is None or hand is None:
         page += lines_of("Worst found", "nothing: no candidate was covered and in sync from the beginning")
