@@ -239,9 +239,10 @@ class Pages(Case):
         self.assertIn(f"$bound0 << end\n{first} 0.900100\n40 0.900100\nend", data)
         self.page(produced(*WALK, ("double_cycles = 60", "double_cycles = 70")) + EVEN_AND_ODD, "--pictures")
         self.assertIn("$bound0 << end\n0 2.400100\n124 2.400100\nend", self.read("a.lab", "skew.gnuplot"))
-        self.page(EXAMPLE, "--pictures")
+        skew = re.search(r"Skew in sync ([\d.]+) us .*?\(cycle (\d+)", self.page(EXAMPLE, "--pictures"))
         picture = self.read("a.lab", "skew.svg")
-        for told in ("sharp precision, 3.756 us", ">precision, 7.902 us", "in sync from cycle 2", "greatest skew in sync, 4.545 us"):
+        for told in ("precision, 3.756 us", "classical bound, 7.902 us", "in sync from cycle 4",
+                     f"greatest skew in sync, {skew[1]} us in cycle {skew[2]}"):
             self.assertIn(told, picture)
 
     @needs_series
