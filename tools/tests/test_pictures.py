@@ -19,8 +19,8 @@ class Pictures(Bench):
         skew, terms = self.read("a.lab", "skew.svg"), self.read("a.lab", "terms.svg")
         report = self.read("a.lab", "report.txt")
         precision = int(re.search(r"^precision (\d+)", report, re.M)[1]) * 25 / 10**9
-        self.assertIn(f"precision, {precision:.3f} us", skew)
-        self.assertIn("in sync from cycle 2", skew)
+        self.assertIn(f"classical bound, {precision:.3f} us", skew)
+        self.assertIn("in sync from cycle 4", skew)
         for node in range(1, 6):
             self.assertIn(f"node {node}", terms)
         self.assertNotIn("node 6", terms)
@@ -57,7 +57,7 @@ class Pictures(Bench):
 
     @needs("gnuplot")
     def test_long_lost_and_unsynced_runs(self):
-        for text, told in ((edited(("double_cycles = 200", "double_cycles = 2000")), "in sync from cycle 2"),
+        for text, told in ((edited(("double_cycles = 200", "double_cycles = 2000")), "in sync from cycle 4"),
                            (EXAMPLE + '[[oscillator]]\nnodes = 1\ncycles = "200-"\nppm = -1400\n', "sync lost in "
                                                                                                    "cycle 20"),
                            (edited(("start_us = 1.5", "start_us = 900")), "never in sync")):

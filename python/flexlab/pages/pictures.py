@@ -12,7 +12,7 @@ from ..program import calls as programs
 from ..base.ending import PROGRAM, Stop, printable
 from ..base.files import put, put_bytes, read
 from .page import ms_of_cycle
-from ..runs.sharp import ends_of, first_of, is_covered, skew_of
+from ..runs.sharp import ends_of, first_of, is_covered, lost_of, skew_of
 from ..runs.sync import starts_apart
 from ..base.units import decimal, us_of_ticks
 from ..runs.windows import changes, later
@@ -158,6 +158,14 @@ def marks(run: Run) -> Marks:
                  "in sync by that bound" if run.lost is None else "since sync by that bound")
 
 
+def lost_double(run: Run) -> int | None:
+    """The double cycle in which that sync is lost: where the precision is drawn, one behind those of which it is proved."""
+    if sharp_cycle(run) is None:
+        return run.lost
+    lost, ends = lost_of(run), ends_of(run)
+    return lost if lost is not None and ends is not None and lost >= ends else None
+
+
 def skew_script(run: Run) -> str:
     """Two panels over the same cycles: the skew beside the precision, and in the scale of what it is later."""
     report, unit = run.report, run.cluster.microtick_ns
@@ -183,8 +191,9 @@ def skew_script(run: Run) -> str:
                   "textcolor '#8a6420'"]
     else:
         lines.append("set label 1 'never in sync' at graph 0.02, graph 0.93 textcolor '#b00020'")
-    if run.lost is not None:
-        lost = 2 * run.lost
+    found = lost_double(run)
+    if found is not None:
+        lost = 2 * found
         lines += [f"set arrow 2 from {lost}, graph 0 to {lost}, graph 1 nohead linecolor '#b00020' dashtype 3",
                   f"set label 2 'sync lost in cycle {lost}' at {lost}, graph 0.86 offset 0.8,0 textcolor '#b00020'"]
     lines += join_lines(run)
