@@ -229,7 +229,7 @@ static inline uint32_t flexray_check(const uint8_t *params, size_t params_length
 /* `flexray observe PARAMS LOG`: what the log of a bus analyzer tells of the cluster's clocks. The text has, by double cycles,
    limits of skews, cycle lengths and offset terms, and the faults, which contradict the rules; then by senders which frames
    are there, whether a run can be covered, whether it is sure that frames of clocks in sync come in time, from when on the
-   cluster is in sync, and the verdict. */
+   cluster is in sync, how many double cycles are judged, and the verdict. */
 static inline uint32_t flexray_observe(const uint8_t *params, size_t params_length,
                                        const uint8_t *log, size_t log_length,
                                        uint8_t *out, size_t out_room, uint8_t *err, size_t err_room,

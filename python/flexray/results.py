@@ -337,7 +337,7 @@ class Observation:
     `nodes` has each sender of each double cycle. `first` and `last` are the numbers of the first and the last of
     `cycles`, None where there are none, and `within`, `over` and `open` how many of them say so. `faults` are what
     contradicts the rules, `senders` which frames are there; `covered`, `numbers`, `sync` and `verdict` have the fields of
-    these rows."""
+    these rows. `judged` is how many of the `doubles` double cycles are held against the rules of sync."""
 
     text: str = field(repr=False)
     precision: int
@@ -355,6 +355,8 @@ class Observation:
     numbers: tuple[str, ...]
     sync: tuple[str, ...]
     verdict: tuple[str, ...]
+    judged: int
+    doubles: int
 
 
 @dataclass(frozen=True)

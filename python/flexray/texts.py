@@ -269,10 +269,11 @@ def observation(text: str) -> Observation:
                     for node, channel, frames, begin, end, missed in lines.every(OBSERVED_SENDER))
     log = LogCounts(*_numbers(lines.take(r"log,(\d+),(\d+),(\d+),(\d+),(\d+),(\d+),")))
     covered, numbers, sync = _row(lines, "covered"), _row(lines, "numbers"), _row(lines, "sync")
+    judged, doubles = int(sync[2]), int(sync[3])
     first, last, *told = lines.take(r"cycles,(-|\d+),(-|\d+),(\d+),(\d+),(\d+),,")
     within, over, neither = map(int, told)
     return Observation(text, precision, tuple(cycles), tuple(nodes), log, _known(first), _known(last), within, over,
-                       neither, tuple(faults), senders, covered, numbers, sync, _row(lines, "verdict"))
+                       neither, tuple(faults), senders, covered, numbers, sync, _row(lines, "verdict"), judged, doubles)
 
 
 def _row(lines: _Lines, word: str) -> tuple[str, ...]:

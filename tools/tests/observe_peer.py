@@ -453,15 +453,22 @@ class Double:
                 found.append((number, node, "twice", channel, stamp, first))
         return found + self.offending
 
-    def is_in_sync(self):
-        """Whether it is certainly in sync, where nothing contradicts it."""
-        arbitrary, here = self.log.arbitrary, self.here
-        return (all(node in arbitrary or (key is not None and here.box(node, 0) and here.box(node, 1))
-                    for node, key, _, _ in self.params.nodes)
-                and self.starts[1] <= self.params.starts and self.lengths[1] <= self.params.lengths
-                and all(self.proper[0] <= self.clock.least_ticks(course["length"][0])
-                        and self.clock.most_ticks(course["length"][1]) <= self.proper[1]
-                        for _, course, _ in self.active))
+    def unsynced(self, own):
+        """Why it is not certainly in sync, with what contradicts it whatever the run: (how far it came, reason, cycle, node)."""
+        arbitrary, here, even = self.log.arbitrary, self.here, 2 * self.double
+        for node, key, _, _ in self.params.nodes:
+            boxes = [here.box(node, odd) is not None for odd in (0, 1)]
+            if node not in arbitrary and (key is None or not all(boxes)):
+                return 1, "unseen", even + 1 if boxes[0] else even, node
+        if own:
+            return 2, "fault", own[0][0], own[0][1]
+        if self.starts[1] > self.params.starts or self.lengths[1] > self.params.lengths:
+            return 3, "reach", even, "-"
+        if not all(self.proper[0] <= self.clock.least_ticks(course["length"][0])
+                   and self.clock.most_ticks(course["length"][1]) <= self.proper[1]
+                   for _, course, _ in self.active):
+            return 4, "drift", even, "-"
+        return None
 
     def in_sync(self, since):
         """What no covered run gives that is in sync from a double cycle on."""
@@ -554,33 +561,48 @@ def sender_lines(params, log, seen):
 
 
 class Progress:
-    """What is known behind some double cycles: sync, the first contradiction, and how far rows say within."""
+    """What is known behind some double cycles: sync, the first contradiction, what rows say, and which double cycles are judged."""
 
     def __init__(self, params, log):
-        self.log, self.covered, self.sync, self.first, self.reach = log, coverable(params, log) is None, None, None, None
-        self.is_ended = False
+        self.log, self.gap, self.sync, self.first, self.over, self.why = log, coverable(params, log), None, None, [], None
+        self.doubles, self.judged = 0, []
 
     def pass_double(self, double):
         """Its lines with those of its contradictions."""
         lines, found = double.lines(), double.own()
+        self.doubles += 1
         if self.sync is None and self.log.since is not None and self.log.since <= 2 * double.double:
             self.sync = self.log.since // 2, "stated"
-        elif self.sync is None and not found and double.is_in_sync():
+        elif self.sync is None and not double.unsynced(found):
             self.sync = double.double, "seen"
-        if self.sync and self.covered:
+        why = (0, "checks" if self.gap[0] == "check" else "count", "-", "-") if self.gap else (
+            None if self.sync else double.unsynced(found))
+        if why and (self.why is None or self.why[0] < why[0]):
+            self.why = why
+        if self.sync and not self.gap:
             found = found + double.in_sync(self.sync[0])
+            self.judged += [(line[1], line[5]) for line in lines if line[0] == "cycle"]
         self.first = self.first or (found[0] if found else None)
-        for _, cycle, _, _, _, word in (line for line in lines if line[0] == "cycle" and self.sync):
-            self.is_ended = self.is_ended or word != "within"
-            if not self.is_ended:
-                self.reach = (self.reach[0] if self.reach else cycle), cycle
+        self.over += [line for line in lines if line[0] == "cycle" and line[5] == "over"]
         return lines + [["fault", *fault, *["-"] * (7 - len(fault))] for fault in found]
+
+    def sync_fields(self):
+        why = self.why or (None if self.sync else (0, "unseen", "-", "-"))
+        return [*(self.sync or ("-", "open")), len(self.judged) // 2, self.doubles, *(why[1:] if why else "---")]
 
     def verdict(self):
         if self.first:
             cycle, node, kind, *_ = self.first
             return ["no", cycle, kind, node]
-        return ["within", *self.reach] if self.sync and self.reach else ["open"]
+        if self.over:
+            return ["over", self.over[0][1], self.over[0][3], len(self.over)]
+        if not self.judged:
+            return ["open", *(self.why or (0, "unseen", "-", "-"))[1:]]
+        *rows, (last, _) = self.judged
+        words = [word for _, word in self.judged]
+        if all(word == "within" for _, word in rows):
+            return ["within", self.judged[0][0], last - 1]
+        return ["partly", self.judged[0][0], last, words.count("within"), words.count("open"), len(words) // 2, self.doubles]
 
 
 def observe(params, log):
@@ -603,7 +625,7 @@ def observe(params, log):
     why = coverable(params, log)
     lines.append(["covered", *(["no", *why] if why else ["open"])])
     lines.append(["numbers", "sure" if are_numbers_sure(params, log) else "premise"])
-    lines.append(["sync", *(progress.sync or ("-", "open"))])
+    lines.append(["sync", *progress.sync_fields()])
     ends = (2 * span[0], 2 * span[-1] + 1) if seen else ("-", "-")
     lines.append(["cycles", *ends, *(words.count(word) for word in ("within", "over", "open"))])
     lines.append(["verdict", *progress.verdict()])

@@ -51,7 +51,7 @@ class Asc(Bench):
         self.flexlab("pcap", "net.toml", "-o", "sent")
         return packets.read_capture(self.path("sent", "wireshark.pcap"))[1]
 
-    def observed(self, name="bus.asc", status=0):
+    def observed(self, name="bus.asc", status=1):
         """What `flexlab observe` tells, but for what was left out, which differs by the form of a file."""
         found = json.loads(self.flexlab("observe", "--json", "-o", "seen", name, "net.toml", status=status)[0])
         found.pop("left_out")
@@ -75,7 +75,7 @@ class Asc(Bench):
         made = self.sent()
         self.write("bus.asc", text_of(rows_of(made)))
         self.assertEqual(self.observed(), self.observed(os.path.join("sent", "wireshark.pcap")))
-        page = self.one_line(self.flexlab("observe", "-o", "seen", "bus.asc", "net.toml")[0])
+        page = self.one_line(self.flexlab("observe", "-o", "seen", "bus.asc", "net.toml", status=1)[0])
         self.assertIn("Log bus.asc: 160 frames of key slots", page)
         self.assertIn("Columns time Fr RMSG _ _ channels slot cycle direction _ _ _ header_crc _ payload_bytes; "
                       "hexadecimal: header_crc", page)
@@ -108,8 +108,8 @@ class Asc(Bench):
         less = [packet for packet in made if packet.frame[1] != 3 or packet.frame[4] & 63 < 11]
         self.write("bus.asc", text_of(rows_of(less)))
         packets.write_capture(self.path("bus.pcap"), [(packet.ns, packet.channel, packet.frame) for packet in less])
-        found = self.observed(status=1)
-        self.assertEqual(found, self.observed("bus.pcap", status=1))
+        found = self.observed()
+        self.assertEqual(found, self.observed("bus.pcap"))
         self.assertEqual((found["faults"][0]["cycle"], found["faults"][0]["kind"], found["verdict"][0]), (11, "missing", "no"))
 
     # ---- numbers
@@ -257,7 +257,7 @@ class Asc(Bench):
         rows = rows_of(made)
         rows[at] = rows_of([made[at]], cycle=30)[0]
         self.write("bus.asc", text_of(rows))
-        self.assertEqual([fault["kind"] for fault in self.observed(status=1)["faults"]], ["cycle"])
+        self.assertEqual([fault["kind"] for fault in self.observed()["faults"]], ["cycle"])
 
     def test_files_without_rows(self):
         self.sent()

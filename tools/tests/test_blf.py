@@ -85,7 +85,7 @@ class Blf(Bench):
         for packing in (0, 2):
             self.keep("bus.blf", blf_file(self.items(made), packing))
             self.assertEqual(self.log("bus.blf")[0], wanted)
-        found = [json.loads(self.flexlab("observe", "--json", "-o", "seen", name, "net.toml")[0])
+        found = [json.loads(self.flexlab("observe", "--json", "-o", "seen", name, "net.toml", status=(0, 1))[0])
                  for name in ("bus.blf", "sent/wireshark.pcap")]
         self.assertEqual(found[0], found[1])
         # And tshark, which is another reader, has the same frames of it.

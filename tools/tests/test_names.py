@@ -79,7 +79,7 @@ class Names(Bench):
         self.flexlab("pcap", "a.toml", "-o", "sent")
         os.rename(self.path("sent", "sent.pcap"), self.path(f"{name}.pcap"))
         self.flexlab("capture", "-p", f"{name}.pcap", "-o", "taken")
-        self.flexlab("observe", "-p", f"{name}.pcap", "a.toml", "-o", "seen")
+        self.flexlab("observe", "-p", f"{name}.pcap", "a.toml", "-o", "seen", status=(0, 1))
         for place in (("taken", "timing"), ("seen", "observed-skew"), ("seen", "observed-nodes")):
             self.assertIn(name, self.title(place[0], f"{place[1]}.svg"))
         self.no_command_ran()

@@ -281,7 +281,32 @@ class Observed(Bench):
             return line
         params, log = peer.Params(peer.rows_of(self.path("params.csv"))), peer.Log(peer.rows_of(self.path("log.csv")))
         self.assertEqual(text, peer.text_of(peer.observe(params, log)))
+        self.verdict_fits(text)
         return text
+
+    def verdict_fits(self, text):
+        """The last line says what the rows before it say, whatever it rests on."""
+        cycles, faults = rows_of(text, "cycle"), rows_of(text, "fault")
+        (sync,), (verdict,), (covered,) = (rows_of(text, word) for word in ("sync", "verdict", "covered"))
+        judged, doubles = int(sync[3]), int(sync[4])
+        self.assertEqual(2 * doubles, len(cycles))
+        # From the double cycle of the `sync` row on, or from the first one that is there.
+        begins = 0 if sync[1] == "-" or not cycles else max(0, 2 * int(sync[1]) - int(cycles[0][1]))
+        rows = cycles[begins:] if sync[1] != "-" and covered[1] == "open" else []
+        self.assertEqual(2 * judged, len(rows))
+        self.assertEqual(sync[5] == "-", judged == doubles and doubles > 0)
+        over, words = [row for row in cycles if row[5] == "over"], [row[5] for row in rows]
+        if faults:
+            wanted = ["no", faults[0][1], faults[0][3], faults[0][2]]
+        elif over:
+            wanted = ["over", over[0][1], over[0][3], str(len(over))]
+        elif not rows:
+            wanted = ["open", *(sync[5:] if sync[5] != "-" else ())]
+        elif set(words[:-1]) == {"within"}:
+            wanted = ["within", rows[0][1], rows[-2][1]]
+        else:
+            wanted = ["partly", rows[0][1], rows[-1][1], *map(str, (words.count("within"), words.count("open"), judged, doubles))]
+        self.assertEqual(verdict[1:], wanted + [""] * (7 - len(wanted)))
 
     def run_of(self, draw, is_long=False, is_covered=False):
         """A cluster with the rows of its trace."""
@@ -410,7 +435,7 @@ class Observed(Bench):
         _, analyzer, _ = self.seen(2)
         text = self.told(analyzer.log([]))
         self.assertIn("\nlog,0,0,0,0,0,0,\n", text)
-        self.assertTrue(text.endswith("sync,-,open,,,,,\ncycles,-,-,0,0,0,,\nverdict,open,,,,,,\n"))
+        self.assertTrue(text.endswith("sync,-,open,0,0,unseen,-,-\ncycles,-,-,0,0,0,,\nverdict,open,unseen,-,-,,,\n"))
 
     # ---- verdicts
 

@@ -200,7 +200,8 @@ class Calls(Bench):
         self.assertEqual(found, texts.observation(Path(EXAMPLES, "observe", "observe", "printed.txt").read_text()))
         self.assertEqual(found.precision, flexray.bound(params).precision)
         self.assertEqual((found.faults, found.covered, found.sync, found.verdict),
-                         ((), ("open",), ("0", "seen"), ("within", "0", "2")))
+                         ((), ("open",), ("0", "seen", "2", "2", "-", "-", "-"), ("within", "0", "2")))
+        self.assertEqual((found.judged, found.doubles), (2, 2))
         self.assertEqual(found.senders[1], flexray.ObservedSender(2, "A", 4, 0, 3, 0))
         self.assertEqual(found.numbers, ("sure",))
         odd = flexray.observe(params, re.sub("(head,5007000,)A(.*)", r"\1A\2\n\1B\2", log.read_text()))
@@ -507,7 +508,7 @@ class Alone(Bench):
         found = texts.observation("precision,7,,,,,,\ncycle,4,2,8,9,over,,\ncycle,5,2,1,-,open,,\nnode,2,1,-3,5,-,-,\n"
                                   "node,2,64,4,6,-9,-8,\nfault,5,64,twice,B,9,8,-\nfault,5,-,skew,8,-,-,7\ncycle,6,0,0,-,open,,\ncycle,7,0,0,-,open,,\n"
                                   "sender,64,B,3,4,5,2,\nsender,1,A,0,-,-,4,\nlog,1,2,3,4,5,6,\ncovered,no,count,1,1,,,\n"
-                                  "numbers,premise,,,,,,\nsync,-,open,,,,,\ncycles,4,7,0,1,3,,\nverdict,no,5,twice,64,,,\n")
+                                  "numbers,premise,,,,,,\nsync,-,open,0,2,count,-,-\ncycles,4,7,0,1,3,,\nverdict,no,5,twice,64,,,\n")
         self.assertEqual([(row.cycle, row.senders, row.low, row.high, row.says) for row in found.cycles],
                          [(4, 2, 8, 9, "over"), (5, 2, 1, None, "open"), (6, 0, 0, None, "open"),
                           (7, 0, 0, None, "open")])
@@ -522,7 +523,9 @@ class Alone(Bench):
         self.assertEqual(found.senders, (flexray.ObservedSender(64, "B", 3, 4, 5, 2),
                                          flexray.ObservedSender(1, "A", 0, None, None, 4)))
         self.assertEqual((found.covered, found.numbers, found.sync, found.verdict),
-                         (("no", "count", "1", "1"), ("premise",), ("-", "open"), ("no", "5", "twice", "64")))
+                         (("no", "count", "1", "1"), ("premise",), ("-", "open", "0", "2", "count", "-", "-"),
+                          ("no", "5", "twice", "64")))
+        self.assertEqual((found.judged, found.doubles), (0, 2))
 
     @needs_series
     def test_a_series_in_which_all_nodes_halt(self):

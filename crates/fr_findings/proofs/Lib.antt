@@ -1,4 +1,3 @@
 pub mod Checks
 pub mod Missed
 pub mod Printing
-pub mod Windows

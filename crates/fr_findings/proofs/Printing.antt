@@ -1,5 +1,5 @@
 -- The rows of double cycles are put one double cycle after the other, and what is known behind them is kept.
-use Rattle.std.proofs.Common.{◌≡◌, ℕ, zero, suc, ◌+◌, ◌-◌, ◌*◌, ◌<◌, ◌≤◌, ℤ, Bool, true, false, List, [], ◌∷◌, ◌++◌, length, slice_get, Option, Some, None, Result, Ok, Err, refl, sym, ap, ◌∙◌, subst, append-nil, arith}
+use Rattle.std.proofs.Common.{◌≡◌, ℕ, zero, suc, ◌+◌, ◌-◌, ◌*◌, ◌<◌, ◌≤◌, ℤ, Bool, true, false, List, [], ◌∷◌, ◌++◌, length, slice_get, Option, Some, None, is_none, Result, Ok, Err, refl, sym, ap, ◌∙◌, subst, append-nil, arith}
 use Rattle.std.specs.List.{count_by, range_with_len}
 use Rattle.std.specs.Result.{IsErr}
 use Rattle.std.proofs.lemmas.List.Elements.{All-weaker}
@@ -10,27 +10,30 @@ use Rattle.fr_base.proofs.Putting.{cut, then}
 use Rattle.fr_cluster.specs.Values.{Values}
 use Rattle.fr_log.specs.View.{LogView}
 use Rattle.fr_course.specs.declared.scales.Scale.{Scale}
-use Rattle.fr_observe.specs.Faults.{faults_in_sync}
+use Rattle.fr_observe.specs.Faults.{faults_in_sync, sync_behind}
 use Rattle.fr_observe.specs.Telling.{TellsFaults}
 use Rattle.fr_observe.specs.declared.fault.Fault.{Fault}
 use Rattle.fr_observe.specs.declared.fault.LogSpan.{LogSpan}
 use Rattle.fr_observe.specs.declared.fault.SyncFrom.{SyncFrom}
+use Rattle.fr_observe.specs.declared.obstacle.Obstacle.{Obstacle}
 use Rattle.fr_observe.proofs.Told.{told_cut}
 use Rattle.fr_sightings.specs.Ranges.{AreSeenFrom}
 use Rattle.fr_sightings.specs.Senders.{double_of, sightings_in}
 use Rattle.fr_sightings.specs.Sightings.{OffendingFrames}
 use Rattle.fr_sightings.specs.declared.sender.Sender.{Sender}
 use Rattle.fr_sightings.specs.declared.sighting.Sighting.{Sighting}
-use Rattle.fr_findings.specs.Counting.{counted, is_open, is_over, is_within}
+use Rattle.fr_findings.specs.Counting.{AreFewCycles, counted, is_open, is_over, is_within, no_cycles_told}
 use Rattle.fr_observe.specs.Observing.{both_say, cycle_row, cycles_text, doubles_between, seen_doubles}
-use Rattle.fr_findings.specs.Counting.{AreFewCycles}
+use Rattle.fr_findings.specs.Ground.{CountsFew}
 use Rattle.fr_observe.specs.Skews.{AreSkews}
-use Rattle.fr_findings.specs.Verdict.{Basis, DoubleCycle, double_at, double_told, double_with, even_says, no_progress, odd_says, progress_of, progress_told, sightings_before, told_of_doubles}
+use Rattle.fr_findings.specs.Verdict.{Basis, DoubleCycle, double_at, double_told, double_with, even_says, is_judged, judged_by, no_progress, odd_says, progress_of, progress_told, sightings_before, sync_told, told_of_doubles, unless_synced}
 use Rattle.fr_findings.specs.declared.counts.Counts.{Counts}
+use Rattle.fr_findings.specs.declared.coverable.Coverable.{Coverable}
+use Rattle.fr_findings.specs.declared.progress.Judged.{Judged}
 use Rattle.fr_findings.specs.declared.progress.Progress.{Progress}
 use Rattle.fr_observe.specs.declared.says.Says.{Says}
 use Rattle.fr_observe.specs.declared.skews.Skews.{Skews}
-use Rattle.fr_findings.proofs.Windows.{none-later}
+use Rattle.fr_sightings.proofs.Windows.{none-later}
 
 -- ---- double cycles
 
@@ -64,10 +67,21 @@ none-in-sync true None faults is = refl
 none-in-sync false None faults is = refl
 none-in-sync covered (Some from) faults is = absurd (cc is)
 
+-- sync behind a double cycle, and what keeps it from being judged: nothing has to be looked at where sync is known
+pub sync-step : (l : LogView) (double : ℕ) (seen : Bool) (why : Option Obstacle) (sync : Option SyncFrom) → is_none why ≡ seen
+    → sync_behind l double (is_none (unless_synced sync why)) sync ≡ sync_behind l double seen sync
+sync-step l double seen why None is = ap (λ (b : Bool). sync_behind l double b None) is
+sync-step l double seen why (Some from) is = refl
+
+pub obstacle-step : (l : LogView) (double : ℕ) (seen : Bool) (why : Option Obstacle) (sync : Option SyncFrom)
+    → unless_synced (sync_behind l double seen sync) (unless_synced sync why) ≡ unless_synced (sync_behind l double seen sync) why
+obstacle-step l double seen why None = refl
+obstacle-step l double seen why (Some from) = refl
+
 -- what stays the same over a log
-abbrev pub made-basis : ℤ → Scale → Values → LogView → LogSpan → Bool → Basis
+abbrev pub made-basis : ℤ → Scale → Values → LogView → LogSpan → Coverable → Basis
 made-basis precision scale p l span covered =
-    record { precision = precision; scale = scale; params = p; log = l; span = span; may_be_covered = covered }
+    record { precision = precision; scale = scale; params = p; log = l; span = span; covered = covered }
 
 -- ---- what both cycles say
 
@@ -81,13 +95,32 @@ few-more most counts a b few = record {
   neither = omega (arith, two-at-most is_open a b, few.neither);
 }
 
-pub few-none : (most : ℕ) (progress : Progress) → progress ≡ no_progress → AreFewCycles most progress.counts
-few-none most progress is =
-    subst (λ (p : Progress). AreFewCycles most p.counts) (sym is) (record { within = omega arith; over = omega arith; neither = omega arith })
+none-few : (most : ℕ) → CountsFew most no_progress
+none-few most =
+    let none : AreFewCycles most no_cycles_told = record { within = omega arith; over = omega arith; neither = omega arith } in
+    record { all = none; judged = none; doubles = omega arith; judged_doubles = omega arith }
 
-pub few-told : (most : ℕ) (b : Basis) (d : DoubleCycle) (progress : Progress) → AreFewCycles most progress.counts → AreFewCycles (most + 2) (progress_told b d progress).counts
+pub few-none : (most : ℕ) (progress : Progress) → progress ≡ no_progress → CountsFew most progress
+few-none most progress is = subst (CountsFew most) (sym is) (none-few most)
+
+weaker : (most : ℕ) (counts : Counts) → AreFewCycles most counts → AreFewCycles (most + 2) counts
+weaker most counts few = record { within = omega (arith, few.within); over = omega (arith, few.over); neither = omega (arith, few.neither) }
+
+judged-few : (most : ℕ) (is_judged : Bool) (judged : Judged) (double : ℕ) (a b : Says) → AreFewCycles most judged.said → judged.doubles ≤ most
+    → AreFewCycles (most + 2) (judged_by is_judged judged double (a ∷ b ∷ [])).said × ((judged_by is_judged judged double (a ∷ b ∷ [])).doubles ≤ most + 2)
+judged-few most true judged double a b few le = (few-more most judged.said a b few, omega (arith, le))
+judged-few most false judged double a b few le = (weaker most judged.said few, omega (arith, le))
+
+pub few-told : (most : ℕ) (b : Basis) (d : DoubleCycle) (progress : Progress) → CountsFew most progress → CountsFew (most + 2) (progress_told b d progress)
 unfolding progress_told both_say
-few-told most b d progress few = few-more most progress.counts (even_says b d) (odd_says b d) few
+few-told most b d progress few =
+    let judged = judged-few most (is_judged b (sync_told b d progress.sync)) progress.judged d.number (even_says b d) (odd_says b d) few.judged few.judged_doubles in
+    record {
+      all = few-more most progress.counts (even_says b d) (odd_says b d) few.all;
+      judged = judged.0;
+      doubles = omega (arith, few.doubles);
+      judged_doubles = judged.1;
+    }
 
 -- ---- one double cycle, and those behind it
 

@@ -1,18 +1,19 @@
 -- What functions pass to each other: what stays the same over a log, and a double cycle.
-use Rattle.std.specs.Prelude.{ℕ, ◌<◌, ◌≤◌, nat_lt, Bool, All, List, [], ◌∷◌, length}
+use Rattle.std.specs.Prelude.{ℕ, ◌+◌, ◌<◌, ◌≤◌, Bool, All, List, [], ◌∷◌, length, Option}
 use Rattle.std.specs.Option.{option_or}
 use Rattle.fr_log.specs.View.{LogView}
 use Rattle.fr_observe.specs.Faults.{first_of_faults}
-use Rattle.fr_findings.specs.Counting.{counted}
-use Rattle.fr_findings.specs.Verdict.{Basis, DoubleCycle, double_with, faults_told, reach_behind_both, sync_told}
+use Rattle.fr_observe.specs.Obstacles.{farther}
+use Rattle.fr_findings.specs.Counting.{AreFewCycles, counted}
+use Rattle.fr_findings.specs.Verdict.{Basis, DoubleCycle, double_with, faults_told, judged_by, obstacle_told, reach_behind_both, sync_told}
 use Rattle.fr_findings.specs.declared.ground.Around.{Around}
 use Rattle.fr_findings.specs.declared.ground.Double.{Double}
 use Rattle.fr_findings.specs.declared.ground.Ground.{Ground}
 use Rattle.fr_findings.specs.declared.ground.Offending.{Offending}
+use Rattle.fr_findings.specs.declared.progress.OverRow.{OverRow}
 use Rattle.fr_findings.specs.declared.progress.Progress.{Progress}
 use Rattle.fr_observe.specs.declared.says.Says.{Says}
 use Rattle.fr_sightings.specs.Ranges.{AreLogStamps, AreNumbered, AreSeenFrom, DoublesAscend, IsProperSender, IsScaleOf}
-use Rattle.fr_sightings.specs.Senders.{double_of}
 use Rattle.fr_sightings.specs.Sightings.{OffendingFrames}
 use Rattle.fr_sightings.specs.declared.sighting.Sighting.{Sighting}
 
@@ -24,7 +25,7 @@ basis_in g =
       params = g.params.now;
       log = g.log.now;
       span = g.span;
-      may_be_covered = g.may_be_covered;
+      covered = g.covered;
     }
 
 abbrev pub offending_given : Offending → OffendingFrames
@@ -76,10 +77,6 @@ pub record OffendInOrder (l : LogView) (frames : OffendingFrames) : Type 0 where
   pub untimely : ComeInOrder l frames.untimely
   pub irregular : ComeInOrder l frames.irregular
 
--- one is of a double cycle before another
-abbrev pub is_of_earlier : ℕ → Sighting → Bool
-is_of_earlier double s = nat_lt (double_of s) double
-
 -- sightings are walked from a double cycle on
 pub record AreWalked (g : Ground) (double : ℕ) (seen : List Sighting) : Type 0 where
   pub timed : AreLogStamps g.log.now seen
@@ -93,12 +90,23 @@ with_faults b d progress =
     record progress {
       sync = sync_told b d progress.sync;
       first = option_or progress.first (first_of_faults (faults_told b d (sync_told b d progress.sync)));
+      obstacle = farther progress.obstacle (obstacle_told b d (sync_told b d progress.sync));
     }
 
-abbrev pub with_both : Progress → ℕ → Says → Says → Progress
-with_both progress double even odd =
+abbrev pub with_both : Progress → ℕ → Bool → Says → Says → Option OverRow → Progress
+with_both progress double is_judged even odd over =
     record progress {
       counts = counted progress.counts (even ∷ odd ∷ []);
       reach = (reach_behind_both progress.sync double even odd (progress.reach, progress.is_ended)).0;
       is_ended = (reach_behind_both progress.sync double even odd (progress.reach, progress.is_ended)).1;
+      over = option_or progress.over over;
+      doubles = progress.doubles + 1;
+      judged = judged_by is_judged progress.judged double (even ∷ odd ∷ []);
     }
+
+-- no count of it passes a number
+pub record CountsFew (most : ℕ) (progress : Progress) : Type 0 where
+  pub all : AreFewCycles most progress.counts
+  pub judged : AreFewCycles most progress.judged.said
+  pub doubles : progress.doubles ≤ most
+  pub judged_doubles : progress.judged.doubles ≤ most

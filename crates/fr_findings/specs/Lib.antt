@@ -1,7 +1,6 @@
 -- what the public contract cites
 pub mod Counting
 pub mod Verdict
-pub mod Sure
 pub mod Census
 pub mod Text
 -- what only functions inside cite

@@ -1,23 +1,25 @@
 -- What a log tells of a cluster's clocks, as a text: for each double cycle its rows and its faults, then what holds of the
 -- whole log.
-use Rattle.std.specs.Prelude.{◌≡◌, ℕ, Bool, true, false, All, List, [], ◌∷◌, ◌++◌, codes, Option, Some, None}
+use Rattle.std.specs.Prelude.{◌≡◌, ℕ, Bool, true, false, All, List, [], ◌∷◌, ◌++◌, codes, Option, Some, None, if◌then◌else◌}
 use Rattle.std.specs.Fmt.{decimal, signed_decimal}
 use Rattle.fr_cluster.specs.Values.{Values}
 use Rattle.fr_log.specs.View.{LogView}
 use Rattle.fr_findings.specs.Census.{census_text}
 use Rattle.fr_observe.specs.Faults.{kind_word}
+use Rattle.fr_observe.specs.Obstacles.{obstacle_word}
 use Rattle.fr_findings.specs.Counting.{cycles_told, log_row}
 use Rattle.fr_observe.specs.Observing.{known_count, precision_row, row, seen_doubles}
 use Rattle.fr_sightings.specs.Ranges.{AreLate, DoublesAscend}
 use Rattle.fr_sightings.specs.Sightings.{IsSighting, OffendingFrames, SightingsView, offending_frames_of, sightings_of, tally_of}
-use Rattle.fr_findings.specs.Sure.{are_numbers_sure, numbers_row}
-use Rattle.fr_findings.specs.Verdict.{Basis, basis_with, coverable_of, is_coverable, log_progress, no_progress, told_of_doubles, verdict_by}
+use Rattle.fr_sightings.specs.Sure.{are_numbers_sure}
+use Rattle.fr_findings.specs.Verdict.{Basis, basis_with, coverable_of, log_progress, no_progress, or_none_seen, told_of_doubles, verdict_by}
 use Rattle.fr_findings.specs.declared.coverable.Coverable.{Coverable}
 use Rattle.fr_findings.specs.declared.coverable.Coverable.TheVariants as coverable
 use Rattle.fr_findings.specs.declared.progress.Progress.{Progress}
 use Rattle.fr_sightings.specs.declared.sighting.Sighting.{Sighting}
 use Rattle.fr_sightings.specs.declared.sighting.Tally.{Tally}
 use Rattle.fr_observe.specs.declared.fault.SyncFrom.{SyncFrom}
+use Rattle.fr_observe.specs.declared.obstacle.Obstacle.{Obstacle}
 use Rattle.fr_findings.specs.declared.verdict.Verdict.{Verdict}
 use Rattle.fr_findings.specs.declared.verdict.Verdict.TheVariants as verdict
 
@@ -31,28 +33,75 @@ covered_row (coverable.Check number left right) =
 covered_row (coverable.Count correct arbitrary) =
     row (codes "covered") (codes "no" ∷ codes "count" ∷ decimal correct ∷ decimal arbitrary ∷ [] ∷ [] ∷ [] ∷ [])
 
--- from which double cycle on the cluster is in sync, and how that is known
-abbrev pub sync_word : Bool → List ℕ
-sync_word true = codes "stated"
-sync_word false = codes "seen"
+-- whether it is sure that frames come in time: where it is not, that is a premise of what the log tells
+abbrev pub sure_word : Bool → List ℕ
+sure_word true = codes "sure"
+sure_word false = codes "premise"
 
-abbrev pub sync_row : Option SyncFrom → List ℕ
-sync_row None = row (codes "sync") (codes "-" ∷ codes "open" ∷ [] ∷ [] ∷ [] ∷ [] ∷ [] ∷ [])
-sync_row (Some from) =
-    row (codes "sync") (decimal from.double ∷ sync_word from.is_stated ∷ [] ∷ [] ∷ [] ∷ [] ∷ [] ∷ [])
+abbrev pub numbers_row : Bool → List ℕ
+numbers_row sure = row (codes "numbers") (sure_word sure ∷ [] ∷ [] ∷ [] ∷ [] ∷ [] ∷ [] ∷ [])
+
+-- from which double cycle on the cluster is in sync, and how that is known; how many of all double cycles are judged; and, where
+-- one is not, why the one that came farthest is not
+abbrev pub sync_double : Option SyncFrom → Option ℕ
+sync_double None = None
+sync_double (Some from) = Some from.double
+
+abbrev pub sync_word : Option SyncFrom → List ℕ
+sync_word None = codes "open"
+sync_word (Some from) = if from.is_stated then codes "stated" else codes "seen"
+
+abbrev pub why_unjudged : Option SyncFrom → Option Obstacle → Option Obstacle
+why_unjudged None why = Some (or_none_seen why)
+why_unjudged (Some from) why = why
+
+abbrev pub why_word : Option Obstacle → List ℕ
+why_word None = codes "-"
+why_word (Some why) = obstacle_word why.kind
+
+abbrev pub why_cycle : Option Obstacle → Option ℕ
+why_cycle None = None
+why_cycle (Some why) = why.cycle
+
+abbrev pub why_node : Option Obstacle → Option ℕ
+why_node None = None
+why_node (Some why) = why.node
+
+abbrev pub sync_fields : Option SyncFrom → ℕ → ℕ → Option Obstacle → List ℕ
+sync_fields sync judged doubles why =
+    row (codes "sync")
+    (
+    known_count (sync_double sync) ∷ sync_word sync ∷ decimal judged ∷ decimal doubles ∷ why_word why
+    ∷ known_count (why_cycle why) ∷ known_count (why_node why) ∷ []
+    )
+
+abbrev pub sync_row : Progress → List ℕ
+sync_row progress =
+    sync_fields progress.sync progress.judged.doubles progress.doubles (why_unjudged progress.sync progress.obstacle)
 
 abbrev pub verdict_row : Verdict → List ℕ
 verdict_row (verdict.No fault) =
     row (codes "verdict")
     (codes "no" ∷ decimal fault.cycle ∷ kind_word fault.kind ∷ known_count fault.node ∷ [] ∷ [] ∷ [] ∷ [])
+verdict_row (verdict.Over first count) =
+    row (codes "verdict")
+    (codes "over" ∷ decimal first.cycle ∷ signed_decimal first.low ∷ decimal count ∷ [] ∷ [] ∷ [] ∷ [])
+verdict_row (verdict.Open why) =
+    row (codes "verdict")
+    (codes "open" ∷ obstacle_word why.kind ∷ known_count why.cycle ∷ known_count why.node ∷ [] ∷ [] ∷ [] ∷ [])
 verdict_row (verdict.Within reach) =
     row (codes "verdict") (codes "within" ∷ decimal reach.from ∷ decimal reach.to ∷ [] ∷ [] ∷ [] ∷ [] ∷ [])
-verdict_row verdict.Open = row (codes "verdict") (codes "open" ∷ [] ∷ [] ∷ [] ∷ [] ∷ [] ∷ [] ∷ [])
+verdict_row (verdict.Partly part) =
+    row (codes "verdict")
+    (
+    codes "partly" ∷ decimal part.span.from ∷ decimal part.span.to ∷ decimal part.within ∷ decimal part.neither
+    ∷ decimal part.judged ∷ decimal part.doubles ∷ []
+    )
 
 -- what holds of the whole log, behind the rows of its senders
 unfoldable pub end_told : List Sighting → Tally → Coverable → Bool → Progress → List ℕ
 end_told seen tally covered sure progress =
-    log_row tally ++ covered_row covered ++ numbers_row sure ++ sync_row progress.sync ++ cycles_told seen progress.counts
+    log_row tally ++ covered_row covered ++ numbers_row sure ++ sync_row progress ++ cycles_told seen progress.counts
     ++ verdict_row (verdict_by progress)
 
 -- all behind the precision
@@ -68,7 +117,7 @@ whole_told b seen offending tally covered = precision_row b.precision ++ all_tol
 -- the text of a log, by its sightings, its offending frames, and what became of its entries
 abbrev pub text_with : Values → LogView → List Sighting → OffendingFrames → Tally → Coverable → List ℕ
 text_with p l seen offending tally covered =
-    whole_told (basis_with p l seen (is_coverable covered)) seen offending tally covered
+    whole_told (basis_with p l seen covered) seen offending tally covered
 
 unfoldable pub observe_text : Values → LogView → List ℕ
 observe_text p l = text_with p l (sightings_of p l) (offending_frames_of p l) (tally_of p l) (coverable_of p l)

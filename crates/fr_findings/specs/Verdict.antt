@@ -1,24 +1,30 @@
--- What the rows of a log come to: from which double cycle on the cluster is certainly in sync, what contradicts what, how far
--- the rows say within, and the verdict.
-use Rattle.std.specs.Prelude.{ℕ, zero, suc, ◌+◌, ◌-◌, ◌*◌, ◌==◌, ◌&&◌, ◌||◌, not, nat_le, ℤ, pos, Bool, true, false, List, [], ◌∷◌, ◌++◌, length, Option, Some, None, is_some, slice_get, if◌then◌else◌}
+-- What the rows of a log come to: from which double cycle on the cluster is certainly in sync, what contradicts what, which
+-- double cycles are judged and why others are not, what the rows say of the skew, and the verdict.
+use Rattle.std.specs.Prelude.{ℕ, zero, suc, ◌+◌, ◌-◌, ◌*◌, ◌==◌, ◌&&◌, ◌||◌, nat_le, ℤ, pos, Bool, true, false, List, [], ◌∷◌, ◌++◌, length, Option, Some, None, is_some, slice_get, if◌then◌else◌}
 use Rattle.std.specs.List.{count_by, flat_map}
 use Rattle.std.specs.Option.{option_or}
 use Rattle.fr_bound.specs.Bounds.{precision_of}
 use Rattle.fr_bound.specs.Checks.{holds_of, left_of, right_of}
 use Rattle.fr_cluster.specs.Values.{Values}
-use Rattle.fr_cluster.specs.declared.nodes.NodeSpec.{NodeSpec}
-use Rattle.fr_log.specs.View.{LogView, is_arbitrary_in}
+use Rattle.fr_log.specs.View.{LogView}
 use Rattle.fr_course.specs.Readings.{reading_scale}
 use Rattle.fr_course.specs.declared.scales.Scale.{Scale}
 use Rattle.fr_observe.specs.Faults.{before_in_sync, fault_row, faults_in_sync, first_of_faults, is_sync_seen, own_faults, slot_faults, sync_behind, sync_faults}
 use Rattle.fr_findings.specs.Counting.{counted, no_cycles_told}
 use Rattle.fr_observe.specs.Observing.{both_say, double_rows, even_high, even_low, odd_high, odd_low, says_of, seen_doubles}
+use Rattle.fr_observe.specs.Obstacles.{farther, sync_obstacle}
 use Rattle.fr_sightings.specs.Senders.{seen_senders, sightings_in}
 use Rattle.fr_sightings.specs.Sightings.{OffendingFrames, offending_frames_of, sightings_of}
+use Rattle.fr_sightings.specs.Sure.{is_sync_as}
 use Rattle.fr_findings.specs.declared.coverable.Coverable.{Coverable}
 use Rattle.fr_findings.specs.declared.coverable.Coverable.TheVariants as coverable
 use Rattle.fr_observe.specs.declared.fault.Fault.{Fault}
 use Rattle.fr_observe.specs.declared.fault.LogSpan.{LogSpan}
+use Rattle.fr_observe.specs.declared.obstacle.Obstacle.{Obstacle}
+use Rattle.fr_observe.specs.declared.obstacle.ObstacleKind.{ObstacleKind}
+use Rattle.fr_observe.specs.declared.obstacle.ObstacleKind.TheVariants as obstacle
+use Rattle.fr_findings.specs.declared.progress.Judged.{Judged}
+use Rattle.fr_findings.specs.declared.progress.OverRow.{OverRow}
 use Rattle.fr_findings.specs.declared.progress.Progress.{Progress}
 use Rattle.fr_findings.specs.declared.progress.Reach.{Reach}
 use Rattle.fr_observe.specs.declared.says.Says.{Says}
@@ -26,6 +32,7 @@ use Rattle.fr_observe.specs.declared.says.Says.TheVariants.{Over, Within, Open}
 use Rattle.fr_sightings.specs.declared.sender.Sender.{Sender}
 use Rattle.fr_sightings.specs.declared.sighting.Sighting.{Sighting}
 use Rattle.fr_observe.specs.declared.fault.SyncFrom.{SyncFrom}
+use Rattle.fr_findings.specs.declared.verdict.Partly.{Partly}
 use Rattle.fr_findings.specs.declared.verdict.Verdict.{Verdict}
 use Rattle.fr_findings.specs.declared.verdict.Verdict.TheVariants as verdict
 
@@ -35,13 +42,6 @@ use Rattle.fr_findings.specs.declared.verdict.Verdict.TheVariants as verdict
 unfoldable pub first_failing : Values → ℕ → Option ℕ
 first_failing p zero = None
 first_failing p (suc n) = option_or (first_failing p n) (if holds_of (suc n) p then None else Some (suc n))
-
--- a node that sends sync frames, and that the log names arbitrary or does not
-abbrev pub is_named_as : LogView → Bool → ℕ → Bool
-is_named_as l arbitrary node = if arbitrary then is_arbitrary_in l node else not (is_arbitrary_in l node)
-
-abbrev pub is_sync_as : LogView → Bool → NodeSpec → Bool
-is_sync_as l arbitrary node = is_some node.key && is_named_as l arbitrary node.id
 
 -- so many correct sync nodes suffice for so many arbitrary ones
 abbrev pub are_enough : ℕ → ℕ → Bool
@@ -65,6 +65,15 @@ is_coverable coverable.Open = true
 is_coverable (coverable.Check number left right) = false
 is_coverable (coverable.Count correct arbitrary) = false
 
+-- then none of its double cycles is judged
+abbrev pub whole_obstacle : ObstacleKind → Option Obstacle
+whole_obstacle why = Some (record { kind = why; cycle = None; node = None })
+
+abbrev pub uncoverable : Coverable → Option Obstacle
+uncoverable coverable.Open = None
+uncoverable (coverable.Check number left right) = whole_obstacle obstacle.Checks
+uncoverable (coverable.Count correct arbitrary) = whole_obstacle obstacle.Count
+
 -- ---- what stays the same over a log
 
 pub record Basis : Type 0 where
@@ -73,7 +82,7 @@ pub record Basis : Type 0 where
   pub params : Values
   pub log : LogView
   pub span : LogSpan
-  pub may_be_covered : Bool
+  pub covered : Coverable
 
 -- the numbers of the first and the last sighting
 abbrev pub number_or_none : Option Sighting → ℕ
@@ -87,7 +96,7 @@ log_span seen =
       last = number_or_none (slice_get seen (length seen - 1));
     }
 
-abbrev pub basis_with : Values → LogView → List Sighting → Bool → Basis
+abbrev pub basis_with : Values → LogView → List Sighting → Coverable → Basis
 basis_with p l seen covered =
     record {
       precision = pos (precision_of p);
@@ -95,11 +104,11 @@ basis_with p l seen covered =
       params = p;
       log = l;
       span = log_span seen;
-      may_be_covered = covered;
+      covered = covered;
     }
 
 abbrev pub log_basis : Values → LogView → Basis
-log_basis p l = basis_with p l (sightings_of p l) (is_coverable (coverable_of p l))
+log_basis p l = basis_with p l (sightings_of p l) (coverable_of p l)
 
 -- ---- a double cycle
 
@@ -159,12 +168,43 @@ in_sync_told b d from =
 
 -- all faults of it, where the cluster is in sync from there on
 unfoldable pub faults_told : Basis → DoubleCycle → Option SyncFrom → List Fault
-faults_told b d sync = own_told b d ++ faults_in_sync b.may_be_covered sync (in_sync_told b d)
+faults_told b d sync = own_told b d ++ faults_in_sync (is_coverable b.covered) sync (in_sync_told b d)
+
+-- it is judged where these are told: where the cluster is in sync, and a run can be covered
+abbrev pub is_judged : Basis → Option SyncFrom → Bool
+is_judged b sync = is_coverable b.covered && is_some sync
+
+-- what keeps it from that else
+abbrev pub unless_synced : Option SyncFrom → Option Obstacle → Option Obstacle
+unless_synced None why = why
+unless_synced (Some from) why = None
+
+unfoldable pub obstacle_told : Basis → DoubleCycle → Option SyncFrom → Option Obstacle
+obstacle_told b d sync =
+    option_or (uncoverable b.covered)
+    (
+    unless_synced sync
+    (sync_obstacle b.params b.scale b.log d.here d.number d.senders (first_of_faults (own_told b d)))
+    )
 
 -- ---- what is known behind it
 
+abbrev pub none_judged : Judged
+none_judged = record { doubles = 0; said = no_cycles_told; span = None }
+
 abbrev pub no_progress : Progress
-no_progress = record { sync = None; first = None; counts = no_cycles_told; reach = None; is_ended = false }
+no_progress =
+    record {
+      sync = None;
+      first = None;
+      counts = no_cycles_told;
+      reach = None;
+      is_ended = false;
+      over = None;
+      doubles = 0;
+      judged = none_judged;
+      obstacle = None;
+    }
 
 -- how far the rows of cycles in sync say within without a gap; `ended` where one of them said something else
 abbrev pub further_within : Option Reach → ℕ → Reach
@@ -194,6 +234,31 @@ abbrev pub reach_told : Basis → DoubleCycle → Option SyncFrom → Progress �
 reach_told b d sync progress =
     reach_behind_both sync d.number (even_says b d) (odd_says b d) (progress.reach, progress.is_ended)
 
+-- the first row that says over
+abbrev pub over_row : ℕ → ℤ → Says → Option OverRow
+over_row cycle low Over = Some (record { cycle = cycle; low = low })
+over_row cycle low Within = None
+over_row cycle low Open = None
+
+abbrev pub over_told : Basis → DoubleCycle → Option OverRow
+over_told b d =
+    option_or (over_row (2 * d.number) (even_low b.scale d.senders) (even_says b d))
+    (over_row (2 * d.number + 1) (odd_low b.scale d.senders) (odd_says b d))
+
+-- how many double cycles are judged, how many of their rows say what, and the first and the last of their cycles
+abbrev pub span_to : Option Reach → ℕ → Reach
+span_to None double = record { from = 2 * double; to = 2 * double + 1 }
+span_to (Some span) double = record { from = span.from; to = 2 * double + 1 }
+
+abbrev pub judged_by : Bool → Judged → ℕ → List Says → Judged
+judged_by false judged double said = judged
+judged_by true judged double said =
+    record {
+      doubles = judged.doubles + 1;
+      said = counted judged.said said;
+      span = Some (span_to judged.span double);
+    }
+
 unfoldable pub progress_told : Basis → DoubleCycle → Progress → Progress
 progress_told b d progress =
     record {
@@ -202,6 +267,12 @@ progress_told b d progress =
       counts = counted progress.counts (both_say b.precision b.scale d.senders);
       reach = (reach_told b d (sync_told b d progress.sync) progress).0;
       is_ended = (reach_told b d (sync_told b d progress.sync) progress).1;
+      over = option_or progress.over (over_told b d);
+      doubles = progress.doubles + 1;
+      judged =
+          judged_by (is_judged b (sync_told b d progress.sync)) progress.judged d.number
+          (both_say b.precision b.scale d.senders);
+      obstacle = farther progress.obstacle (obstacle_told b d (sync_told b d progress.sync));
     }
 
 -- its rows, and behind them those of its faults
@@ -238,18 +309,50 @@ log_progress b seen offending = progress_of b seen offending no_progress (seen_d
 
 -- ---- the verdict
 
-abbrev pub verdict_where : Option SyncFrom → Option Reach → Verdict
-verdict_where None reach = verdict.Open
-verdict_where (Some from) None = verdict.Open
-verdict_where (Some from) (Some reach) = verdict.Within reach
+-- why none is judged; without any double cycle no node was seen
+abbrev pub or_none_seen : Option Obstacle → Obstacle
+or_none_seen None = record { kind = obstacle.Unseen; cycle = None; node = None }
+or_none_seen (Some why) = why
 
-abbrev pub verdict_with : Option Fault → Option SyncFrom → Option Reach → Verdict
-verdict_with (Some fault) sync reach = verdict.No fault
-verdict_with None sync reach = verdict_where sync reach
+-- each row says within from the first judged cycle to the last but one: the end of the last one is told by no double cycle
+abbrev pub reaches_end : Reach → Reach → Bool
+reaches_end reach span = (reach.from == span.from) && (reach.to + 1 == span.to)
 
--- the first fault; or how far each row says within from the first cycle in sync on; or neither
+-- of the rows from the first judged cycle to the last how many say what, and how many of all double cycles are judged
+abbrev pub partly_of : Reach → Progress → Partly
+partly_of span progress =
+    record {
+      span = span;
+      within = progress.judged.said.within;
+      neither = progress.judged.said.neither;
+      judged = progress.judged.doubles;
+      doubles = progress.doubles;
+    }
+
+abbrev pub verdict_within : Option Reach → Reach → Progress → Verdict
+verdict_within None span progress = verdict.Partly (partly_of span progress)
+verdict_within (Some reach) span progress =
+    if reaches_end reach span then verdict.Within reach else verdict.Partly (partly_of span progress)
+
+-- where some are judged, and where none is
+abbrev pub verdict_where : Option Reach → Progress → Verdict
+verdict_where None progress = verdict.Open (or_none_seen progress.obstacle)
+verdict_where (Some span) progress = verdict_within progress.reach span progress
+
+-- where a row says over, and else
+abbrev pub verdict_unless_over : Option OverRow → Progress → Verdict
+verdict_unless_over None progress = verdict_where progress.judged.span progress
+verdict_unless_over (Some first) progress = verdict.Over first progress.counts.over
+
+-- where there is a fault, and else
+abbrev pub verdict_with : Option Fault → Progress → Verdict
+verdict_with None progress = verdict_unless_over progress.over progress
+verdict_with (Some fault) progress = verdict.No fault
+
+-- the first fault; or the first row that says over, and how many do; or why no double cycle is judged; or that each judged row
+-- but the last says within; or how many of these rows say what
 unfoldable pub verdict_by : Progress → Verdict
-verdict_by progress = verdict_with progress.first progress.sync progress.reach
+verdict_by progress = verdict_with progress.first progress
 
 unfoldable pub verdict_of : Values → LogView → Verdict
 verdict_of p l = verdict_by (log_progress (log_basis p l) (sightings_of p l) (offending_frames_of p l))

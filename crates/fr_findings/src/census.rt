@@ -10,11 +10,11 @@ ghost use Rattle.fr_sightings.specs.Ranges.{AreSeenFrom, AreNumbered, DoublesAsc
 ghost use Rattle.fr_findings.specs.Census.{census_row, census_row_if, census_rows, census_text, first_frame_from, frames_from, is_from, is_of_log, lacks_both, lacks_in, last_frame_from, later_frame_from, missed_among, missed_of, own_rows};
 ghost use Rattle.fr_observe.specs.Observing.{known_count};
 
-use crate::looking::look_at;
+use crate::ends::known_cycle;
 use fr_base::{Channel, NodeId, PutFault, Sink, Slot};
-use fr_cluster::{NodeList, NodeSpec, Params};
+use fr_cluster::{NodeSpec, Params};
 use fr_log::Log;
-use fr_sightings::{Sighting, first_stamp};
+use fr_sightings::{Sighting, first_stamp, look_at, node_at, node_count};
 use fr_text::Piece::{Natural, Word};
 use fr_text::{Line, Piece, letter_of, put_line, row_of};
 
@@ -175,16 +175,6 @@ fn missed_of(seen: &[Sighting], node: NodeId, channel: Channel) -> u64
     }
 }
 
-// A cycle, if it is known.
-fn cycle(number: Option<u32>) -> Piece<'static>
-    ensures { Spells result (known_count number) 20 }
-{
-    match number {
-        None => Word(b"-"),
-        Some(number) => Natural(u64::from(number)),
-    }
-}
-
 // A sender of the log on a channel: how many sightings of it there are, the first and the last cycle, and in how many
 // cycles there is none.
 #[tactic(auto, unfolding(crate::specs::Census::census_row))]
@@ -199,8 +189,8 @@ fn census_row(seen: &[Sighting], node: NodeId, channel: Channel) -> Line
             Natural(u64::from(node.0)),
             letter_of(channel),
             Natural(frames_from(seen, node, channel)),
-            cycle(first_frame_from(seen, node, channel)),
-            cycle(last_frame_from(seen, node, channel)),
+            known_cycle(first_frame_from(seen, node, channel)),
+            known_cycle(last_frame_from(seen, node, channel)),
             Natural(missed_of(seen, node, channel)),
             Word(b""),
         ],
@@ -269,31 +259,6 @@ fn put_sender<O: Sink>(
     } else {
         put_own(seen, node, node.key, out)
     }
-}
-
-// How many nodes there are.
-fn node_count(params: &Params) -> usize
-    ensures { result ≡ length params.now.nodes }
-{
-    params.nodes.len()
-}
-
-fn node_in(nodes: &NodeList, place: usize) -> &NodeSpec
-    requires { place < length nodes.now }
-    ensures { slice_get nodes.now place ≡ Some result.now }
-{
-    match nodes.get(place) {
-        Some(node) => node,
-        None => unreachable!(),
-    }
-}
-
-// The node at a place.
-fn node_at(params: &Params, place: usize) -> &NodeSpec
-    requires { place < length params.now.nodes }
-    ensures { slice_get params.now.nodes place ≡ Some result.now }
-{
-    node_in(&params.nodes, place)
 }
 
 // The rows of all senders of a log by its sightings, in the order of the parameters, each line in one put.

@@ -1,10 +1,13 @@
 ghost use Rattle.std.specs.Prelude.{◌≡◌, ◌≤◌, count_by, length, pos};
 ghost use Rattle.fr_bound.specs.Checks.{FirstFailing, left_of, right_of};
-ghost use Rattle.fr_findings.specs.Verdict.{are_enough, coverable_of, coverable_with, is_coverable, is_named_as, is_sync_as};
+ghost use Rattle.fr_sightings.specs.Sure.{is_sync_as};
+ghost use Rattle.fr_findings.specs.Verdict.{are_enough, coverable_of, coverable_with, is_coverable, uncoverable, whole_obstacle};
 
 use fr_bound::{checks, side};
-use fr_cluster::{NodeList, NodeSpec, Params};
+use fr_cluster::{NodeList, Params};
 use fr_log::Log;
+use fr_observe::{Obstacle, ObstacleKind};
+use fr_sightings::is_sync_as;
 
 /// Whether a run can be covered, by the parameters of a cluster and the head of a log.
 #[derive(Clone, Copy, Debug, PartialEq, Eq)]
@@ -41,6 +44,27 @@ impl Coverable {
             Coverable::Check { .. } | Coverable::Count { .. } => false,
         }
     }
+
+    // What keeps each double cycle from being judged.
+    pub(crate) fn obstacle(self) -> Option<Obstacle>
+        ensures { result ≡ uncoverable self }
+    {
+        match self {
+            Coverable::Open => None,
+            Coverable::Check { .. } => whole_obstacle(ObstacleKind::Checks),
+            Coverable::Count { .. } => whole_obstacle(ObstacleKind::Count),
+        }
+    }
+}
+
+fn whole_obstacle(kind: ObstacleKind) -> Option<Obstacle>
+    ensures { result ≡ whole_obstacle kind }
+{
+    Some(Obstacle {
+        kind,
+        cycle: None,
+        node: None,
+    })
 }
 
 // A check that fails.
@@ -78,21 +102,7 @@ fn counted(correct: u64, arbitrary: u64) -> Coverable
     }
 }
 
-// Whether a node sends sync frames, and the log names it arbitrary or does not.
-pub(crate) fn is_sync_as(log: &Log, arbitrary: bool, node: &NodeSpec) -> bool
-    ensures { result ≡ is_sync_as log.now arbitrary node.now }
-{
-    node.key.is_some() && is_named_as(log, arbitrary, node)
-}
-
-fn is_named_as(log: &Log, arbitrary: bool, node: &NodeSpec) -> bool
-    ensures { result ≡ is_named_as log.now arbitrary node.now.id }
-{
-    let named = log.is_arbitrary(node.id);
-    if arbitrary { named } else { !named }
-}
-
-// How many such nodes there are.
+// How many nodes send sync frames, and are named arbitrary by the log or are not.
 fn sync_nodes(params: &Params, log: &Log, arbitrary: bool) -> u64
     ensures { result ≡ count_by (is_sync_as log.now arbitrary) params.now.nodes }
 {

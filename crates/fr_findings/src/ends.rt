@@ -3,12 +3,14 @@ ghost use Rattle.fr_text.specs.Pieces.{Spells};
 ghost use Rattle.fr_time.specs.Cycles.{double_cycle_of};
 ghost use Rattle.fr_observe.specs.Observing.{known_count};
 ghost use Rattle.fr_findings.specs.Counting.{cycles_told, first_row_cycle, last_row_cycle, log_row};
-ghost use Rattle.fr_findings.specs.Text.{covered_row, sync_row, sync_word, verdict_row};
+ghost use Rattle.fr_findings.specs.Text.{covered_row, numbers_row, sure_word, sync_double, sync_row, sync_word, verdict_row, why_cycle, why_node, why_unjudged, why_word};
 
 use crate::counts::Counts;
 use crate::coverable::Coverable;
-use crate::verdict::Verdict;
-use fr_observe::{SyncFrom, known_node};
+use crate::progress::{OverRow, Progress, Reach};
+use crate::verdict::{Partly, Verdict, or_none_seen};
+use fr_base::NodeId;
+use fr_observe::{Fault, Obstacle, SyncFrom, known_node};
 use fr_sightings::{Sighting, Tally};
 use fr_text::Piece::{Natural, Signed, Word};
 use fr_text::{Line, Piece, row_of};
@@ -151,43 +153,200 @@ pub(crate) fn covered_row(coverable: Coverable) -> Line
     }
 }
 
-fn sync_word(is_stated: bool) -> &'static [u8]
-    ensures text { result.now ≡ sync_word is_stated }
-    ensures short { length result.now ≤ 6 }
+fn sure_word(sure: bool) -> &'static [u8]
+    ensures text { result.now ≡ sure_word sure }
+    ensures short { length result.now ≤ 7 }
 {
-    if is_stated { b"stated" } else { b"seen" }
+    if sure { b"sure" } else { b"premise" }
 }
 
-// From which double cycle on a cluster is in sync.
-pub(crate) fn sync_row(sync: Option<SyncFrom>) -> Line
-    ensures { result ≡ sync_row sync }
+// Whether it is sure that frames come in time.
+pub(crate) fn numbers_row(sure: bool) -> Line
+    ensures { result ≡ numbers_row sure }
+{
+    row_of(
+        b"numbers",
+        &[
+            Word(sure_word(sure)),
+            Word(b""),
+            Word(b""),
+            Word(b""),
+            Word(b""),
+            Word(b""),
+            Word(b""),
+        ],
+    )
+}
+
+fn sync_double(sync: Option<SyncFrom>) -> Piece<'static>
+    ensures { Spells result (known_count (sync_double sync)) 20 }
 {
     match sync {
-        None => row_of(
-            b"sync",
-            &[
-                Word(b"-"),
-                Word(b"open"),
-                Word(b""),
-                Word(b""),
-                Word(b""),
-                Word(b""),
-                Word(b""),
-            ],
-        ),
-        Some(from) => row_of(
-            b"sync",
-            &[
-                Natural(u64::from(from.double)),
-                Word(sync_word(from.is_stated)),
-                Word(b""),
-                Word(b""),
-                Word(b""),
-                Word(b""),
-                Word(b""),
-            ],
-        ),
+        None => Word(b"-"),
+        Some(from) => Natural(u64::from(from.double)),
     }
+}
+
+fn sync_word(sync: Option<SyncFrom>) -> &'static [u8]
+    ensures text { result.now ≡ sync_word sync }
+    ensures short { length result.now ≤ 6 }
+{
+    match sync {
+        None => b"open",
+        Some(from) => { if from.is_stated { b"stated" } else { b"seen" } }
+    }
+}
+
+// What is told of why a double cycle is not judged, if there is one.
+fn why_unjudged(sync: Option<SyncFrom>, why: Option<Obstacle>) -> Option<Obstacle>
+    ensures { result ≡ why_unjudged sync why }
+{
+    match sync {
+        None => Some(or_none_seen(why)),
+        Some(_) => why,
+    }
+}
+
+fn why_word(why: &Option<Obstacle>) -> &'static [u8]
+    ensures text { result.now ≡ why_word why.now }
+    ensures short { length result.now ≤ 6 }
+{
+    match why {
+        None => b"-",
+        Some(why) => why.kind.word(),
+    }
+}
+
+// A cycle, if it is known.
+pub(crate) fn known_cycle(cycle: Option<u32>) -> Piece<'static>
+    ensures { Spells result (known_count cycle) 20 }
+{
+    match cycle {
+        None => Word(b"-"),
+        Some(cycle) => Natural(u64::from(cycle)),
+    }
+}
+
+fn why_cycle(why: &Option<Obstacle>) -> Option<u32>
+    ensures { result ≡ why_cycle why.now }
+{
+    match why {
+        None => None,
+        Some(why) => why.cycle,
+    }
+}
+
+fn why_node(why: &Option<Obstacle>) -> Option<NodeId>
+    ensures { result ≡ why_node why.now }
+{
+    match why {
+        None => None,
+        Some(why) => why.node,
+    }
+}
+
+// From which double cycle on a cluster is in sync, how many are judged, and why others are not.
+pub(crate) fn sync_row(progress: &Progress) -> Line
+    ensures { result ≡ sync_row progress.now }
+{
+    let why = why_unjudged(progress.sync, progress.obstacle);
+    row_of(
+        b"sync",
+        &[
+            sync_double(progress.sync),
+            Word(sync_word(progress.sync)),
+            Natural(progress.judged.doubles),
+            Natural(progress.doubles),
+            Word(why_word(&why)),
+            known_cycle(why_cycle(&why)),
+            known_node(why_node(&why)),
+        ],
+    )
+}
+
+fn no_row(fault: &Fault) -> Line
+    ensures { result ≡ verdict_row (Verdict.No fault.now) }
+{
+    row_of(
+        b"verdict",
+        &[
+            Word(b"no"),
+            Natural(u64::from(fault.cycle)),
+            Word(fault.kind.word()),
+            known_node(fault.node),
+            Word(b""),
+            Word(b""),
+            Word(b""),
+        ],
+    )
+}
+
+fn over_row(first: OverRow, count: u64) -> Line
+    ensures { result ≡ verdict_row (Verdict.Over first count) }
+{
+    row_of(
+        b"verdict",
+        &[
+            Word(b"over"),
+            Natural(u64::from(first.cycle)),
+            Signed(first.low),
+            Natural(count),
+            Word(b""),
+            Word(b""),
+            Word(b""),
+        ],
+    )
+}
+
+fn open_row(why: Obstacle) -> Line
+    ensures { result ≡ verdict_row (Verdict.Open why) }
+{
+    row_of(
+        b"verdict",
+        &[
+            Word(b"open"),
+            Word(why.kind.word()),
+            known_cycle(why.cycle),
+            known_node(why.node),
+            Word(b""),
+            Word(b""),
+            Word(b""),
+        ],
+    )
+}
+
+fn within_row(reach: Reach) -> Line
+    ensures { result ≡ verdict_row (Verdict.Within reach) }
+{
+    row_of(
+        b"verdict",
+        &[
+            Word(b"within"),
+            Natural(u64::from(reach.from)),
+            Natural(u64::from(reach.to)),
+            Word(b""),
+            Word(b""),
+            Word(b""),
+            Word(b""),
+        ],
+    )
+}
+
+fn partly_row(part: Partly) -> Line
+    ensures { result ≡ verdict_row (Verdict.Partly part) }
+{
+    row_of(
+        b"verdict",
+        &[
+            Word(b"partly"),
+            Natural(u64::from(part.span.from)),
+            Natural(u64::from(part.span.to)),
+            Natural(part.within),
+            Natural(part.neither),
+            Natural(part.judged),
+            Natural(part.doubles),
+        ],
+    )
 }
 
 // The verdict.
@@ -195,41 +354,10 @@ pub(crate) fn verdict_row(verdict: Verdict) -> Line
     ensures { result ≡ verdict_row verdict }
 {
     match verdict {
-        Verdict::No(fault) => row_of(
-            b"verdict",
-            &[
-                Word(b"no"),
-                Natural(u64::from(fault.cycle)),
-                Word(fault.kind.word()),
-                known_node(fault.node),
-                Word(b""),
-                Word(b""),
-                Word(b""),
-            ],
-        ),
-        Verdict::Within(reach) => row_of(
-            b"verdict",
-            &[
-                Word(b"within"),
-                Natural(u64::from(reach.from)),
-                Natural(u64::from(reach.to)),
-                Word(b""),
-                Word(b""),
-                Word(b""),
-                Word(b""),
-            ],
-        ),
-        Verdict::Open => row_of(
-            b"verdict",
-            &[
-                Word(b"open"),
-                Word(b""),
-                Word(b""),
-                Word(b""),
-                Word(b""),
-                Word(b""),
-                Word(b""),
-            ],
-        ),
+        Verdict::No(fault) => no_row(&fault),
+        Verdict::Over { first, count } => over_row(first, count),
+        Verdict::Open(why) => open_row(why),
+        Verdict::Within(reach) => within_row(reach),
+        Verdict::Partly(part) => partly_row(part),
     }
 }

@@ -1,3 +1,4 @@
+use crate::coverable::Coverable;
 use fr_cluster::Params;
 use fr_course::Scale;
 use fr_log::Log;
@@ -13,7 +14,7 @@ pub(crate) struct Ground<'a> {
     pub(crate) params: &'a Params,
     pub(crate) log: &'a Log,
     pub(crate) span: LogSpan,
-    pub(crate) may_be_covered: bool,
+    pub(crate) covered: Coverable,
 }
 
 // The offending frames of a log, or of a double cycle: those that do not come in time, and irregular ones.

@@ -1,5 +1,5 @@
 //! What the log of a bus analyzer comes to, as a text: what each of its double cycles tells, from when on its cluster is in
-//! sync, the first contradiction, and a verdict.
+//! sync, which double cycles are judged, the first contradiction, and a verdict.
 #![tactic(auto)]
 
 mod census;
@@ -8,16 +8,14 @@ mod counts;
 mod coverable;
 mod ends;
 mod ground;
-mod looking;
 mod observing;
 mod progress;
 mod slot_faults;
-mod sure;
 mod verdict;
 mod writing;
 
 pub use counts::Counts;
 pub use coverable::Coverable;
 pub use observing::write_observed;
-pub use progress::{Progress, Reach};
-pub use verdict::Verdict;
+pub use progress::{Judged, OverRow, Progress, Reach};
+pub use verdict::{Partly, Verdict};

@@ -6,17 +6,16 @@ ghost use Rattle.fr_text.specs.Lines.{joined_lines};
 ghost use Rattle.fr_findings.specs.Census.{census_text};
 ghost use Rattle.fr_findings.specs.Ground.{ComeInOrder, IsGround, OffendInOrder, basis_in, offending_given};
 ghost use Rattle.fr_observe.specs.Observing.{seen_doubles};
-ghost use Rattle.fr_findings.specs.Sure.{are_numbers_sure};
+ghost use Rattle.fr_sightings.specs.Sure.{are_numbers_sure};
 ghost use Rattle.fr_findings.specs.Text.{AreGathered, all_told, end_told, observe_text, text_with, whole_told};
 ghost use Rattle.fr_findings.specs.Verdict.{coverable_of, log_span, no_progress, number_or_none, progress_of, told_of_doubles};
 ghost use Rattle.fr_sightings.specs.Ranges.{IsScaleOf};
 
 use crate::census::put_census;
 use crate::coverable::Coverable;
-use crate::ends::{covered_row, cycles_told, log_row, sync_row, verdict_row};
+use crate::ends::{covered_row, cycles_told, log_row, numbers_row, sync_row, verdict_row};
 use crate::ground::{Ground, Offending};
 use crate::progress::Progress;
-use crate::sure::{are_numbers_sure, numbers_row};
 use crate::verdict::Verdict;
 use crate::writing::put_doubles;
 use fr_base::{PutFault, Sink};
@@ -25,7 +24,7 @@ use fr_cluster::Params;
 use fr_course::Scale;
 use fr_log::Log;
 use fr_observe::{LogSpan, precision_row};
-use fr_sightings::{Sighting, SightingList, Tally};
+use fr_sightings::{Sighting, SightingList, Tally, are_numbers_sure};
 use fr_text::{Line, put_line, put_lines};
 
 // The numbers of a cluster as readings of the clock of a log.
@@ -107,7 +106,7 @@ fn end_lines(
         Some(log_row(tally)),
         Some(covered_row(covered)),
         Some(numbers_row(sure)),
-        Some(sync_row(progress.sync)),
+        Some(sync_row(progress)),
         Some(cycles_told(seen, &progress.counts)),
         Some(verdict_row(Verdict::of(progress))),
     ]
@@ -196,7 +195,7 @@ fn put_told<O: Sink>(
         params,
         log,
         span: log_span(seen),
-        may_be_covered: covered.is_open(),
+        covered,
     };
     put_whole(&ground, seen, offending, tally, covered, out)
 }

@@ -1,11 +1,10 @@
-ghost use Rattle.std.specs.Prelude.{◌≡◌, ◌<◌, ◌∷◌, []};
-ghost use Rattle.fr_findings.specs.Ground.{with_both};
-ghost use Rattle.fr_findings.specs.Counting.{counted};
-ghost use Rattle.fr_findings.specs.Counting.{AreFewCycles};
-ghost use Rattle.fr_findings.specs.Verdict.{further_within, no_progress, reach_behind, reach_behind_both, reach_by};
+ghost use Rattle.std.specs.Prelude.{◌≡◌, ◌≤◌, ◌<◌, ◌∷◌, [], true};
+ghost use Rattle.fr_findings.specs.Ground.{CountsFew, with_both};
+ghost use Rattle.fr_findings.specs.Counting.{AreFewCycles, counted};
+ghost use Rattle.fr_findings.specs.Verdict.{further_within, judged_by, no_progress, none_judged, reach_behind, reach_behind_both, reach_by, span_to};
 
 use crate::counts::Counts;
-use fr_observe::{Fault, Says, SyncFrom};
+use fr_observe::{Fault, Obstacle, Says, SyncFrom};
 
 /// Cycles all of whose rows say that the skew is within the precision.
 #[derive(Clone, Copy, Debug, PartialEq, Eq)]
@@ -14,6 +13,26 @@ pub struct Reach {
     pub from: u32,
     /// That of the last one.
     pub to: u32,
+}
+
+/// The row of a cycle that says over.
+#[derive(Clone, Copy, Debug, PartialEq, Eq)]
+pub struct OverRow {
+    /// The number of the cycle in the log.
+    pub cycle: u32,
+    /// The least that the skew can be, in ticks.
+    pub low: i64,
+}
+
+/// The double cycles that are judged: those in which what no covered run in sync gives is held against the log.
+#[derive(Clone, Copy, Debug, PartialEq, Eq)]
+pub struct Judged {
+    /// How many they are.
+    pub doubles: u64,
+    /// How many of their cycles say what.
+    pub said: Counts,
+    /// The first and the last of these cycles.
+    pub span: Option<Reach>,
 }
 
 /// What is known of a log behind some of its double cycles.
@@ -29,6 +48,39 @@ pub struct Progress {
     pub reach: Option<Reach>,
     /// Whether one of them said something else.
     pub is_ended: bool,
+    /// The first row that says over.
+    pub over: Option<OverRow>,
+    /// How many double cycles there are.
+    pub doubles: u64,
+    /// Those of them that are judged.
+    pub judged: Judged,
+    /// Why one of the others is not: the one that came farthest, of equal ones the first.
+    pub obstacle: Option<Obstacle>,
+}
+
+impl Judged {
+    // None.
+    fn none() -> Judged
+        ensures { result ≡ none_judged }
+    {
+        Judged {
+            doubles: 0,
+            said: Counts::new(),
+            span: None,
+        }
+    }
+
+    // One more, whose cycles say this.
+    fn pass(&mut self, double: u32, even: Says, odd: Says)
+        requires double { double < 1_000_000 }
+        requires few { AreFewCycles 900_000 self.old.said }
+        requires doubles { self.old.doubles ≤ 900_000 }
+        ensures { self.new ≡ judged_by true self.old double (even ∷ odd ∷ []) }
+    {
+        self.doubles += 1;
+        count_both(even, odd, &mut self.said);
+        self.span = Some(span_to(self.span, double));
+    }
 }
 
 impl Progress {
@@ -42,15 +94,29 @@ impl Progress {
             counts: Counts::new(),
             reach: None,
             is_ended: false,
+            over: None,
+            doubles: 0,
+            judged: Judged::none(),
+            obstacle: None,
         }
     }
 
-    // Behind a double cycle whose cycles say this.
-    pub(crate) fn pass(&mut self, double: u32, even: Says, odd: Says)
+    // Behind a double cycle whose cycles say this, the first row of which that says over is this one.
+    pub(crate) fn pass(
+        &mut self,
+        double: u32,
+        is_judged: bool,
+        even: Says,
+        odd: Says,
+        over: Option<OverRow>,
+    )
         requires double { double < 1_000_000 }
-        requires few { AreFewCycles 900_000 self.old.counts }
-        ensures { self.new ≡ with_both self.old double even odd }
+        requires few { CountsFew 900_000 self.old }
+        ensures { self.new ≡ with_both self.old double is_judged even odd over }
     {
+        self.doubles += 1;
+        judge(is_judged, double, even, odd, &mut self.judged);
+        self.over = self.over.or(over);
         count_both(even, odd, &mut self.counts);
         let (reach, is_ended) = behind_both(
             self.sync,
@@ -70,6 +136,34 @@ fn count_both(even: Says, odd: Says, counts: &mut Counts)
 {
     counts.add(even);
     counts.add(odd);
+}
+
+fn judge(is_judged: bool, double: u32, even: Says, odd: Says, judged: &mut Judged)
+    requires double { double < 1_000_000 }
+    requires few { AreFewCycles 900_000 judged.old.said }
+    requires doubles { judged.old.doubles ≤ 900_000 }
+    ensures { judged.new ≡ judged_by is_judged judged.old double (even ∷ odd ∷ []) }
+{
+    if is_judged {
+        judged.pass(double, even, odd);
+    }
+}
+
+fn span_to(span: Option<Reach>, double: u32) -> Reach
+    requires { double < 1_000_000 }
+    ensures { result ≡ span_to span double }
+{
+    let to = 2 * double + 1;
+    match span {
+        None => Reach {
+            from: 2 * double,
+            to,
+        },
+        Some(span) => Reach {
+            from: span.from,
+            to,
+        },
+    }
 }
 
 fn further(reach: Option<Reach>, cycle: u32) -> Reach

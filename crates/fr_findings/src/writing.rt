@@ -1,22 +1,21 @@
-ghost use Rattle.std.specs.Prelude.{◌≡◌, ◌+◌, ◌-◌, ◌≤◌, ◌<◌, All, OnOk};
+ghost use Rattle.std.specs.Prelude.{◌≡◌, ◌+◌, ◌-◌, ◌*◌, ◌≤◌, ◌<◌, All, OnOk};
 ghost use Rattle.std.specs.List.{flat_map, range_with_len};
+ghost use Rattle.std.specs.Option.{option_or};
 ghost use Rattle.fr_base.specs.Device.{Puts};
 ghost use Rattle.fr_course.specs.Near.{IsReadingScale};
-ghost use Rattle.fr_findings.specs.Ground.{AreWalked, IsAround, IsDouble, IsGround, OffendInOrder, basis_in, double_around, double_in, offending_given};
+ghost use Rattle.fr_findings.specs.Ground.{AreWalked, CountsFew, IsAround, IsDouble, IsGround, OffendInOrder, basis_in, double_around, double_in, offending_given};
 ghost use Rattle.fr_observe.specs.Observing.{cycles_text, double_rows, node_row};
-ghost use Rattle.fr_findings.specs.Counting.{AreFewCycles};
 ghost use Rattle.fr_observe.specs.Skews.{AreSkews};
-ghost use Rattle.fr_findings.specs.Verdict.{double_told, even_says, no_progress, odd_says, progress_of, progress_told, told_of_doubles};
+ghost use Rattle.fr_findings.specs.Verdict.{double_told, even_says, is_judged, no_progress, odd_says, over_row, progress_of, progress_told, told_of_doubles};
 ghost use Rattle.fr_sightings.specs.Ranges.{IsProperSender};
 
 use crate::contradicting::put_faults;
 use crate::ground::{Around, Double, Ground, Offending};
-use crate::looking::{look_at, look_from};
-use crate::progress::Progress;
+use crate::progress::{OverRow, Progress};
 use fr_base::{PutFault, Sink};
 use fr_course::Scale;
-use fr_observe::{Says, Skews, cycle_row, node_row, skews_of};
-use fr_sightings::{Sender, Sighting, seen_senders};
+use fr_observe::{Says, Skews, SyncFrom, cycle_row, node_row, skews_of};
+use fr_sightings::{Sender, Sighting, look_at, look_from, seen_senders};
 use fr_text::put_line;
 
 fn put_nodes<O: Sink>(
@@ -107,6 +106,31 @@ fn both_say(ground: &Ground<'_>, double: &Double<'_>, skews: &Skews) -> (Says, S
     )
 }
 
+// The first row that says over of those of two cycles that say this.
+fn first_over(double: u32, skews: &Skews, even: Says, odd: Says) -> Option<OverRow>
+    requires { double < 1_000_000 }
+    ensures { result ≡ option_or (over_row (2 * double) skews.now.even_low even)
+        (over_row (2 * double + 1) skews.now.odd_low odd) }
+{
+    over_row(2 * double, skews.even_low, even).or(over_row(2 * double + 1, skews.odd_low, odd))
+}
+
+fn over_row(cycle: u32, low: i64, says: Says) -> Option<OverRow>
+    ensures { result ≡ over_row cycle low says }
+{
+    match says {
+        Says::Over => Some(OverRow { cycle, low }),
+        Says::Within | Says::Open => None,
+    }
+}
+
+// Whether a double cycle is judged, where this is known of sync behind it.
+fn is_judged(ground: &Ground<'_>, sync: Option<SyncFrom>) -> bool
+    ensures { result ≡ is_judged (basis_in ground.now) sync }
+{
+    ground.covered.is_open() && sync.is_some()
+}
+
 // A double cycle: its rows, and behind them those of its faults.
 #[tactic(auto, unfolding(crate::specs::Verdict::double_told, crate::specs::Verdict::progress_told))]
 fn put_double<O: Sink>(
@@ -117,7 +141,7 @@ fn put_double<O: Sink>(
 ) -> Result<(), PutFault>
     requires ground { IsGround ground.now }
     requires double { IsDouble ground.now double.now }
-    requires few { AreFewCycles 900_000 progress.old.counts }
+    requires few { CountsFew 900_000 progress.old }
     ensures puts { Puts result (O.state out.old) (O.state out.new)
         (double_told (basis_in ground.now) (double_in double.now) progress.old) }
     ensures progress { OnOk result (progress.new ≡
@@ -129,7 +153,9 @@ fn put_double<O: Sink>(
     put_rows(scale, precision, double.number, senders, &skews, out)?;
     put_faults(ground, double, progress, out)?;
     let (even, odd) = both_say(ground, double, &skews);
-    progress.pass(double.number, even, odd);
+    let over = first_over(double.number, &skews, even, odd);
+    let judged = is_judged(ground, progress.sync);
+    progress.pass(double.number, judged, even, odd, over);
     Ok(())
 }
 
@@ -144,32 +170,26 @@ fn put_around<O: Sink>(
     requires ground { IsGround ground.now }
     requires around { IsAround ground.now around.now }
     requires number { number < 1_000_000 }
-    requires few { AreFewCycles 900_000 progress.old.counts }
+    requires few { CountsFew 900_000 progress.old }
     ensures puts { Puts result (O.state out.old) (O.state out.new)
         (double_told (basis_in ground.now) (double_around ground.now around.now number) progress.old) }
     ensures progress { OnOk result (progress.new ≡
         progress_told (basis_in ground.now) (double_around ground.now around.now number) progress.old) }
 {
-    let Ground {
-        scale,
-        params,
-        log,
-        ..
-    } = *ground;
-    let list = seen_senders(scale, params, log, around.here, around.next, number);
-    let senders = list.as_slice();
-    let Around {
-        before,
-        here,
-        offending,
-        ..
-    } = *around;
+    let list = seen_senders(
+        ground.scale,
+        ground.params,
+        ground.log,
+        around.here,
+        around.next,
+        number,
+    );
     let double = Double {
         number,
-        before,
-        here,
-        offending,
-        senders,
+        before: around.before,
+        here: around.here,
+        offending: around.offending,
+        senders: list.as_slice(),
     };
     put_double(ground, &double, progress, out)
 }

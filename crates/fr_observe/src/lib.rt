@@ -2,11 +2,9 @@
 //! lengths and terms, and what contradicts lawful runs.
 #![tactic(auto)]
 
-mod course_list;
 mod fault;
-mod first_list;
 mod missing;
-mod nodes;
+mod obstacle;
 mod own_faults;
 mod rows;
 mod says;
@@ -17,10 +15,11 @@ mod synced;
 mod telling;
 
 pub use fault::{Fault, FaultKind, LogSpan, SyncFrom, known_node};
+pub use obstacle::{Obstacle, ObstacleKind};
 pub use own_faults::put_own_faults;
 pub use rows::{cycle_row, node_row, precision_row};
 pub use says::Says;
 pub use skews::{Skews, skews_of};
 pub use sync_faults::put_sync_faults;
-pub use synced::{is_sync_seen, sync_behind};
+pub use synced::{sync_behind, sync_obstacle};
 pub use telling::tell_one;

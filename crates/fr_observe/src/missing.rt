@@ -5,12 +5,11 @@ ghost use Rattle.fr_observe.specs.Faults.{is_inside, missing_by, missing_frames,
 ghost use Rattle.fr_observe.specs.Telling.{TellsFaults};
 
 use crate::fault::{Fault, FaultKind, LogSpan};
-use crate::nodes::{is_judged, node_at, node_count};
 use crate::telling::tell;
 use fr_base::{Channel, NodeId, PutFault, Sink};
 use fr_cluster::{NodeSpec, Params};
 use fr_log::Log;
-use fr_sightings::{Sighting, first_stamp};
+use fr_sightings::{Sighting, first_stamp, is_judged, node_at, node_count};
 
 fn is_inside(span: &LogSpan, cycle: u32) -> bool
     ensures { result ≡ is_inside span.now cycle }

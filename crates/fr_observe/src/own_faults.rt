@@ -9,15 +9,15 @@ ghost use Rattle.fr_observe.specs.Faults.{IsFirst, box_fault, clock_faults, cycl
 ghost use Rattle.fr_observe.specs.Telling.{TellsFaults};
 
 use crate::fault::{Fault, FaultKind, printed};
-use crate::first_list::FirstList;
-use crate::nodes::{is_judged, node_at, node_count};
 use crate::sender_faults::{Asked, put_of_senders};
 use crate::telling::{tell, tell_one};
 use fr_base::{NodeId, PutFault, Sink};
 use fr_cluster::{NodeSpec, Params};
 use fr_course::{Interval, Scale, allowed, between, is_empty, meet, meet_if, seen_apart};
 use fr_log::Log;
-use fr_sightings::{Sender, Sighting, first_stamp, seen_box, seen_span};
+use fr_sightings::{
+    FirstList, Sender, Sighting, first_stamp, is_judged, node_at, node_count, seen_box, seen_span,
+};
 
 // By its frames on both channels an action point of a node lies nowhere.
 fn box_fault(cycle: u32, node: NodeId, place: Option<Interval>) -> Option<Fault>

@@ -10,9 +10,7 @@ ghost use Rattle.fr_sightings.specs.Ranges.{IsProperSender};
 ghost use Rattle.fr_observe.specs.Faults.{correction_fault, further_of, length_fault, length_fault_by, longest_cycle_of, offset_fault, other_courses, rate_fault, shortest_cycle_of, term_fault, unlike_fault};
 ghost use Rattle.fr_observe.specs.Telling.{TellsFaults, sender_fault};
 
-use crate::course_list::CourseList;
 use crate::fault::{Fault, FaultKind};
-use crate::nodes::keyed_count;
 use crate::rows::terms_of;
 use crate::telling::tell;
 use fr_base::{NodeId, PutFault, Sink};
@@ -22,7 +20,7 @@ use fr_course::{
     Interval, Measuring, Scale, is_empty, length_ticks, offset_computed, rate_computed,
     rate_step_seen,
 };
-use fr_sightings::Sender;
+use fr_sightings::{CourseList, Sender, keyed_count};
 
 // What is asked of a sender.
 #[derive(Clone, Copy)]

@@ -6,9 +6,8 @@ ghost use Rattle.fr_observe.specs.Observing.{courses_of, next_courses, with_send
 ghost use Rattle.fr_sightings.specs.Ranges.{IsProperSender};
 ghost use Rattle.fr_observe.specs.Skews.{AreSkews};
 
-use crate::course_list::CourseList;
 use fr_course::{Course, Scale, least_even_skew, least_odd_skew, most_even_skew, most_odd_skew};
-use fr_sightings::Sender;
+use fr_sightings::{CourseList, Sender};
 
 /// The limits of the skew of both cycles of a double cycle, in ticks; an upper one may be missing.
 #[derive(Clone, Copy, Debug, PartialEq, Eq)]

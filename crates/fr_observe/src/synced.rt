@@ -1,22 +1,23 @@
-ghost use Rattle.std.specs.Prelude.{◌≡◌, ◌&&◌, ◌≤◌, ◌<◌, List, All, int_le, length, pos};
+ghost use Rattle.std.specs.Prelude.{◌≡◌, ◌&&◌, ◌≤◌, ◌<◌, List, All, int_le, is_none, length, pos};
 ghost use Rattle.std.specs.List.{list_all};
 ghost use Rattle.fr_bound.specs.Bounds.{lambda_of, pi_of};
 ghost use Rattle.fr_course.specs.Near.{IsNearCourse, IsReadingScale};
 ghost use Rattle.fr_course.specs.Spread.{lengths_apart, starts_apart};
 ghost use Rattle.fr_sightings.specs.Ranges.{AreLogStamps, IsProperSender};
-ghost use Rattle.fr_observe.specs.Faults.{has_proper_length, is_nil, is_seen_whole, is_sync_seen, seen_sync, stated_sync, sync_behind};
+ghost use Rattle.fr_observe.specs.Faults.{first_of_faults, has_proper_length, is_seen_whole, is_sync_seen, seen_sync, stated_sync, sync_behind};
 ghost use Rattle.fr_observe.specs.Observing.{courses_of};
+ghost use Rattle.fr_observe.specs.Obstacles.{faulty, first_unseen, of_several, or_unseen, sync_obstacle, unlike_sync, unseen_cycle, unseen_node};
 ghost use Rattle.fr_observe.specs.declared.fault.Fault.{Fault as Told};
 
-use crate::fault::SyncFrom;
-use crate::nodes::{node_at, node_count};
+use crate::fault::{Fault, SyncFrom};
+use crate::obstacle::{Obstacle, ObstacleKind};
 use crate::sender_faults::proper_lengths;
 use crate::skews::courses_of;
 use fr_bound::bounds;
 use fr_cluster::{NodeSpec, Params};
 use fr_course::{Course, Interval, Scale, length_ticks, lengths_apart, starts_apart};
 use fr_log::Log;
-use fr_sightings::{Sender, Sighting, seen_box};
+use fr_sightings::{Sender, Sighting, node_at, node_count, seen_box};
 
 // A node is arbitrary, or was seen in both cycles of a double cycle.
 fn is_seen_whole(log: &Log, here: &[Sighting], double: u32, node: &NodeSpec) -> bool
@@ -30,17 +31,64 @@ fn is_seen_whole(log: &Log, here: &[Sighting], double: u32, node: &NodeSpec) -> 
             && seen_box(log, here, node.id, 2 * double + 1).is_some())
 }
 
-fn are_seen_whole(params: &Params, log: &Log, here: &[Sighting], double: u32) -> bool
+// In which cycle it was not, where it was not seen in both.
+fn unseen_cycle(log: &Log, here: &[Sighting], double: u32, node: &NodeSpec) -> u32
     requires here { AreLogStamps log.now here.now }
     requires double { double < 1_000_000 }
-    ensures { result ≡ list_all (is_seen_whole log.now here.now double) params.now.nodes }
+    ensures { result ≡ unseen_cycle log.now here.now double node.now }
 {
-    for place in 0..node_count(params) {
-        if !is_seen_whole(log, here, double, node_at(params, place)) {
-            return false;
-        }
+    if seen_box(log, here, node.id, 2 * double).is_some() {
+        2 * double + 1
+    } else {
+        2 * double
     }
-    true
+}
+
+fn unseen_node(log: &Log, here: &[Sighting], double: u32, node: &NodeSpec) -> Option<Obstacle>
+    requires here { AreLogStamps log.now here.now }
+    requires double { double < 1_000_000 }
+    ensures { result ≡ unseen_node log.now here.now double node.now }
+{
+    if is_seen_whole(log, here, double, node) {
+        None
+    } else {
+        Some(Obstacle {
+            kind: ObstacleKind::Unseen,
+            cycle: Some(unseen_cycle(log, here, double, node)),
+            node: Some(node.id),
+        })
+    }
+}
+
+fn or_unseen(
+    first: Option<Obstacle>,
+    log: &Log,
+    here: &[Sighting],
+    double: u32,
+    node: &NodeSpec,
+) -> Option<Obstacle>
+    requires here { AreLogStamps log.now here.now }
+    requires double { double < 1_000_000 }
+    ensures { result ≡ or_unseen log.now here.now double first node.now }
+{
+    match first {
+        Some(first) => Some(first),
+        None => unseen_node(log, here, double, node),
+    }
+}
+
+// The first node that was not seen in both cycles of a double cycle.
+#[tactic(auto, unfolding(crate::specs::Obstacles::first_unseen))]
+fn first_unseen(params: &Params, log: &Log, here: &[Sighting], double: u32) -> Option<Obstacle>
+    requires here { AreLogStamps log.now here.now }
+    requires double { double < 1_000_000 }
+    ensures { result ≡ first_unseen log.now here.now double params.now.nodes }
+{
+    let mut first = None;
+    for place in 0..node_count(params) {
+        first = or_unseen(first, log, here, double, node_at(params, place));
+    }
+    first
 }
 
 // The cycles of a sender are certainly neither too long nor too short.
@@ -70,12 +118,6 @@ fn is_within(apart: &Interval, bound: i64) -> bool
     apart.high <= i128::from(bound)
 }
 
-fn all_hold(one: bool, other: bool, third: bool) -> bool
-    ensures { result ≡ (one && other && third) }
-{
-    one && other && third
-}
-
 // Starts certainly lie within their bound.
 fn starts_close(params: &Params, scale: &Scale, courses: &[Course]) -> bool
     requires scale { IsReadingScale scale.now }
@@ -102,37 +144,80 @@ fn lie_close(params: &Params, scale: &Scale, senders: &[Sender]) -> bool
     requires few { length senders.now ≤ 64 }
     requires senders { All (IsProperSender scale.now) senders.now }
     ensures { result ≡ (int_le (starts_apart scale.now (courses_of senders.now)).high (pos (pi_of params.now))
-        && int_le (lengths_apart scale.now (courses_of senders.now)).high (pos (lambda_of params.now))
-        && list_all (has_proper_length params.now scale.now) senders.now) }
+        && int_le (lengths_apart scale.now (courses_of senders.now)).high (pos (lambda_of params.now))) }
 {
     let courses = courses_of(scale, senders);
-    let starts = starts_close(params, scale, courses.as_slice());
-    let lengths = lengths_close(params, scale, courses.as_slice());
-    let proper = have_proper_lengths(params, scale, senders);
-    all_hold(starts, lengths, proper)
+    starts_close(params, scale, courses.as_slice())
+        && lengths_close(params, scale, courses.as_slice())
 }
 
-/// Whether a double cycle is certainly in sync, where this says whether nothing contradicts it.
-pub fn is_sync_seen(
+fn of_several(kind: ObstacleKind, double: u32) -> Option<Obstacle>
+    requires { double < 1_000_000 }
+    ensures { result ≡ of_several kind double }
+{
+    Some(Obstacle {
+        kind,
+        cycle: Some(2 * double),
+        node: None,
+    })
+}
+
+// Starts and lengths lie too far apart, or lengths may not be proper.
+fn unlike_sync(params: &Params, scale: &Scale, double: u32, senders: &[Sender]) -> Option<Obstacle>
+    requires scale { IsReadingScale scale.now }
+    requires double { double < 1_000_000 }
+    requires few { length senders.now ≤ 64 }
+    requires senders { All (IsProperSender scale.now) senders.now }
+    ensures { result ≡ unlike_sync params.now scale.now double senders.now }
+{
+    if lie_close(params, scale, senders) {
+        if have_proper_lengths(params, scale, senders) {
+            None
+        } else {
+            of_several(ObstacleKind::Drift, double)
+        }
+    } else {
+        of_several(ObstacleKind::Reach, double)
+    }
+}
+
+fn faulty(told: Option<Fault>) -> Option<Obstacle>
+    ensures { result ≡ faulty told }
+{
+    match told {
+        None => None,
+        Some(fault) => Some(Obstacle {
+            kind: ObstacleKind::Fault,
+            cycle: Some(fault.cycle),
+            node: fault.node,
+        }),
+    }
+}
+
+/// What keeps a double cycle from being certainly in sync, where this is the first fault in it that contradicts any run; none
+/// where it is in sync.
+#[tactic(auto, unfolding(crate::specs::Obstacles::sync_obstacle))]
+pub fn sync_obstacle(
     params: &Params,
     scale: &Scale,
     log: &Log,
     here: &[Sighting],
     double: u32,
     senders: &[Sender],
-    is_clean: bool,
-) -> bool
+    told: Option<Fault>,
+) -> Option<Obstacle>
     requires scale { IsReadingScale scale.now }
     requires here { AreLogStamps log.now here.now }
     requires double { double < 1_000_000 }
     requires few { length senders.now ≤ 64 }
     requires senders { All (IsProperSender scale.now) senders.now }
-    ensures { (faults : List Told) → is_clean ≡ is_nil faults →
-        result ≡ is_sync_seen params.now scale.now log.now here.now double senders.now faults }
+    ensures value { result ≡ sync_obstacle params.now scale.now log.now here.now double senders.now told }
+    ensures seen { (faults : List Told) → told ≡ first_of_faults faults →
+        is_none result ≡ is_sync_seen params.now scale.now log.now here.now double senders.now faults }
 {
-    let is_whole = are_seen_whole(params, log, here, double);
-    let is_close = lie_close(params, scale, senders);
-    all_hold(is_clean, is_whole, is_close)
+    first_unseen(params, log, here, double)
+        .or(faulty(told))
+        .or(unlike_sync(params, scale, double, senders))
 }
 
 fn stated_sync(since: Option<u32>, double: u32) -> Option<SyncFrom>

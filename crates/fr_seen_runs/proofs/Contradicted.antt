@@ -31,14 +31,14 @@ use Rattle.fr_observe.specs.declared.fault.SyncFrom.{SyncFrom}
 use Rattle.fr_observe.specs.Faults.{asks_own_slots, asks_sync, before_in_sync, beyond_fault, faults_in_sync, first_of_faults, is_sync_seen, length_fault, missing_frames, offset_fault, rate_fault, seen_sync, skew_fault, slot_faults, stated_sync, sync_faults}
 use Rattle.fr_course.specs.Spread.{lengths_apart, starts_apart}
 use Rattle.fr_observe.specs.declared.fault.FaultKind.TheVariants.{Lengths, Start}
-use Rattle.fr_findings.specs.Verdict.{Basis, DoubleCycle, double_at, faults_told, in_sync_told, log_basis, log_progress, log_span, no_progress, own_told, progress_behind, progress_told, sightings_before, sync_told, verdict_by, verdict_of, verdict_with}
+use Rattle.fr_findings.specs.Verdict.{Basis, DoubleCycle, double_at, faults_told, in_sync_told, is_coverable, log_basis, log_progress, log_span, no_progress, own_told, progress_behind, progress_told, sightings_before, sync_told, verdict_by, verdict_of, verdict_with}
 use Rattle.fr_findings.specs.declared.progress.Progress.{Progress}
-use Rattle.fr_findings.specs.declared.progress.Reach.{Reach}
 use Rattle.fr_sightings.specs.Sightings.{OffendingFrames, irregular_of, offending_frames_of}
 use Rattle.fr_findings.specs.declared.verdict.Verdict.TheVariants as verdict
 use Rattle.fr_seen_runs.proofs.SyncKinds.{AsksOwnSlots, AsksSync, slot_faults_ask, sync_faults_ask}
 use Rattle.fr_seen_runs.proofs.OwnFaults.{slot_faults_are_none, sync_is_seen}
 use Rattle.fr_seen_runs.proofs.Progressing.{faults_left, first_is, seen_in_turn, told_all}
+use Rattle.fr_seen_runs.proofs.ToldVerdicts.{fault_is_first}
 
 -- ---- the laws of sync
 
@@ -56,16 +56,6 @@ pub record SyncIsKept : Type 0 where
 first_all : (P : Fault → Type 0) (faults : List Fault) → All P faults → IfSome (first_of_faults faults) P
 first_all P [] all = tt
 first_all P (fault ∷ faults) all = All-head P fault faults all
-
--- the fault that a verdict tells is the first one
-fault_is_first : (first : Option Fault) (sync : Option SyncFrom) (reach : Option Reach) (fault : Fault) → verdict_with first sync reach ≡ verdict.No fault → first ≡ Some fault
-fault_is_first (Some other) sync reach fault is = ap Some (same other fault is)
-  where
-    same : (a b : Fault) → verdict.No a ≡ verdict.No b → a ≡ b
-    same a b is = cc is
-fault_is_first None None reach fault is = absurd (cc is)
-fault_is_first None (Some from) None fault is = absurd (cc is)
-fault_is_first None (Some from) (Some reach) fault is = absurd (cc is)
 
 module _ (x : Setting) (h : Cycles) (base : ℕ) (delays : ℕ → Channel → Delays) (clock : ℕ → StraightClock) (l : LogView) (run : IsObservedRun x h base delays clock l) where
   abbrev Seen : List Sighting
@@ -86,7 +76,7 @@ module _ (x : Setting) (h : Cycles) (base : ℕ) (delays : ℕ → Channel → D
   -- ---- what holds of faults of irregular frames, and of those of sync, holds of all
 
   abbrev InSync : Option SyncFrom → ℕ → List Fault
-  InSync sync double = faults_in_sync Log.may_be_covered sync (in_sync_told Log (At double))
+  InSync sync double = faults_in_sync (is_coverable Log.covered) sync (in_sync_told Log (At double))
 
   module _ (Q : Fault → Type 0) (slots : (double : ℕ) → All Q (slot_faults x.params (Irregular double))) (P : ℕ → Progress → Type 0) where
     abbrev SyncSteps : Type 0
@@ -145,13 +135,13 @@ module _ (x : Setting) (h : Cycles) (base : ℕ) (delays : ℕ → Channel → D
       told_are AsksEither (λ double. All-weaker AsksOwnSlots AsksEither slots_either (slot_faults x.params (Irregular double)) (slots_ask double)) (λ double progress. Unit {0})
       (λ double progress among known.
       let sync = sync_told Log (At double) progress.sync in
-      (All-weaker AsksSync AsksEither sync_either (InSync sync double) (in_sync_asks Log.may_be_covered sync double), tt))
+      (All-weaker AsksSync AsksEither sync_either (InSync sync double) (in_sync_asks (is_coverable Log.covered) sync double), tt))
       (λ first. tt)
 
   pub all_ask : SlotsAreOwn x h l → All AsksSync (log_faults x.params l)
   all_ask own =
       told_are AsksSync (no_slots AsksSync own) (λ double progress. Unit {0})
-      (λ double progress among known. (in_sync_asks Log.may_be_covered (sync_told Log (At double) progress.sync) double, tt)) (λ first. tt)
+      (λ double progress among known. (in_sync_asks (is_coverable Log.covered) (sync_told Log (At double) progress.sync) double, tt)) (λ first. tt)
 
   -- ---- no fault at all
 
@@ -265,7 +255,7 @@ module _ (x : Setting) (h : Cycles) (base : ℕ) (delays : ℕ → Channel → D
     in_sync_step Q double progress among known =
         let sync = sync_told Log (At double) progress.sync in
         let is = sync_there double progress.sync among known in
-        (subst (All Q) (sym (told_none Log.may_be_covered double sync among is)) (All-nil Q), later double sync is)
+        (subst (All Q) (sym (told_none (is_coverable Log.covered) double sync among is)) (All-nil Q), later double sync is)
 
     pub slots_told : All AsksOwnSlots (log_faults x.params l)
     slots_told = told_are AsksOwnSlots slots_ask IsKnown (in_sync_step AsksOwnSlots) (λ first. tt)
@@ -299,8 +289,8 @@ verdict_tells_first p l fault =
     let offending = offending_frames_of p l in
     let progress = log_progress (log_basis p l) seen offending in
     let first : progress.first ≡ first_of_faults (log_faults p l) = first_is (log_basis p l) seen offending (seen_doubles seen) no_progress in (
-      λ is. sym first ∙ fault_is_first progress.first progress.sync progress.reach fault is,
-      λ is. ap (λ o. verdict_with o progress.sync progress.reach) (first ∙ is),
+      λ is. sym first ∙ fault_is_first progress fault progress.first is,
+      λ is. ap (λ o. verdict_with o progress) (first ∙ is),
     )
 
 -- what holds of all faults holds of that of a verdict

@@ -31,7 +31,7 @@ use Rattle.fr_sightings.specs.declared.sighting.Fate.{Fate}
 use Rattle.fr_sightings.specs.declared.sighting.Fate.TheVariants as fate
 use Rattle.fr_sightings.specs.declared.sighting.Sighting.{Sighting}
 use Rattle.fr_sightings.proofs.Proper.{both, seen_follows}
-use Rattle.fr_findings.specs.Sure.{are_numbers_sure, is_node_sure, is_sure_on, is_sure_within, off_schedule}
+use Rattle.fr_sightings.specs.Sure.{are_numbers_sure, is_node_sure, is_sure_on, is_sure_within, off_schedule}
 use Rattle.fr_seen.specs.Clocks.{StraightClock}
 use Rattle.fr_seen.specs.LogSeen.{IsToldOf, judged_in, judged_of}
 use Rattle.fr_seen.specs.Observed.{IsSentIn, SentFrame, sent_macrotick, stamped_apart}

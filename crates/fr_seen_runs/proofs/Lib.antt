@@ -19,8 +19,10 @@ pub mod SyncedNodes
 pub mod OwnFaults
 pub mod SyncKinds
 pub mod Progressing
+pub mod ToldVerdicts
 pub mod Contradicted
 pub mod Reaching
+pub mod OverLaws
 pub mod SyncKept
 pub mod RowsTold
 pub mod WorkedCycles

@@ -18,7 +18,7 @@ use Rattle.fr_seen_runs.specs.Contradictions.{IsObservedRun}
 use Rattle.fr_observe.specs.declared.fault.SyncFrom.{SyncFrom}
 use Rattle.fr_observe.specs.declared.fault.Fault.{Fault}
 use Rattle.fr_observe.specs.Faults.{faults_in_sync, first_of_faults, slot_faults}
-use Rattle.fr_findings.specs.Verdict.{Basis, DoubleCycle, double_at, double_faults, faults_told, in_sync_told, log_basis, own_told, progress_behind, progress_of, progress_told, sync_told}
+use Rattle.fr_findings.specs.Verdict.{Basis, DoubleCycle, double_at, double_faults, faults_told, in_sync_told, is_coverable, log_basis, own_told, progress_behind, progress_of, progress_told, sync_told}
 use Rattle.fr_findings.specs.declared.progress.Progress.{Progress}
 use Rattle.fr_sightings.specs.Sightings.{OffendingFrames, irregular_of, offending_frames_of}
 use Rattle.fr_seen_runs.specs.ToldFaults.{faults_from}
@@ -142,7 +142,7 @@ module _ (x : Setting) (h : Cycles) (base : ℕ) (delays : ℕ → Channel → D
 
   pub faults_left : (double : ℕ) (sync : Option SyncFrom) → Contains (seen_doubles Seen) double
       → faults_told (log_basis x.params l) (At double) sync
-      ≡ slot_faults x.params (Irregular double) ++ faults_in_sync (log_basis x.params l).may_be_covered sync (in_sync_told (log_basis x.params l) (At double))
+      ≡ slot_faults x.params (Irregular double) ++ faults_in_sync (is_coverable (log_basis x.params l).covered) sync (in_sync_told (log_basis x.params l) (At double))
   unfolding faults_told
   faults_left double sync among =
-      ap (λ own. own ++ faults_in_sync (log_basis x.params l).may_be_covered sync (in_sync_told (log_basis x.params l) (At double))) (own_left double among)
+      ap (λ own. own ++ faults_in_sync (is_coverable (log_basis x.params l).covered) sync (in_sync_told (log_basis x.params l) (At double))) (own_left double among)

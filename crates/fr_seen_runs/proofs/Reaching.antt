@@ -26,17 +26,16 @@ use Rattle.fr_seen.proofs.WordLaws.{even_words_hold, odd_words_hold}
 use Rattle.fr_seen_runs.specs.Contradictions.{IsObservedRun, NamesArbitrary}
 use Rattle.fr_seen_runs.specs.KeptInSync.{IsDoubleThere}
 use Rattle.fr_seen_runs.specs.NotContradicted.{WithinIsInSync, WithinIsSo, WithinIsThere}
-use Rattle.fr_observe.specs.declared.fault.Fault.{Fault}
 use Rattle.fr_observe.specs.declared.fault.SyncFrom.{SyncFrom}
 use Rattle.fr_observe.specs.Faults.{is_sync_seen, seen_sync, stated_sync, sync_behind}
-use Rattle.fr_findings.specs.Verdict.{Basis, DoubleCycle, double_at, even_says, further_within, log_basis, log_progress, no_progress, odd_says, own_told, progress_behind, progress_told, reach_behind, reach_behind_both, reach_by, sync_told, verdict_by, verdict_of, verdict_with}
+use Rattle.fr_findings.specs.Verdict.{Basis, DoubleCycle, double_at, even_says, further_within, log_basis, log_progress, no_progress, odd_says, own_told, progress_behind, progress_told, reach_behind, reach_behind_both, reach_by, sync_told, verdict_of}
 use Rattle.fr_findings.specs.declared.progress.Progress.{Progress}
 use Rattle.fr_findings.specs.declared.progress.Reach.{Reach}
 use Rattle.fr_sightings.specs.Sightings.{OffendingFrames, offending_frames_of}
-use Rattle.fr_findings.specs.declared.verdict.Verdict.TheVariants as verdict
 use Rattle.fr_seen_runs.proofs.OwnSightings.{here_there, next_there}
 use Rattle.fr_seen_runs.proofs.OwnFaults.{sync_is_seen}
 use Rattle.fr_seen_runs.proofs.Progressing.{behind_all, seen_in_turn}
+use Rattle.fr_seen_runs.proofs.ToldVerdicts.{within_told}
 
 -- ---- the reach of what cycles say
 
@@ -104,21 +103,7 @@ module _ (said : ℕ → Says) where
       two : (d : ℕ) → suc (2 * d + 1) ≡ 2 * suc d
       two d = omega arith
 
--- ---- where a verdict is within
-
-pub record IsToldWithin (first : Option Fault) (sync : Option SyncFrom) (reach : Option Reach) (told : Reach) : Type 0 where
-  pub from : SyncFrom
-  pub synced : sync ≡ Some from
-  pub reached : reach ≡ Some told
-
-within_told : (first : Option Fault) (sync : Option SyncFrom) (reach : Option Reach) (told : Reach) → verdict_with first sync reach ≡ verdict.Within told → IsToldWithin first sync reach told
-within_told (Some fault) sync reach told is = absurd (cc is)
-within_told None None reach told is = absurd (cc is)
-within_told None (Some from) None told is = absurd (cc is)
-within_told None (Some from) (Some reach) told is = record { from = from; synced = refl; reached = ap Some (same reach told is) }
-  where
-    same : (a b : Reach) → verdict.Within a ≡ verdict.Within b → a ≡ b
-    same a b is = cc is
+-- ---- where a row says within
 
 -- the odd cycle says within only where each sender has a course in the next double cycle, and there is a sender
 says_some : (precision low : ℤ) (high : Option ℤ) → says_of precision low high ≡ Within → (most : ℤ) × (high ≡ Some most)
@@ -352,26 +337,30 @@ module _ (x : Setting) (h : Cycles) (base : ℕ) (delays : ℕ → Channel → D
     pub begun : Begins (log_progress Log Seen Offending).sync (log_progress Log Seen Offending).reach (log_progress Log Seen Offending).is_ended
     begun = (behind_all Log Seen Offending BeginsAt (seen_doubles Seen) no_progress (seen_in_turn Seen) begins_behind (λ first. record { none = λ is. (refl, refl); some = tt })).holds
 
-    pub in_sync_from : (r : Reach) → IsToldWithin (log_progress Log Seen Offending).first (log_progress Log Seen Offending).sync (log_progress Log Seen Offending).reach r
-        → IsUnfollowedSyncAt x.params h (run_double base (r.from / 2))
-    in_sync_from r told =
-        let progress = log_progress Log Seen Offending in
-        let is = subst (λ o. IfSome o (λ from. BeginsIn from progress.reach progress.is_ended)) told.synced begun.some in
-        let first : r.from ≡ 2 * told.from.double = subst (λ o. IfSome o (λ r. r.from ≡ 2 * told.from.double)) told.reached is.is.begins in
-        subst (λ d. IsUnfollowedSyncAt x.params h (run_double base d)) (half r.from told.from.double first) is.there
+    pub in_sync_from : (r : Reach) → (log_progress Log Seen Offending).reach ≡ Some r → IsUnfollowedSyncAt x.params h (run_double base (r.from / 2))
+    in_sync_from r reached = by progress.sync begun
       where
+        progress : Progress
+        progress = log_progress Log Seen Offending
+
         half : (a d : ℕ) → a ≡ 2 * d → d ≡ a / 2
         half a d is = omega (arith, is)
 
+        by : (sync : Option SyncFrom) → Begins sync (log_progress Log Seen Offending).reach (log_progress Log Seen Offending).is_ended
+            → IsUnfollowedSyncAt x.params h (run_double base (r.from / 2))
+        by None begins = absurd (let none = sym reached ∙ (begins.none refl).0 in cc none)
+        by (Some from) begins =
+            let first : r.from ≡ 2 * from.double = subst (λ o. IfSome o (λ r. r.from ≡ 2 * from.double)) reached begins.some.is.begins in
+            subst (λ d. IsUnfollowedSyncAt x.params h (run_double base d)) (half r.from from.double first) begins.some.there
+
 pub within_is_so : WithinIsSo
-unfolding verdict_of verdict_by double_at senders_of
+unfolding verdict_of double_at senders_of
 within_is_so x h base delays clock l r double even odd run is has =
     let precision = pos (precision_of x.params) in
     let scale = reading_scale l.drift x.params in
     let senders = log_senders x l double in
     let progress = log_progress (log_basis x.params l) (sightings_of x.params l) (offending_frames_of x.params l) in
-    let told = within_told progress.first progress.sync progress.reach r is in
-    let says = reached x h base delays clock l run r told.reached in
+    let says = reached x h base delays clock l run r (within_told progress r is) in
     record {
       in_even = λ from to.
           let word : says_of precision (even_low scale senders) (even_high scale senders) ≡ Within = sym (even_cycle_says x h base delays clock l run double) ∙ says (2 * double) from to in
@@ -390,14 +379,13 @@ within_is_so x h base delays clock l r double even odd run is has =
     one n = omega arith
 
 pub within_is_there : WithinIsThere
-unfolding verdict_of verdict_by
+unfolding verdict_of
 within_is_there x h base delays clock l r cycle run is from to =
     let progress = log_progress (log_basis x.params l) (sightings_of x.params l) (offending_frames_of x.params l) in
-    let told = within_told progress.first progress.sync progress.reach r is in
-    cycle_there x h base delays clock l run cycle (reached x h base delays clock l run r told.reached cycle from to)
+    cycle_there x h base delays clock l run cycle (reached x h base delays clock l run r (within_told progress r is) cycle from to)
 
 pub within_is_in_sync : WithinIsInSync
-unfolding verdict_of verdict_by
+unfolding verdict_of
 within_is_in_sync x h base delays clock l r run named unstated is =
     let progress = log_progress (log_basis x.params l) (sightings_of x.params l) (offending_frames_of x.params l) in
-    in_sync_from x h base delays clock l run named unstated r (within_told progress.first progress.sync progress.reach r is)
+    in_sync_from x h base delays clock l run named unstated r (within_told progress r is)

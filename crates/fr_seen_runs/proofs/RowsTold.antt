@@ -20,11 +20,12 @@ use Rattle.fr_runs.specs.Supplied.{IsCovered, IsCoveredByFiles}
 use Rattle.fr_runs.proofs.Covers.{coverage_suffices, more_are_few}
 use Rattle.fr_log.specs.View.{LogView}
 use Rattle.fr_sightings.specs.Sightings.{OffendingFrames, offending_frames_of, sightings_of}
+use Rattle.fr_sightings.specs.Sure.{is_sync_as}
 use Rattle.fr_sightings.specs.declared.sighting.Sighting.{Sighting}
 use Rattle.fr_observe.specs.Faults.{is_sync_seen, seen_sync, stated_sync, sync_behind}
 use Rattle.fr_observe.specs.Observing.{seen_doubles, senders_of}
 use Rattle.fr_observe.specs.declared.fault.SyncFrom.{SyncFrom}
-use Rattle.fr_findings.specs.Verdict.{Basis, DoubleCycle, are_enough, coverable_by, coverable_of, coverable_with, double_at, first_failing, is_sync_as, log_basis, log_progress, no_progress, own_told, progress_behind, progress_told, sync_told}
+use Rattle.fr_findings.specs.Verdict.{Basis, DoubleCycle, are_enough, coverable_by, coverable_of, coverable_with, double_at, first_failing, log_basis, log_progress, no_progress, own_told, progress_behind, progress_told, sync_told}
 use Rattle.fr_findings.specs.declared.coverable.Coverable.TheVariants as coverable
 use Rattle.fr_findings.specs.declared.progress.Progress.{Progress}
 use Rattle.fr_findings.proofs.Checks.{none-fails}

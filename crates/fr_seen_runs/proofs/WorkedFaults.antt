@@ -17,6 +17,7 @@ use Rattle.fr_sightings.specs.Judging.{judgement_of}
 use Rattle.fr_sightings.specs.Sightings.{OffendingFrames, fate_of, fates_from, irregular_of, offending_frames_of, sightings_of, untimely_of}
 use Rattle.fr_sightings.specs.declared.sighting.Sighting.{Sighting}
 use Rattle.fr_findings.specs.Verdict.{Basis, coverable_of, double_at, faults_told, first_failing, log_basis, log_progress, own_told, progress_of, progress_told, sync_told, verdict_by, verdict_of}
+use Rattle.fr_findings.specs.declared.coverable.Coverable.TheVariants as coverable
 use Rattle.fr_findings.specs.declared.verdict.Verdict.TheVariants as verdict
 use Rattle.fr_seen.specs.Clocks.{StraightClock}
 use Rattle.fr_seen.specs.OwnSlots.{SlotsAreOwn}
@@ -41,7 +42,7 @@ late_basis later = record {
   params = seen_cluster;
   log = late_log later;
   span = record { first = 0; last = 3 };
-  may_be_covered = true;
+  covered = coverable.Open;
 }
 
 -- ---- late by 250 units
@@ -140,7 +141,7 @@ last_basis last = record {
   params = seen_cluster;
   log = last_log last;
   span = record { first = 0; last = 3 };
-  may_be_covered = true;
+  covered = coverable.Open;
 }
 
 -- it is a log where that frame comes no earlier than the one before it

@@ -12,7 +12,7 @@ use Rattle.fr_history.specs.Next.{cycles_of}
 use Rattle.fr_log.specs.View.{delay_limits_of, is_arbitrary_in, own_limits}
 use Rattle.fr_course.specs.Course.{breadth_of}
 use Rattle.fr_sightings.specs.Senders.{observer_of}
-use Rattle.fr_findings.specs.Sure.{are_numbers_sure}
+use Rattle.fr_sightings.specs.Sure.{are_numbers_sure}
 use Rattle.fr_seen.specs.LogSeen.{IsLogSeen}
 use Rattle.fr_seen.specs.Observed.{IsSentIn, SentFrame, stamped_apart}
 use Rattle.fr_seen_runs.specs.InTime.{KeepsDrift, arrives_at}

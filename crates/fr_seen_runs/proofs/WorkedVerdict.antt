@@ -17,6 +17,7 @@ use Rattle.fr_sightings.specs.Sightings.{OffendingFrames, fate_of, fates_from, i
 use Rattle.fr_sightings.specs.declared.sighting.Sighting.{Sighting}
 use Rattle.fr_findings.specs.Verdict.{Basis, coverable_of, double_at, faults_told, first_failing, log_basis, log_progress, own_told, progress_of, progress_told, sync_told, verdict_by, verdict_of}
 use Rattle.fr_findings.specs.declared.verdict.Verdict.{Verdict}
+use Rattle.fr_findings.specs.declared.coverable.Coverable.TheVariants as coverable
 use Rattle.fr_findings.specs.declared.verdict.Verdict.TheVariants as verdict
 use Rattle.fr_seen_runs.specs.Contradictions.{IsAsStated, IsInside, IsObservedRun, MissesNone}
 use Rattle.fr_seen.specs.LogSeen.{run_double}
@@ -70,7 +71,7 @@ seen_basis since whole = record {
   params = seen_cluster;
   log = seen_log since whole;
   span = record { first = 0; last = 3 };
-  may_be_covered = true;
+  covered = coverable.Open;
 }
 
 basis_is : (since : Option ℕ) (whole : Bool) → log_basis seen_cluster (seen_log since whole) ≡ seen_basis since whole

@@ -16,7 +16,7 @@ use Rattle.fr_course.specs.Readings.{fast_million, slow_million}
 use Rattle.fr_course.specs.declared.stamps.Delays.{Delays}
 use Rattle.fr_course.specs.declared.stamps.Observer.{Observer}
 use Rattle.fr_sightings.specs.Senders.{delays_in, observer_of}
-use Rattle.fr_findings.specs.Sure.{are_numbers_sure}
+use Rattle.fr_sightings.specs.Sure.{are_numbers_sure}
 use Rattle.fr_findings.specs.Verdict.{verdict_of}
 use Rattle.fr_findings.specs.declared.verdict.Verdict.TheVariants as verdict
 use Rattle.fr_observe.specs.Faults.{asks_own_slots}

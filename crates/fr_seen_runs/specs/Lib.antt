@@ -7,6 +7,7 @@ pub mod ComputedValues
 pub mod ComputedTerms
 pub mod ToldFaults
 pub mod NotContradicted
+pub mod OverRows
 pub mod InTime
 pub mod RowsTold
 pub mod WorkedLog

@@ -1,6 +1,6 @@
 -- The worked log as it is read, whether or not its frames come in time: so what the law of time asks can be met.
 use Rattle.std.specs.Prelude.{◌≡◌, false, true, None}
-use Rattle.fr_findings.specs.Sure.{are_numbers_sure}
+use Rattle.fr_sightings.specs.Sure.{are_numbers_sure}
 use Rattle.fr_seen_runs.specs.InTime.{IsReadInSync}
 use Rattle.fr_seen_runs.specs.WorkedLog.{no_delays, seen_cluster, seen_cycles, seen_log, seen_run, true_clock}
 

@@ -1,4 +1,5 @@
 ghost use Rattle.fr_seen_runs.specs.NotContradicted.{NoRunHasOwnFaults, NoRunIsContradicted, WithinIsInSync, WithinIsSo, WithinIsThere};
+ghost use Rattle.fr_seen_runs.specs.OverRows.{OverIsCounted, OverIsSo};
 
 /// The law of contradictions: where the verdict of a log is no, it is seen of no covered run that is as the log states;
 /// and where the kind of the fault asks for no sync, of no run at all whose oscillators keep within what is stated. Where
@@ -16,4 +17,12 @@ pub fn within_is_so()
     ensures there { WithinIsThere }
     ensures within { WithinIsSo }
     ensures sync { WithinIsInSync }
+{}
+
+/// The law of what is over: where the verdict of a log is over, it has the first row that says over, and how many do; in the
+/// cycle of each of them each run that the log is seen of has a skew of the senders, in ticks, of no less than the row has
+/// it, which is above the precision.
+pub fn over_is_so()
+    ensures counted { OverIsCounted }
+    ensures over { OverIsSo }
 {}

@@ -8,3 +8,5 @@ pub mod Late
 pub mod Stamps
 pub mod Gathering
 pub mod Silence
+pub mod Counted
+pub mod Windows

@@ -3,5 +3,6 @@ pub mod Judging
 pub mod Sightings
 pub mod Senders
 pub mod Ranges
+pub mod Sure
 -- what only functions inside cite
 pub mod Passing

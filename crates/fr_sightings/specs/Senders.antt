@@ -1,6 +1,6 @@
 -- What the sightings of a log tell of a node in a double cycle: where its clock was, by the first frame of each cycle on each
 -- channel.
-use Rattle.std.specs.Prelude.{ℕ, ◌+◌, ◌*◌, ◌/◌, ◌==◌, ◌&&◌, pos, Bool, List, ◌++◌, filter_map, Option, Some, None, if◌then◌else◌}
+use Rattle.std.specs.Prelude.{ℕ, ◌+◌, ◌*◌, ◌/◌, ◌==◌, ◌&&◌, nat_lt, pos, Bool, List, ◌++◌, filter_map, Option, Some, None, if◌then◌else◌}
 use Rattle.std.specs.List.{filter, find}
 use Rattle.std.specs.Option.{option_and_then, option_map, option_to_list}
 use Rattle.fr_base.specs.Rows.{channel_rank}
@@ -34,6 +34,10 @@ is_in double s = double_of s == double
 
 abbrev pub sightings_in : List Sighting → ℕ → List Sighting
 sightings_in seen double = filter (is_in double) seen
+
+-- one is of a double cycle before another
+abbrev pub is_of_earlier : ℕ → Sighting → Bool
+is_of_earlier double s = nat_lt (double_of s) double
 
 -- whether one is that of a node on a channel in a cycle
 abbrev pub is_sent_in : ℕ → Channel → ℕ → Sighting → Bool

@@ -1,21 +1,31 @@
 //! Which frames of the log of a bus analyzer say where a sender's clock was, and the courses of senders by them.
 #![tactic(auto)]
 
+mod course_list;
+mod first_list;
 mod gathered;
 mod intervals;
 mod judging;
 mod laws;
+mod looking;
+mod nodes;
 mod numbering;
 mod placing;
 mod sender;
 mod sending;
 mod sighting;
+mod sure;
 mod walking;
 
+pub use course_list::CourseList;
+pub use first_list::FirstList;
 pub use gathered::SightingList;
 pub use intervals::{first_stamp, seen_box, seen_span};
 pub use laws::silence_ends_all;
+pub use looking::{Window, look_at, look_from};
+pub use nodes::{is_judged, keyed_count, node_at, node_count};
 pub use sender::{Sender, no_course};
 pub use sending::seen_senders;
 pub use sighting::{Fate, Sighting, Tally};
+pub use sure::{are_numbers_sure, is_sync_as};
 pub use walking::sightings;

@@ -7,14 +7,14 @@ STATUSES = """exit statuses:
   1  the answer is no: `flexray` refused the files, a run of a study failed, a packet of a capture is damaged,
      or it has none; none or several nodes lead a startup, clocks that begin so may not come into sync, no run
      of the cluster is covered (`worst`), there is no design (`design`), nothing can be claimed (`case`), or
-     clocks lay further apart than the precision or the verdict is no (`observe`)
+     the verdict is none of within (`observe`)
   2  the words are wrong
   3  a file could not be read or written
   4  a program that is needed is missing; the line names the Debian package
   5  a value of the TOML file, or of a file that is imported, is refused; the line has the file's line, the key
      and the range. Or a file is no capture of a FlexRay network
   6  `flexray` failed where it should not have, or its answer does not fit what was asked
-  7  what is required of a run is not met; standard error has what and why
+  7  what is required of a run, or of a log, is not met; standard error has what and why
   8  a fault of flexlab itself, or no memory is left; the line says what to report. With the variable FLEXLAB_DEBUG
      set it shows where
 130  stopped by ^C; no file of a result is half written

@@ -2,6 +2,8 @@
 from __future__ import annotations
 
 import os
+import re
+import sys
 from dataclasses import asdict
 from fractions import Fraction
 from argparse import Namespace
@@ -13,7 +15,7 @@ from flexray.results import Observation, ObservedFault, ObservedNode
 
 from ..program import calls as programs
 from ..toml.cluster import Cluster, read_cluster
-from ..base.ending import DONE, NO
+from ..base.ending import DONE, NO, UNMET, USAGE, Stop, printable
 from ..base.files import hold, parameter_lines, put
 from ..program.report import understood
 from ..pages.machine import printed
@@ -30,6 +32,8 @@ FATES = ("say where a clock was", "are damaged", "are of arbitrary nodes", "tell
 MOST_FAULTS = 8
 # Kinds of contradictions to that each whole frame with the ID of a node is one that it sends.
 IRREGULAR = ("stranger", "form")
+# Reasons why no run of a cluster is covered, so that its precision is that of none.
+UNPROMISED = ("checks", "count")
 ORIGIN = ("Every limit here is one that flexray printed, converted and rounded outwards: it holds in every run of the "
           "cluster that can have given the log, if what is stated of the analyzer and of the oscillators is so. "
           "flexlab computes no answer of its own.")
@@ -141,9 +145,65 @@ def fault_lines(cluster: Cluster, told: Observation) -> list[str]:
     return found
 
 
+def why_unjudged(cluster: Cluster, told: Observation, why: Sequence[str]) -> str:
+    """Why a double cycle is not held against the rules of sync: the last three fields of a `sync` row."""
+    kind, cycle, number = why
+    node = "" if number == "-" else cluster.called(int(number))
+    if kind == "checks":
+        return f"check {told.covered[2]} fails"
+    if kind == "count":
+        return f"{told.covered[2]} correct nodes with a key slot do not outweigh {told.covered[3]} arbitrary ones"
+    if kind == "unseen":
+        if not node:
+            return "no frame tells where a clock was"
+        return (f"node {node} was not seen in cycle {cycle}" if cluster.nodes[int(number)].key_slot
+                else f"node {node} has no key slot, so no frame shows its clock")
+    if kind == "fault":
+        return f"there is a contradiction in cycle {cycle}" + (f", node {node}" if node else "")
+    if kind == "reach":
+        return f"by their stamps starts or lengths of cycles may lie further apart than in sync, in cycle {cycle}"
+    return (f"by the drift of the analyzer's clock a cycle may be longer or shorter than oscillators within their bounds make it, in "
+            f"cycle {cycle}")
+
+
+def sync_lines(cluster: Cluster, told: Observation) -> list[str]:
+    """From when on the cluster is in sync, and what of the log is held against the rules of sync."""
+    sync = told.sync
+    if sync[0] == "-":
+        return lines_of("In sync", f"of no double cycle it is certain: {why_unjudged(cluster, told, sync[4:])}; in_sync_from_cycle of "
+                                   "[observer] can state it")
+    found = lines_of("In sync", f"double cycle {sync[0]} is, as " + ("its stamps show" if sync[1] == "seen" else "[observer] states")
+                     + "; a covered cluster stays so")
+    text = f"{told.judged} of {told.doubles} double cycles are held against the rules of sync"
+    if sync[4] != "-":
+        others = "the others are" if sync[4] in UNPROMISED else "of the others the one that came farthest is"
+        text += f"; {others} not, since {why_unjudged(cluster, told, sync[4:])}"
+    return found + lines_of("Judged", text)
+
+
+def verdict_text(cluster: Cluster, told: Observation) -> str:
+    """The verdict in words."""
+    verdict, clocks = told.verdict, "the clocks of the nodes that sent lay"
+    if verdict[0] == "within":
+        return f"in cycles {verdict[1]} to {verdict[2]} {clocks} within the precision"
+    if verdict[0] == "no":
+        alone = ", and in which no other sender takes the ID of a node," if verdict[2] in IRREGULAR else ""
+        return ("NO: no run of this cluster that keeps to what is stated and whose frames come within half a cycle of the "
+                f"schedule{alone} can have given this log; the first contradiction is in cycle {verdict[1]}")
+    if verdict[0] == "over":
+        low = lower(us_of_ticks(int(verdict[2]), cluster.microtick_ns))
+        return (f"OVER: in {verdict[3]} cycles {clocks} further apart than the precision, for certain; in the first of them, cycle "
+                f"{verdict[1]}, at least {low} us")
+    if verdict[0] == "partly":
+        return (f"partly: of cycles {verdict[1]} to {verdict[2]} {clocks} within the precision in {verdict[3]}, for certain; of "
+                f"{verdict[4]} it is not certain")
+    return (f"open: nothing was held against the rules of sync, since {why_unjudged(cluster, told, verdict[1:4])}; in {told.within} "
+            f"cycles {clocks} within the precision" + (", which nothing promises of this cluster" if verdict[1] in UNPROMISED else ""))
+
+
 def verdict_lines(cluster: Cluster, told: Observation) -> list[str]:
     """What the log comes to."""
-    covered, sync, verdict = told.covered, told.sync, told.verdict
+    covered = told.covered
     found: list[str] = []
     if covered[0] == "no":
         why = f"check {covered[2]} fails" if covered[1] == "check" else (
@@ -152,24 +212,7 @@ def verdict_lines(cluster: Cluster, told: Observation) -> list[str]:
     if told.numbers[0] == "premise":
         found += lines_of("Numbers", "that each frame comes within half a cycle of the schedule is taken for granted: the limits that "
                                      "are stated do not suffice to be sure of it of clocks in sync")
-    if sync[0] == "-":
-        unseen = [cluster.called(node.number) for node in cluster.nodes.values() if not node.key_slot and not node.arbitrary]
-        text = "of no double cycle it is certain"
-        text += (f": no frame shows the clock of node {', '.join(unseen)}" if unseen else "") + (
-            "; in_sync_from_cycle of [observer] can state it")
-    else:
-        text = (f"double cycle {sync[0]} is, as " + ("its stamps show" if sync[1] == "seen" else "[observer] states")
-                + "; a covered cluster stays so")
-    found += lines_of("In sync", text)
-    if verdict[0] == "within":
-        text = f"in cycles {verdict[1]} to {verdict[2]} the clocks of the nodes that sent lay within the precision"
-    elif verdict[0] == "no":
-        alone = ", and in which no other sender takes the ID of a node," if verdict[2] in IRREGULAR else ""
-        text = ("NO: no run of this cluster that keeps to what is stated and whose frames come within half a cycle of the "
-                f"schedule{alone} can have given this log; the first contradiction is in cycle {verdict[1]}")
-    else:
-        text = "open: nothing contradicts the rules, and it is not certain that the clocks lay within the precision"
-    return found + lines_of("Verdict", text)
+    return found + sync_lines(cluster, told) + lines_of("Verdict", verdict_text(cluster, told))
 
 
 # ---- the page
@@ -182,6 +225,8 @@ def skew_lines(cluster: Cluster, told: Observation) -> list[str]:
     known = [(row.high, row.cycle) for row in told.cycles if row.high is not None]
     least = max(told.cycles, key=lambda row: row.low)
     text = f"at least {lower(us_of_ticks(least.low, unit))} us in cycle {least.cycle}"
+    if least.high is None:
+        text += ", of which no upper limit is known"
     if known:
         high, cycle = max(known, key=lambda row: row[0])
         text += (f"; at most {upper(us_of_ticks(high, unit))} us (cycle {cycle}) in the {len(known)} cycles of "
@@ -243,7 +288,7 @@ def observed_object(cluster: Cluster, told: Observation, frames: Frames, entries
     return {
         "names": cluster.names, "entries": entries, "left_out": frames.left, "precision": {"ticks": told.precision},
         "log": asdict(told.log), "said": {"within": told.within, "over": told.over, "open": told.open}, "verdict": told.verdict,
-        "sync": told.sync, "covered": told.covered, "numbers": told.numbers,
+        "judged": told.judged, "double_cycles": told.doubles, "sync": told.sync, "covered": told.covered, "numbers": told.numbers,
         "faults": [{**asdict(fault), "told": Words(cluster).told(fault.kind, fault.fields)} for fault in told.faults],
         "senders": [asdict(row) for row in told.senders],
         "cycles": [{"cycle": row.cycle, "senders": row.senders, "least_us": us(row.low, lower), "most_us": us(row.high, upper),
@@ -313,7 +358,29 @@ def draw_observed(cluster: Cluster, told: Observation, folder: str, name: str) -
 # ---- the request
 
 
+def least_judged(text: str | None) -> int | None:
+    """How many double cycles `--require judged=COUNT` wants to be judged."""
+    if text is None:
+        return None
+    if not re.fullmatch(r"judged=[0-9]{1,9}", text):
+        raise Stop(USAGE, f"--require {printable(text)}: it is none of judged=COUNT")
+    return int(text.removeprefix("judged="))
+
+
+def status_of(told: Observation, wanted: int | None) -> int:
+    """Done where all is judged to the end and within the precision, or, where so many double cycles have to be judged, where nothing is
+    over it."""
+    word = told.verdict[0]
+    if wanted is None or word not in ("within", "partly"):
+        return DONE if word == "within" else NO
+    if told.judged < wanted:
+        print(f"flexlab: not met: judged={wanted}: {told.judged} of {told.doubles} double cycles are judged", file=sys.stderr)
+        return UNMET
+    return DONE
+
+
 def observe(words: Namespace, folder: str) -> int:
+    wanted = least_judged(words.require)
     program, cluster = programs.flexray(words.flexray, "observe"), read_cluster(words.cluster)
     params, log = os.path.join(folder, "params.csv"), os.path.join(folder, "log.csv")
     hold(folder)
@@ -332,4 +399,4 @@ def observe(words: Namespace, folder: str) -> int:
         print(f"{'Files':<16}{folder}/: params.csv, log.csv, observed.csv, observed.txt")
         for path in drawn:
             print(f"{'Picture':<16}{path}")
-    return NO if told.over or told.verdict[0] == "no" else DONE
+    return status_of(told, wanted)

@@ -254,8 +254,8 @@ def parser() -> argparse.ArgumentParser:
                   "that are\nfound or that [asc] states; or CSV files, of which --columns names the columns.")
     observe = request("observe", "tell what a capture says for certain of the cluster's clocks",
                       "\nIt writes the log as `log` does, asks flexray observe, and prints a page in microseconds and ppm: limits of "
-                      "the skew,\nof each node's rate and offset terms. It ends in status 1 where the skew is over the precision, or "
-                      "the verdict\nis no.")
+                      "the skew,\nof each node's rate and offset terms. It ends in status 0 where the verdict is within, and else in "
+                      "status 1.")
     for one in (log, observe):
         one.add_argument("file", metavar="CAPTURE")
         one.add_argument("cluster", metavar="CLUSTER.toml")
@@ -266,6 +266,8 @@ def parser() -> argparse.ArgumentParser:
 
     observe.add_argument("-o", "--out", metavar="FOLDER", help="where files go (CAPTURE.lab beside the capture)")
     observe.add_argument("-p", "--pictures", action="store_true", help="draw skew, rates and offset terms, by gnuplot")
+    observe.add_argument("--require", metavar="judged=COUNT",
+                         help="status 0 where the verdict is partly, too, and status 7 where fewer double cycles are judged")
     observe.add_argument("--flexray", metavar="PROGRAM", help=PROGRAM_HELP)
 
     for one in (capture, log, observe):

@@ -1,6 +1,6 @@
 use Rattle.std.proofs.Common.{◌≡◌, ◌∙◌, ◌-◌, Some, length, slice_get, ap, sym}
 use Rattle.std.specs.Option.{option_copied}
-use Rattle.fr_findings.proofs.Windows.{first-last, from-first}
+use Rattle.fr_sightings.proofs.Windows.{first-last, from-first}
 use Rattle.fr_findings.proofs.census.missed_of.Goals as goal
 
 pub missed_between-requires-clause-from : goal.missed_between-requires-clause-from

@@ -47,5 +47,5 @@ returns g c =
     let f : NodeSpec → List ℕ = census_rows c.args.log.now c.args.seen.now in
     let nodes = c.args.params.now.nodes in
     let a = g.O.Sink.state c.loop-place.out in
-    let done : length nodes ≤ c.loop-place.place = omega (arith, c.node_count-place-end.ensures) in
+    let done : length nodes ≤ c.loop-place.place = omega (arith, c.node_count-place-end.ensures.value) in
     c.loop-place.invariant _ _ (subst (λ (l : List NodeSpec). Puts (Ok tt) a a (flat_map f l)) (sym (drop_all c.loop-place.place nodes done)) (puts_none a))

@@ -1,5 +1,5 @@
 use Rattle.std.proofs.Common.{◌≡◌, ◌≤◌, count_by, take}
-use Rattle.fr_findings.specs.Verdict.{is_sync_as}
+use Rattle.fr_sightings.specs.Sure.{is_sync_as}
 use Rattle.fr_findings.proofs.coverable.sync_count.Given as goal
 
 -- those among the nodes so far

@@ -5,7 +5,7 @@ use Rattle.fr_base.proofs.Putting.{puts_none}
 use Rattle.fr_findings.specs.Ground.{basis_in, offending_given}
 use Rattle.fr_findings.specs.Verdict.{no_progress}
 use Rattle.fr_findings.proofs.Printing.{none-known, none-told}
-use Rattle.fr_findings.proofs.Windows.{first-last, from-first}
+use Rattle.fr_sightings.proofs.Windows.{first-last, from-first}
 use Rattle.fr_findings.proofs.observing.put_all.Goals as goal
 
 pub put_doubles-requires-clause-seen : goal.put_doubles-requires-clause-seen

@@ -4,7 +4,7 @@ use Rattle.fr_base.proofs.Putting.{cut, then}
 use Rattle.fr_findings.specs.Census.{census_text}
 use Rattle.fr_findings.specs.Ground.{basis_in, offending_given}
 use Rattle.fr_observe.specs.Observing.{seen_doubles}
-use Rattle.fr_findings.specs.Sure.{are_numbers_sure}
+use Rattle.fr_sightings.specs.Sure.{are_numbers_sure}
 use Rattle.fr_findings.specs.Text.{all_told, end_told}
 use Rattle.fr_findings.specs.Verdict.{no_progress, told_of_doubles}
 use Rattle.fr_findings.specs.declared.progress.Progress.{Progress}

@@ -1,4 +1,5 @@
-use Rattle.std.proofs.Common.{◌≡◌, ◌∙◌, ℕ, ℤ, List, ◌++◌, Ok, w64, subst, rules}
+use Rattle.std.proofs.Common.{◌≡◌, ◌∙◌, ℕ, ℤ, ◌+◌, ◌*◌, List, ◌++◌, Ok, w64, ap, subst, rules}
+use Rattle.std.specs.Option.{option_or}
 use mir.Val.{of_z, to_z}
 use Rattle.std.specs.List.{flat_map}
 use Rattle.fr_base.specs.Device.{Puts}
@@ -6,7 +7,8 @@ use Rattle.fr_base.proofs.Putting.{cut, then}
 use Rattle.fr_observe.specs.Faults.{fault_row}
 use Rattle.fr_observe.specs.Observing.{both_say, double_rows}
 use Rattle.fr_findings.specs.Ground.{basis_in, double_in, with_both, with_faults}
-use Rattle.fr_findings.specs.Verdict.{double_told, faults_told, progress_told, sync_told}
+use Rattle.fr_findings.specs.Verdict.{double_told, faults_told, is_judged, over_row, over_told, progress_told, sync_told}
+use Rattle.fr_findings.specs.declared.progress.Progress.{Progress}
 use Rattle.fr_findings.proofs.Printing.{ended}
 use Rattle.fr_findings.proofs.writing.put_double.Goals as goal
 
@@ -50,4 +52,12 @@ returns-clause-progress g c =
     let b = basis_in c.args.ground.now in
     let d = double_in c.args.double.now in
     let faults_are : c.put_faults.new.progress ≡ with_faults b d c.args.progress.now = c.in_ok-put_faults.ensures.progress in
-    c.pass.ensures ∙ (λ i. with_both (faults_are i) d.number (c.both_say-even.ensures.even i) (c.both_say-even.ensures.odd i))
+    let judged : c.is_judged-judged.result ≡ is_judged b (sync_told b d c.args.progress.now.sync) =
+    c.is_judged-judged.ensures ∙ ap (λ (progress : Progress). is_judged b progress.sync) faults_are in
+    let over : c.first_over-over.result ≡ over_told b d =
+    c.first_over-over.ensures
+    ∙ (
+    λ i. option_or (over_row (2 * d.number) (c.skews_of-skews.ensures.even_low i) (c.both_say-even.ensures.even i))
+    (over_row (2 * d.number + 1) (c.skews_of-skews.ensures.odd_low i) (c.both_say-even.ensures.odd i))
+    ) in
+    c.pass.ensures ∙ (λ i. with_both (faults_are i) d.number (judged i) (c.both_say-even.ensures.even i) (c.both_say-even.ensures.odd i) (over i))

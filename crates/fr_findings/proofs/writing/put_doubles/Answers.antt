@@ -2,8 +2,7 @@ use Rattle.std.proofs.Common.{◌≡◌, ◌∙◌, ℕ, ◌+◌, ◌-◌, ◌*�
 use Rattle.fr_base.specs.Device.{Puts}
 use Rattle.fr_base.proofs.Putting.{puts_none}
 use Rattle.fr_sightings.specs.Senders.{sightings_in}
-use Rattle.fr_findings.specs.Ground.{basis_in, offending_given}
-use Rattle.fr_findings.specs.Counting.{AreFewCycles}
+use Rattle.fr_findings.specs.Ground.{CountsFew, basis_in, offending_given}
 use Rattle.fr_findings.specs.Verdict.{DoubleCycle, double_at, double_with, progress_of, progress_told, told_of_doubles}
 use Rattle.fr_findings.specs.declared.progress.Progress.{Progress}
 use Rattle.fr_findings.proofs.Printing.{before-first, before-next, double-is, few-none, few-told, offending-of, progress-end, progress-then, told-cut, told-end, told-then, up_to}
@@ -84,8 +83,8 @@ loop-double-preserved g c =
     let told : c.put_around.new.progress ≡ progress_told b d c.loop-double.progress = c.in_ok-put_around.ensures.progress in
     let before : ℕ = 2 * (double - c.args.first) in
     let more : before + 2 ≡ 2 * (double + 1 - c.args.first) = omega (arith, c.loop-double.invariant.started) in
-    let few : AreFewCycles (before + 2) c.put_around.new.progress.counts =
-    subst (λ (progress : Progress). AreFewCycles (before + 2) progress.counts) (sym told) (few-told before b d c.loop-double.progress c.loop-double.invariant.few) in record {
+    let few : CountsFew (before + 2) c.put_around.new.progress =
+    subst (CountsFew (before + 2)) (sym told) (few-told before b d c.loop-double.progress c.loop-double.invariant.few) in record {
       seen = record { timed = (look.ensures.timed ground.log.now c.loop-double.invariant.seen.timed).2; ascend = look.ensures.ascend; from = look.ensures.from };
       untimely = record { timed = (untimely.ensures.timed ground.log.now c.loop-double.invariant.untimely.timed).2; ascend = untimely.ensures.ascend; from = untimely.ensures.from };
       irregular = record {
@@ -99,7 +98,7 @@ loop-double-preserved g c =
       before = here_is ∙ before-next seen double;
       within = omega (arith, le);
       started = omega (arith, c.loop-double.invariant.started);
-      few = subst (λ (most : ℕ). AreFewCycles most c.put_around.new.progress.counts) more few;
+      few = subst (λ (most : ℕ). CountsFew most c.put_around.new.progress) more few;
       puts = λ result after put.
           c.loop-double.invariant.puts result after
           (told-then b seen frames d c.loop-double.progress double c.args.last result le is c.in_ok-put_around.ensures.puts

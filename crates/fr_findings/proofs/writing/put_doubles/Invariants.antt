@@ -2,8 +2,7 @@ use Rattle.std.proofs.Common.{◌≡◌, ℕ, ◌+◌, ◌-◌, ◌*◌, ◌≤�
 use Rattle.fr_base.specs.Device.{Puts, Sunk}
 use Rattle.fr_base.specs.declared.sink.PutFault.{PutFault}
 use Rattle.fr_sightings.specs.Senders.{sightings_in}
-use Rattle.fr_findings.specs.Ground.{AreWalked, basis_in, offending_given}
-use Rattle.fr_findings.specs.Counting.{AreFewCycles}
+use Rattle.fr_findings.specs.Ground.{AreWalked, CountsFew, basis_in, offending_given}
 use Rattle.fr_findings.specs.Verdict.{no_progress, progress_of, sightings_before, told_of_doubles}
 use Rattle.fr_findings.proofs.Printing.{up_to}
 use Rattle.fr_findings.proofs.writing.put_doubles.Given as goal
@@ -21,7 +20,7 @@ invariant-loop-double g l = record {
   before : l.before ≡ sightings_before l.seen l.double;
   within : l.double ≤ l.last + 1;
   started : l.first ≤ l.double;
-  few : AreFewCycles (2 * (l.double - l.first)) l.progress.counts;
+  few : CountsFew (2 * (l.double - l.first)) l.progress;
   puts : (result : Result (Unit {0}) PutFault) (after : Sunk)
       → Puts result (g.O.Sink.state l.out) after (told_of_doubles (basis_in l.ground) l.seen (offending_given l.offending) l.progress (up_to l.double l.last))
       → Puts result (g.O.Sink.state l.initial.out) after (told_of_doubles (basis_in l.ground) l.seen (offending_given l.offending) no_progress (up_to l.first l.last));
