@@ -332,8 +332,11 @@ class Pictures(unittest.TestCase):
         params = pictures.Files(self.top).params("sharp")
         # Those of docs/PRECISION.md, "Where frames are lost", computed there from the definitions, with a flutter of 250 ticks.
         self.assertEqual(pictures.bounds(params, 250, [True, False, True]), [36005494, 48007094, 75011786])
-        # Behind three double cycles in which all is heard it is the precision again.
-        self.assertEqual(pictures.bounds(params, 0, [False, True, True, True])[0::3], [48005594, 36003994])
+        # Those that `flexray bound PARAMS sharp FLUTTER lost 1` prints.
+        printed = [line.split() for line in pictures.Files(self.top).lines("examples/sharp/bound-lost/printed.txt")]
+        aparts = [int(line[2]) for line in printed if line[0] == "apart"]
+        self.assertEqual(len(aparts), 4)
+        self.assertEqual(pictures.bounds(params, 0, [False, True, True, True]), aparts)
 
 
 if __name__ == "__main__":
