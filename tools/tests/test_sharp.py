@@ -134,7 +134,7 @@ class Pages(Case):
                       page)
         told = report.read_series(self.read("a.lab", "series.csv")).sharp
         self.assertIn(f"In sync yes, from double cycle {told.synced} on (cycle {2 * told.synced}, {10 * told.synced}.000 ms), "
-                      "and still so at the end", page)
+                      "and still in sync at the end", page)
         skew, cycle, macrotick = told.greatest
         self.assertRegex(page, rf"Skew in sync {skew * 25 / 10 ** 9:.3f} us at most since it was first in sync, [\d.]+ % of the "
                                rf"precision \(cycle {cycle}, macrotick {macrotick}\) Within yes")
@@ -190,7 +190,7 @@ class Pages(Case):
         self.assertIn("PROVED IN PART, of 62 double cycles from there (620.000 ms), since C1 fails and the rates of all may walk "
                       f"together: not from cycle {2 * (first + 62)} on", page)
         self.assertIn("C1 asks for 12 at least", page)
-        self.assertRegex(page, r"Later skew .*? % of the precision; 99 % of cycles")
+        self.assertRegex(page, r"Later skew .*? % of the classical bound; 99 % of cycles")
 
     @needs_series
     def test_a_walk_that_lasts_for_no_double_cycle(self):
@@ -206,7 +206,7 @@ class Pages(Case):
                         ("gdActionPointOffset = 4", "gdActionPointOffset = 1")) + TWO_FACED
         page = self.page(text)
         self.assertIn("Covered NO: nothing is promised of this run's precision check C3 fails, see below", page)
-        self.assertRegex(page, r"Later skew .*? % of the precision; 99 % of cycles")
+        self.assertRegex(page, r"Later skew .*? % of the classical bound; 99 % of cycles")
         ways = re.findall(r"\d\. (all checks hold with .*?)(?=\d\. all|Frames)", page)
         self.assertEqual(len(ways), 2, page)
         skews = []
@@ -353,7 +353,7 @@ class Table(Case):
     def test_another_flutter(self):
         page = self.table(produced(SHORT), "--flutter-ns", "50")
         bounds = self.told(2000000)
-        self.assertRegex(page, rf"\nsharp, no arbitrary +{bounds['alone'].precision * 25 / 10 ** 9:.3f} +\S+ +C1 +560 ")
+        self.assertRegex(page, rf"\nproved, no arbitrary +{bounds['alone'].precision * 25 / 10 ** 9:.3f} +\S+ +C1 +560 ")
         self.assertIn("for 560 double cycles from the first one on (5600.000 ms), since C1 fails", self.one_line(page))
         page = self.one_line(self.table(produced(*WALK, SHORT) + EVEN_AND_ODD, "--flutter-ns", "249"))
         self.assertIn("nothing is proved of this run, whose delays flutter by 0.250 us", page)
