@@ -67,6 +67,7 @@ pub mod TraceSettles
 pub mod TraceWorked
 pub mod JoinBounds
 pub mod FromLossyFiles
+pub mod LossBurstLaws
 pub mod LossesWorked
 pub mod JoinWorked
 pub mod SharpListened

@@ -10,7 +10,7 @@ use Rattle.fr_bound.specs.Bounds.{arrival_error, cycle_change, longest_micro}
 use Rattle.fr_bound.specs.declared.settling.Spread.{Spread}
 use Rattle.fr_sharp.specs.Among.{every_second, lost_spread, next_lost_spread}
 use Rattle.fr_sharp.specs.LossCosts.{apart_in_a_row, heard_behind, near_in_a_row, HearsEverySecond, IsBack, IsGreatest, IsGreatestEverySecond}
-use Rattle.fr_sharp.specs.LossSteps.{apart_by}
+use Rattle.fr_sharp.specs.LossSteps.{heard_apart}
 use Rattle.fr_sharp.specs.Losses.{lost_apart}
 use Rattle.fr_sharp.specs.SharpBounds.{odd_spread, precision_by, sharp_lambda, sharp_pi, sharp_precision, wide_change}
 use Rattle.fr_sharp.specs.SharpSettling.{sharply_near_in}
@@ -32,16 +32,16 @@ heard_then count n le = grind (arith, nat_tests)
 abbrev Near : Values → Spread → ℕ
 Near p s = sharply_near_in p s
 
-abbrev Far : Values → Spread → ℕ
+abbrev pub Far : Values → Spread → ℕ
 Far p s = precision_by p s.starts s.lengths
 
-far_grows : (p : Values) (s t : Spread) → IsBelow s t → Far p s ≤ Far p t
+pub far_grows : (p : Values) (s t : Spread) → IsBelow s t → Far p s ≤ Far p t
 far_grows p s t below = step s.starts s.lengths t.starts t.lengths (cycle_change p) (longest_micro p) below.start below.long
   where
     step : (s l t m j q : ℕ) → s ≤ t → l ≤ m → s + l + (l + 2 * j) + 2 * q ≤ t + m + (m + 2 * j) + 2 * q
     step s l t m j q a b = omega (arith, a, b)
 
-starts_fit : (p : Values) (s t : Spread) → IsBelow s t → s.starts + longest_micro p ≤ Far p t
+pub starts_fit : (p : Values) (s t : Spread) → IsBelow s t → s.starts + longest_micro p ≤ Far p t
 starts_fit p s t below = step s.starts t.starts t.lengths (cycle_change p) (longest_micro p) below.start
   where
     step : (s t m j q : ℕ) → s ≤ t → s + q ≤ t + m + (m + 2 * j) + 2 * q
@@ -50,18 +50,18 @@ starts_fit p s t below = step s.starts t.starts t.lengths (cycle_change p) (long
 greater_of : (a b c : ℕ) → a ≤ c → b ≤ c → max a b ≤ c
 greater_of a b c one two = grind arith
 
-pub apart_is : (p : Values) (flutter : ℕ) (whole : ℕ → Bool) (k : ℕ) (heard : Bool) → whole k ≡ heard → lost_apart p flutter whole k ≡ apart_by heard p flutter (lost_spread p flutter whole k)
+pub apart_is : (p : Values) (flutter : ℕ) (whole : ℕ → Bool) (k : ℕ) (heard : Bool) → whole k ≡ heard → lost_apart p flutter whole k ≡ heard_apart heard p flutter (lost_spread p flutter whole k)
 apart_is p flutter whole k heard is =
     ap (λ (s : Spread). max (Far p (lost_spread p flutter whole k)) (s.starts + longest_micro p)) (next_is p flutter whole k heard is)
 
 -- macroticks lie no further apart than a spread says that this one and the next one lie below
-apart_under : (p : Values) (flutter : ℕ) (whole : ℕ → Bool) (k : ℕ) (t : Spread) → IsBelow (lost_spread p flutter whole k) t → IsBelow (lost_spread p flutter whole (suc k)) t
+pub apart_under : (p : Values) (flutter : ℕ) (whole : ℕ → Bool) (k : ℕ) (t : Spread) → IsBelow (lost_spread p flutter whole k) t → IsBelow (lost_spread p flutter whole (suc k)) t
     → lost_apart p flutter whole k ≤ Far p t
 apart_under p flutter whole k t here next =
     greater_of (Far p (lost_spread p flutter whole k)) ((lost_spread p flutter whole (suc k)).starts + longest_micro p) (Far p t) (far_grows p (lost_spread p flutter whole k) t here)
     (starts_fit p (lost_spread p flutter whole (suc k)) t next)
 
-far_within : (p : Values) (flutter : ℕ) (whole : ℕ → Bool) (k : ℕ) → Far p (lost_spread p flutter whole k) ≤ lost_apart p flutter whole k
+pub far_within : (p : Values) (flutter : ℕ) (whole : ℕ → Bool) (k : ℕ) → Far p (lost_spread p flutter whole k) ≤ lost_apart p flutter whole k
 far_within p flutter whole k = le-max_left (Far p (lost_spread p flutter whole k)) ((lost_spread p flutter whole (suc k)).starts + longest_micro p)
 
 next_within : (p : Values) (flutter : ℕ) (whole : ℕ → Bool) (k : ℕ) → (lost_spread p flutter whole (suc k)).starts + longest_micro p ≤ lost_apart p flutter whole k
@@ -125,14 +125,14 @@ module _ (p : Values) (flutter : ℕ) where
         subst At whole (falls count (n - count))
   ]
 
-  pub peak_behind : (count : ℕ) → IsGreatest (apart_in_a_row p flutter count) (apart_by true p flutter (at count count))
+  pub peak_behind : (count : ℕ) → IsGreatest (apart_in_a_row p flutter count) (heard_apart true p flutter (at count count))
   peak_behind count =
       let is = apart_is p flutter (heard_behind count) count true (heard_then count count (itself count)) in
       record {
         greatest = λ n.
             let one = apart_under p flutter (heard_behind count) n (at count count) (under count n) (under count (suc n)) in
             let other = far_within p flutter (heard_behind count) count in
-            up_to (lost_apart p flutter (heard_behind count) n) (Far p (at count count)) (lost_apart p flutter (heard_behind count) count) (apart_by true p flutter (at count count)) one other is;
+            up_to (lost_apart p flutter (heard_behind count) n) (Far p (at count count)) (lost_apart p flutter (heard_behind count) count) (heard_apart true p flutter (at count count)) one other is;
         place = count;
         reached = is;
       }
@@ -318,16 +318,16 @@ module _ (p : Values) (flutter : ℕ) where
   every_under : (whole : ℕ → Bool) → HearsEverySecond whole → (k : ℕ) → IsBelow (lost_spread p flutter whole k) widest
   every_under whole every k = held_under whole k (holds p flutter whole every k)
 
-  pub every_peak : IsGreatestEverySecond (lost_apart p flutter) (apart_by true p flutter widest)
+  pub every_peak : IsGreatestEverySecond (lost_apart p flutter) (heard_apart true p flutter widest)
   every_peak = record {
     greatest = λ whole every k.
         let one = apart_under p flutter whole k widest (every_under whole every k) (every_under whole every (suc k)) in
         let other = le-max_left (Far p widest) ((next_lost_spread true p flutter widest).starts + longest_micro p) in
-        up_to (lost_apart p flutter whole k) (Far p widest) (apart_by true p flutter widest) one other;
+        up_to (lost_apart p flutter whole k) (Far p widest) (heard_apart true p flutter widest) one other;
     heard = every_other;
     every = hears_every_other;
     place = 3;
-    reached = apart_is p flutter every_other 3 true heard_fourth ∙ ap (apart_by true p flutter) widest_is;
+    reached = apart_is p flutter every_other 3 true heard_fourth ∙ ap (heard_apart true p flutter) widest_is;
   }
     where
       up_to : (a b c : ℕ) → a ≤ b → b ≤ c → a ≤ c
@@ -346,7 +346,7 @@ module _ (p : Values) (flutter : ℕ) where
   }
 
   -- it is what a loss adds to the sharper precision, and lambda
-  pub every_peak_is : apart_by true p flutter widest ≡ every_second p flutter
+  pub every_peak_is : heard_apart true p flutter widest ≡ every_second p flutter
   every_peak_is =
       step widest.starts widest.lengths (sharp_pi false p flutter) (sharp_lambda false p flutter) (added p flutter) (cycle_change p) (arrival_error p) (longest_micro p) widest_starts widest_lengths (lambda_by p flutter)
       (ends (Far p widest) ((next_lost_spread true p flutter widest).starts + longest_micro p) (starts_fit p (next_lost_spread true p flutter widest) widest (whole_falls p flutter widest (subst (IsWide p flutter) widest_is (always_wide p flutter every_other 3)))))

@@ -16,7 +16,7 @@ use Rattle.fr_sharp.specs.declared.loss_costs.LossCost.{LossCost}
 use Rattle.fr_sharp.specs.declared.loss_costs.SecondCost.{SecondCost}
 use Rattle.fr_sharp.specs.Among.{lost_spread, next_lost_spread}
 use Rattle.fr_sharp.specs.LossCosts.{apart_in_a_row, heard_behind, limits_hold, near_in_a_row, EverySecondIsReached, HoldInARow, IsBack, IsGreatest, IsGreatestEverySecond, IsLongest, IsLongestRow, IsLossCost, IsSecondCost, OneLongest, OneLossCost, OneSecondCost, SomeLongest, SomeLossCost, SomeSecondCost}
-use Rattle.fr_sharp.specs.LossSteps.{apart_by}
+use Rattle.fr_sharp.specs.LossSteps.{heard_apart}
 use Rattle.fr_sharp.specs.SharpBounds.{sharp_lambda, sharp_pi, sharp_precision}
 use Rattle.fr_sharp.specs.SharpChecks.{sharp_holds_of, sharp_right_of}
 use Rattle.fr_sharp.specs.SharpSettling.{sharply_near_in}
@@ -111,7 +111,7 @@ module _ (p : Values) (flutter : ℕ) where
   unfolding lost_spread
   never_next n = lost_rises p flutter (lost_spread p flutter never n)
 
-  never_rises : (n more : ℕ) → IsBelow (lost_spread p flutter never n) (lost_spread p flutter never (n + more))
+  pub never_rises : (n more : ℕ) → IsBelow (lost_spread p flutter never n) (lost_spread p flutter never (n + more))
   never_rises n zero =
       let same : n ≡ n + 0 = omega arith in
       let At : ℕ → Type 0 = λ m. IsBelow (lost_spread p flutter never n) (lost_spread p flutter never m) in
@@ -298,7 +298,7 @@ one_longest p flutter (Some a) (Some b) here there = elim (order a b) [
 
 -- ---- and is there
 
-pub cost_of_row : (p : Values) (flutter count peak reach : ℕ) → IsSane p → 1 ≤ count → peak ≡ apart_by true p flutter (lost_spread p flutter (heard_behind count) count)
+pub cost_of_row : (p : Values) (flutter count peak reach : ℕ) → IsSane p → 1 ≤ count → peak ≡ heard_apart true p flutter (lost_spread p flutter (heard_behind count) count)
     → reach ≡ sharply_near_in p (lost_spread p flutter (heard_behind count) count) → IsLossCost p flutter count (record { peak = peak; reach = reach; back = count + 2 })
 cost_of_row p flutter count peak reach sane some peak_is reach_is = record {
   peak = subst (IsGreatest (apart_in_a_row p flutter count)) (sym peak_is) (peak_behind p flutter count);
@@ -309,11 +309,11 @@ cost_of_row p flutter count peak reach sane some peak_is reach_is = record {
 pub some_loss_cost : SomeLossCost
 some_loss_cost p flutter count sane some =
     let s : Spread = lost_spread p flutter (heard_behind count) count in (
-      record { peak = apart_by true p flutter s; reach = sharply_near_in p s; back = count + 2 },
+      record { peak = heard_apart true p flutter s; reach = sharply_near_in p s; back = count + 2 },
       record { peak = peak_behind p flutter count; reach = reach_behind p flutter count sane; back = back_behind p flutter count some },
     )
 
-pub cost_of_widest : (p : Values) (flutter : ℕ) (cost : SecondCost) → IsSane p → cost.peak ≡ apart_by true p flutter (widest_spread p flutter) → cost.reach ≡ sharply_near_in p (widest_spread p flutter) → IsSecondCost p flutter cost
+pub cost_of_widest : (p : Values) (flutter : ℕ) (cost : SecondCost) → IsSane p → cost.peak ≡ heard_apart true p flutter (widest_spread p flutter) → cost.reach ≡ sharply_near_in p (widest_spread p flutter) → IsSecondCost p flutter cost
 cost_of_widest p flutter cost sane peak reach = record {
   peak = subst (IsGreatestEverySecond _) (sym peak) (every_peak p flutter);
   reach = subst (IsGreatestEverySecond _) (sym reach) (every_reach p flutter sane);
@@ -322,11 +322,11 @@ cost_of_widest p flutter cost sane peak reach = record {
 pub some_second_cost : SomeSecondCost
 some_second_cost p flutter sane =
     let s : Spread = widest_spread p flutter in
-    (record { peak = apart_by true p flutter s; reach = sharply_near_in p s }, record { peak = every_peak p flutter; reach = every_reach p flutter sane })
+    (record { peak = heard_apart true p flutter s; reach = sharply_near_in p s }, record { peak = every_peak p flutter; reach = every_reach p flutter sane })
 
 pub every_second_is_reached : EverySecondIsReached
 every_second_is_reached p flutter cost sane is =
-    one_every _ cost.peak (apart_by true p flutter (widest_spread p flutter)) is.peak (every_peak p flutter) ∙ every_peak_is p flutter
+    one_every _ cost.peak (heard_apart true p flutter (widest_spread p flutter)) is.peak (every_peak p flutter) ∙ every_peak_is p flutter
 
 -- the first number of which a test fails
 first_failing : (test : ℕ → Bool) (n : ℕ) → ((k : ℕ) → k < n → test k ≡ true) ⊎ ((m : ℕ) × (test m ≡ false) × ((k : ℕ) → k < m → test k ≡ true))

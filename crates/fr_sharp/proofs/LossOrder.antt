@@ -148,7 +148,7 @@ module _ (p : Values) (flutter : ℕ) where
   always_wide whole (suc k) = wide_next (whole k) (lost_spread p flutter whole k) (always_wide whole k)
 
   -- where more is heard they lie below
-  whole_below_lost : (s : Spread) → IsWide p flutter s → IsBelow (next_lost_spread true p flutter s) (next_lost_spread false p flutter s)
+  pub whole_below_lost : (s : Spread) → IsWide p flutter s → IsBelow (next_lost_spread true p flutter s) (next_lost_spread false p flutter s)
   whole_below_lost s wide = through (next_lost_spread true p flutter s) s (next_lost_spread false p flutter s) (whole_falls s wide) (lost_rises s)
 
   more_below : (heard other : Bool) (s : Spread) → (other ≡ true → heard ≡ true) → IsWide p flutter s → IsBelow (next_lost_spread heard p flutter s) (next_lost_spread other p flutter s)

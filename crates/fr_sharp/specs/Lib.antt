@@ -9,6 +9,7 @@ pub mod Hearing
 pub mod JoinedFiles
 pub mod JoinedHistories
 pub mod Lengths
+pub mod LossBursts
 pub mod LossCosts
 pub mod LossSteps
 pub mod Losses

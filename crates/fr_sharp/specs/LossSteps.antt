@@ -7,8 +7,8 @@ use Rattle.fr_sharp.specs.Among.{next_lost_spread}
 use Rattle.fr_sharp.specs.SharpBounds.{precision_by}
 
 -- how far starts and even lengths may lie apart
-abbrev pub spread_of : ℕ → ℕ → Spread
-spread_of starts lengths = record { starts = starts; lengths = lengths }
+abbrev pub spread_with : ℕ → ℕ → Spread
+spread_with starts lengths = record { starts = starts; lengths = lengths }
 
 -- so far in a double cycle, and how many passed before it since one in sharp sync
 pub record LossDouble : Type 0 where
@@ -31,6 +31,6 @@ most_lost = 100_000_000_000_000_000_000_000
 
 -- how far macroticks may lie apart in a double cycle, by whether all is heard in it: as far as its starts and lengths say, or
 -- as the next starts do
-abbrev pub apart_by : Bool → Values → ℕ → Spread → ℕ
-apart_by whole p flutter s =
+abbrev pub heard_apart : Bool → Values → ℕ → Spread → ℕ
+heard_apart whole p flutter s =
     max (precision_by p s.starts s.lengths) ((next_lost_spread whole p flutter s).starts + longest_micro p)

@@ -79,7 +79,7 @@ pub use listening::listeners_come_near;
 pub use long_run::a_long_walk;
 pub use losing::{histories_keep_through_losses, what_is_heard_suffices};
 pub use loss_checks::{LossSides, limits_hold, loss_side};
-pub use loss_cost_laws::{costs_are_one, costs_are_there};
+pub use loss_cost_laws::{bursts_keep_the_peak, costs_are_one, costs_are_there};
 pub use loss_costs::{LossCost, SecondCost, every_second_cost, longest_loss, loss_cost};
 pub use loss_steps::LossSpread;
 pub use lossy_files::{files_keep_through_losses, files_that_lose_frames, lossy_files_give_runs};

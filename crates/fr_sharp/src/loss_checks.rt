@@ -42,7 +42,8 @@ pub fn loss_side(params: &Params, flutter: u64, reach: u128, number: u8) -> Loss
 fn further(params: &Params, number: u8, reach: u128) -> u128
     requires number { IsSettleCheck number }
     requires reach { reach ≤ most_lost }
-    ensures value { (flutter : ℕ) → sharp_right_of number flutter reach params.now ≡ sharp_right_of number flutter 0 params.now + result }
+    ensures value { (flutter : ℕ) →
+        sharp_right_of number flutter reach params.now ≡ sharp_right_of number flutter 0 params.now + result }
     ensures most { result ≤ 16_000 * most_lost }
 {
     match number {

@@ -1,3 +1,4 @@
+ghost use Rattle.fr_sharp.specs.LossBursts.{BurstsCostNoMore, BurstsKeepThePeak};
 ghost use Rattle.fr_sharp.specs.LossCosts.{EverySecondIsReached, OneLongest, OneLossCost, OneSecondCost, SomeLongest, SomeLossCost, SomeSecondCost};
 
 /// A law: what losses cost, in ticks, is one answer, and so is how many double cycles in a row the limits bear.
@@ -14,4 +15,13 @@ pub fn costs_are_there()
     ensures second { SomeSecondCost }
     ensures longest { SomeLongest }
     ensures reached { EverySecondIsReached }
+{}
+
+/// The promise where frames are lost in bursts, each of no more than so many double cycles and behind two in which all is
+/// heard: no macroticks lie further apart than the peak of so many in a row, in ticks, and no action points than their
+/// reach. So a run of files that are covered through losses with that reach keeps within that peak, from each double
+/// cycle in sharp sync on and as long as the walk lasts: no term is cut or missing, and every correct node is active.
+pub fn bursts_keep_the_peak()
+    ensures cost { BurstsCostNoMore }
+    ensures keep { BurstsKeepThePeak }
 {}

@@ -3,7 +3,7 @@ ghost use Rattle.fr_bound.specs.Bounds.{cycle_change, longest_micro};
 ghost use Rattle.fr_cluster.specs.Values.{amount};
 ghost use Rattle.fr_cluster.specs.declared.names.ParamName.TheVariants as name;
 ghost use Rattle.fr_sharp.specs.Among.{lost_spread, next_lost_spread};
-ghost use Rattle.fr_sharp.specs.LossSteps.{LossDouble, IsReckoned, apart_by, most_lost, most_passed, spread_of};
+ghost use Rattle.fr_sharp.specs.LossSteps.{LossDouble, IsReckoned, heard_apart, most_lost, most_passed, spread_with};
 ghost use Rattle.fr_sharp.specs.SharpBounds.{last_action, most_flutter, odd_spread, precision_by, steady_error};
 ghost use Rattle.fr_sharp.specs.SharpSettling.{sharply_near_in};
 
@@ -24,7 +24,7 @@ pub struct LossSpread {
 impl Model for LossSpread {
     ghost Value = { LossDouble };
 
-    ghost view = { λ s. record { spread = spread_of s.starts s.lengths; passed = s.passed } };
+    ghost view = { λ s. record { spread = spread_with s.starts s.lengths; passed = s.passed } };
 
     ghost invariant = { λ s. IsReckoned s.starts s.lengths s.passed };
 }
@@ -59,7 +59,7 @@ impl LossSpread {
     /// How far macroticks may lie apart in this double cycle, by whether all is heard in it, in ticks.
     pub fn apart(&self, params: &Params, flutter: u64, whole: bool) -> u128
         requires { flutter ≤ most_flutter }
-        ensures value { result ≡ apart_by whole params.now flutter self.now.spread }
+        ensures value { result ≡ heard_apart whole params.now flutter self.now.spread }
         ensures most { result ≤ most_lost }
     {
         let (next_starts, _) = next(params, flutter, whole, self.starts, self.lengths);
@@ -83,7 +83,8 @@ fn next(params: &Params, flutter: u64, whole: bool, starts: u128, lengths: u128)
     requires starts { starts ≤ 30_000_100_000_000_000_000_000 }
     requires lengths { lengths ≤ 14_000_000_000_000_000 }
     requires flutter { flutter ≤ most_flutter }
-    ensures next { spread_of result.0 result.1 ≡ next_lost_spread whole params.now flutter (spread_of starts lengths) }
+    ensures next { spread_with result.0 result.1 ≡
+        next_lost_spread whole params.now flutter (spread_with starts lengths) }
     ensures starts { result.0 ≤ starts + 30_000_000_000_000_000 }
     ensures lengths { result.1 ≤ lengths + 13_000_000_000 }
 {

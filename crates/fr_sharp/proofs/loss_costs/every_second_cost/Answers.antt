@@ -1,6 +1,6 @@
 use Rattle.std.proofs.Common.{◌≡◌, ◌∙◌, true, false, ap}
 use Rattle.fr_sharp.specs.Among.{next_lost_spread}
-use Rattle.fr_sharp.specs.LossSteps.{apart_by}
+use Rattle.fr_sharp.specs.LossSteps.{heard_apart}
 use Rattle.fr_sharp.specs.SharpSettling.{sharply_near_in}
 use Rattle.fr_sharp.proofs.LossLemmas.{every_other, widest}
 use Rattle.fr_sharp.proofs.LossNumbers.{cost_of_widest, first_is}
@@ -13,4 +13,4 @@ returns-clause-is c =
     let is : c.step-3.new.self.spread ≡ widest p t =
     c.step-3.ensures.spread
     ∙ ap (next_lost_spread false p t) (c.step-2.ensures.spread ∙ ap (next_lost_spread true p t) (c.step.ensures.spread ∙ ap (next_lost_spread false p t) (c.first-spread.ensures.spread every_other ∙ first_is p t every_other))) in
-    cost_of_widest p t (record { peak = c.apart.result; reach = c.near.result }) c.value-macros.ensures.sane (c.apart.ensures.value ∙ ap (apart_by true p t) is) (c.near.ensures.value ∙ ap (sharply_near_in p) is)
+    cost_of_widest p t (record { peak = c.apart.result; reach = c.near.result }) c.value-macros.ensures.sane (c.apart.ensures.value ∙ ap (heard_apart true p t) is) (c.near.ensures.value ∙ ap (sharply_near_in p) is)

@@ -1,5 +1,5 @@
 use Rattle.std.proofs.Common.{◌∙◌, true, ap}
-use Rattle.fr_sharp.specs.LossSteps.{apart_by}
+use Rattle.fr_sharp.specs.LossSteps.{heard_apart}
 use Rattle.fr_sharp.specs.SharpSettling.{sharply_near_in}
 use Rattle.fr_sharp.proofs.LossNumbers.{cost_of_row}
 use Rattle.fr_sharp.proofs.loss_costs.loss_cost.Goals as goal
@@ -8,4 +8,4 @@ pub returns-clause-is : goal.returns-clause-is
 returns-clause-is c =
     let p = c.args.params.now in
     let t = c.args.flutter in
-    cost_of_row p t c.args.count c.apart.result c.near.result c.value-macros.ensures.sane c.requires.from (c.apart.ensures.value ∙ ap (apart_by true p t) c.behind-spread.ensures) (c.near.ensures.value ∙ ap (sharply_near_in p) c.behind-spread.ensures)
+    cost_of_row p t c.args.count c.apart.result c.near.result c.value-macros.ensures.sane c.requires.from (c.apart.ensures.value ∙ ap (heard_apart true p t) c.behind-spread.ensures) (c.near.ensures.value ∙ ap (sharply_near_in p) c.behind-spread.ensures)

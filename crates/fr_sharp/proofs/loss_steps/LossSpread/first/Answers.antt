@@ -1,8 +1,8 @@
 use Rattle.std.proofs.Common.{◌∙◌, ap₂}
 use Rattle.fr_sharp.specs.Among.{lost_spread}
-use Rattle.fr_sharp.specs.LossSteps.{spread_of}
+use Rattle.fr_sharp.specs.LossSteps.{spread_with}
 use Rattle.fr_sharp.proofs.loss_steps.LossSpread.first.Goals as goal
 
 pub returns-clause-spread : goal.returns-clause-spread
 unfolding lost_spread
-returns-clause-spread c = λ whole. ap₂ spread_of (c.from.ensures ∙ c.pi.ensures.value) (c.from-2.ensures ∙ c.lambda.ensures.value)
+returns-clause-spread c = λ whole. ap₂ spread_with (c.from.ensures ∙ c.pi.ensures.value) (c.from-2.ensures ∙ c.lambda.ensures.value)

@@ -1,0 +1,140 @@
+-- Losses in bursts cost no more than one burst alone.
+use Rattle.std.proofs.Common.{◌≡◌, ℕ, ℤ, zero, suc, ◌+◌, ◌-◌, ◌<◌, ◌≤◌, Bool, true, false, pos, inl, inr, refl, ap, sym, subst, arith}
+use Rattle.std.specs.Prelude.{◌≤ℤ◌, max}
+use Rattle.std.proofs.lemmas.Bool.{cases_Bool}
+use Rattle.std.proofs.lemmas.Int.{ints}
+use Rattle.fr_cluster.specs.Setting.{Setting}
+use Rattle.fr_cluster.specs.Values.{Values}
+use Rattle.fr_bound.specs.Bounds.{longest_micro}
+use Rattle.fr_bound.specs.declared.settling.Spread.{Spread}
+use Rattle.fr_coverage.specs.Decided.{setting_of}
+use Rattle.fr_history.specs.Cycles.{Cycles}
+use Rattle.fr_sharp.specs.Among.{lost_spread, next_lost_spread}
+use Rattle.fr_sharp.specs.LossBursts.{BurstsCostNoMore, BurstsKeepThePeak, IsInBurst, LosesInBursts}
+use Rattle.fr_sharp.specs.LossCosts.{heard_behind}
+use Rattle.fr_sharp.specs.Losses.{lost_apart}
+use Rattle.fr_sharp.specs.LossStatement.{whole_in}
+use Rattle.fr_sharp.specs.SharpHistories.{KeepsApart}
+use Rattle.fr_sharp.specs.SharpSettling.{sharply_near_in}
+use Rattle.fr_sharp.proofs.AmongNumbers.{heard_again, next_is}
+use Rattle.fr_sharp.proofs.FromLossyFiles.{covered_files_keep_through_losses}
+use Rattle.fr_sharp.proofs.JoinBounds.{near_grows}
+use Rattle.fr_sharp.proofs.LossLemmas.{apart_under, far_grows, far_within, Far}
+use Rattle.fr_sharp.proofs.LossNumbers.{never, never_rises, same_yet}
+use Rattle.fr_sharp.proofs.LossOrder.{always_wide, below_itself, calm, later_below, next_below, through, whole_below_lost, whole_falls, IsBelow, IsWide}
+
+module _ (p : Values) (flutter : ℕ) where
+  abbrev by_never : ℕ → Spread
+  by_never n = lost_spread p flutter never n
+
+  same_below : (s t : Spread) → s.starts ≡ t.starts → s.lengths ≡ t.lengths → IsBelow s t
+  same_below s t one other = record { start = omega (arith, one); long = omega (arith, other) }
+
+  -- behind two double cycles in which all is heard, or at first
+  calm_below : (whole : ℕ → Bool) (start : ℕ) → ((k : ℕ) → k < start → start ≤ k + 2 → whole k ≡ true) → IsBelow (lost_spread p flutter whole start) (calm p flutter)
+  unfolding lost_spread
+  calm_below whole zero heard = below_itself (calm p flutter)
+  calm_below whole (suc zero) heard =
+      let Under : Bool → Type 0 = λ b. IsBelow (next_lost_spread b p flutter (calm p flutter)) (calm p flutter) in
+      subst Under (sym (heard 0 (omega arith) (omega arith))) (below_itself (calm p flutter))
+  calm_below whole (suc (suc k)) heard =
+      let settled = heard_again p flutter whole k (heard k (omega arith) (omega arith)) (heard (suc k) (omega arith) (omega arith)) in
+      same_below (lost_spread p flutter whole (suc (suc k))) (calm p flutter) settled.1 settled.0
+
+  -- whatever is heard, a step leads no further than a loss does
+  no_further : (heard : Bool) (s t : Spread) (whole : ℕ → Bool) (k : ℕ) → s ≡ lost_spread p flutter whole k → IsBelow s t → IsBelow (next_lost_spread heard p flutter s) (next_lost_spread false p flutter t)
+  no_further true s t whole k is below =
+      let wide = subst (IsWide p flutter) (sym is) (always_wide p flutter whole k) in
+      through (next_lost_spread true p flutter s) (next_lost_spread false p flutter s) (next_lost_spread false p flutter t) (whole_below_lost p flutter s wide) (next_below p flutter false s t below)
+  no_further false s t whole k is below = next_below p flutter false s t below
+
+  -- from a calm double cycle on
+  from_calm : (whole : ℕ → Bool) (start n : ℕ) → IsBelow (lost_spread p flutter whole start) (calm p flutter) → IsBelow (lost_spread p flutter whole (start + n)) (by_never n)
+  unfolding lost_spread
+  from_calm whole start zero below =
+      let same : start ≡ start + 0 = omega arith in
+      let At : ℕ → Type 0 = λ m. IsBelow (lost_spread p flutter whole m) (calm p flutter) in
+      subst At same below
+  from_calm whole start (suc n) below =
+      let same : suc (start + n) ≡ start + suc n = omega arith in
+      let At : ℕ → Type 0 = λ m. IsBelow (lost_spread p flutter whole m) (by_never (suc n)) in
+      subst At same (no_further (whole (start + n)) (lost_spread p flutter whole (start + n)) (by_never n) whole (start + n) refl (from_calm whole start n below))
+
+  -- every spread lies below that of so many in a row
+  module _ (count : ℕ) (whole : ℕ → Bool) (bursts : LosesInBursts whole count) where
+    behind_loss : (k : ℕ) → IsInBurst whole count k → IsBelow (lost_spread p flutter whole (suc k)) (by_never count)
+    behind_loss k burst =
+        let n : ℕ = suc k - burst.start in
+        let from = burst.from in
+        let within = burst.within in
+        let here : burst.start + n ≡ suc k = omega (arith, from) in
+        let there : n + (count - n) ≡ count = omega (arith, from, within) in
+        let one : IsBelow (lost_spread p flutter whole (burst.start + n)) (by_never n) = from_calm whole burst.start n (calm_below whole burst.start burst.calm) in
+        let At : ℕ → Type 0 = λ m. IsBelow (lost_spread p flutter whole m) (by_never n) in
+        let Up : ℕ → Type 0 = λ m. IsBelow (by_never n) (by_never m) in
+        through (lost_spread p flutter whole (suc k)) (by_never n) (by_never count) (subst At here one) (subst Up there (never_rises p flutter n (count - n)))
+
+    in_bursts : (k : ℕ) → IsBelow (lost_spread p flutter whole k) (by_never count)
+    in_bursts zero =
+        let first = from_calm whole 0 0 (calm_below whole 0 (λ k less le. absurd (omega (arith, less)))) in
+        let none : 0 + count ≡ count = omega arith in
+        let Up : ℕ → Type 0 = λ m. IsBelow (by_never 0) (by_never m) in
+        through (lost_spread p flutter whole 0) (by_never 0) (by_never count) first (subst Up none (never_rises p flutter 0 count))
+    in_bursts (suc k) = elim (cases_Bool (whole k)) [
+      | inl heard ↦
+          let s : Spread = lost_spread p flutter whole k in
+          let next : lost_spread p flutter whole (suc k) ≡ next_lost_spread true p flutter s = next_is p flutter whole k true heard in
+          let Under : Spread → Type 0 = λ t. IsBelow t (by_never count) in
+          subst Under (sym next) (through (next_lost_spread true p flutter s) s (by_never count) (whole_falls p flutter s (always_wide p flutter whole k)) (in_bursts k))
+      | inr lost ↦ behind_loss k (bursts k lost)
+    ]
+
+pub bursts_cost_no_more : BurstsCostNoMore
+bursts_cost_no_more p flutter count whole cost k sane bursts is =
+    let top : Spread = lost_spread p flutter never count in
+    let same : lost_spread p flutter (heard_behind count) count ≡ top = same_yet p flutter count count (omega arith) in
+    let here = in_bursts p flutter count whole bursts k in
+    let next = in_bursts p flutter count whole bursts (suc k) in
+    let far : lost_apart p flutter whole k ≤ Far p top = apart_under p flutter whole k top here next in
+    let reached : Far p (lost_spread p flutter (heard_behind count) count) ≤ lost_apart p flutter (heard_behind count) count = far_within p flutter (heard_behind count) count in
+    let most = is.peak.greatest count in
+    let s : Spread = lost_spread p flutter whole k in
+    let near : sharply_near_in p s ≤ sharply_near_in p top = near_grows p s.starts s.lengths top.starts top.lengths sane here.start here.long in
+    let widest = is.reach.greatest count in (
+      up (lost_apart p flutter whole k) (Far p top) (Far p (lost_spread p flutter (heard_behind count) count)) (lost_apart p flutter (heard_behind count) count) cost.peak far (ap (Far p) same) reached most,
+      over (sharply_near_in p s) (sharply_near_in p top) (sharply_near_in p (lost_spread p flutter (heard_behind count) count)) cost.reach near (ap (sharply_near_in p) same) widest,
+    )
+  where
+    up : (a b c d e : ℕ) → a ≤ b → c ≡ b → c ≤ d → d ≤ e → a ≤ e
+    up a b c d e h is k m = omega (arith, h, is, k, m)
+
+    over : (a b c d : ℕ) → a ≤ b → c ≡ b → c ≤ d → a ≤ d
+    over a b c d h is k = omega (arith, h, is, k)
+
+-- ---- of files
+
+keeps_wider : (x : Setting) (h : Cycles) (double apart wide : ℕ) → apart ≤ wide → KeepsApart x h double apart → KeepsApart x h double wide
+keeps_wider x h double apart wide le keeps = record { skew = λ macrotick is_odd less. further _ (keeps.skew macrotick is_odd less); ends = keeps.ends }
+  where
+    further : (z : ℤ) → z ≤ℤ pos apart → z ≤ℤ pos wide
+    further z below = omega (arith, ints, below, le)
+
+-- the number from a later double cycle on is no greater than that from the first one on
+later_apart : (p : Values) (flutter : ℕ) (whole : ℕ → Bool) (double k : ℕ) → lost_apart p flutter (λ m. whole (double + m)) k ≤ lost_apart p flutter whole (double + k)
+later_apart p flutter whole double k =
+    let one = later_below p flutter whole double k in
+    let other = later_below p flutter whole double (suc k) in
+    let next : double + suc k ≡ suc (double + k) = omega arith in
+    let At : ℕ → Type 0 = λ m. (lost_spread p flutter (λ m. whole (double + m)) (suc k)).starts ≤ (lost_spread p flutter whole m).starts in
+    both (Far p (lost_spread p flutter (λ m. whole (double + m)) k)) (Far p (lost_spread p flutter whole (double + k))) (lost_spread p flutter (λ m. whole (double + m)) (suc k)).starts
+    (lost_spread p flutter whole (suc (double + k))).starts (longest_micro p) (far_grows p (lost_spread p flutter (λ m. whole (double + m)) k) (lost_spread p flutter whole (double + k)) one) (subst At next other.start)
+  where
+    both : (a b s t q : ℕ) → a ≤ b → s ≤ t → max a (s + q) ≤ max b (t + q)
+    both a b s t q h k = grind arith
+
+pub bursts_keep_the_peak : BurstsKeepThePeak
+bursts_keep_the_peak p d s flutter count cost h double passed sane bursts is covered run sync within lasts =
+    let keeps = covered_files_keep_through_losses p d s flutter cost.reach h double sane covered run sync passed within lasts in
+    let later = later_apart p flutter (whole_in p s) double passed in
+    let cost_is = (bursts_cost_no_more p flutter count (whole_in p s) cost (double + passed) sane bursts is).0 in
+    keeps_wider (setting_of p d s) h (double + passed) (lost_apart p flutter (λ m. whole_in p s (double + m)) passed) cost.peak (omega (arith, later, cost_is)) keeps

@@ -1,0 +1,8 @@
+use Rattle.fr_sharp.proofs.LossBurstLaws.{bursts_cost_no_more, bursts_keep_the_peak}
+use Rattle.fr_sharp.proofs.loss_cost_laws.bursts_keep_the_peak.Goals as goal
+
+pub returns-clause-cost : goal.returns-clause-cost
+returns-clause-cost c = bursts_cost_no_more
+
+pub returns-clause-keep : goal.returns-clause-keep
+returns-clause-keep c = bursts_keep_the_peak

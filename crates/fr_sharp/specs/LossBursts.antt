@@ -1,0 +1,47 @@
+-- What a run keeps that loses frames in bursts: in no more than so many double cycles in a row, and before each burst two in which
+-- all is heard.
+use Rattle.std.specs.Prelude.{◌≡◌, ◌+◌, ◌<◌, ◌≤◌, ℕ, pos, Bool, true, false}
+use Rattle.fr_cluster.specs.Sane.{IsSane}
+use Rattle.fr_cluster.specs.Values.{Values}
+use Rattle.fr_drift.specs.Questions.{doubles_of}
+use Rattle.fr_drift.specs.View.{DriftView}
+use Rattle.fr_script.specs.View.{ScriptView}
+use Rattle.fr_coverage.specs.Decided.{setting_of}
+use Rattle.fr_history.specs.Cycles.{Cycles}
+use Rattle.fr_promise.specs.Statement.{IsRunOf}
+use Rattle.fr_sharp.specs.declared.loss_costs.LossCost.{LossCost}
+use Rattle.fr_sharp.specs.Among.{lost_spread}
+use Rattle.fr_sharp.specs.LossCosts.{IsLossCost}
+use Rattle.fr_sharp.specs.Losses.{lost_apart}
+use Rattle.fr_sharp.specs.LossStatement.{whole_in, IsCoveredThroughLosses}
+use Rattle.fr_sharp.specs.SharpHistories.{IsInSharpSyncAt, KeepsApart}
+use Rattle.fr_sharp.specs.SharpRun.{WalkLastsAfter}
+use Rattle.fr_sharp.specs.SharpSettling.{sharply_near_in}
+
+-- a double cycle is among so many from one on, and in the two before that one all is heard, as far as these are there
+pub record IsInBurst (whole : ℕ → Bool) (count double : ℕ) : Type 0 where
+  pub start : ℕ
+  pub from : start ≤ double
+  pub within : double < start + count
+  pub calm : (earlier : ℕ) → earlier < start → start ≤ earlier + 2 → whole earlier ≡ true
+
+-- each that loses frames is
+abbrev pub LosesInBursts : (ℕ → Bool) → ℕ → Type 0
+LosesInBursts whole count = (double : ℕ) → whole double ≡ false → IsInBurst whole count double
+
+-- then no macroticks and no action points may lie further apart than where frames are lost in so many in a row alone
+abbrev pub BurstsCostNoMore : Type 0
+BurstsCostNoMore =
+    (p : Values) (flutter count : ℕ) (whole : ℕ → Bool) (cost : LossCost) (double : ℕ)
+    → IsSane p → LosesInBursts whole count → IsLossCost p flutter count cost
+    → (lost_apart p flutter whole double ≤ cost.peak) × (sharply_near_in p (lost_spread p flutter whole double) ≤ cost.reach)
+
+-- so a run of files that are covered through losses keeps within the peak, from each double cycle in sharp sync on and as long as
+-- the walk lasts: no term is cut or missing, and every correct node is active
+abbrev pub BurstsKeepThePeak : Type 0
+BurstsKeepThePeak =
+    (p : Values) (d : DriftView) (s : ScriptView) (flutter count : ℕ) (cost : LossCost) (h : Cycles) (double passed : ℕ)
+    → IsSane p → LosesInBursts (whole_in p s) count → IsLossCost p flutter count cost
+    → IsCoveredThroughLosses p d s flutter cost.reach → IsRunOf (setting_of p d s) h
+    → IsInSharpSyncAt false p flutter (pos 0) h double → double + passed < doubles_of d → WalkLastsAfter p flutter passed
+    → KeepsApart (setting_of p d s) h (double + passed) cost.peak
