@@ -237,7 +237,9 @@ class Prose(Case):
             ("One two, e.g. Three, and version 2.1 of it .. Four.\n", 1, 10),
             ("One two\nthree. Four\nfive\n\nsix\n", 3, 6),
             ("- **one**: two\n  three\n- four. Five\n  1. six\n", 4, 6),
-            ("# One two\n\n| three | four. Five |\n|---|---|\n\n![six](seven.svg)\n\n[`it`]: crates/it\n\n---\n", 0, 0),
+            ("# One two\n\n| three | four, five |\n|---|---|\n\n![six](seven.svg)\n\n[`it`]: crates/it\n\n---\n", 0, 0),
+            ("| one | two three. |\n|---|---|\n| five | six. Seven eight |\n| **nine** | ten. |\n", 4, 6),
+            ("| `a \\| b. C` | one **two.** |\n| three | four (`a.`). |\n| version 2.1 | [e.g. five](six.md) |\n", 2, 4),
             ("One:\n\n```\ntwo. Three four\n\nfive\n```\n\nSix:\n\n    seven eight.\n\n    Nine\n\nTen\n", 3, 3),
             ("- one\n\n  two three\n\n      four. Five\n\n  *By* `six`, `seven` of `eight`.\n\nNine\n", 3, 4),
             ("- one\n\nTwo\n\n    three four\n", 2, 2),
@@ -249,6 +251,8 @@ class Prose(Case):
         self.write("docs/ONE.md", "Short.\n\n" + "word " * 38 + "end.\n")
         self.ends(0, "docs/ONE.md:3: 39 words: word word", "prose", "--longest", "1")
         self.write("docs/ONE.md", "Short.\n\n" + "word " * 40 + "end.\n")
+        self.ends(1, "docs/ONE.md: 21.0 words a sentence, and at most 20 are allowed", "prose")
+        self.write("docs/ONE.md", "Short.\n\n| " + "word " * 42 + "| " + "word " * 40 + "end. |\n")
         self.ends(1, "docs/ONE.md: 21.0 words a sentence, and at most 20 are allowed", "prose")
         self.ends(0, "docs/PROMISES.md", "prose", "--only", os.path.join(self.top, "docs/PROMISES.md"))
 
