@@ -22,6 +22,7 @@ pub mod Progressing
 pub mod ToldVerdicts
 pub mod Contradicted
 pub mod Reaching
+pub mod ReachesEnd
 pub mod OverLaws
 pub mod SyncKept
 pub mod RowsTold

@@ -1,12 +1,17 @@
 -- What a verdict tells of what is known behind the last double cycle.
-use Rattle.std.proofs.Common.{◌≡◌, ℕ, Bool, true, false, Option, Some, None, ap}
+use Rattle.std.proofs.Common.{◌≡◌, ◌∙◌, ℕ, ◌+◌, ◌==◌, ◌&&◌, Bool, true, false, Option, Some, None, refl, ap, sym, arith}
 use Rattle.std.specs.Prelude.{if◌then◌else◌}
+use Rattle.std.proofs.lemmas.Bool.{and_parts}
+use Rattle.std.proofs.lemmas.Bool.Decides.{nat_tests}
 use Rattle.fr_observe.specs.declared.fault.Fault.{Fault}
 use Rattle.fr_findings.specs.Verdict.{partly_of, reaches_end, verdict_by, verdict_unless_over, verdict_where, verdict_with, verdict_within}
 use Rattle.fr_findings.specs.declared.progress.OverRow.{OverRow}
 use Rattle.fr_findings.specs.declared.progress.Progress.{Progress}
 use Rattle.fr_findings.specs.declared.progress.Reach.{Reach}
 use Rattle.fr_findings.specs.declared.verdict.Verdict.TheVariants as verdict
+
+same-number : (a b : ℕ) → (a == b) ≡ true → a ≡ b
+same-number a b is = grind (arith, nat_tests, is)
 
 module _ (progress : Progress) where
   -- ---- no: the first fault
@@ -72,32 +77,48 @@ module _ (progress : Progress) where
     unfolding verdict_by
     over_told_by is = over_with progress.first is
 
-  -- ---- within: how far rows say so
+  -- ---- within: how far rows say so, which is up to the last judged cycle but one
+
+  pub record IsToldWithin (told : Reach) : Type 0 where
+    pub reached : progress.reach ≡ Some told
+    pub span : Reach
+    pub spans : progress.judged.span ≡ Some span
+    pub ends : told.to + 1 ≡ span.to
 
   module _ (told : Reach) where
-    within_reach : (reach : Option Reach) (span : Reach) → verdict_within reach span progress ≡ verdict.Within told → reach ≡ Some told
-    within_reach None span is = absurd (cc is)
-    within_reach (Some reach) span is = by (reaches_end reach span) is
-      where
-        same : (a b : Reach) → verdict.Within a ≡ verdict.Within b → a ≡ b
-        same a b is = cc is
+    same : (a b : Reach) → verdict.Within a ≡ verdict.Within b → a ≡ b
+    same a b is = cc is
 
-        by : (b : Bool) → (if b then verdict.Within reach else verdict.Partly (partly_of span progress)) ≡ verdict.Within told → Some reach ≡ Some told
-        by true is = ap Some (same reach told is)
-        by false is = absurd (cc is)
+    to_end : (reach span : Reach) → reaches_end reach span ≡ true → reach.to + 1 ≡ span.to
+    to_end reach span is = same-number (reach.to + 1) span.to (and_parts (reach.from == span.from) (reach.to + 1 == span.to) is).1
 
-    within_where : (span : Option Reach) → verdict_where span progress ≡ verdict.Within told → progress.reach ≡ Some told
-    within_where None is = absurd (cc is)
-    within_where (Some span) is = within_reach progress.reach span is
+    within_end : (b : Bool) (reach span : Reach) → progress.reach ≡ Some reach → progress.judged.span ≡ Some span → reaches_end reach span ≡ b
+        → (if b then verdict.Within reach else verdict.Partly (partly_of span progress)) ≡ verdict.Within told → IsToldWithin told
+    within_end true reach span reached spans end is =
+        let alike = same reach told is in
+        record { reached = reached ∙ ap Some alike; span = span; spans = spans; ends = ap (λ (r : Reach). r.to + 1) (sym alike) ∙ to_end reach span end }
+    within_end false reach span reached spans end is = absurd (cc is)
 
-    within_over : (over : Option OverRow) → verdict_unless_over over progress ≡ verdict.Within told → progress.reach ≡ Some told
-    within_over None is = within_where progress.judged.span is
+    within_reach : (reach : Option Reach) (span : Reach) → progress.reach ≡ reach → progress.judged.span ≡ Some span
+        → verdict_within reach span progress ≡ verdict.Within told → IsToldWithin told
+    within_reach None span reached spans is = absurd (cc is)
+    within_reach (Some reach) span reached spans is = within_end (reaches_end reach span) reach span reached spans refl is
+
+    within_where : (span : Option Reach) → progress.judged.span ≡ span → verdict_where span progress ≡ verdict.Within told → IsToldWithin told
+    within_where None spans is = absurd (cc is)
+    within_where (Some span) spans is = within_reach progress.reach span refl spans is
+
+    within_over : (over : Option OverRow) → verdict_unless_over over progress ≡ verdict.Within told → IsToldWithin told
+    within_over None is = within_where progress.judged.span refl is
     within_over (Some first) is = absurd (cc is)
 
-    within_with : (first : Option Fault) → verdict_with first progress ≡ verdict.Within told → progress.reach ≡ Some told
+    within_with : (first : Option Fault) → verdict_with first progress ≡ verdict.Within told → IsToldWithin told
     within_with None is = within_over progress.over is
     within_with (Some fault) is = absurd (cc is)
 
-    pub within_told : verdict_by progress ≡ verdict.Within told → progress.reach ≡ Some told
+    pub told_within : verdict_by progress ≡ verdict.Within told → IsToldWithin told
     unfolding verdict_by
-    within_told is = within_with progress.first is
+    told_within is = within_with progress.first is
+
+    pub within_told : verdict_by progress ≡ verdict.Within told → progress.reach ≡ Some told
+    within_told is = (told_within is).reached

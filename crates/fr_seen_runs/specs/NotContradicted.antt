@@ -1,8 +1,9 @@
 -- That no run contradicts a log that is seen of it: what its faults exclude, when it is in sync, and what its verdict says.
-use Rattle.std.specs.Prelude.{◌≡◌, ◌*◌, ◌/◌, ◌≤◌, ℕ, suc, pos, true, false, List, [], Contains, None}
+use Rattle.std.specs.Prelude.{◌≡◌, ◌+◌, ◌*◌, ◌/◌, ◌≤◌, ℕ, suc, pos, true, false, List, [], Contains, None, Some}
 use Rattle.fr_base.specs.declared.channel.Channel.{Channel}
 use Rattle.fr_bound.specs.Bounds.{precision_of}
 use Rattle.fr_cluster.specs.Setting.{Setting}
+use Rattle.fr_cluster.specs.Values.{Values}
 use Rattle.fr_history.specs.Cycles.{Cycle, Cycles}
 use Rattle.fr_history.specs.Unfollowed.{IsUnfollowedSyncAt}
 use Rattle.fr_runs.specs.Numbers.{HasDouble}
@@ -20,6 +21,7 @@ use Rattle.fr_seen_runs.specs.Contradictions.{IsAsStated, IsObservedRun, NamesAr
 use Rattle.fr_seen_runs.specs.KeptInSync.{IsDoubleThere}
 use Rattle.fr_observe.specs.declared.fault.Fault.{Fault}
 use Rattle.fr_observe.specs.Faults.{asks_own_slots, asks_sync, is_sync_seen, own_faults, slot_faults}
+use Rattle.fr_findings.specs.Counting.{last_row_cycle}
 use Rattle.fr_findings.specs.declared.progress.Reach.{Reach}
 use Rattle.fr_sightings.specs.Sightings.{irregular_of, untimely_of}
 use Rattle.fr_findings.specs.Verdict.{verdict_of}
@@ -105,3 +107,9 @@ WithinIsInSync =
     (reach : Reach)
     → IsObservedRun x h base delays clock l → NamesArbitrary x l → l.since ≡ None → verdict_of x.params l ≡ verdict.Within reach
     → IsUnfollowedSyncAt x.params h (run_double base (reach.from / 2))
+
+-- and the last of its cycles is the last but one of those that have rows
+abbrev pub WithinReachesEnd : Type 0
+WithinReachesEnd =
+    (p : Values) (l : LogView) (reach : Reach)
+    → verdict_of p l ≡ verdict.Within reach → last_row_cycle (sightings_of p l) ≡ Some (reach.to + 1)

@@ -1,4 +1,4 @@
-ghost use Rattle.fr_seen_runs.specs.NotContradicted.{NoRunHasOwnFaults, NoRunIsContradicted, WithinIsInSync, WithinIsSo, WithinIsThere};
+ghost use Rattle.fr_seen_runs.specs.NotContradicted.{NoRunHasOwnFaults, NoRunIsContradicted, WithinIsInSync, WithinIsSo, WithinIsThere, WithinReachesEnd};
 ghost use Rattle.fr_seen_runs.specs.OverRows.{OverIsCounted, OverIsSo};
 
 /// The law of contradictions: where the verdict of a log is no, it is seen of no covered run that is as the log states;
@@ -12,11 +12,13 @@ pub fn no_run_is_contradicted()
 
 /// The law of what is within: where the verdict of a log is within, each run that the log is seen of has each of its
 /// cycles, and in these the skew of the senders, in ticks, is no greater than the precision; and where the log states no
-/// cycle of sync, and names the arbitrary nodes of the run, the run is in sync from the first of these cycles on.
+/// cycle of sync, and names the arbitrary nodes of the run, the run is in sync from the first of these cycles on. The last
+/// of them is the last cycle but one that has a row.
 pub fn within_is_so()
     ensures there { WithinIsThere }
     ensures within { WithinIsSo }
     ensures sync { WithinIsInSync }
+    ensures ends { WithinReachesEnd }
 {}
 
 /// The law of what is over: where the verdict of a log is over, it has the first row that says over, and how many do; in the
