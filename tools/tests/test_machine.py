@@ -39,6 +39,11 @@ class Json(Bench):
             self.assertIn("node {node} {state} next {next_ticks} rate {rate} offset {offset}\n".format(**node), report)
         self.assertEqual(found["cluster"]["parameters"]["gdNIT"], 2000)
         self.assertEqual(found["cluster"]["arbitrary"], [6])
+        # The bound of the report stands under its name too, and sync by the precision under the name of pages.
+        self.assertEqual(set(found["classical"]), {"covered", "gap", "gap_told", "in_sync", "precision", "skew_in_sync", "within_precision",
+                                                   "checks"})
+        self.assertEqual({name: found[name] for name in found["classical"]}, found["classical"])
+        self.assertEqual(found["sharp"]["in_sync"], found["sharp"]["in_sharp_sync"])
 
     def test_a_run_that_is_never_in_sync(self):
         self.write("a.toml", edited(("start_us = 1.5", "start_us = 900")))
