@@ -24,7 +24,7 @@ from .results import *  # noqa: F401,F403
 from .units import from_microticks, from_ns, from_us, length_of, ppm_of, to_microticks, to_ns, to_us
 
 __all__ = ["Answer", "FlexrayError", "Input", "LibraryMissing", "NoFrame", "NoMemory", "Raw", "ReadFault", "Refused", "TooLong",
-           "Usage", "bound", "capture", "check", "cold", "frame", "from_microticks", "from_ns", "from_us", "length_of", "lost_bound", "make",
-           "nm", "observe", "ppm_of", "request", "run", "series", "series_request", "settle", "sharp_bound",
+           "Usage", "bound", "capture", "check", "cold", "frame", "from_microticks", "from_ns", "from_us", "length_of", "lost_bound",
+           "make", "nm", "observe", "ppm_of", "request", "run", "series", "series_request", "settle", "sharp_bound",
            "sharp_series", "sharp_settle", "to_microticks", "to_ns", "to_us", "trace", "upgrade", "version"]
 __all__ += results.__all__

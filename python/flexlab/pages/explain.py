@@ -33,7 +33,9 @@ ROLES: dict[str, dict[str, int]] = {
 }
 USAGE = {
     "frame": "frame A FILE or frame B FILE",
-    "bound": "bound PARAMS, bound PARAMS join, bound PARAMS sharp FLUTTER, bound PARAMS sharp FLUTTER join or bound PARAMS sharp FLUTTER lost COUNT", "upgrade": "upgrade PARAMS",
+    "bound": "bound PARAMS, bound PARAMS join, bound PARAMS sharp FLUTTER, bound PARAMS sharp FLUTTER join or bound PARAMS sharp FLUTTER "
+             "lost COUNT",
+    "upgrade": "upgrade PARAMS",
     "settle": "settle PARAMS START RATE or settle PARAMS START RATE sharp FLUTTER",
     "nm": "nm WIDTH FILE", "run": "run PARAMS DRIFT SCRIPT", "trace": "trace PARAMS DRIFT SCRIPT",
     "check": "check PARAMS TRACE", "make": "make SEED DOUBLES", "capture": "capture A FILE or capture B "

@@ -33,8 +33,8 @@ def verdict_of(run: "Run") -> Verdict:
                              "precision", ticks, 2 * first, None if until is None else 2 * until)
     if run.report.gap is None and older is not None:
         ticks = run.report.precision
-        return Verdict(True, f"proved by the classical bound alone: from cycle {2 * older} on no macroticks of correct nodes lie further apart "
-                             f"than {microseconds(ticks, unit)}", ticks, 2 * older)
+        return Verdict(True, f"proved by the classical bound alone: from cycle {2 * older} on no macroticks of correct nodes lie further "
+                             f"apart than {microseconds(ticks, unit)}", ticks, 2 * older)
     if is_covered(run):
         why = "no double cycle is in sync" if first is None else "C1 fails, and the rate limit holds the walk for no double cycle"
         return Verdict(False, f"NOT PROVED: nothing is, since {why}")
