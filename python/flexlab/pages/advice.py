@@ -142,7 +142,7 @@ def latest_start(parameters: Parameters) -> int | None:
 
 
 def also(number: int, parameters: Parameters, value: int) -> str | None:
-    """What else has to fit where that value is taken: constraints of docs/PROTOCOL.md."""
+    """What else has to fit where that value is taken: constraints of docs/FORMATS.md."""
     if number in (2, 3, 6, 7):
         start = latest_start(dict(parameters, **{TURNS[number]: value}))
         if start is None:

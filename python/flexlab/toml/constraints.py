@@ -1,4 +1,4 @@
-"""The eight constraints of a cluster's parameters with the numbers put in (docs/PROTOCOL.md)."""
+"""The eight constraints of a cluster's parameters with the numbers put in (docs/FORMATS.md)."""
 from __future__ import annotations
 
 from collections.abc import Iterator
