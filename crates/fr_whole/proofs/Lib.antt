@@ -1,3 +1,4 @@
 mod Words
 mod Wholes
 pub mod Observed
+pub mod SharpReports

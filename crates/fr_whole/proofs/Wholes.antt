@@ -1,64 +1,78 @@
--- The whole program answers as the core does, or as a log is told.
-use Rattle.std.proofs.Common.{◌≡◌, ℕ, List, [], ◌∷◌, subst}
-use Rattle.std.specs.Prelude.{codes}
+-- The whole program answers as the core does, or as a log or a report by the sharper bounds is told.
+use Rattle.std.proofs.Common.{◌≡◌, ℕ, List, subst, sym}
 use Rattle.fr_program.proofs.Endings.{loads}
 use Rattle.fr_program.specs.Around.{Around, Ending}
 use Rattle.fr_program.specs.Command.{AreLoads, CommandEnds}
 use Rattle.fr_program.specs.Program.{IsNoRequest, WordsEnd}
+use Rattle.fr_report.specs.Files.{run_files}
+use Rattle.fr_report.specs.Names.{RunNames}
 use Rattle.fr_text.specs.Defined.{DefinesOneStatus}
 use Rattle.fr_answer.specs.Answer.{core_program}
 use Rattle.fr_answer.specs.Statuses.{HasOneStatusEach}
 use Rattle.fr_whole.specs.ObserveAnswer.{observe_command, observe_files}
-use Rattle.fr_whole.specs.Whole.{AsksWhole, HasOneStatusOfAll, WholeAsked, core, flexray_program, observe, whole_command}
-use Rattle.fr_whole.proofs.Words.{no_core, one_log}
+use Rattle.fr_whole.specs.SharpReportAnswer.{IsSharpReportText, sharp_report_command}
+use Rattle.fr_whole.specs.Whole.{AsksWhole, HasOneStatusOfAll, WholeAsked, core, flexray_program, observe, observe_words, sharp_report, sharp_report_words, whole_command}
+use Rattle.fr_whole.proofs.Words.{only_log, only_sharp_report}
 
--- the words ask for no log
+-- the words ask for no log, and for no report by the sharper bounds
 abbrev pub IsNoLog : List (List ℕ) → Type 0
-IsNoLog words = (params log : List ℕ) → words ≡ codes "observe" ∷ params ∷ log ∷ [] → ⊥
+IsNoLog words = (params log : List ℕ) → words ≡ observe_words params log → ⊥
 
-pub none_of_core : (words : List (List ℕ)) → IsNoLog words → IsNoRequest core_program words → IsNoRequest flexray_program words
-none_of_core words no_log none (core asked) asks = none asked asks
-none_of_core words no_log none (observe params log) asks = no_log params log asks
+abbrev pub IsNoSharpReport : List (List ℕ) → Type 0
+IsNoSharpReport words = (names : RunNames) → words ≡ sharp_report_words names → ⊥
 
-core_ends : (words : List (List ℕ)) (around : Around) (ending : Ending) → IsNoLog words → WordsEnd core_program words around ending
+-- ---- words of the core
+
+pub none_of_core : (words : List (List ℕ)) → IsNoLog words → IsNoSharpReport words → IsNoRequest core_program words → IsNoRequest flexray_program words
+none_of_core words no_log no_report none (core asked) asks = none asked asks
+none_of_core words no_log no_report none (observe params log) asks = no_log params log asks
+none_of_core words no_log no_report none (sharp_report names) asks = no_report names asks
+
+core_ends : (words : List (List ℕ)) (around : Around) (ending : Ending) → IsNoLog words → IsNoSharpReport words → WordsEnd core_program words around ending
     → (asked : WholeAsked) → AsksWhole words asked → CommandEnds (whole_command asked) around ending
-core_ends words around ending no_log ends (core asked) asks = ends.ends asked asks
-core_ends words around ending no_log ends (observe params log) asks = absurd (no_log params log asks)
+core_ends words around ending no_log no_report ends (core asked) asks = ends.ends asked asks
+core_ends words around ending no_log no_report ends (observe params log) asks = absurd (no_log params log asks)
+core_ends words around ending no_log no_report ends (sharp_report names) asks = absurd (no_report names asks)
 
-core_loads : (words : List (List ℕ)) (around : Around) (ending : Ending) → IsNoLog words → WordsEnd core_program words around ending
+core_loads : (words : List (List ℕ)) (around : Around) (ending : Ending) → IsNoLog words → IsNoSharpReport words → WordsEnd core_program words around ending
     → (asked : WholeAsked) → AsksWhole words asked → AreLoads (whole_command asked).names around.shelf_before around.shelf_after
-core_loads words around ending no_log ends (core asked) asks = ends.loads asked asks
-core_loads words around ending no_log ends (observe params log) asks = absurd (no_log params log asks)
+core_loads words around ending no_log no_report ends (core asked) asks = ends.loads asked asks
+core_loads words around ending no_log no_report ends (observe params log) asks = absurd (no_log params log asks)
+core_loads words around ending no_log no_report ends (sharp_report names) asks = absurd (no_report names asks)
 
--- words of the core
-pub by_core : (words : List (List ℕ)) (around : Around) (ending : Ending) → IsNoLog words → WordsEnd core_program words around ending → WordsEnd flexray_program words around ending
-by_core words around ending no_log ends = record {
-  ends = core_ends words around ending no_log ends;
-  loads = core_loads words around ending no_log ends;
+pub by_core : (words : List (List ℕ)) (around : Around) (ending : Ending) → IsNoLog words → IsNoSharpReport words → WordsEnd core_program words around ending → WordsEnd flexray_program words around ending
+by_core words around ending no_log no_report ends = record {
+  ends = core_ends words around ending no_log no_report ends;
+  loads = core_loads words around ending no_log no_report ends;
   none = λ none. ends.none (λ asked asks. none (core asked) asks);
 }
 
-log_ends : (words : List (List ℕ)) (params log : List ℕ) (around : Around) (ending : Ending) → words ≡ codes "observe" ∷ params ∷ log ∷ [] → CommandEnds (observe_command params log) around ending
-    → (asked : WholeAsked) → AsksWhole words asked → CommandEnds (whole_command asked) around ending
-log_ends words params log around ending is ends (core asked) asks = absurd (no_core words params log asked is asks)
-log_ends words params log around ending is ends (observe more again) asks =
-    subst (λ (asked : WholeAsked). CommandEnds (whole_command asked) around ending) (one_log words params log more again is asks) ends
+-- ---- words of its own
 
-log_loads : (words : List (List ℕ)) (params log : List ℕ) (around : Around) → words ≡ codes "observe" ∷ params ∷ log ∷ [] → AreLoads (observe_command params log).names around.shelf_before around.shelf_after
-    → (asked : WholeAsked) → AsksWhole words asked → AreLoads (whole_command asked).names around.shelf_before around.shelf_after
-log_loads words params log around is are_loads (core asked) asks = absurd (no_core words params log asked is asks)
-log_loads words params log around is are_loads (observe more again) asks =
-    subst (λ (asked : WholeAsked). AreLoads (whole_command asked).names around.shelf_before around.shelf_after) (one_log words params log more again is asks) are_loads
-
--- words that ask for what a log tells
-pub by_log : (words : List (List ℕ)) (params log : List ℕ) (around : Around) (ending : Ending) → words ≡ codes "observe" ∷ params ∷ log ∷ [] → CommandEnds (observe_command params log) around ending
-    → WordsEnd flexray_program words around ending
-by_log words params log around ending is ends = record {
-  ends = log_ends words params log around ending is ends;
-  loads = log_loads words params log around is (loads (observe_command params log) around ending ends (λ none. absurd (cc none)));
-  none = λ none. absurd (none (observe params log) is);
+-- words that ask for this alone
+by_own : (words : List (List ℕ)) (own : WholeAsked) (around : Around) (ending : Ending) → AsksWhole words own → ((asked : WholeAsked) → AsksWhole words asked → asked ≡ own) → CommandEnds (whole_command own) around ending
+    → AreLoads (whole_command own).names around.shelf_before around.shelf_after → WordsEnd flexray_program words around ending
+by_own words own around ending asks only ends are_loads = record {
+  ends = λ asked more. subst (λ (same : WholeAsked). CommandEnds (whole_command same) around ending) (sym (only asked more)) ends;
+  loads = λ asked more. subst (λ (same : WholeAsked). AreLoads (whole_command same).names around.shelf_before around.shelf_after) (sym (only asked more)) are_loads;
+  none = λ none. absurd (none own asks);
 }
 
-pub one_status_of_all : HasOneStatusEach → DefinesOneStatus observe_files 2 → HasOneStatusOfAll
-one_status_of_all each observed words (core asked) asks = each words asked asks
-one_status_of_all each observed words (observe params log) asks = observed
+-- words that ask for what a log tells
+pub by_log : (words : List (List ℕ)) (params log : List ℕ) (around : Around) (ending : Ending) → words ≡ observe_words params log → CommandEnds (observe_command params log) around ending
+    → WordsEnd flexray_program words around ending
+by_log words params log around ending is ends =
+    by_own words (observe params log) around ending is (only_log words params log is) ends (loads (observe_command params log) around ending ends (λ none. absurd (cc none)))
+
+-- words that ask for a report by the sharper bounds
+pub by_sharp_report : (words : List (List ℕ)) (names : RunNames) (around : Around) (ending : Ending) → words ≡ sharp_report_words names → CommandEnds (sharp_report_command names) around ending
+    → WordsEnd flexray_program words around ending
+by_sharp_report words names around ending is ends =
+    by_own words (sharp_report names) around ending is (only_sharp_report words names is) ends (loads (sharp_report_command names) around ending ends (λ none. absurd (cc none)))
+
+-- ---- statuses
+
+pub one_status_of_all : HasOneStatusEach → DefinesOneStatus observe_files 2 → DefinesOneStatus (run_files IsSharpReportText) 3 → HasOneStatusOfAll
+one_status_of_all each observed reported words (core asked) asks = each words asked asks
+one_status_of_all each observed reported words (observe params log) asks = observed
+one_status_of_all each observed reported words (sharp_report names) asks = reported

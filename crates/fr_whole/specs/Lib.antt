@@ -1,3 +1,4 @@
 -- what the public contract cites
 pub mod Whole
 pub mod ObserveAnswer
+pub mod SharpReportAnswer

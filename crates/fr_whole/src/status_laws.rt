@@ -1,8 +1,15 @@
+ghost use Rattle.fr_report.specs.Files.{run_files};
 ghost use Rattle.fr_text.specs.Defined.{DefinesOneStatus};
 ghost use Rattle.fr_whole.specs.ObserveAnswer.{observe_files};
+ghost use Rattle.fr_whole.specs.SharpReportAnswer.{IsSharpReportText};
 ghost use Rattle.fr_whole.specs.Whole.{HasOneStatusOfAll};
 
 use fr_answer::each_request_has_one_status;
+use fr_params::accepted_are_sane;
+use fr_series::a_sharp_report_is_lawful;
+use fr_sharp::{
+    covered_files_keep_sharply, covered_files_keep_sharply_joined, lossy_files_give_runs,
+};
 
 /// A law: the bytes of the two files of a request for what a log tells define one status.
 pub fn an_observation_has_one_status()
@@ -14,6 +21,23 @@ pub fn an_observation_has_one_status()
     fr_log::some_answer();
 }
 
+/// A law: the bytes of the three files of a request for a report by the sharper bounds define one status.
+pub fn a_sharp_report_has_one_status()
+    ensures { DefinesOneStatus (run_files IsSharpReportText) 3 }
+{
+    fr_params::one_answer();
+    fr_params::some_answer();
+    fr_drift::one_answer();
+    fr_drift::some_answer();
+    fr_script::one_answer();
+    fr_script::some_answer();
+    accepted_are_sane();
+    a_sharp_report_is_lawful();
+    covered_files_keep_sharply();
+    covered_files_keep_sharply_joined();
+    lossy_files_give_runs();
+}
+
 /// A law: whatever words of `flexray` ask for, the bytes of the files that they name define exactly one status beside
 /// want of memory.
 pub fn each_word_has_one_status()
@@ -21,4 +45,5 @@ pub fn each_word_has_one_status()
 {
     each_request_has_one_status();
     an_observation_has_one_status();
+    a_sharp_report_has_one_status();
 }

@@ -4,7 +4,7 @@ ghost use Rattle.fr_program.specs.Failure.{EndingWritesNothing, WritesNothing, e
 ghost use Rattle.fr_program.specs.Program.{IsNoRequest, IsProgramAnswer, IsProgramComplete, WordsEnd, texts};
 ghost use Rattle.fr_whole.specs.Whole.{flexray_program};
 
-use crate::request::log_request;
+use crate::request::{log_request, sharp_report_request};
 use fr_answer::{answer_core, told};
 use fr_base::{Shelf, Sink};
 use fr_program::Failure;
@@ -62,6 +62,9 @@ fn answer<S: Shelf, O: Sink>(
 {
     match log_request(words) {
         Some(files) => crate::answer_observe(alloc, files, shelf, out),
-        None => answer_core(alloc, words, shelf, out),
+        None => match sharp_report_request(words) {
+            Some(files) => crate::answer_sharp_run(alloc, files, shelf, out),
+            None => answer_core(alloc, words, shelf, out),
+        },
     }
 }

@@ -1,0 +1,9 @@
+use Rattle.fr_program.specs.Around.{Around, around_of}
+use Rattle.fr_report.specs.Names.{run_names_of}
+use Rattle.fr_whole.proofs.SharpReports.{kept_report_ends}
+use Rattle.fr_whole.proofs.sharp_report.answer_sharp_run.Goals as goal
+
+pub returns-clause-ends : goal.returns-clause-ends
+returns-clause-ends g c =
+    let around : Around = around_of (g.S.Shelf.state c.args.shelf.now) (g.S.Shelf.state c.answer_sharp_report.new.shelf) (g.O.Sink.state c.args.out.now) (g.O.Sink.state c.answer_sharp_report.new.out) in
+    kept_report_ends c.covered_files_keep_sharply.ensures.keep c.covered_files_keep_sharply_joined.ensures c.lossy_files_give_runs.ensures.keep (run_names_of c.args.files) around c.answer_sharp_report.result c.answer_sharp_report.ensures.ends
