@@ -209,6 +209,16 @@ static inline uint32_t flexray_make(uint32_t seed, uint32_t doubles,
     return FLEXRAY_INLINE_REQUEST(&none, 0, &none, 0, &none, 0);
 }
 
+/* `flexray run PARAMS DRIFT SCRIPT sharp`: what the sharper bounds say of a run, and behind it the report. */
+static inline uint32_t flexray_run_sharp(const uint8_t *params, size_t params_length,
+                                         const uint8_t *drift, size_t drift_length,
+                                         const uint8_t *script, size_t script_length,
+                                         uint8_t *out, size_t out_room, uint8_t *err, size_t err_room, flexray_texts *texts) {
+    FLEXRAY_INLINE_WORDS("run\nfirst\nsecond\nthird\nsharp");
+    (void)none;
+    return FLEXRAY_INLINE_REQUEST(params, params_length, drift, drift_length, script, script_length);
+}
+
 /* `flexray trace PARAMS DRIFT SCRIPT`: what each node did and measured, cycle by cycle. */
 static inline uint32_t flexray_trace(const uint8_t *params, size_t params_length,
                                      const uint8_t *drift, size_t drift_length,

@@ -11,10 +11,10 @@ from typing import Union
 from . import texts
 from .errors import BY_STATUS, FlexrayError, NoFrame, ReadFault, Usage
 from .library import DONE, MOST, NO, Answer, given_bytes, request, series_request, shown, whole
-from .results import (Bound, Capture, Frame, LostBound, Observation, Report, Series, Settled, SharpBound, SharpSeries,
-                      SharpSettled, Startup, Trace, Upgraded, Vectors, Verdict)
+from .results import (Bound, Capture, Frame, LostBound, Observation, Report, Series, Settled, SharpBound, SharpReport,
+                      SharpSeries, SharpSettled, Startup, Trace, Upgraded, Vectors, Verdict)
 
-__all__ = ["Input", "Raw", "bound", "sharp_bound", "lost_bound", "run", "series", "sharp_series", "trace", "check", "observe",
+__all__ = ["Input", "Raw", "bound", "sharp_bound", "lost_bound", "run", "sharp_run", "series", "sharp_series", "trace", "check", "observe",
            "settle", "sharp_settle", "cold", "frame", "capture", "nm", "make", "upgrade"]
 
 #: A file of records: its bytes, its text, or its path.
@@ -115,6 +115,11 @@ def upgrade(params: Input) -> Upgraded:
 def run(params: Input, drift: Input, script: Input = b"") -> Report:
     """Runs the cluster, and answers the report; without a script nothing is done to frames, and no node is arbitrary."""
     return texts.report(_asked("run", "first", "second", "third", params=params, drift=drift, script=script))
+
+
+def sharp_run(params: Input, drift: Input, script: Input = b"") -> SharpReport:
+    """Runs the cluster, and answers what the sharper bounds say of the run, for the flutter of its own delays, and the report."""
+    return texts.sharp_report(_asked("run", "first", "second", "third", "sharp", params=params, drift=drift, script=script))
 
 
 def trace(params: Input, drift: Input, script: Input = b"") -> Trace:

@@ -4,7 +4,7 @@ from __future__ import annotations
 
 from dataclasses import dataclass, field
 
-__all__ = ["Check", "Bound", "SharpSide", "SharpBound", "LostBound", "Skew", "Sent", "Heard", "NodeEnd", "Report", "SeriesCycle", "Series",
+__all__ = ["Check", "Bound", "SharpSide", "SharpBound", "LostBound", "Skew", "Sent", "Heard", "NodeEnd", "Report", "SharpReport", "SeriesCycle", "Series",
            "SharpSeries", "CycleRow", "Deviation", "Join", "Trace", "Verdict", "ObservedCycle", "ObservedNode",
            "ObservedFault", "ObservedSender",
            "LogCounts", "Observation", "FailedCheck", "Settled", "SharpWay", "SharpSettled", "Lead", "Startup", "Frame",
@@ -158,6 +158,27 @@ class Report:
     heard: Heard
     cut: int
     ends: tuple[NodeEnd, ...]
+
+
+@dataclass(frozen=True)
+class SharpReport:
+    """What the sharper bounds say of a run, and its report. `kind` is `alone` or `beside`. `gaps` has the words of each gap that is
+    told, and is empty where the run is covered. `in_sync` is the first double cycle in sync, None where none is; `lasts` for how
+    many double cycles from there on it is proved, None where to the end. `greatest` is the greatest skew since then, `within`
+    whether none was above the precision, None where none is in sync, and `beyond` the first that was."""
+
+    text: str = field(repr=False)
+    flutter: int
+    precision: int
+    kind: str
+    covered: bool
+    gaps: tuple[tuple[str, ...], ...]
+    in_sync: int | None
+    lasts: int | None
+    greatest: Skew | None
+    within: bool | None
+    beyond: Skew | None
+    report: Report
 
 
 @dataclass(frozen=True)

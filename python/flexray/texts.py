@@ -6,7 +6,7 @@ from collections.abc import Iterable, Iterator
 
 from .results import (Bound, Capture, CapturedFrame, Check, CycleRow, Deviation, FailedCheck, Frame, Heard, Join, Lead,
                       LogCounts, LostBound, NodeEnd, Observation, ObservedCycle, ObservedFault, ObservedNode, ObservedSender, Report,
-                      Sent, Series, SeriesCycle, Settled, SharpBound, SharpSeries, SharpSettled, SharpSide, SharpWay, Skew,
+                      Sent, Series, SeriesCycle, Settled, SharpBound, SharpReport, SharpSeries, SharpSettled, SharpSide, SharpWay, Skew,
                       Startup, Trace, Upgraded, Vector, Vectors, Verdict)
 
 
@@ -136,6 +136,25 @@ def report(text: str) -> Report:
     nodes_at_end = tuple(NodeEnd(int(node), state, int(start), int(rate), int(offset)) for node, state, start, rate, offset in ends)
     return Report(text, nodes, sync, arbitrary, doubles, precision, covered == "yes", tuple(gap.split()) if gap else (), in_sync,
                   greatest, sent_a, sent_b, heard, cut, nodes_at_end)
+
+
+PLACE = r"(\d+) cycle (\d+) macrotick (\d+)"
+
+
+def sharp_report(text: str) -> SharpReport:
+    lines = _Lines(text)
+    flutter = lines.one(r"sharp flutter (\d+)")
+    precision, kind = lines.take(r"sharp precision (\d+) (alone|beside)")
+    gaps = tuple(tuple(gap.split()) for (gap,) in lines.every(r"sharp covered no (.+)"))
+    if not gaps:
+        lines.take(r"sharp covered yes")
+    synced, lasts = lines.take(r"sharp in sync (?:no|(\d+) (on|\d+))")
+    greatest = Skew(*_numbers(lines.take(rf"sharp greatest skew {PLACE}"))) if synced else None
+    within, *beyond = lines.take(rf"sharp within (?:(yes|-)|no {PLACE})")
+    below = "".join(f"{line}\n" for line in lines.lines[lines.at:])
+    return SharpReport(text, flutter, int(precision), kind, not gaps, gaps, int(synced) if synced else None,
+                       int(lasts) if lasts and lasts.isdigit() else None, greatest, None if within == "-" else within == "yes",
+                       Skew(*map(int, beyond)) if beyond[0] else None, report(below))
 
 
 def _greatest(lines: _Lines, name: str, comma: str) -> Skew | None:

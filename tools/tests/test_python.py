@@ -162,6 +162,8 @@ class Calls(Bench):
                 told = [word for word in words if word not in ("first", "second", "third")]
                 if is_series:
                     found = (flexray.sharp_series if told else flexray.series)(*files)
+                elif words[0] == "run" and "sharp" in told:
+                    found = flexray.sharp_run(*files)
                 elif words[0] == "bound" and "lost" in told:
                     found = flexray.lost_bound(*files, flutter=int(told[2]), count=int(told[4]))
                 elif words[0] == "bound" and "sharp" in told:
@@ -184,7 +186,18 @@ class Calls(Bench):
                 if line:
                     self.assertEqual((found.passes, found.line), (False, line))
                 seen.add(type(found).__name__)
-        self.assertEqual(len(seen), 16, sorted(seen))
+        self.assertEqual(len(seen), 17, sorted(seen))
+
+    def test_what_a_sharp_report_says(self):
+        files = [Path(EXAMPLES, "sharp", f"{name}.csv") for name in ("params", "drift", "script")]
+        found, series = flexray.sharp_run(*files), flexray.sharp_series(*files)
+        self.assertEqual(found.report, flexray.run(*files))
+        self.assertTrue(found.text.endswith(found.report.text))
+        self.assertEqual((found.flutter, found.precision, found.kind, found.covered, found.gaps, found.in_sync, found.lasts,
+                          found.greatest, found.within, found.beyond),
+                         (series.flutter, series.precision, series.kind, series.sharp_covered, (), series.sharp_synced, series.lasts,
+                          series.sharp_greatest, series.sharp_within, series.sharp_beyond))
+        self.assertEqual((found.in_sync, found.lasts, found.greatest.ticks), (2, None, 18_760_436))
 
     def test_what_a_report_says(self):
         report = flexray.run(*OFFSET)

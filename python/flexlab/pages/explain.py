@@ -37,7 +37,7 @@ USAGE = {
              "lost COUNT",
     "upgrade": "upgrade PARAMS",
     "settle": "settle PARAMS START RATE or settle PARAMS START RATE sharp FLUTTER",
-    "nm": "nm WIDTH FILE", "run": "run PARAMS DRIFT SCRIPT", "trace": "trace PARAMS DRIFT SCRIPT",
+    "nm": "nm WIDTH FILE", "run": "run PARAMS DRIFT SCRIPT or run PARAMS DRIFT SCRIPT sharp", "trace": "trace PARAMS DRIFT SCRIPT",
     "check": "check PARAMS TRACE", "make": "make SEED DOUBLES", "capture": "capture A FILE or capture B "
                                                                            "FILE", "cold": "cold PARAMS POWER",
     "observe": "observe PARAMS LOG",

@@ -102,6 +102,7 @@ static uint32_t typed(int count, char **given, uint8_t *out, size_t out_room, ui
     const char *name = given[0];
     uint32_t channel = count > 1 && !strcmp(given[1], "B") ? FLEXRAY_B : FLEXRAY_A;
     if (is_series) return (count == 4 ? flexray_series_sharp : flexray_series)(FIRST, SECOND, THIRD, PLACES);
+    if (!strcmp(name, "run") && count == 5) return flexray_run_sharp(FIRST, SECOND, THIRD, PLACES);
     if (!strcmp(name, "run")) return flexray_run(FIRST, SECOND, THIRD, PLACES);
     if (!strcmp(name, "trace")) return flexray_trace(FIRST, SECOND, THIRD, PLACES);
     if (!strcmp(name, "check")) return flexray_check(FIRST, SECOND, PLACES);
