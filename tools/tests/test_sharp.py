@@ -309,7 +309,7 @@ class Pages(Case):
     def test_never_in_sharp_sync(self):
         page = self.page(produced(("double_cycles = 60", "double_cycles = 1")))
         self.assertIn("In sync NEVER: no double cycle of the run is in sync", page)
-        self.assertNotIn("Sharp skew", page)
+        self.assertNotIn("Skew in sync", page)
 
     @needs_series
     def test_a_series_that_does_not_fit(self):

@@ -81,7 +81,7 @@ class Pages(Bench):
         self.write("a.toml", EXAMPLE)
         self.flexlab("run", "-p", "a.toml", env=self.series())
         drawn = self.read("a.lab", "skew.svg")
-        for told in ("microseconds, magnified", "node 3 changes", "greatest from cycle 8 on, 3.000 us", "precision, 7.902 us"):
+        for told in ("microseconds, magnified", "node 3 changes", "greatest from cycle 8 on, 3.000 us", "classical bound, 7.902 us"):
             self.assertIn(told, drawn)
 
 
