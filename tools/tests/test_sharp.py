@@ -1,5 +1,6 @@
 """The sharper bounds: the formulas are those of flexray bound, a run is told by them first, and what the older bound asks
 besides is told with what it does to the clocks."""
+import itertools
 import json
 import os
 import re
@@ -11,6 +12,7 @@ from flexlab.base import ranges
 from flexlab.program import report
 from flexlab.toml.cluster import read_cluster
 from flexlab.base.ending import Stop
+from flexray import texts
 
 with open(os.path.join(REPOSITORY, "examples", "sharp", "sharp.toml"), encoding="utf-8") as file:
     PRODUCTION = file.read()
@@ -429,6 +431,66 @@ class Machines(Case):
         self.assertNotIn("alone C", told)
         out = self.flexlab("explain", "bound", "a.lab/params.csv", "sharp", "20000001", status=1)[0]
         self.assertIn("20000001 is not a whole number from 0 to 20000000, for FLUTTER", out)
+
+
+class Losses(Case):
+    """What losses cost is stepped here from lambda and pi, one double cycle after the other."""
+
+    def setUp(self):
+        super().setUp()
+        self.p = self.cluster(PRODUCTION).parameters
+        self.flexlab("build", "a.toml")
+
+    def sides(self, alone, reach):
+        """Both sides of C3 to C5 with a reach: what they need beyond it is the same as in sync."""
+        macros = self.p["gMacroPerCycle"]
+        return [(number, left, right + (1 if number == 3 else macros) * (reach - self.near(alone, alone.pi, alone.lambda_)))
+                for number, _, left, right in alone.checks[2:]]
+
+    def near(self, alone, starts, lengths):
+        p = self.p
+        act = 7 * p["gdStaticSlot"] + p["gdActionPointOffset"]  # the eighth slot is the last key slot
+        return starts + lengths + act * (lengths + self.changes) // p["gMacroPerCycle"] + self.longest
+
+    def step(self, alone, heard, starts, lengths):
+        behind = lengths + alone.pi - alone.lambda_
+        return (behind, alone.lambda_) if heard else (starts + lengths + behind, lengths + alone.lambda_ - self.longest)
+
+    def costs(self, alone, pattern):
+        """The numbers of the double cycles of a pattern, and the greatest reach."""
+        spread, apart, reach = (alone.pi, alone.lambda_), [], 0
+        for heard in pattern:
+            later = self.step(alone, heard, *spread)
+            apart.append(max(spread[0] + 2 * spread[1] + self.changes + 2 * self.longest, later[0] + self.longest))
+            reach = max(reach, self.near(alone, *spread))
+            spread = later
+        return apart, reach
+
+    def holds(self, alone, reach):
+        return all(least.holds(number, least.Sides(left, right)) for number, left, right in self.sides(alone, reach))
+
+    def test_they_are_those_of_flexray_bound(self):
+        self.longest = 1_000_000 + self.p["xRateBound"]
+        self.changes = 2 * (self.p["pMicroPerCycle"] + self.p["pRateCorrectionOut"]) * self.p["xChangeBound"]
+        for flutter in (0, 3_000_000, sharp.MOST):
+            alone = self.told(flutter)["alone"]
+            seconds = [self.costs(alone, pattern) for pattern in itertools.product((False, True), repeat=8)
+                       if all(one or other for one, other in zip(pattern, pattern[1:]))]
+            longest = next(n for n in itertools.count() if not self.holds(alone, self.costs(alone, [False] * n + [True])[1])) - 1
+            for count in (1, 2, 3, 1000):
+                status, text, _ = self.flexray("bound", "a.lab/params.csv", "sharp", str(flutter), "lost", str(count))
+                told = texts.lost_bound(text)
+                apart, reach = self.costs(alone, [False] * count + [True] * 4)
+                self.assertEqual((status, told.flutter, told.lost, told.precision), (0, flutter, count, alone.precision))
+                self.assertEqual((list(told.apart), apart[-1], told.back), (apart[:-1], alone.precision, count + 2))
+                self.assertNotIn(alone.precision, apart[:told.back])
+                self.assertEqual((told.peak, told.reach), (max(apart), reach))
+                self.assertEqual([(one.number, one.left, one.right) for one in told.checks[2:]], self.sides(alone, reach))
+                self.assertEqual([one.holds for one in told.checks[2:]],
+                                 [least.holds(number, least.Sides(left, right)) for number, left, right in self.sides(alone, reach)])
+                self.assertEqual((told.every_second, told.every_second_holds),
+                                 (max(max(apart) for apart, _ in seconds), self.holds(alone, max(reach for _, reach in seconds))))
+                self.assertEqual((told.longest, told.lasts), (longest if longest >= 0 else None, alone.lasts))
 
 
 class Reading(unittest.TestCase):
