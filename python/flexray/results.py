@@ -4,8 +4,8 @@ from __future__ import annotations
 
 from dataclasses import dataclass, field
 
-__all__ = ["Check", "Bound", "SharpSide", "SharpBound", "LostBound", "Skew", "Sent", "Heard", "NodeEnd", "Report", "SharpReport", "SeriesCycle", "Series",
-           "SharpSeries", "CycleRow", "Deviation", "Join", "Trace", "Verdict", "ObservedCycle", "ObservedNode",
+__all__ = ["Check", "Bound", "SharpSide", "SharpBound", "LostBound", "Skew", "Sent", "Heard", "NodeEnd", "Report", "SharpReport",
+           "SeriesCycle", "Series", "SharpSeries", "CycleRow", "Deviation", "Join", "Trace", "Verdict", "ObservedCycle", "ObservedNode",
            "ObservedFault", "ObservedSender",
            "LogCounts", "Observation", "FailedCheck", "Settled", "SharpWay", "SharpSettled", "Lead", "Startup", "Frame",
            "CapturedFrame", "Capture", "Vector", "Vectors", "Upgraded"]
