@@ -97,7 +97,7 @@ def bound(params: Input, *, join: bool = False) -> Bound:
 def sharp_bound(params: Input, flutter: int = 0, *, join: bool = False) -> SharpBound:
     """The sharper bounds where delays flutter by at most so many ticks, 0 to 20,000,000; with `join` the reach and the checks
     of a cluster that nodes join too."""
-    return texts.sharp_bound(_asked("bound", "first", "sharp", _whole("flutter", flutter, _FLUTTER), *_join(join), params=params), join)
+    return texts.sharp_bound(_asked("bound", "first", "sharp", _whole("flutter", flutter, _FLUTTER), *_join(join), params=params))
 
 
 def lost_bound(params: Input, flutter: int = 0, count: int = 1) -> LostBound:

@@ -2,11 +2,13 @@
 the text as the program prints it, which `print(answer.text, end="")` shows."""
 from __future__ import annotations
 
+from collections.abc import Iterator, Sequence
 from dataclasses import dataclass, field
+from typing import NamedTuple, overload
 
 __all__ = ["Check", "Bound", "SharpSide", "SharpBound", "LostBound", "Skew", "Sent", "Heard", "NodeEnd", "Report", "SharpReport",
-           "SeriesCycle", "Series", "SharpSeries", "CycleRow", "Deviation", "Join", "Trace", "Verdict", "ObservedCycle", "ObservedNode",
-           "ObservedFault", "ObservedSender",
+           "SeriesCycle", "SeriesCycles", "Series", "SharpSeries", "CycleRow", "Deviation", "Join", "Trace", "Verdict", "Failing", "Failure",
+           "ObservedCycle", "ObservedNode", "ObservedFault", "ObservedSender",
            "LogCounts", "Observation", "FailedCheck", "Settled", "SharpWay", "SharpSettled", "Lead", "Startup", "Frame",
            "CapturedFrame", "Capture", "Vector", "Vectors", "Upgraded"]
 
@@ -181,8 +183,7 @@ class SharpReport:
     report: Report
 
 
-@dataclass(frozen=True)
-class SeriesCycle:
+class SeriesCycle(NamedTuple):
     """A cycle of a series: whether its double cycle is in sync, and its greatest skew, which is 0 at macrotick 0 where no node
     runs. `sharp` is whether it is in sharp sync, None in a series that was not asked for it."""
 
@@ -193,6 +194,50 @@ class SeriesCycle:
     sharp: bool | None = None
 
 
+class SeriesCycles(Sequence[SeriesCycle]):
+    """The cycles of a series, one by one; and by its columns, each a tuple with a value of each cycle. `sharp` is empty in a series
+    that was not asked for it."""
+
+    __slots__ = ("in_sync", "skews", "macroticks", "sharp")
+
+    def __init__(self, in_sync: tuple[bool, ...], skews: tuple[int, ...], macroticks: tuple[int, ...],
+                 sharp: tuple[bool, ...] = ()) -> None:
+        self.in_sync, self.skews, self.macroticks, self.sharp = in_sync, skews, macroticks, sharp
+
+    @property
+    def columns(self) -> tuple[tuple[bool, ...], tuple[int, ...], tuple[int, ...], tuple[bool, ...]]:
+        return self.in_sync, self.skews, self.macroticks, self.sharp
+
+    def __len__(self) -> int:
+        return len(self.skews)
+
+    def __iter__(self) -> Iterator[SeriesCycle]:
+        return map(SeriesCycle, range(len(self.skews)), self.in_sync, self.skews, self.macroticks, self.sharp or [None] * len(self.skews))
+
+    @overload
+    def __getitem__(self, at: int) -> SeriesCycle: ...
+
+    @overload
+    def __getitem__(self, at: slice) -> tuple[SeriesCycle, ...]: ...
+
+    def __getitem__(self, at: int | slice) -> SeriesCycle | tuple[SeriesCycle, ...]:
+        places = range(len(self.skews))[at]
+        return self._of(places) if isinstance(places, int) else tuple(map(self._of, places))
+
+    def _of(self, cycle: int) -> SeriesCycle:
+        return SeriesCycle(cycle, self.in_sync[cycle], self.skews[cycle], self.macroticks[cycle],
+                           self.sharp[cycle] if self.sharp else None)
+
+    def __eq__(self, other: object) -> bool:
+        return isinstance(other, SeriesCycles) and self.columns == other.columns
+
+    def __hash__(self) -> int:
+        return hash(self.columns)
+
+    def __repr__(self) -> str:
+        return f"<{len(self)} cycles>"
+
+
 @dataclass(frozen=True)
 class Series:
     """The skew of each cycle. `greatest` is since the first double cycle in sync, `within` whether the skew stayed within the
@@ -200,7 +245,7 @@ class Series:
     `synced` is whether the last double cycle is in sync, `lost` the one from which on none is."""
 
     text: str = field(repr=False)
-    cycles: tuple[SeriesCycle, ...] = field(repr=False)
+    cycles: SeriesCycles = field(repr=False)
     greatest: Skew | None
     synced: bool
     lost: int | None
@@ -225,8 +270,7 @@ class SharpSeries(Series):
     sharp_beyond: tuple[int, int] | None
 
 
-@dataclass(frozen=True)
-class CycleRow:
+class CycleRow(NamedTuple):
     """A cycle of a node: its start and the length of its microtick in ticks, its terms in microticks, its state."""
 
     cycle: int
@@ -238,8 +282,7 @@ class CycleRow:
     state: str
 
 
-@dataclass(frozen=True)
-class Deviation:
+class Deviation(NamedTuple):
     """What a node measured of the sync frame of a slot, in microticks; above 0 it came late."""
 
     cycle: int
@@ -285,6 +328,38 @@ class Verdict:
     precision: int | None = None
     in_sync: int | None = None
     greatest: Skew | None = None
+
+
+@dataclass(frozen=True)
+class Failing:
+    """A line of an answer that says that something does not hold: a check, of the bounds of a `side` (`alone`, `beside`, or empty
+    where it is of both or the older ones) and, where `is_way`, of the way to sync; the first gap of a run, as in a report; or the
+    fault of a recording."""
+
+    line: str
+    check: FailedCheck | None = None
+    side: str = ""
+    is_way: bool = False
+    gap: tuple[str, ...] = ()
+    fault: str | None = None
+
+
+@dataclass(frozen=True)
+class Failure:
+    """A line on standard error (docs/FORMATS.md). `role` is which file it is about, empty where none is; `kind` one of `usage`,
+    `read fault`, `too long`, `write fault`, `no memory`, `record`, `missing`, `constraint`, `incomplete`, `frame`, `breach` and
+    `gap`.
+
+    `number` is that of a record or a constraint, or after how many records rows are missing. `words` has the reason of a refused
+    record; the name that is missing; the fault of a frame, as `("length", "12", "9")`; the law that a record of a trace breaks, as
+    `("deviation", "99", "-6", "4")`; or a gap, as in a report.
+    """
+
+    line: str
+    kind: str
+    role: str = ""
+    number: int | None = None
+    words: tuple[str, ...] = ()
 
 
 @dataclass(frozen=True)

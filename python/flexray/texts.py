@@ -1,13 +1,14 @@
 """The printed texts, taken apart. Their forms are those of docs/FORMATS.md; a line that fits none is a fault of this module."""
 from __future__ import annotations
 
+import functools
 import re
 from collections.abc import Iterable, Iterator
 
-from .results import (Bound, Capture, CapturedFrame, Check, CycleRow, Deviation, FailedCheck, Frame, Heard, Join, Lead,
-                      LogCounts, LostBound, NodeEnd, Observation, ObservedCycle, ObservedFault, ObservedNode, ObservedSender, Report,
-                      Sent, Series, SeriesCycle, Settled, SharpBound, SharpReport, SharpSeries, SharpSettled, SharpSide, SharpWay, Skew,
-                      Startup, Trace, Upgraded, Vector, Vectors, Verdict)
+from .results import (Bound, Capture, CapturedFrame, Check, CycleRow, Deviation, FailedCheck, Failing, Failure, Frame, Heard,
+                      Join, Lead, LogCounts, LostBound, NodeEnd, Observation, ObservedCycle, ObservedFault, ObservedNode,
+                      ObservedSender, Report, Sent, Series, SeriesCycles, Settled, SharpBound, SharpReport, SharpSeries,
+                      SharpSettled, SharpSide, SharpWay, Skew, Startup, Trace, Upgraded, Vector, Vectors, Verdict)
 
 
 class Strange(ValueError):
@@ -63,6 +64,9 @@ def _checks(groups: list[tuple[str, ...]]) -> tuple[Check, ...]:
 
 
 CHECK = r"C(\d) (holds|fails) (-?\d+) (-?\d+)"
+# The first gap of a run, as it stands behind `covered no`.
+GAP = (r"check \d -?\d+ -?\d+|count \d+ \d+|(?:length|change) \d+ \d+ -?\d+|delay \d+ \d+ [AB] \d+ -?\d+|"
+       r"link \d+ \d+ \d+")
 
 
 def bound(text: str) -> Bound:
@@ -73,7 +77,8 @@ def bound(text: str) -> Bound:
     return Bound(text, y1, lambda_, pi, precision, _checks(checks + lines.every(CHECK)), reach)
 
 
-def sharp_bound(text: str, join: bool = False) -> SharpBound:
+def sharp_bound(text: str) -> SharpBound:
+    """With the lines of a cluster that nodes join, where they are there."""
     lines = _Lines(text)
     flutter = lines.one(r"flutter (\d+)")
     kinds = ("alone", "beside")
@@ -84,8 +89,8 @@ def sharp_bound(text: str, join: bool = False) -> SharpBound:
         lambda_, pi, precision = numbers[kind]
         sides[kind] = SharpSide(lambda_, pi, precision, _checks(both + lines.every(f"{kind} {CHECK}")))
     lasts = lines.take(r"lasts (on|\d+)")[0]
-    rates = "on"
-    if join:
+    rates, joins = "on", lines.more
+    if joins:
         reaches = {kind: lines.one(rf"{kind} reach (\d+)") for kind in kinds}
         both = lines.every(CHECK)
         for kind in kinds:
@@ -93,7 +98,7 @@ def sharp_bound(text: str, join: bool = False) -> SharpBound:
             side = sides[kind]
             sides[kind] = SharpSide(side.lambda_, side.pi, side.precision, side.checks + more, reaches[kind])
         rates = lines.take(r"first rates last (on|\d+)")[0]
-    return SharpBound(text, flutter, sides["alone"], sides["beside"], None if lasts == "on" else int(lasts), join,
+    return SharpBound(text, flutter, sides["alone"], sides["beside"], None if lasts == "on" else int(lasts), joins,
                       None if rates == "on" else int(rates))
 
 
@@ -125,7 +130,7 @@ def report(text: str) -> Report:
     lines = _Lines(text)
     nodes, sync, arbitrary, doubles = _numbers(lines.take(r"nodes (\d+) sync (\d+) arbitrary (\d+) doubles (\d+)"))
     precision = lines.one(r"precision (\d+)")
-    covered, gap = lines.take(r"covered (yes|no)(?: (.+))?")
+    covered, gap = lines.take(rf"covered (?:(yes)|no ({GAP}))")
     in_sync, greatest = _in_sync(lines), _skew_line(lines)
     sent_a, sent_b = (Sent(int(frames), int(xor, 16)) for frames, xor in
                       (lines.take(rf"sent {channel} (\d+) xor ([0-9A-F]{{6}})") for channel in "AB"))
@@ -168,46 +173,72 @@ def _within(lines: _Lines, name: str, comma: str) -> tuple[bool | None, tuple[in
 
 
 def series(text: str) -> Series:
-    lines = _Lines(text)
-    lines.take("cycle,in_sync,skew,macrotick")
-    return Series(text, tuple(_series_cycles(lines, 4)), *_ends(lines, ""))
+    cycles, lines = _cycles(text, "cycle,in_sync,skew,macrotick\n", 4)
+    return Series(text, cycles, *_ends(lines, ""))
 
 
-def _series_cycles(lines: _Lines, count: int) -> Iterator[SeriesCycle]:
-    """The rows of cycles, of so many fields each. Taken apart by their commas, since a study has a series for each run."""
-    truth = {"yes": True, "no": False}
-    while lines.more and lines.lines[lines.at][:1].isdigit():
-        line = lines.lines[lines.at]
-        words = line.split(",")
-        try:
-            if len(words) != count:
-                raise ValueError
-            yield SeriesCycle(int(words[0]), truth[words[1]], int(words[2]), int(words[3]), truth[words[4]] if count == 5 else None)
-        except (KeyError, ValueError) as fault:
-            raise Strange(line) from fault
-        lines.at += 1
+TRUTHS = frozenset(("yes", "no"))
+
+
+def _cycles(text: str, head: str, width: int) -> tuple[SeriesCycles, _Lines]:
+    """The rows of the cycles, from 0 on, of so many fields each, and the lines behind them. They are taken apart column by column,
+    since a study has a series for each run."""
+    if not text.startswith(head):
+        raise Strange(text.partition("\n")[0])
+    end = text.find("greatest,")
+    if end < 0:
+        raise Strange("the end of the text")
+    rows = text[len(head):end]
+    # The line feeds are a column of their own: a row that has a field more or less moves one of them into another column.
+    words = rows.replace("\n", ",\n,").split(",")
+    columns = [words[at:-1:width + 1] for at in range(width + 1)]
+    numbers, in_sync, skews, macroticks = columns[:4]
+    sharp, feeds = columns[4:width], columns[width]
+    if (words[-1] or len(words) != (width + 1) * len(numbers) + 1 or set(feeds) - {"\n"} or not TRUTHS.issuperset(sum(sharp, in_sync))
+            or numbers != _numbers_to(len(numbers)) or not (_are_digits(skews) and _are_digits(macroticks))):
+        raise Strange(_strange_row(rows, width))
+    return (SeriesCycles(tuple([word == "yes" for word in in_sync]), tuple(map(int, skews)), tuple(map(int, macroticks)),
+                         tuple([word == "yes" for column in sharp for word in column])), _Lines(text[end:]))
+
+
+@functools.lru_cache(maxsize=1)
+def _numbers_to(count: int) -> list[str]:
+    """The numbers of so many cycles, which are those of all series of a study."""
+    return list(map(str, range(count)))
+
+
+def _are_digits(column: list[str]) -> bool:
+    """Whether each field of a column is some digits."""
+    joined = "".join(column)
+    return not column or joined.isascii() and joined.isdigit() and "" not in column
+
+
+def _strange_row(rows: str, width: int) -> str:
+    """The first of these rows that has not its form."""
+    form = r"(\d+),(?:yes|no),\d+,\d+" + (",(?:yes|no)" if width > 4 else "")
+    lines = rows.split("\n")
+    matches = (re.fullmatch(form, line, re.ASCII) for line in lines)
+    return next((line for at, (line, found) in enumerate(zip(lines, matches)) if not found or found[1] != str(at)), lines[-1])
 
 
 def _ends(lines: _Lines, comma: str) -> tuple[Skew | None, bool, int | None, bool | None, tuple[int, int] | None]:
     greatest = _greatest(lines, "greatest", comma)
-    synced, lost = lines.take(rf"synced,(yes|no),(\d*),{comma}")
+    synced, lost = lines.take(rf"synced,(?:(yes),|no,(\d+)),{comma}")
     within, beyond = _within(lines, "within", comma)
     return greatest, synced == "yes", int(lost) if lost else None, within, beyond
 
 
 def sharp_series(text: str) -> SharpSeries:
-    lines = _Lines(text)
-    lines.take("cycle,in_sync,skew,macrotick,sharp")
-    cycles = tuple(_series_cycles(lines, 5))
+    cycles, lines = _cycles(text, "cycle,in_sync,skew,macrotick,sharp\n", 5)
     ends = _ends(lines, ",")
     flutter = lines.one(r"flutter,(\d+),,,")
     precision, kind = lines.take(r"sharp,(\d+),(alone|beside),,")
-    covered, gap = lines.take(r"sharp covered,(yes|no),,,(.*)")
-    synced, lasts = lines.take(r"sharp synced,(-|\d+),(on|\d*),,")
+    covered, gap = lines.take(rf"sharp covered,(?:(yes),,,|no,,,({GAP}))")
+    synced, lasts = lines.take(r"sharp synced,(?:-,|(\d+),(on|\d+)),,")
     greatest = _greatest(lines, "sharp greatest", ",")
     within, beyond = _within(lines, "sharp within", ",")
-    return SharpSeries(text, cycles, *ends, flutter, int(precision), kind, covered == "yes", tuple(gap.split()),
-                       None if synced == "-" else int(synced), int(lasts) if lasts.isdigit() else None, greatest, within, beyond)
+    return SharpSeries(text, cycles, *ends, flutter, int(precision), kind, covered == "yes", tuple(gap.split()) if gap else (),
+                       int(synced) if synced else None, None if lasts in (None, "on") else int(lasts), greatest, within, beyond)
 
 
 def _cycle_row(line: str) -> CycleRow:
@@ -219,7 +250,7 @@ def _cycle_row(line: str) -> CycleRow:
 
 
 def cycle_rows(lines: Iterable[str]) -> Iterator[CycleRow]:
-    """The `cycle` rows alone, of a file too long to be held."""
+    """The `cycle` rows alone, of a trace that is too long to be held."""
     for line in lines:
         if line.startswith("cycle,"):
             yield _cycle_row(line.rstrip("\n"))
@@ -229,19 +260,22 @@ def trace(text: str) -> Trace:
     """Taken apart by its commas alone, since a trace may have millions of rows."""
     doubles, arbitrary, joins, cycles, deviations = 0, [], [], [], []
     for line in text.splitlines():
-        words = line.split(",")
-        if words[0] == "cycle":
-            cycles.append(_cycle_row(line))
-        elif words[0] == "dev":
-            deviations.append(Deviation(int(words[1]), int(words[2]), int(words[3]), words[4], int(words[5])))
-        elif words[0] == "run":
-            doubles = int(words[1])
-        elif words[0] == "arbitrary":
-            arbitrary.append(int(words[1]))
-        elif words[0] == "join":
-            joins.append(Join(int(words[1]), int(words[2]), int(words[3])))
-        else:
-            raise Strange(line)
+        kind, *words = line.split(",")
+        try:
+            if kind == "cycle":
+                cycles.append(_cycle_row(line))
+            elif kind == "dev":
+                deviations.append(Deviation(int(words[0]), int(words[1]), int(words[2]), words[3], int(words[4])))
+            elif kind == "run":
+                doubles = int(words[0])
+            elif kind == "arbitrary":
+                arbitrary.append(int(words[0]))
+            elif kind == "join":
+                joins.append(Join(int(words[0]), int(words[1]), int(words[2])))
+            else:
+                raise ValueError(kind)
+        except (IndexError, ValueError) as fault:
+            raise Strange(line) from fault
     return Trace(text, doubles, tuple(arbitrary), tuple(joins), tuple(cycles), tuple(deviations))
 
 
@@ -255,6 +289,63 @@ def verdict(text: str) -> Verdict:
 def failed_verdict(line: str) -> Verdict:
     found = re.match(r"trace: record (\d+) ", line)
     return Verdict("", False, line, int(found[1]) if found else None)
+
+
+# ---- what does not hold, by its line alone
+
+FAILING = re.compile(rf"(alone |beside )?(?:C(\d) fails|settles no check (\d)) (-?\d+) (-?\d+)|covered no ({GAP})|fault \d+ (.+)",
+                     re.ASCII)
+
+
+def failing(text: str) -> Iterator[Failing]:
+    """The lines of an answer, of whatever request, that say that something does not hold."""
+    for line in text.splitlines():
+        found = FAILING.fullmatch(line)
+        if found is None:
+            continue
+        side, bound_check, way_check, left, right, gap, fault = found.groups()
+        number = bound_check or way_check
+        yield Failing(line, FailedCheck(int(number), int(left), int(right)) if number else None, (side or "").strip(), bool(way_check),
+                      tuple(gap.split()) if gap else (), fault)
+
+
+ROLE = "(frame|params|drift|script|trace|log|power|capture|vectors)"
+FRAME_FAULT = (r"short \d+|header crc kept [0-9A-F]+ computed [0-9A-F]+|length stated \d+ given \d+|"
+               r"frame crc kept [0-9A-F]+ computed [0-9A-F]+|zero id|startup without sync")
+BREACH = (r"(?:start|rate|offset) -?\d+ expected -?\d+|state [a-z]+ expected [a-z]+|silent [a-z]+|"
+          r"deviation -?\d+ expected -?\d+ to -?\d+|apart \d+")
+# Of each kind of a line on standard error its form, with groups by their names.
+FAILURES = tuple((kind, re.compile(form, re.ASCII)) for kind, form in (
+    ("usage", "usage:.*"), ("no memory", "no memory"), ("write fault", "write fault"),
+    ("read fault", f"(?P<role>{ROLE}): read fault"), ("too long", f"(?P<role>{ROLE}): too long"),
+    ("record", rf"(?P<role>{ROLE}): record (?P<number>\d{{1,18}}): (?P<words>[A-Z][A-Za-z]+)"),
+    ("missing", rf"(?P<role>{ROLE}): missing (?P<words>\w+)"),
+    ("constraint", r"(?P<role>params): constraint (?P<number>[1-8])"),
+    ("incomplete", r"(?P<role>trace): incomplete (?P<number>\d{1,18})"),
+    ("frame", f"(?P<role>frame): (?P<words>{FRAME_FAULT})"),
+    ("breach", rf"(?P<role>trace): record (?P<number>\d{{1,18}}) (?P<words>{BREACH})"),
+    ("gap", f"(?P<role>trace): not covered (?P<words>{GAP})")))
+
+
+def failure(line: str) -> Failure:
+    """A line on standard error."""
+    for kind, form in FAILURES:
+        found = form.fullmatch(line)
+        if found:
+            named = found.groupdict()
+            number = named.get("number")
+            return Failure(line, kind, named.get("role", ""), int(number) if number else None, _words(kind, named.get("words", "")))
+    raise Strange(line)
+
+
+def _words(kind: str, text: str) -> tuple[str, ...]:
+    """The words of a line on standard error without those between its values."""
+    words = text.split()
+    if kind == "frame" and words[0] in ("header", "frame"):
+        return " ".join(words[:2]), words[3], words[5]
+    if kind == "frame" and words[0] in ("zero", "startup"):
+        return (text,)
+    return tuple(word for word in words if word not in ("stated", "given", "expected", "to"))
 
 
 NUMBER = r"(-?\d+)"

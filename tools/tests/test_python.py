@@ -551,6 +551,101 @@ class Alone(Bench):
             self.assertEqual((told.text, len(told.cycles), told.cycles[-1]), (text, 180, last))
             self.assertEqual((told.greatest, told.synced, told.lost), (flexray.Skew(0, 0, 0), False, 3))
 
+    HEAD = "cycle,in_sync,skew,macrotick,sharp\n"
+    ROWS = ("0,no,119988000,4999,no\n", "1,no,178800000,4900,no\n", "2,yes,148983950,4999,no\n", "3,yes,181796250,4900,yes\n")
+    END = ("greatest,181796250,3,4900,\nsynced,yes,,,\nwithin,yes,,,\nflutter,7,,,\nsharp,150237926,beside,,\nsharp covered,yes,,,\n"
+           "sharp synced,-,,,\nsharp greatest,-,-,-,\nsharp within,-,,,\n")
+
+    def test_the_cycles_of_a_series(self):
+        """One by one, and by their columns."""
+        cycles = texts.sharp_series("".join([self.HEAD, *self.ROWS, self.END])).cycles
+        rows = [flexray.SeriesCycle(0, False, 119988000, 4999, False), flexray.SeriesCycle(1, False, 178800000, 4900, False),
+                flexray.SeriesCycle(2, True, 148983950, 4999, False), flexray.SeriesCycle(3, True, 181796250, 4900, True)]
+        self.assertEqual((list(cycles), len(cycles), cycles[2], cycles[-1], cycles[1:3], cycles[::-2]),
+                         (rows, 4, rows[2], rows[3], tuple(rows[1:3]), (rows[3], rows[1])))
+        self.assertRaises(IndexError, lambda: cycles[4])
+        self.assertEqual((cycles.in_sync, cycles.skews), ((False, False, True, True), (119988000, 178800000, 148983950, 181796250)))
+        self.assertEqual((cycles.macroticks, cycles.sharp), ((4999, 4900, 4999, 4900), (False, False, False, True)))
+        plain = "".join([self.HEAD, *self.ROWS, self.END.partition("flutter")[0]]).replace(",sharp", "")
+        plain = texts.series(re.sub(",(no|yes)?$", "", plain, flags=re.M)).cycles
+        self.assertEqual((list(plain)[3], plain[3], plain.sharp), (flexray.SeriesCycle(3, True, 181796250, 4900),) * 2 + ((),))
+        self.assertNotEqual(plain, cycles)
+        self.assertEqual({pickle.loads(pickle.dumps(cycles))}, {cycles})
+        self.assertEqual(len(texts.sharp_series(self.HEAD + self.END).cycles), 0)
+
+    def test_the_last_lines_of_a_series(self):
+        found = texts.sharp_series("".join([self.HEAD, *self.ROWS, self.END]))
+        self.assertEqual((found.greatest, found.synced, found.lost, found.within, found.beyond),
+                         (flexray.Skew(181796250, 3, 4900), True, None, True, None))
+        self.assertEqual((found.flutter, found.precision, found.kind, found.sharp_covered, found.sharp_gap, found.sharp_synced, found.lasts,
+                          found.sharp_greatest, found.sharp_within, found.sharp_beyond),
+                         (7, 150237926, "beside", True, (), None, None, None, None, None))
+        end = ("greatest,-,-,-,\nsynced,no,0,,\nwithin,-,,,\nflutter,0,,,\nsharp,39007594,alone,,\nsharp covered,no,,,check 3 5 6\n"
+               "sharp synced,1,62,,\nsharp greatest,56495900,3,4687,\nsharp within,no,3,4687,\n")
+        found = texts.sharp_series(self.HEAD + end)
+        self.assertEqual((found.greatest, found.synced, found.lost, found.within, found.beyond), (None, False, 0, None, None))
+        self.assertEqual((found.flutter, found.precision, found.kind, found.sharp_covered, found.sharp_gap, found.sharp_synced, found.lasts,
+                          found.sharp_greatest, found.sharp_within, found.sharp_beyond),
+                         (0, 39007594, "alone", False, ("check", "3", "5", "6"), 1, 62, flexray.Skew(56495900, 3, 4687), False, (3, 4687)))
+        self.assertIsNone(texts.sharp_series(self.HEAD + end.replace("1,62", "1,on")).lasts)
+        for old, new in (("greatest,-,-,-,", "greatest,-,-,7,"), ("synced,no,0,,", "synced,no,,,"), ("synced,no,0,,", "synced,yes,0,,"),
+                         ("within,-,,,", "within,maybe,,,"), ("flutter,0,,,", "flutter,-,,,"), ("39007594,alone", "1,both"),
+                         ("check 3 5 6", "check 3 5"), ("no,,,check 3 5 6", "no,,,"), ("no,,,check 3 5 6", "yes,,,check 3 5 6"),
+                         ("synced,1,62", "synced,-,62"), ("synced,1,62", "synced,1,"), ("sharp within,", "sharp inside,")):
+            with self.subTest(new=new), self.assertRaises(texts.Strange):
+                self.assertIn(old, end)
+                texts.sharp_series(self.HEAD + end.replace(old, new, 1))
+
+    def test_rows_of_a_series_of_another_form(self):
+        for row in ("2,yes,148983950,4999\n", "2,yes,148983950,4999,no,no\n", "2,maybe,148983950,4999,no\n", "\n", "2,yes,-,-,no\n",
+                    "2,yes,148983950,4999\n2,yes,148983950,4999,no,no\n", "2,yes,148983950,4999,no,", "2,yes,148983950,\n4999,no\n",
+                    "2,yes,\xb2,4999,no\n", "2,yes,-5,4999,no\n", "2,yes,,4999,no\n", "4,yes,148983950,4999,no\n", "2,yes,1 ,4999,no\n",
+                    "02,yes,148983950,4999,no\n", "2,yes,148983950,4999,no\r\n", "2,yes,1_0,4999,no\n"):
+            for rows in (self.ROWS[:2] + (row,), self.ROWS[:2] + (row, self.ROWS[3])):
+                with self.subTest(row=row), self.assertRaises(texts.Strange) as strange:
+                    texts.sharp_series("".join([self.HEAD, *rows, self.END]))
+                self.assertIn(strange.exception.line, (*"".join(rows).split("\n"), rows[-1]))
+        for text, told in (("", ""), (self.HEAD, "the end of the text"), ("cycle,in_sync\n", "cycle,in_sync"),
+                           (self.HEAD + self.ROWS[0] + "x" + self.END, "x")):
+            with self.assertRaises(texts.Strange) as strange:
+                texts.sharp_series(text)
+            self.assertEqual(strange.exception.line, told)
+
+    def test_lines_on_standard_error(self):
+        for line, kind, role, number, words in (
+                ("usage: flexray COMMAND WORDS", "usage", "", None, ()), ("no memory", "no memory", "", None, ()),
+                ("write fault", "write fault", "", None, ()), ("log: read fault", "read fault", "log", None, ()),
+                ("capture: too long", "too long", "capture", None, ()), ("drift: record 17: OutOfRange", "record", "drift", 17, ("OutOfRange",)),
+                ("params: missing gdNIT", "missing", "params", None, ("gdNIT",)), ("params: constraint 4", "constraint", "params", 4, ()),
+                ("trace: incomplete 12", "incomplete", "trace", 12, ()), ("frame: short 7", "frame", "frame", None, ("short", "7")),
+                ("frame: header crc kept 1F1 computed 2F2", "frame", "frame", None, ("header crc", "1F1", "2F2")),
+                ("frame: length stated 12 given 9", "frame", "frame", None, ("length", "12", "9")),
+                ("frame: frame crc kept 000001 computed ABCDEF", "frame", "frame", None, ("frame crc", "000001", "ABCDEF")),
+                ("frame: zero id", "frame", "frame", None, ("zero id",)),
+                ("frame: startup without sync", "frame", "frame", None, ("startup without sync",)),
+                ("trace: record 3 start 5 expected 6", "breach", "trace", 3, ("start", "5", "6")),
+                ("trace: record 3 state halt expected active", "breach", "trace", 3, ("state", "halt", "active")),
+                ("trace: record 3 silent passive", "breach", "trace", 3, ("silent", "passive")),
+                ("trace: record 40 deviation 99 expected -6 to 4", "breach", "trace", 40, ("deviation", "99", "-6", "4")),
+                ("trace: record 3 apart 2", "breach", "trace", 3, ("apart", "2")),
+                ("trace: not covered delay 1 2 B 3 -4", "gap", "trace", None, ("delay", "1", "2", "B", "3", "-4"))):
+            self.assertEqual(texts.failure(line), flexray.Failure(line, kind, role, number, words))
+        for line in ("", "params: constraint 9", "drift: constraint 1", "params: record 1", "params: record x: Shape", "file: read fault",
+                     "trace: record 3 deviation 99 expected -6", "trace: record 3 speed 1 expected 2", "frame: long 7", "no memory left",
+                     "trace: not covered length 1 2", f"params: record {'1' * 19}: Shape"):
+            self.assertRaises(texts.Strange, texts.failure, line)
+
+    def test_lines_that_say_that_something_fails(self):
+        text = ("y1 5\nC1 fails 1 2\nC2 holds 3 4\nalone C3 fails -1 2\nbeside settles no check 4 5 6\nsettles 7\nsettles no check 1 2 3\n"
+                "covered no length 1 2 3\ncovered no check 3 5 6\ncovered yes\nfault none\nfault 12 short 3\n")
+        check = flexray.FailedCheck
+        self.assertEqual([(told.check, told.side, told.is_way, told.gap, told.fault) for told in texts.failing(text)],
+                         [(check(1, 1, 2), "", False, (), None), (check(3, -1, 2), "alone", False, (), None),
+                          (check(4, 5, 6), "beside", True, (), None), (check(1, 2, 3), "", True, (), None),
+                          (None, "", False, ("length", "1", "2", "3"), None), (None, "", False, ("check", "3", "5", "6"), None),
+                          (None, "", False, (), "short 3")])
+        self.assertTrue(all(told.line in text.splitlines() for told in texts.failing(text)))
+
     def test_the_cycle_rows_of_a_trace(self):
         text = Path(EXAMPLES, "offset", "trace", "printed.txt").read_text()
         self.assertEqual(tuple(texts.cycle_rows(io.StringIO(text))), texts.trace(text).cycles)
@@ -558,7 +653,12 @@ class Alone(Bench):
 
     def test_what_is_not_understood_is_no_answer(self):
         self.assertRaises(ValueError, texts.report, "nodes 2 sync 2 arbitrary 0 doubles 2\nprecision many\n")
-        self.assertRaises(ValueError, texts.trace, "run,1,,,,,,\nother,1\n")
+        for row in ("other,1", "dev,1,2", "dev,1,2,3,A,x,,", "join,1,,2,,,,", "arbitrary,", "run,x"):
+            self.assertRaises(texts.Strange, texts.trace, f"run,1,,,,,,\n{row}\n")
+        report = Path(EXAMPLES, "lost", "printed.txt").read_text()
+        self.assertEqual(texts.report(report).gap, tuple(re.search("^covered no (.*)$", report, re.M)[1].split()))
+        for gap in ("no", "no link 1 2", "no count 1 2 3", "no check x 1 2", "yes link 1 2 3", "no delay 1 2 C 3 4"):
+            self.assertRaises(texts.Strange, texts.report, re.sub("(?m)^covered .*$", f"covered {gap}", report))
         for row in ("cycle,1,2", "cycle,1,2,3,4,5,six,active"):
             self.assertRaises(texts.Strange, texts.trace, f"run,1,,,,,,\n{row}\n")
             self.assertRaises(texts.Strange, list, texts.cycle_rows([f"{row}\n"]))

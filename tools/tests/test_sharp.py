@@ -134,12 +134,12 @@ class Pages(Case):
                       "precision; that is proved of such runs", page)
         self.assertIn("Precision 0.900 us (36.004 microticks), without arbitrary nodes, for delays that flutter by 0.000 us",
                       page)
-        told = report.read_series(self.read("a.lab", "series.csv")).sharp
-        self.assertIn(f"In sync yes, from double cycle {told.synced} on (cycle {2 * told.synced}, {10 * told.synced}.000 ms), "
-                      "and still in sync at the end", page)
-        skew, cycle, macrotick = told.greatest
-        self.assertRegex(page, rf"Skew in sync {skew * 25 / 10 ** 9:.3f} us at most since it was first in sync, [\d.]+ % of the "
-                               rf"precision \(cycle {cycle}, macrotick {macrotick}\) Within yes")
+        told = report.read_series(self.read("a.lab", "series.csv"))
+        first, skew = told.sharp_synced, told.sharp_greatest
+        self.assertIn(f"In sync yes, from double cycle {first} on (cycle {2 * first}, {10 * first}.000 ms), and still in sync at the end",
+                      page)
+        self.assertRegex(page, rf"Skew in sync {skew.ticks * 25 / 10 ** 9:.3f} us at most since it was first in sync, [\d.]+ % of the "
+                               rf"precision \(cycle {skew.cycle}, macrotick {skew.macrotick}\) Within yes")
         self.assertRegex(page, r"Later skew .*? % of the precision")
         self.assertIn("before sync, so it is not to be held against the precision", page)
         self.assertIn("C1 to C5 hold, those of the precision; C1 is the tightest, used to 50.0 %; a damping of 1 would "
@@ -250,7 +250,7 @@ class Pages(Case):
     @needs_series
     def test_sharp_sync_that_is_lost(self):
         page = self.page(produced(SHORT, *WALK) + '[[oscillator]]\nnodes = 1\ncycles = "20-"\nppm = -1400\n')
-        cycle, macrotick = report.read_series(self.read("a.lab", "series.csv")).sharp.within[1:]
+        cycle, macrotick = report.read_series(self.read("a.lab", "series.csv")).sharp_beyond
         self.assertIn("In sync NOT ALL THE WAY: from double cycle 0 on (cycle 0, 0.000 ms) at first; lost in double cycle 10",
                       page)
         self.assertIn("Within NO: since then the skew was above the precision, first in cycle "
@@ -377,12 +377,12 @@ class Machines(Case):
         self.write("a.toml", produced(SHORT))
         env = {"FLEXRAY_SERIES": SERIES}
         found = json.loads(self.flexlab("run", "--json", "a.toml", env=env)[0])
-        told = report.read_series(self.read("a.lab", "series.csv")).sharp
+        told = report.read_series(self.read("a.lab", "series.csv"))
         sharply = found["sharp"]
         self.assertEqual((sharply["covered"], sharply["gap"], sharply["kind"], sharply["flutter"]["ticks"]), (True, None, "alone", 0))
         self.assertEqual((sharply["precision"]["ticks"], sharply["lasts_double_cycles"]), (36003994, None))
-        self.assertEqual(sharply["in_sharp_sync"]["double_cycle"], told.synced)
-        self.assertEqual((sharply["skew"]["ticks"], sharply["within_precision"]), (told.greatest[0], True))
+        self.assertEqual(sharply["in_sharp_sync"]["double_cycle"], told.sharp_synced)
+        self.assertEqual((sharply["skew"]["ticks"], sharply["within_precision"]), (told.sharp_greatest.ticks, True))
         self.assertEqual([check["holds"] for check in sharply["checks"]], [True] * 5)
         self.assertEqual(sharply["gap_told"], [])
         self.assertEqual((found["ways"]["of"], found["ways"]["ways"]), ("sharp precision", []))
@@ -494,31 +494,11 @@ class Losses(Case):
 
 
 class Reading(unittest.TestCase):
-    def test_the_lines_of_a_series(self):
-        text = ("cycle,in_sync,skew,macrotick,sharp\n0,no,39992000,4999,no\n1,no,79200000,4900,no\n2,yes,48991900,4999,yes\n"
-                "3,yes,56495900,4687,yes\ngreatest,56495900,3,4687,\nsynced,yes,,,\nwithin,yes,,,\nflutter,7,,,\n"
-                "sharp,39007594,beside,,\n")
-        found = report.read_series(text + "sharp covered,no,,,check 3 5 6\nsharp synced,1,62,,\nsharp greatest,56495900,3,4687,\n"
-                                          "sharp within,no,3,4687,\n")
-        self.assertEqual((found.rows[2], found.greatest, found.synced, found.within),
-                         ((2, True, 48991900, 4999), (56495900, 3, 4687), True, (True, None, None)))
-        told = found.sharp
-        self.assertEqual((told.rows, told.flutter, told.precision, told.kind), ([False, False, True, True], 7, 39007594, "beside"))
-        self.assertEqual((told.gap, told.synced, told.lasts, told.greatest, told.within),
-                         (["check", "3", "5", "6"], 1, 62, (56495900, 3, 4687), (False, 3, 4687)))
-        told = report.read_series(text + "sharp covered,yes,,,\nsharp synced,-,,,\nsharp greatest,-,-,-,\nsharp within,-,,,\n").sharp
-        self.assertEqual((told.gap, told.synced, told.lasts, told.greatest, told.within), (None,) * 5)
-        self.assertIsNone(report.read_series(text + "sharp synced,1,on,,\n").sharp.lasts)
-
-    def test_a_run_that_is_never_in_sync(self):
-        found = report.read_series("0,no,-,-,no\n1,no,0,0,no\ngreatest,-,-,-,\nsynced,no,0,,\nwithin,-,,,\n")
-        self.assertEqual((found.rows[0], found.greatest, found.synced, found.within),
-                         ((0, False, None, None), None, False, None))
-
     def test_what_is_not_understood(self):
-        for line in ("0,no,1,2", "within,maybe", "flutter,-,,,", "sharp,1,both,,", "sharp inside,yes,,,"):
-            with self.subTest(line=line), self.assertRaises(Stop):
-                report.read_series(line + "\n")
+        for text in ("", "cycle,in_sync,skew,macrotick,sharp\n0,no,1,2\n", "flutter,-,,,\n"):
+            with self.subTest(text=text), self.assertRaises(Stop) as ended:
+                report.read_series(text)
+            self.assertIn("flexray printed a series that is not understood: ", ended.exception.line)
 
 
 if __name__ == "__main__":

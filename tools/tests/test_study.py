@@ -13,14 +13,22 @@ import unittest.mock
 from fractions import Fraction
 
 from bench import EXAMPLE, FLEXLAB, FLEXRAY, SERIES, Bench, edited, needs, needs_series
-from flexlab.base.ending import Stop
 from flexlab.cli.words import joined, parser
-from flexlab.program import calls, report
+from flexlab.program import calls
 from flexlab.runs import study
 from flexlab.toml.again import Again
 from flexlab.toml.cluster import read_cluster
 
 SHORT = edited(("double_cycles = 200", "double_cycles = 100"))
+
+
+def lives(process):
+    """Whether a process is there, and does not wait only for its end to be heard of."""
+    try:
+        with open(f"/proc/{process}/stat", encoding="ascii", errors="replace") as file:
+            return file.read().rpartition(")")[2].split()[0] not in "ZX"
+    except OSError:
+        return False
 
 
 class Studies(Bench):
@@ -88,6 +96,40 @@ class Studies(Bench):
         self.assertEqual(self.read("a.study", "study.jsonl").splitlines()[:len(done)], done)
         # Eight less those that were there, and three that are run again for their files.
         self.assertEqual(self.bounds() - calls, 8 - len(done) + 3)
+
+    def left(self, end, *words):
+        """Ends a study of long runs by a signal to its process alone once three of its copies run something, and hands back with which
+        status it ended, and those that are there some seconds later."""
+        os.makedirs(self.path("tmp"), exist_ok=True)
+        if os.path.exists(self.path("copies")):
+            os.remove(self.path("copies"))
+        slow = self.write("slow", f"#!/bin/sh\necho $PPID >>{self.path('copies')}\nsleep 0.1\nexec {FLEXRAY} \"$@\"\n")
+        os.chmod(slow, 0o755)
+        self.write("a.toml", SHORT)
+        env = {**os.environ, "FLEXLAB_LIBRARY": "no", "FLEXRAY_SERIES": "", "TMPDIR": self.path("tmp")}
+        started = subprocess.Popen([sys.executable, FLEXLAB, "study", "a.toml", "--vary", "values.drift", "--values", "1:200:1", "--jobs", "3",
+                                    "--flexray", slow, *words], cwd=self.room, env=env, stdout=subprocess.DEVNULL, stderr=subprocess.PIPE)
+        until = time.monotonic() + 60
+        while time.monotonic() < until and not (os.path.exists(self.path("copies")) and len(set(self.read("copies").split())) > 2):
+            time.sleep(0.02)
+        started.send_signal(end)
+        err = started.communicate(timeout=30)[1].decode()
+        self.assertNotIn("Traceback", err)
+        copies, until = set(self.read("copies").split()), time.monotonic() + 20
+        while time.monotonic() < until and any(map(lives, copies)):
+            time.sleep(0.02)
+        return started.returncode, [copy for copy in copies if lives(copy)]
+
+    def test_a_study_that_is_ended_leaves_no_process(self):
+        """One that was killed while it handed on its results kept a lock for which the others waited for ever."""
+        self.assertEqual(self.left(signal.SIGTERM), (-signal.SIGTERM, []))
+        self.assertEqual(os.listdir(self.path("tmp")), [])
+        self.assertEqual(self.left(signal.SIGKILL, "-o", "b"), (-signal.SIGKILL, []))
+
+    @needs("parallel")
+    def test_nor_does_one_by_parallel(self):
+        self.assertEqual(self.left(signal.SIGTERM, "--hosts", "3/:"), (-signal.SIGTERM, []))
+        self.assertEqual([name for name in os.listdir(self.path("tmp")) if name.startswith("flexlab-")], [])
 
     def bounds(self):
         """How often flexray was asked for the bounds of a cluster, as it is once a run."""
@@ -291,35 +333,6 @@ class Studies(Bench):
         with open(self.path("a.study", "study.png"), "rb") as file:
             self.assertEqual(file.read(8), b"\x89PNG\r\n\x1a\n")
         self.assertIn("not covered", self.read("a.study", "study.svg"))
-
-
-class OfSeries(Bench):
-    """The rows of a series are taken by their columns, and line by line where one has no skew: with the same end."""
-
-    ROWS = ("0,no,119988000,4999,no\n", "1,no,178800000,4900,no\n", "2,yes,148983950,4999,no\n", "3,yes,181796250,4900,no\n")
-    END = ("greatest,181796250,3,4900,\nsynced,yes,,,\nwithin,yes,,,\nflutter,0,,,\nsharp,150237926,beside,,\nsharp covered,yes,,,\n"
-           "sharp synced,-,,,\nsharp greatest,-,-,-,\nsharp within,-,,,\n")
-
-    def text(self, *rows):
-        return "".join([report.HEAD, *(rows or self.ROWS), self.END])
-
-    def test_both_ways_agree(self):
-        no_skew = "2,yes,-,-,yes\n"
-        for rows, by_columns in ((self.ROWS, True), ((*self.ROWS[:2], no_skew, self.ROWS[3]), False), (("0,no,5,0,yes\n",), True)):
-            text = self.text(*rows)
-            self.assertEqual(bool(report.quick_rows(report.Series(), text)), by_columns)
-            found = report.read_series(text)
-            with unittest.mock.patch.object(report, "quick_rows", return_value=0):
-                self.assertEqual(found, report.read_series(text))
-            self.assertEqual(len(found.rows), len(rows))
-        self.assertEqual(report.read_series(self.text()).rows[3], (3, True, 181796250, 4900))
-
-    def test_rows_of_another_form(self):
-        for row in ("2,yes,148983950,4999\n", "2,yes,148983950,4999,no,no\n", "2,maybe,148983950,4999,no\n", "\n",
-                    "2,yes,148983950,4999\n2,yes,148983950,4999,no,no\n"):
-            self.assertEqual(report.quick_rows(report.Series(), self.text(*self.ROWS[:2], row)), 0)
-            with self.assertRaises(Stop):
-                report.read_series(self.text(*self.ROWS[:2], row))
 
 
 STUDIES = os.path.join(os.path.dirname(os.path.realpath(__file__)), "studies")

@@ -12,16 +12,21 @@ SKEW = [40 - 4 * cycle if cycle < 8 else 2 if cycle < 101 else 3 if cycle < 184 
 
 class Figures(unittest.TestCase):
     def test_a_window(self):
-        rows = [(cycle, cycle % 100) for cycle in range(10, 310)]
+        rows = [cycle % 100 for cycle in range(310)]
         found = windows.window(rows, 100, 299, "")
-        self.assertEqual((found.greatest, found.cycle, found.mean), (99, 199, Fraction(99, 2)))
+        self.assertEqual((found.first, found.last, found.greatest, found.cycle, found.mean), (100, 299, 99, 199, Fraction(99, 2)))
         # Two of two hundred cycles have 99, and two have 98.
         self.assertEqual(found.most, 98)
-        self.assertIsNone(windows.window(rows, 0, 5, ""))
+        found = windows.window(tuple(rows), 305, 400, "")
+        self.assertEqual((found.first, found.last, found.greatest, found.cycle, found.mean, found.settled, found.level),
+                         (305, 309, 9, 309, 7, 305, 9))
+        self.assertIsNone(windows.window(rows, 310, 400, ""))
 
     def test_settled(self):
-        self.assertEqual(windows.settled([(cycle, value) for cycle, value in enumerate((9, 4, 6, 2, 3, 1, 3, 2))]), (3, 3))
-        self.assertEqual(windows.settled([(7, 1), (8, 1)]), (7, 1))
+        self.assertEqual(windows.settled((9, 4, 6, 2, 3, 1, 3, 2), 0), (3, 3))
+        self.assertEqual(windows.settled([9, 4, 6, 2, 3, 1, 3, 2], 20), (23, 3))
+        self.assertEqual(windows.settled([1, 1], 7), (7, 1))
+        self.assertEqual(windows.settled([5], 7), (7, 5))
 
 
 class Pages(Bench):

@@ -33,6 +33,10 @@ def printable(text: str) -> str:
                    for one in text)
 
 
+class Ended(BaseException):
+    """Ends flexlab by SIGTERM, behind all that it has to put in order."""
+
+
 class Stop(Exception):
     """Ends flexlab with a status and a line on standard error."""
 

@@ -20,7 +20,7 @@ from . import ranges
 from .ending import FILE, REFUSED, Stop
 
 if TYPE_CHECKING:
-    from ..toml.cluster import Cluster
+    from ..toml.cluster import Cluster, Link, Steps
 
 # No file that is read whole is longer: a longer one is told as that. Of captures, what they unpack to counts too.
 MIB = 1 << 20
@@ -185,13 +185,25 @@ def parameter_lines(cluster: Cluster) -> Iterator[str]:
 
 
 def drift_lines(cluster: Cluster) -> Iterator[str]:
+    yield from start_lines(cluster)
+    for number, steps in cluster.lengths.items():
+        yield from length_lines(number, steps)
+    yield from delay_lines(cluster.delays)
+
+
+def start_lines(cluster: Cluster) -> Iterator[str]:
     yield f"doubles,{cluster.doubles},,,,\n"
     for node in cluster.nodes.values():
         if not node.arbitrary and (node.start or node.rate):
             yield f"start,{node.number},{node.start},{node.rate},,\n"
-    for number, steps in cluster.lengths.items():
-        yield from (f"length,{number},{cycle},{ticks},,\n" for cycle, ticks in sorted(steps.items()))
-    for (sender, receiver, channel), steps in sorted(cluster.delays.items()):
+
+
+def length_lines(number: int, steps: Steps) -> Iterator[str]:
+    return (f"length,{number},{cycle},{ticks},,\n" for cycle, ticks in sorted(steps.items()))
+
+
+def delay_lines(delays: dict[Link, Steps]) -> Iterator[str]:
+    for (sender, receiver, channel), steps in sorted(delays.items()):
         yield from (f"delay,{sender},{receiver},{channel},{cycle},{ticks}\n" for cycle, ticks in sorted(steps.items()))
 
 

@@ -22,7 +22,7 @@ def ppm_of(length: int) -> Fraction:
 
 
 def us_of_ticks(ticks: Number, microtick_ns: Number) -> Fraction:
-    return Fraction(ticks) * microtick_ns / (TICKS * 1000)
+    return Fraction(ticks.numerator * microtick_ns.numerator, ticks.denominator * microtick_ns.denominator * TICKS * 1000)
 
 
 def decimal(value: Number, digits: int) -> str:

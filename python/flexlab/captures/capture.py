@@ -6,7 +6,7 @@ from argparse import Namespace
 from collections.abc import Callable, Iterable
 from typing import Any
 
-from flexray import texts
+from flexray import NoFrame, texts
 
 from ..program import calls as programs
 from ..program.calls import Told
@@ -148,8 +148,10 @@ def take_apart(path: str, program: str, most: int = LONGEST) -> Taken:
                           taken, room, completed)
         for packet in taken.packets:
             if packet.number in taken.damaged and taken.damaged[packet.number] is None:
-                told = ask(program, ["frame", packet.channel], packet.frame, room)[2]
-                taken.damaged[packet.number] = told.removeprefix("frame: ")
+                status, _, told = ask(program, ["frame", packet.channel], packet.frame, room)
+                if status != NO:
+                    raise Stop(PROGRAM, f"flexray frame {packet.channel} ended with status {status}: {told}")
+                taken.damaged[packet.number] = NoFrame(told).reason
     count_cycles(taken)
     return taken
 

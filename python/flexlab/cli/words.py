@@ -2,6 +2,7 @@
 from __future__ import annotations
 
 import argparse
+import contextlib
 import io
 import os
 import shlex
@@ -12,7 +13,7 @@ import traceback
 from collections.abc import Callable
 from typing import TYPE_CHECKING, NoReturn
 
-from ..base.ending import DONE, FAULT, FILE, STATUSES, STOPPED, USAGE, Stop, printable
+from ..base.ending import DONE, FAULT, FILE, STATUSES, STOPPED, USAGE, Ended, Stop, printable
 from ..base.files import HELD, hold, put_new
 from ..base.numbers import whole
 from ..base.version import version
@@ -552,11 +553,35 @@ def unwritten(fault: OSError) -> int:
     return FILE
 
 
+def end(*_: object) -> NoReturn:
+    """What SIGTERM does."""
+    raise Ended
+
+
+def end_by_signal() -> NoReturn:
+    """Ends as who sends SIGTERM expects it: by that signal."""
+    with contextlib.suppress(OSError):
+        sys.stdout.flush()
+    signal.signal(signal.SIGTERM, signal.SIG_DFL)
+    os.kill(os.getpid(), signal.SIGTERM)
+    raise Ended
+
+
 def main(arguments: list[str]) -> int:
     """Does what the words ask, and hands back the exit status."""
     signal.signal(signal.SIGPIPE, signal.SIG_DFL)
     if signal.getsignal(signal.SIGINT) is not signal.SIG_IGN:
         signal.signal(signal.SIGINT, signal.default_int_handler)
+    try:
+        if signal.getsignal(signal.SIGTERM) is signal.SIG_DFL:
+            signal.signal(signal.SIGTERM, end)
+        return answered(arguments)
+    except Ended:
+        end_by_signal()
+
+
+def answered(arguments: list[str]) -> int:
+    """The same, but for signals."""
     # Names of files have the bytes that they have.
     for stream in (sys.stdout, sys.stderr):
         if isinstance(stream, io.TextIOWrapper):

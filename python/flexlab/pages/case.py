@@ -304,8 +304,9 @@ def asked_of(program: str, words: list[str], params: str, cluster: Cluster) -> s
     except OSError as fault:
         raise Stop(PROGRAM, f"{program}: {fault.strerror}")
     told = ended.stderr.decode("utf-8", "replace").strip()
-    if ended.returncode == 5 and re.fullmatch(r"params: constraint [1-8]", told):
-        raise broken_constraints(told, cluster)
+    stop = broken_constraints(told, cluster) if ended.returncode == 5 else None
+    if stop:
+        raise stop
     if ended.returncode:
         raise Stop(PROGRAM, f"flexray {' '.join(words)} ended with status {ended.returncode}: {told}")
     return ended.stdout.decode("utf-8")

@@ -6,6 +6,9 @@ from fractions import Fraction
 from dataclasses import dataclass
 from collections.abc import Sequence
 
+from flexray import texts
+from flexray.results import FailedCheck
+
 from .advice import (FORMULA, LETTERS, SHARP_FORMULA, SHARP_LETTERS, SHARP_WAY_FORMULA, SHARP_WAY_LETTERS, TURNS, WAY_FORMULA,
                      advise)
 from ..toml.constraints import broken, explain_constraint
@@ -87,37 +90,46 @@ class Given(dict[str, int]):
 
 def explain_line(line: str, words: Sequence[str]) -> list[str]:
     """Lines that explain a line of flexray's standard error; `words` are those that flexray had."""
-    if line.startswith("usage:"):
+    try:
+        told = texts.failure(line)
+    except texts.Strange:
+        return [f"this line is none that flexlab knows: {line}"]
+    if told.kind == "usage":
         return explain_usage(words)
-    role, _, rest = line.partition(": ")
-    if rest == "read fault":
-        return explain_read(role, file_of(role, words))
-    if rest == "too long":
-        path = named(role, words)
+    if told.kind == "read fault":
+        return explain_read(told.role, file_of(told.role, words))
+    if told.kind == "too long":
+        path = named(told.role, words)
         return [f"{path}: it has {os.path.getsize(path)} bytes, and a file may have {FILE_BYTES}"]
-    if role == "frame":
-        return explain_frame(rest)
-    record = re.fullmatch(r"record (\d+): (\w+)", rest)
-    if record and role in FORMS and record[2] in EXPLAIN:
-        return explain_record(role, int(record[1]), record[2], words)
-    if role == "trace" and (rest.startswith("record ") or rest.startswith("not covered ")):
-        return explain_trace(rest, words)
-    if rest.startswith("missing "):
-        return explain_missing(role, rest.split()[1], words)
-    if re.fullmatch(r"constraint [1-8]", rest):
-        known, first = known_of(words), int(rest.split()[1])
-        found = [f"{named('params', words)}: {rest}:", *explain_constraint(first, known)]
-        for number in broken(known):
-            if number != first:
-                found += [f"constraint {number} does not hold either:", *("  " + line for line in explain_constraint(number, known))]
-        return found
-    if rest.startswith("incomplete"):
-        return [f"{file_of(role, words)}: after its {rest.split()[-1]} records the trace is not whole: in the last "
+    if told.kind == "frame":
+        return explain_frame(*told.words)
+    if told.kind == "record" and told.role in FORMS and told.words[0] in EXPLAIN:
+        return explain_record(told.role, told.number or 0, told.words[0], words)
+    if told.kind == "breach":
+        return explain_breach(told.number or 0, *told.words, words=words)
+    if told.kind == "gap":
+        return explain_gap_of_trace(told.words, words)
+    if told.kind == "missing":
+        return explain_missing(told.role, told.words[0], words)
+    if told.kind == "constraint":
+        return explain_constraints(told.number or 0, words)
+    if told.kind == "incomplete":
+        return [f"{file_of(told.role, words)}: after its {told.number} records the trace is not whole: in the last "
                 "cycle a correct node that takes part has no cycle row"]
-    if line in ("no memory", "write fault"):
-        return ["memory ran out" if line == "no memory" else "standard output could not be written: is the disk full, "
+    if told.kind in ("no memory", "write fault"):
+        return ["memory ran out" if told.kind == "no memory" else "standard output could not be written: is the disk full, "
                 "or did the program that reads it end?"]
     return [f"this line is none that flexlab knows: {line}"]
+
+
+def explain_constraints(first: int, words: Sequence[str]) -> list[str]:
+    """The constraint that a line names, and those that do not hold either."""
+    known = known_of(words)
+    found = [f"{named('params', words)}: constraint {first}:", *explain_constraint(first, known)]
+    for number in broken(known):
+        if number != first:
+            found += [f"constraint {number} does not hold either:", *("  " + line for line in explain_constraint(number, known))]
+    return found
 
 
 # The words of a request that are no files, by their place: a name, and what they may be.
@@ -181,22 +193,22 @@ def explain_missing(role: str, name: str, words: Sequence[str]) -> list[str]:
     return [f"{path}: there is no record {form}"]
 
 
-def explain_frame(rest: str) -> list[str]:
-    words = rest.split()
-    if rest.startswith("length"):
-        stated, given = int(words[2]), int(words[4])
+def explain_frame(fault: str, *numbers: str) -> list[str]:
+    """The fault of bytes that are no frame, with its numbers."""
+    if fault == "length":
+        stated, given = map(int, numbers)
         found = [f"the header says {stated} bytes, and the file has {given}"]
         if stated == given + 3:
             found.append("it has 3 bytes less than the header says: a frame without its frame CRC (its trailer)")
         return found
-    meaning = {"short": f"a frame has at least 8 bytes, and the file has {words[-1]}",
-               "header": "the header CRC in the bytes is not that of the header's fields: bits changed, or these "
-                         "are no bytes of a frame (a pcap file goes to `flexlab capture`)",
-               "frame": "the frame CRC is not that of the bytes before it on this channel: bits changed, or the frame "
-                        "is of the other channel",
-               "zero": "the frame ID is 0, and IDs begin with 1",
-               "startup": "the startup indicator is set and the sync indicator is not"}
-    return [meaning.get(words[0], rest)]
+    if fault == "short":
+        return [f"a frame has at least 8 bytes, and the file has {numbers[0]}"]
+    return [{"header crc": "the header CRC in the bytes is not that of the header's fields: bits changed, or these "
+                           "are no bytes of a frame (a pcap file goes to `flexlab capture`)",
+             "frame crc": "the frame CRC is not that of the bytes before it on this channel: bits changed, or the frame "
+                          "is of the other channel",
+             "zero id": "the frame ID is 0, and IDs begin with 1",
+             "startup without sync": "the startup indicator is set and the sync indicator is not"}[fault]]
 
 
 def loaded(path: str) -> list[Record]:
@@ -247,26 +259,27 @@ LAWS = {
 }
 
 
-def explain_trace(rest: str, words: Sequence[str]) -> list[str]:
-    """A trace that breaks a law, or has a gap."""
-    if rest.startswith("not covered "):
-        gap = rest.split()[2:]
-        if gap[0] == "link":
-            return [f"in double cycle {gap[3]} no common channel has `dev` rows of node {gap[2]} about node {gap[1]} "
-                    f"in both its cycles ({2 * int(gap[3])} and {2 * int(gap[3]) + 1})"]
-        return explain_gap(gap, words)
-    told = rest.split()
-    path, number = named("trace", words), int(told[1])
+def explain_gap_of_trace(gap: Sequence[str], words: Sequence[str]) -> list[str]:
+    """A trace that has a gap."""
+    if gap[0] == "link":
+        return [f"in double cycle {gap[3]} no common channel has `dev` rows of node {gap[2]} about node {gap[1]} "
+                f"in both its cycles ({2 * int(gap[3])} and {2 * int(gap[3]) + 1})"]
+    return explain_gap(gap, words)
+
+
+def explain_breach(number: int, law: str, has: str, *wanted: str, words: Sequence[str]) -> list[str]:
+    """A record of a trace that breaks a law."""
+    path = named("trace", words)
     records = loaded(path)
     if number > len(records):
         return [beyond(path, number)]
     record = records[number - 1]
-    found = [f"{path}:{record.line}: {short(record.text)}", LAWS.get(told[2], rest)]
-    if told[2] == "silent":
-        return found + [f"this record speaks of a node in state {told[3]}"]
-    if told[2] == "apart":
-        return found + [apart(record, int(told[3]))]
-    return found + [f"the record has {told[3]}, and the records before it ask for {' '.join(told[5:])}"]
+    found = [f"{path}:{record.line}: {short(record.text)}", LAWS[law]]
+    if law == "silent":
+        return found + [f"this record speaks of a node in state {has}"]
+    if law == "apart":
+        return found + [apart(record, int(has))]
+    return found + [f"the record has {has}, and the records before it ask for {' to '.join(wanted)}"]
 
 
 def apart(record: Record, double: int) -> str:
@@ -277,7 +290,8 @@ def apart(record: Record, double: int) -> str:
             "further than pi from another, a length further than lambda, or a node is not active")
 
 
-def explain_check(number: int, left: int, right: int, words: Sequence[str], way: bool = False) -> list[str]:
+def explain_check(check: FailedCheck, words: Sequence[str], way: bool = False) -> list[str]:
+    number, left, right = check.number, check.left, check.right
     known = known_of(words)
     parameters = Given(known)
     name = advise(number, right, parameters)[0]
@@ -286,9 +300,10 @@ def explain_check(number: int, left: int, right: int, words: Sequence[str], way:
             *check_words(number, left, right, parameters, way)[1:], f"{name} stands on line {known.line(name)}"]
 
 
-def explain_sharp_check(name: str, number: int, left: int, right: int, words: Sequence[str]) -> list[str]:
+def explain_sharp_check(name: str, check: FailedCheck, words: Sequence[str]) -> list[str]:
     """A failing check of the sharper bounds, of a kind by its name, as `bound .. sharp FLUTTER`, also with `join`, and
     `settle .. sharp FLUTTER` tell it."""
+    number, left, right = check.number, check.left, check.right
     known, way = known_of(words), words[0] == "settle"
     parameters = Given(known)
     kind = Kind(name == "beside", int(words[words.index("sharp", 2) + 1]), max(key for _, key, _ in known.keys()))
@@ -301,22 +316,18 @@ def explain_sharp_check(name: str, number: int, left: int, right: int, words: Se
 def explain_answer(text: str, words: Sequence[str]) -> list[str]:
     """What an accepted request's text says that needs explanation: failing checks, and the first gap."""
     found = []
-    for line in text.splitlines():
-        sharp = re.fullmatch(r"(alone |beside |)(?:C([1-9]) fails|settles no check ([1-5])) (\d+) (\d+)", line)
-        if sharp and "sharp" in words[2:]:
-            numbers = int(sharp[2] or sharp[3]), int(sharp[4]), int(sharp[5])
-            told = explain_sharp_check(sharp[1].strip(), *numbers, words)
-            found += [line, *("  " + part for part in told)]
-            continue
-        check = re.fullmatch(r"(?:C([1-9]) fails|covered no check ([1-9])|settles no check ([1-5])) (\d+) (\d+)", line)
-        if check:
-            number = int(check[1] or check[2] or check[3])
-            told = explain_check(number, int(check[4]), int(check[5]), words, check[3] is not None)
-            found += [line, *("  " + part for part in told)]
-        elif line.startswith("covered no"):
-            found += [line, *("  " + told for told in explain_gap(line.split()[2:], words))]
-        elif line.startswith("fault ") and line != "fault none":
-            found += [line, "  behind this place no frame begins"]
+    for told in texts.failing(text):
+        found.append(told.line)
+        if told.check and "sharp" in words[2:]:
+            found += ["  " + part for part in explain_sharp_check(told.side, told.check, words)]
+        elif told.check:
+            found += ["  " + part for part in explain_check(told.check, words, told.is_way)]
+        elif told.gap and told.gap[0] == "check":
+            found += ["  " + part for part in explain_check(FailedCheck(*map(int, told.gap[1:])), words)]
+        elif told.gap:
+            found += ["  " + part for part in explain_gap(told.gap, words)]
+        else:
+            found.append("  behind this place no frame begins")
             path = file_of("capture", words)
             if path and is_pcap(path):
                 found.append(f"  {path} is a pcap file, and flexray takes frames alone: `flexlab capture {shlex.quote(path)}`")

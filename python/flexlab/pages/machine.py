@@ -54,8 +54,7 @@ def ms(cycle: int | None, cluster: Cluster) -> float | None:
 def skew_object(skew: Skew | None, cluster: Cluster) -> Object | None:
     if not skew:
         return None
-    ticks, cycle, macrotick = skew
-    return {"ticks": ticks, "us": us(ticks, cluster), "cycle": cycle, "macrotick": macrotick}
+    return {"ticks": skew.ticks, "us": us(skew.ticks, cluster), "cycle": skew.cycle, "macrotick": skew.macrotick}
 
 
 def within(run: Run) -> bool | None:

@@ -97,10 +97,10 @@ def classical_sync_lines(run: Run) -> list[str]:
 def classical_skew_lines(run: Run) -> list[str]:
     report, unit = run.report, run.cluster.microtick_ns
     if run.in_sync_skew:
-        skew, cycle, macrotick = run.in_sync_skew
+        skew = run.in_sync_skew
         since = "" if run.lost is None else " since it was first in sync"
-        return field("  skew in sync", f"{microseconds(skew, unit)} at most{since}, {percent(skew, report.precision)} of the "
-                                       f"bound (cycle {cycle}, macrotick {macrotick})") + within_lines(run, skew)
+        return field("  skew in sync", f"{microseconds(skew.ticks, unit)} at most{since}, {percent(skew.ticks, report.precision)} of the "
+                                       f"bound (cycle {skew.cycle}, macrotick {skew.macrotick})") + within_lines(run, skew.ticks)
     if report.in_sync is None:
         return []
     apart = max(starts_apart(rows) for rows in run.cycles[2 * report.in_sync:])
@@ -134,8 +134,8 @@ def within_lines(run: Run, skew: int) -> list[str]:
     if skew <= run.report.precision:
         return field("  within", "yes: since it was first in sync the skew was never above the bound")
     place = ""
-    if run.series and run.series.within:
-        place = f", first in cycle {run.series.within.cycle}, macrotick {run.series.within.macrotick}"
+    if run.series and run.series.beyond:
+        place = ", first in cycle {}, macrotick {}".format(*run.series.beyond)
     return field("  within", f"NO: since it was first in sync the skew was above the bound{place}")
 
 

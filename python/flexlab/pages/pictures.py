@@ -13,9 +13,8 @@ from ..base.ending import PROGRAM, Stop, printable
 from ..base.files import put, put_bytes, read
 from .page import ms_of_cycle
 from ..runs.sharp import ends_of, first_of, is_covered, lost_of, skew_of
-from ..runs.sync import starts_apart
 from ..base.units import decimal, us_of_ticks
-from ..runs.windows import changes, later
+from ..runs.windows import changes, exact, later, skews
 from ..program.report import Skew
 from ..toml.cluster import Cluster
 
@@ -117,11 +116,8 @@ def shortened(name: str) -> str:
 def skew_rows(run: Run) -> tuple[list[Point], str]:
     """(cycle, microseconds) of each cycle, and what they are."""
     unit = run.cluster.microtick_ns
-    if run.series and run.series.rows:
-        return ([(cycle, us_of_ticks(skew, unit)) for cycle, _, skew, _ in run.series.rows if skew is not None],
-                "greatest skew of the cycle")
-    return ([(cycle, us_of_ticks(starts_apart(rows), unit)) for cycle, rows in enumerate(run.cycles)],
-            "how far the starts of the cycle lie apart")
+    return ([(cycle, us_of_ticks(skew, unit)) for cycle, skew in enumerate(skews(run))],
+            "greatest skew of the cycle" if exact(run) else "how far the starts of the cycle lie apart")
 
 
 def plain_axes() -> str:
@@ -203,10 +199,9 @@ def skew_script(run: Run) -> str:
                for at, (name, value, _, colour) in enumerate(bounds)),
              f"$skew using 1:2 title '{what}' with lines linewidth 1.5 linecolor '#0072b2'"]
     if dot:
-        skew, cycle, _ = dot
-        value = us_of_ticks(skew, unit)
-        lines.append(f"$point << end\n{cycle} {decimal(value, 6)}\nend")
-        plots.append(f"$point using 1:2 title 'greatest skew {name}, {decimal(value, 3)} us in cycle {cycle}' "
+        value = us_of_ticks(dot.ticks, unit)
+        lines.append(f"$point << end\n{dot.cycle} {decimal(value, 6)}\nend")
+        plots.append(f"$point using 1:2 title 'greatest skew {name}, {decimal(value, 3)} us in cycle {dot.cycle}' "
                      "with points pointtype 7 pointsize 1.1 linecolor '#d55e00'")
     return ("\n".join(lines) + "\nplot " + ", \\\n     ".join(plots) + "\n" + near_panel(run) + "unset multiplot\n")
 

@@ -83,8 +83,8 @@ def skew_lines(run: Run, field: Lines) -> list[str]:
     if is_within(run):
         return found + field("Within", "yes: since then the skew was never above the precision")
     place = ""
-    if sharp.told and sharp.told.within:
-        place = f", first in cycle {sharp.told.within.cycle}, macrotick {sharp.told.within.macrotick}"
+    if sharp.told and sharp.told.sharp_beyond:
+        place = ", first in cycle {}, macrotick {}".format(*sharp.told.sharp_beyond)
     return found + field("Within", f"NO: since then the skew was above the precision{place}")
 
 

@@ -1,12 +1,16 @@
-"""What flexray printed, taken apart: bounds, reports, traces and series."""
-from collections.abc import Callable, Sequence
-from dataclasses import asdict, dataclass, field
-from functools import partial
+"""What flexray printed, as the pages have it: bounds, reports, traces and series. The package flexray takes the texts apart."""
+from collections.abc import Callable, Iterable, Sequence
+from dataclasses import dataclass, field
 from typing import NamedTuple, TypeVar
 
 from flexray import results, texts
 
 from ..base.ending import PROGRAM, Stop
+
+# As the package has them.
+Skew = results.Skew
+Row = results.CycleRow
+Series = results.SharpSeries
 
 
 class Check(NamedTuple):
@@ -15,13 +19,6 @@ class Check(NamedTuple):
     holds: bool
     left: int
     right: int
-
-
-class Skew(NamedTuple):
-    """How far nodes lie apart at most, in ticks, and the first cycle and macrotick at which they do."""
-    ticks: int
-    cycle: int
-    macrotick: int
 
 
 @dataclass
@@ -38,19 +35,16 @@ class Bounds:
         return [check for check in self.checks if not check.holds]
 
 
+Text = TypeVar("Text")
 Parsed = TypeVar("Parsed")
 
 
-def understood(parse: Callable[[str], Parsed], what: str, text: str) -> Parsed:
+def understood(parse: Callable[[Text], Parsed], what: str, text: Text) -> Parsed:
     """A text of flexray taken apart, or the end of flexlab where it is none."""
     try:
         return parse(text)
     except texts.Strange as fault:
-        raise strange(what, fault.line)
-
-
-def strange(what: str, line: str) -> Stop:
-    return Stop(PROGRAM, f"flexray printed a {what} that is not understood: {line}")
+        raise Stop(PROGRAM, f"flexray printed a {what} that is not understood: {fault.line}")
 
 
 def checks_of(told: Sequence[results.Check]) -> list[Check]:
@@ -87,7 +81,7 @@ class SharpBounds:
 
 def read_sharp_bounds(text: str) -> dict[str, SharpBounds]:
     """What `bound PARAMS sharp FLUTTER` printed, also with `join` behind it: the bounds of each kind."""
-    told = understood(partial(texts.sharp_bound, join=" reach " in text), "bound", text)
+    told = understood(texts.sharp_bound, "bound", text)
     lasts = told.first_rates_last if told.joins else told.lasts
     return {kind: SharpBounds(kind, told.flutter, side.lambda_, side.pi, side.precision, side.reach, checks_of(side.checks), lasts)
             for kind, side in (("alone", told.alone), ("beside", told.beside))}
@@ -130,16 +124,8 @@ def read_report(text: str) -> Report:
     sent = {channel: Sent(one.frames, f"{one.xor:06X}") for channel, one in (("A", told.sent_a), ("B", told.sent_b))}
     ends = {end.node: NodeEnd(end.state, end.next, end.rate, end.offset) for end in told.ends}
     return Report(told.nodes, told.sync, told.arbitrary, told.doubles, told.precision, None if told.covered else list(told.gap),
-                  told.in_sync, told.greatest.ticks, told.greatest.cycle, told.greatest.macrotick, sent, asdict(told.heard), told.cut, ends)
-
-
-@dataclass
-class Row:
-    start: int
-    length: int
-    rate: int
-    offset: int
-    state: str
+                  told.in_sync, told.greatest.ticks, told.greatest.cycle, told.greatest.macrotick, sent, dict(vars(told.heard)), told.cut,
+                  ends)
 
 
 # The rows of a cycle by node, and those of each cycle.
@@ -147,129 +133,21 @@ Rows = dict[int, Row]
 Trace = list[Rows]
 
 
-class Within(NamedTuple):
-    """Whether a skew stayed within a precision, and the first cycle and macrotick at which it did not."""
-    holds: bool
-    cycle: int | None
-    macrotick: int | None
-
-
-class SeriesCycle(NamedTuple):
-    """A cycle of a series; its skew is None where no node runs."""
-    cycle: int
-    in_sync: bool
-    skew: int | None
-    macrotick: int | None
-
-
 def read_trace(path: str) -> Trace:
     """The `cycle` rows of a trace: for each cycle the rows by node."""
+    with open(path, encoding="ascii", errors="replace") as file:
+        return understood(trace_of, "trace", file)
+
+
+def trace_of(lines: Iterable[str]) -> Trace:
     cycles: Trace = []
-    with open(path, encoding="ascii") as file:
-        for line in file:
-            words = line.rstrip("\n").split(",")
-            if words[0] == "cycle":
-                if int(words[1]) == len(cycles):
-                    cycles.append({})
-                cycles[-1][int(words[2])] = Row(int(words[3]), int(words[4]), int(words[5]), int(words[6]), words[7])
+    for row in texts.cycle_rows(lines):
+        if row.cycle == len(cycles):
+            cycles.append({})
+        cycles[row.cycle][row.node] = row
     return cycles
 
 
-@dataclass
-class SharpSeries:
-    """What the lines of flexray-series say of the sharper bounds. `rows` has of each cycle whether it is in sharp sync;
-    `lasts` is None where the walk does so on and on."""
-    rows: list[bool] = field(default_factory=list)
-    flutter: int = 0
-    precision: int = 0
-    kind: str = ""
-    gap: list[str] | None = None
-    synced: int | None = None
-    lasts: int | None = None
-    greatest: Skew | None = None
-    within: Within | None = None
-
-
-@dataclass
-class Series:
-    """What flexray-series printed: of each cycle (cycle, in sync, skew, macrotick), and its last lines."""
-    rows: list[SeriesCycle] = field(default_factory=list)
-    greatest: Skew | None = None
-    synced: bool = False
-    within: Within | None = None
-    sharp: SharpSeries = field(default_factory=SharpSeries)
-
-
-def within_of(words: Sequence[str], numbers: Sequence[int | None]) -> Within | None:
-    return None if words[1] == "-" else Within(words[1] == "yes", numbers[2], numbers[3])
-
-
-def greatest_of(numbers: Sequence[int | None]) -> Skew | None:
-    ticks, cycle, macrotick = numbers[1:4]
-    return None if ticks is None or cycle is None or macrotick is None else Skew(ticks, cycle, macrotick)
-
-
-HEAD = "cycle,in_sync,skew,macrotick,sharp\n"
-
-
-def quick_rows(found: Series, text: str) -> int:
-    """Takes all rows of a series by their columns, where each has a skew, and hands back where they end; 0 where one has none, so
-    that they are read line by line."""
-    end = text.find("greatest,")
-    if end < 0 or not text.startswith(HEAD):
-        return 0
-    words = text[len(HEAD):end].replace("\n", ",").split(",")
-    columns = [words[at:-1:5] for at in range(5)]
-    if {*columns[1], *columns[4]} <= {"yes", "no"} and len({*map(len, columns)}) == 1 and all(
-            "".join(columns[at]).isdigit() and "" not in columns[at] for at in (0, 2, 3)):
-        found.rows = [SeriesCycle(*row) for row in zip(map(int, columns[0]), [word == "yes" for word in columns[1]],
-                                                       map(int, columns[2]), map(int, columns[3]))]
-        found.sharp.rows = [word == "yes" for word in columns[4]]
-        return end
-    return 0
-
-
 def read_series(text: str) -> Series:
-    """What `flexray-series .. sharp` printed. The skew of a cycle without running nodes is None, as is what is not told since
-    no cycle is in sync."""
-    found = Series()
-    for line in text[quick_rows(found, text):].splitlines():
-        words = line.split(",")
-        if len(words) == 5 and words[1] in ("yes", "no") and words[0].isdigit():
-            skew, macrotick = (int(word) if word.isdigit() else None for word in words[2:4])
-            found.rows.append(SeriesCycle(int(words[0]), words[1] == "yes", skew, macrotick))
-            found.sharp.rows.append(words[4] == "yes")
-            continue
-        numbers = [int(word) if word.isdigit() else None for word in words]
-        if line == "cycle,in_sync,skew,macrotick,sharp":
-            continue
-        if len(words) != 5:
-            raise strange("series", line)
-        if words[0] == "greatest":
-            found.greatest = greatest_of(numbers)
-        elif words[0] == "synced":
-            found.synced = words[1] == "yes"
-        elif words[0] == "within":
-            found.within = within_of(words, numbers)
-        elif not read_sharp(found.sharp, words, numbers):
-            raise strange("series", line)
-    return found
-
-
-def read_sharp(found: SharpSeries, words: Sequence[str], numbers: Sequence[int | None]) -> bool:
-    """Takes a line of the sharper bounds; whether it is one."""
-    if words[0] == "flutter" and numbers[1] is not None:
-        found.flutter = numbers[1]
-    elif words[0] == "sharp" and numbers[1] is not None and words[2] in ("alone", "beside"):
-        found.precision, found.kind = numbers[1], words[2]
-    elif words[0] == "sharp covered":
-        found.gap = None if words[1] == "yes" else words[4].split()
-    elif words[0] == "sharp synced":
-        found.synced, found.lasts = numbers[1], numbers[2]
-    elif words[0] == "sharp greatest":
-        found.greatest = greatest_of(numbers)
-    elif words[0] == "sharp within":
-        found.within = within_of(words, numbers)
-    else:
-        return False
-    return True
+    """What `flexray-series .. sharp` printed."""
+    return understood(texts.sharp_series, "series", text)

@@ -1,13 +1,11 @@
 """A run of a study by what flexray and flexray-series print of it, without a trace: so the figures of a run that keeps no files cost
 what these two need. Where they do not suffice, a run is one as `run` makes it."""
+import operator
 import os
-import tempfile
-from collections.abc import Iterator
-from contextlib import contextmanager
-from typing import Any
+from collections.abc import Callable, Iterable
 
 from ..base import ranges
-from ..base.files import drift_lines, parameter_lines, script_lines
+from ..base.files import delay_lines, length_lines, parameter_lines, script_lines, start_lines
 from ..program import calls as programs
 from ..program.report import Bounds, Report, Series, SharpBounds, Skew, read_report, read_series, read_sharp_bounds
 from ..toml.again import Again
@@ -30,14 +28,27 @@ class Caller:
         self.clusters = Again(path)
         self.bounds: dict[tuple[bytes, int, bool], dict[str, SharpBounds]] = {}
         self.written: list[bytes | None] = [None, None, None]
-        self.script: tuple[object, object, bytes] | None = None
+        self.made: dict[object, tuple[tuple[object, ...], bytes]] = {}
+
+    def text(self, name: object, of: tuple[object, ...], lines: Callable[[], Iterable[str]]) -> bytes:
+        """The text of some lines, which is made anew where they are of other objects than before."""
+        found = self.made.get(name)
+        if found is None or len(of) != len(found[0]) or not all(map(operator.is_, of, found[0])):
+            found = self.made[name] = of, "".join(lines()).encode("ascii")
+        return found[1]
 
     def texts(self, cluster: Cluster) -> list[bytes] | None:
         """The three files of a cluster, as `write_files` writes them; None where one is too long."""
-        beside = cluster.arbitrary, cluster.joins
-        if self.script is None or self.script[0] is not cluster.script or self.script[1] != beside:
-            self.script = cluster.script, beside, "".join(script_lines(cluster)).encode("ascii")
-        found = ["".join(parameter_lines(cluster)).encode("ascii"), "".join(drift_lines(cluster)).encode("ascii"), self.script[2]]
+        nodes = cluster.nodes.values()
+        described = [value for node in nodes for value in (node.number, node.key_slot, node.channels, node.coldstart)]
+        params = self.text("params", (cluster.parameters, cluster.slots, *described), lambda: parameter_lines(cluster))
+        drift = ["".join(start_lines(cluster)).encode("ascii")]
+        drift += [self.text(number, (steps,), lambda: length_lines(number, steps)) for number, steps in cluster.lengths.items()]
+        drift.append(self.text("delays", (cluster.delays,), lambda: delay_lines(cluster.delays)))
+        # Nodes that join have other rows in each cluster.
+        joins = [cluster.joins] if cluster.joins else []
+        script = self.text("script", (cluster.script, *joins, *cluster.arbitrary), lambda: script_lines(cluster))
+        found = [params, b"".join(drift), script]
         return None if max(map(len, found)) > ranges.FILE_BYTES else found
 
     def answer(self, program: str, words: list[str], texts: list[bytes]) -> str | None:
@@ -65,13 +76,6 @@ class Caller:
                 self.bounds.clear()
             self.bounds[key] = read_sharp_bounds(text)
         return self.bounds[key]
-
-
-@contextmanager
-def room_of(folder: str | None = None) -> Iterator[str]:
-    """A folder for the files of a process, which is gone at its end."""
-    with tempfile.TemporaryDirectory(prefix="flexlab-study-", dir=folder) as room:
-        yield room
 
 
 def is_plain(cluster: Cluster) -> bool:
@@ -109,13 +113,13 @@ def skew_of(report: Report) -> Skew | None:
 
 def with_series(run: Run, series: Series) -> Run | None:
     """The run with what its series tells, or None where that does not fit what the others told."""
-    assert run.sharp is not None
-    cycles: list[dict[int, Any]] = [{} for _ in series.rows]
-    fits = len(series.rows) == run.cluster.cycles and unlike(run.sharp, series.sharp, False) is None
-    synced = next((at for at, row in enumerate(series.rows[::2]) if row[1]), None)
-    skew = series.greatest if run.report.in_sync is not None else None
-    if not fits or synced != run.report.in_sync or run.report.in_sync is not None and skew is None:
+    cycles, in_sync = series.cycles, list(series.cycles.in_sync[::2])
+    synced = in_sync.index(True) if True in in_sync else None
+    skew = series.greatest if synced is not None else None
+    if len(cycles) != run.cluster.cycles or unlike(run.sharp, series, False) or synced != run.report.in_sync or (
+            synced is not None and skew is None):
         return None
-    run.series, run.in_sync_skew, run.cycles, run.synced = series, skew, cycles, [row[1] for row in series.rows[::2]]
-    run.sharp.told, run.sharp.rows = series.sharp, series.sharp.rows[::2]
+    # Of a run without a trace it is told how many cycles it has, and not what is in them.
+    run.series, run.in_sync_skew, run.cycles, run.synced = series, skew, [{}] * len(cycles), in_sync
+    run.sharp.told, run.sharp.rows = series, list(cycles.sharp[::2])
     return run

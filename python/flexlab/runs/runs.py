@@ -2,9 +2,10 @@
 from __future__ import annotations
 
 import os
-import re
 from dataclasses import dataclass, field
 from typing import IO, TYPE_CHECKING
+
+from flexray import texts
 
 from ..program import calls as programs
 from ..toml.constraints import broken, explain_constraint
@@ -57,11 +58,18 @@ class Run:
         return bool(self.synced) and self.synced[-1]
 
 
-def broken_constraints(told: str, cluster: Cluster) -> Stop:
-    """What ends flexlab where flexray refuses the parameters of a TOML file: each constraint that is broken, by its lines."""
-    known, first = KnownToml(cluster), int(told.split()[-1])
+def broken_constraints(told: str, cluster: Cluster) -> Stop | None:
+    """What ends flexlab where this line says that flexray refuses the parameters of a TOML file for a constraint: each one that is
+    broken, by its lines."""
+    try:
+        line = texts.failure(told)
+    except texts.Strange:
+        return None
+    if line.kind != "constraint" or line.number is None:
+        return None
+    known = KnownToml(cluster)
     found = [f"{cluster.path}: flexray refuses the parameters that come of it: {told}"]
-    for number in [first, *(other for other in broken(known) if other != first)]:
+    for number in [line.number, *(other for other in broken(known) if other != line.number)]:
         asks, *rest = explain_constraint(number, known)
         found += [f"constraint {number} asks: {asks}", *("  " + line for line in rest)]
     return Stop(NO, "\n".join(found))
@@ -70,8 +78,9 @@ def broken_constraints(told: str, cluster: Cluster) -> Stop:
 def answer(program: str, words: list[str], out: IO[bytes] | None = None, cluster: Cluster | None = None) -> str:
     """What flexray prints; a refusal ends flexlab, with the explanation of it, by the TOML file where it is of one."""
     status, text, told = programs.call(program, words, out)
-    if status == 5 and cluster and re.fullmatch(r"params: constraint [1-8]", told):
-        raise broken_constraints(told, cluster)
+    stop = broken_constraints(told, cluster) if status == 5 and cluster else None
+    if stop:
+        raise stop
     if status == 5:
         from ..pages.explain import explain_line
         raise Stop(NO, f"flexray {' '.join(words)}\n{told}\n" + "\n".join(explain_line(told, words)))
@@ -110,14 +119,14 @@ def run_cluster(cluster: Cluster, folder: str, program: str, begin: int | None =
     sharp = call_sharp(cluster, folder, paths[0], cycles, program)
     run = Run(cluster, folder, bounds, report, cycles, synced, sharp, files=paths, begin=begin)
     run.series = call_series(program, paths, folder)
-    if run.series and synced != [row.in_sync for row in run.series.rows[::2]] and cycles:
+    if run.series and synced != list(run.series.cycles.in_sync[::2]) and cycles:
         raise Stop(PROGRAM, "flexray-series says of a double cycle that it is in sync, and the trace does not, or back")
     run.in_sync_skew = find_skew(run, program)
     if run.series:
-        why = unlike(run.sharp, run.series.sharp, bool(cycles))
+        why = unlike(run.sharp, run.series, bool(cycles))
         if why:
             raise Stop(PROGRAM, why)
-        run.sharp.told = run.series.sharp
+        run.sharp.told = run.series
     return run
 
 

@@ -35,14 +35,10 @@ def begun_at(cluster: Cluster, cycles: Trace, double: int) -> tuple[Cluster, int
 
 
 def same(cycles: Trace, rest: Trace, cycle: int, zero: int) -> bool:
-    if len(cycles) != cycle + len(rest):
-        return False
-    for number, rows in enumerate(rest):
-        for node, row in rows.items():
-            row.start += zero
-            if cycles[cycle + number].get(node) != row:
-                return False
-    return True
+    """Whether a trace is the rest of another one, from this cycle on, in which its tick 0 is that tick."""
+    return len(cycles) == cycle + len(rest) and all(
+        cycles[cycle + number].get(node) == row._replace(cycle=cycle + number, start=row.start + zero)
+        for number, rows in enumerate(rest) for node, row in rows.items())
 
 
 def skew_in_sync(cluster: Cluster, cycles: Trace, double: int, program: str, folder: str) -> Skew | None:

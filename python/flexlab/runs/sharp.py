@@ -7,7 +7,7 @@ from typing import TYPE_CHECKING, NamedTuple
 
 from ..base import ranges
 from .least import TICKS, Kind
-from ..program.report import SharpBounds, SharpSeries, Skew, Trace, read_sharp_bounds
+from ..program.report import Series, SharpBounds, Skew, Trace, read_sharp_bounds
 from ..toml.cluster import Cluster, Steps
 from .sync import is_in_sharp_sync, sync_of
 
@@ -32,7 +32,7 @@ class Sharp:
     both: dict[str, SharpBounds]
     bounds: SharpBounds
     rows: list[bool] = field(default_factory=list)
-    told: SharpSeries | None = None
+    told: Series | None = None
 
 
 def delay_at(steps: Steps, cycle: int, wait: int) -> int:
@@ -45,11 +45,10 @@ def flutter_of(cluster: Cluster) -> int:
     to another correct node."""
     found = 0
     for (sender, _, channel), steps in cluster.delays.items():
-        wait = ranges.compensation(cluster.parameters, channel) * TICKS
-        if cluster.nodes[sender].key_slot is not None:
-            for cycle in steps:
-                if cycle % 2 == 1 and cycle < cluster.cycles:
-                    found = max(found, abs(steps[cycle] - delay_at(steps, cycle - 1, wait)))
+        odd = [cycle for cycle in steps if cycle % 2 == 1 and cycle < cluster.cycles]
+        if odd and cluster.nodes[sender].key_slot is not None:
+            wait = ranges.compensation(cluster.parameters, channel) * TICKS
+            found = max(found, *(abs(steps[cycle] - delay_at(steps, cycle - 1, wait)) for cycle in odd))
     return found
 
 
@@ -71,15 +70,15 @@ def sharp_of(cluster: Cluster, flutter: int, text: str, cycles: Trace) -> Sharp:
     return Sharp(flutter, both, bounds, sync_of(cycles, bounds, cluster.parameters, is_in_sharp_sync))
 
 
-def unlike(sharp: Sharp, told: SharpSeries, doubles: bool) -> str | None:
+def unlike(sharp: Sharp, told: Series, doubles: bool) -> str | None:
     """What of the series does not fit the bounds, the file or the trace, or None."""
     if told.flutter != sharp.flutter:
         return f"flexray-series says that delays flutter by {told.flutter} ticks, and by the file it is {sharp.flutter}"
     if sharp.flutter <= MOST and (told.kind, told.precision) != (sharp.bounds.kind, sharp.bounds.precision):
         return "flexray-series tells another sharper precision than flexray bound"
-    if sharp.flutter <= MOST and told.synced is not None and told.lasts != sharp.bounds.lasts:
+    if sharp.flutter <= MOST and told.sharp_synced is not None and told.lasts != sharp.bounds.lasts:
         return "flexray-series tells another number of double cycles for which sharp sync lasts than flexray bound"
-    if sharp.flutter <= MOST and doubles and told.rows[::2] != sharp.rows:
+    if sharp.flutter <= MOST and doubles and list(told.cycles.sharp[::2]) != sharp.rows:
         return "flexray-series says of a double cycle that it is in sharp sync, and the trace does not, or back"
     return None
 
@@ -95,7 +94,7 @@ def gap_of(run: Run) -> Gap:
     if sharp.flutter > MOST:
         return Gap(True, ["flutter", str(sharp.flutter)])
     if sharp.told:
-        return Gap(True, sharp.told.gap)
+        return Gap(True, list(sharp.told.sharp_gap) or None)
     if sharp.bounds.gap:
         return Gap(True, sharp.bounds.gap)
     gap = run.report.gap
@@ -111,7 +110,7 @@ def first_of(run: Run) -> int | None:
     """The first double cycle in sharp sync in which no node follows, or None. Without flexray-series it is not told who follows:
     only nodes that join can, in the two double cycles behind that in which they listen."""
     if run.sharp.told:
-        return run.sharp.told.synced
+        return run.sharp.told.sharp_synced
     following = {double + ago for double, _ in run.cluster.joins.values() for ago in (1, 2)}
     return next((at for at, good in enumerate(run.sharp.rows) if good and at not in following), None)
 
@@ -135,7 +134,7 @@ def skew_of(run: Run) -> Skew | None:
     if first is None:
         return None
     if run.sharp.told:
-        return run.sharp.told.greatest
+        return run.sharp.told.sharp_greatest
     whole = Skew(run.report.skew, run.report.cycle, run.report.macrotick)
     return next((skew for skew in (whole, run.in_sync_skew) if skew and skew.cycle >= 2 * first), None)
 

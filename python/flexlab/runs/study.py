@@ -1,9 +1,9 @@
 """Studies: one run for each point of a grid of values, each draw, or each seed of make, side by side in copies of this process, and over
 several hosts by GNU parallel."""
-import atexit
 import base64
 import contextlib
 import csv
+import functools
 import hashlib
 import itertools
 import json
@@ -18,6 +18,7 @@ import socket
 import subprocess
 import sys
 import tempfile
+import threading
 import time
 import zlib
 from decimal import Decimal
@@ -263,7 +264,7 @@ def sharply(run: Run, unit: Fraction) -> Line:
     first, skew = sharp.first_of(run), sharp.skew_of(run)
     return {**found, "sharp_precision_us": decimal(us_of_ticks(run.sharp.bounds.precision, unit), 6),
             "in_sharp_sync_double": "never" if first is None else first,
-            "sharp_skew_us": "" if skew is None else decimal(us_of_ticks(skew[0], unit), 6)}
+            "sharp_skew_us": "" if skew is None else decimal(us_of_ticks(skew.ticks, unit), 6)}
 
 
 def shortly(run: Run, unit: Fraction) -> Line:
@@ -285,12 +286,16 @@ def has_text(path: str, plan: Plan) -> bool:
 CALLERS: dict[tuple[int, str], "Caller"] = {}
 
 
+@contextlib.contextmanager
+def room_of(plan: Plan) -> Iterator[None]:
+    """The room of a study, in which each process of it has a folder; gone at its end."""
+    with tempfile.TemporaryDirectory(prefix="flexlab-study-", ignore_cleanup_errors=True) as plan["room"]:
+        yield
+
+
 def caller_of(plan: Plan) -> "Caller":
-    """What this process keeps from run to run, with a folder of its own in the room of the study, which is gone at its end."""
+    """What this process keeps from run to run, with a folder of its own in the room of the study."""
     from .quick import Caller
-    if "room" not in plan:
-        plan["room"] = tempfile.mkdtemp(prefix="flexlab-study-")
-        atexit.register(shutil.rmtree, plan["room"], ignore_errors=True)
     key = os.getpid(), plan["room"]
     if key not in CALLERS:
         own = os.path.join(plan["room"], str(os.getpid()))
@@ -318,6 +323,12 @@ def run_whole(cluster: "Cluster", program: str, begin: int | None, folder: str |
     return found
 
 
+@functools.lru_cache(1000)
+def number_said(text: str) -> Fraction:
+    """The number of a value of a plan: of the same one the same, so that what hangs on it is known again."""
+    return Fraction(Decimal(text))
+
+
 def measure(plan: Plan, values: Sequence[str], number: int, folder: str | None) -> tuple[Line, dict[str, str]]:
     """(columns, what was drawn) of a run; where a folder keeps it, or it has no series, it is one as `run` makes it."""
     from ..program.report import read_report
@@ -331,7 +342,7 @@ def measure(plan: Plan, values: Sequence[str], number: int, folder: str | None) 
         at_end = True if report.in_sync is not None and report.gap is None else None
         return measured(report, MAKE_NS, report.skew if known else None, at_end), {}
     caller = caller_of(plan)
-    changes = {key: Fraction(Decimal(value)) for key, value in zip(plan["keys"], values)}
+    changes = {key: number_said(value) for key, value in zip(plan["keys"], values)}
     cluster = caller.clusters.cluster(changes, (plan["seed"], number))
     spans = ranges_of(plan.get("cycles") or "", cluster)
     begin = begin_of(plan.get("from"), cluster)
@@ -400,10 +411,11 @@ def run_several(packed_plan: str, jobs: list[str]) -> int:
     if not os.access(plan["flexray"], os.X_OK):
         plan["flexray"] = programs.flexray()
     here = plan["machine"] == socket.gethostname() and plan["keep"] == "all" and "make" not in plan
-    for job in jobs:
-        number, values, draw = job.split(":")
-        folder = run_folder(plan["folder"], int(number)) if here else None
-        print(json.dumps(run_one(plan, int(number), values.split(",") if values else [], int(draw), folder)), flush=True)
+    with room_of(plan):
+        for job in jobs:
+            number, values, draw = job.split(":")
+            folder = run_folder(plan["folder"], int(number)) if here else None
+            print(json.dumps(run_one(plan, int(number), values.split(",") if values else [], int(draw), folder)), flush=True)
     return DONE
 
 
@@ -483,6 +495,10 @@ def kept_folder(folder: str, plan: Plan, number: int) -> str | None:
     return run_folder(folder, number) if plan["keep"] == "all" and "make" not in plan else None
 
 
+# What ends a study.
+ENDING = (signal.SIGINT, signal.SIGTERM)
+
+
 class Forked:
     """A run in a copy of this process."""
 
@@ -490,9 +506,21 @@ class Forked:
     folder = ""
 
     @staticmethod
-    def begin() -> None:
-        """^C is for the process that was called: it ends the others."""
+    def begin(reads: int, writes: int) -> None:
+        """^C and SIGTERM are for the process that was called: it ends the others. They end too where it is gone, and with it the last
+        one that could write into the pipe."""
         signal.signal(signal.SIGINT, signal.SIG_IGN)
+        signal.signal(signal.SIGTERM, signal.SIG_DFL)
+        signal.pthread_sigmask(signal.SIG_UNBLOCK, ENDING)
+        os.close(writes)
+        threading.Thread(target=Forked.watch, args=(reads,), daemon=True).start()
+
+    @staticmethod
+    def watch(reads: int) -> None:
+        """Ends this process once the pipe ends. It would not do so by itself: whoever ends while it hands on its results keeps the lock
+        that the others wait for."""
+        os.read(reads, 1)
+        os.kill(os.getpid(), signal.SIGKILL)
 
     @staticmethod
     def run(job: Point) -> Line:
@@ -505,9 +533,18 @@ def run_forked(folder: str, plan: Plan, todo: Collection[int], words: Namespace,
     Forked.plan, Forked.folder = plan, folder
     count = min(beside_of(words), len(todo))
     jobs = (point for point in points(plan) if point[0] in todo)
-    with multiprocessing.get_context("fork").Pool(count, Forked.begin) as pool:
-        for line in pool.imap_unordered(Forked.run, jobs, max(1, min(50, len(todo) // (8 * count)))):
-            results.take(line)
+    pipe = os.pipe()
+    # A signal waits until there is whom to end, and until the copies know what it is to them.
+    mask = signal.pthread_sigmask(signal.SIG_BLOCK, ENDING)
+    try:
+        with multiprocessing.get_context("fork").Pool(count, Forked.begin, pipe) as pool:
+            signal.pthread_sigmask(signal.SIG_SETMASK, mask)
+            for line in pool.imap_unordered(Forked.run, jobs, max(1, min(50, len(todo) // (8 * count)))):
+                results.take(line)
+    finally:
+        signal.pthread_sigmask(signal.SIG_SETMASK, mask)
+        for end in pipe:
+            os.close(end)
 
 
 def end_parallel(ended: subprocess.Popen[str]) -> None:
@@ -615,12 +652,13 @@ def run_study(words: Namespace) -> tuple[int, str, Plan, dict[int, Line]]:
     program = programs.flexray(words.flexray)
     plan, folder = plan_of(words), folder_for(words)
     with alone(folder):
-        return run_held(words, program, plan, folder)
+        begin(folder, plan)
+        with room_of(plan):
+            return run_held(words, program, plan, folder)
 
 
 def run_held(words: Any, program: str, plan: dict[str, Any], folder: str) -> tuple[int, str, dict[str, Any], dict[int, Any]]:
     """The same, in a folder that is held."""
-    begin(folder, plan)
     plan.update(flexray=program, folder=os.path.abspath(folder), machine=socket.gethostname(), keep=words.keep)
     lines, total = kept_lines(folder, plan), count_of(plan)
     kept = {number for number, line in lines.items() if line["status"] == DONE or not words.again}

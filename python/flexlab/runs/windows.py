@@ -4,7 +4,7 @@ that is not installed how far the starts of a cycle lie apart in the trace, whic
 from __future__ import annotations
 
 import re
-from collections.abc import Iterable
+from collections.abc import Iterable, Sequence
 from dataclasses import dataclass
 from fractions import Fraction
 from typing import TYPE_CHECKING, NamedTuple
@@ -19,12 +19,6 @@ if TYPE_CHECKING:
 # Changes that lie no further apart are one; what an oscillator did is corrected two double cycles later.
 TOGETHER, CORRECTED = 20, 4
 MOST = 12
-
-
-class Point(NamedTuple):
-    """The skew of a cycle, in ticks."""
-    cycle: int
-    ticks: int
 
 
 class Change(NamedTuple):
@@ -54,41 +48,40 @@ class Window:
     level: int
 
 
-def skews(run: Run) -> list[Point]:
-    """Those of each cycle that has running nodes."""
-    if run.series and run.series.rows:
-        return [Point(row.cycle, row.skew) for row in run.series.rows if row.skew is not None]
-    return [Point(cycle, starts_apart(rows)) for cycle, rows in enumerate(run.cycles)]
+def skews(run: Run) -> Sequence[int]:
+    """That of each cycle, in ticks, from cycle 0 on."""
+    return run.series.cycles.skews if run.series and exact(run) else [starts_apart(rows) for rows in run.cycles]
 
 
 def exact(run: Run) -> bool:
-    return bool(run.series and run.series.rows)
+    return bool(run.series and run.series.cycles)
 
 
-def settled(rows: list[Point]) -> tuple[int, int]:
-    """The first of these cycles from which on the skew stays within its level, and that: the greatest of the
-    second half of the rows."""
-    level = max(skew for _, skew in rows[len(rows) // 2:])
-    return next((cycle + 1 for cycle, skew in reversed(rows) if skew > level), rows[0][0]), level
+def settled(rows: Sequence[int], first: int) -> tuple[int, int]:
+    """The first cycle from which on the skew stays within its level, and that: the greatest of the second half of the rows, of
+    which the first one is of this cycle."""
+    level = max(rows[len(rows) // 2:])
+    # By halves: behind `end` all rows are within the level, and one before `begin` is not, or there is none.
+    begin, end = 0, len(rows) // 2
+    while begin < end:
+        middle = (begin + end) // 2
+        if max(rows[middle:end]) <= level:
+            end = middle
+        else:
+            begin = middle + 1
+    return first + end, level
 
 
-def within(rows: list[Point], first: int, last: int) -> list[Point]:
-    """Those of the cycles from first to last; rows ascend by cycle."""
-    return [row for row in rows if first <= row[0] <= last]
-
-
-def window(rows: list[Point], first: int, last: int, what: str) -> Window | None:
-    """The figures of the cycles from first to last, or None where none of them has a skew."""
-    rows = within(rows, first, last)
+def window(rows: Sequence[int], first: int, last: int, what: str) -> Window | None:
+    """The figures of the cycles from first to last, or None where there are none of them."""
+    rows = rows[first:last + 1]
     if not rows:
         return None
-    ordered = sorted(skew for _, skew in rows)
-    greatest = ordered[-1]
-    cycle = next(cycle for cycle, skew in rows if skew == greatest)
+    ordered = sorted(rows)
     # The least skew that no more than one of a hundred cycles is above.
     most = ordered[-(-99 * len(ordered) // 100) - 1]
-    return Window(rows[0][0], rows[-1][0], what, greatest, cycle, most, Fraction(sum(ordered), len(ordered)),
-                  *settled(rows))
+    return Window(first, first + len(rows) - 1, what, ordered[-1], first + rows.index(ordered[-1]), most,
+                  Fraction(sum(rows), len(rows)), *settled(rows, first))
 
 
 def changes(run: Run) -> tuple[list[Change], list[tuple[int, set[int]]]]:
@@ -154,9 +147,9 @@ def later(run: Run, first: int | None = None) -> Window | None:
         return None
     if first is None:
         spans = stretches(run)
-        begun = within(rows, spans[0].first, spans[0].last) if spans else []
-        first = settled(begun or rows[:1])[0]
-    return window(rows, first, rows[-1][0], "")
+        begun = rows[spans[0].first:spans[0].last + 1] if spans else []
+        first = settled(begun, spans[0].first)[0] if begun else 0
+    return window(rows, first, len(rows) - 1, "")
 
 
 def begin_of(cycle: int | None, cluster: Cluster) -> int | None:

@@ -1,16 +1,16 @@
 """The clusters of a study, which are of one TOML file with other numbers: the file is taken apart once, and what no other number
 touches is kept from one cluster to the next."""
-from collections.abc import Callable, Iterator
+import operator
+from collections.abc import Callable, Iterator, Sequence
 from fractions import Fraction
-from typing import Any
+from typing import Any, NamedTuple, TypeVar
 
-from .cluster import Cluster, all_readers, cluster_of, read_cluster
-from .draws import draw
+from .cluster import Cluster, cluster_of, read_cluster
+from .draws import draw, places
 from .source import Source, copied
+from .values import Table
 
-# Of which tables the rows of a cluster come that take long to make: what they hang on besides is in `Again.basis`.
-KEPT = {"read_script": ("two_faced", "say", "lose", "flip"), "read_delays": ("delay",)}
-Reader = Callable[[Source, Cluster], None]
+Made = TypeVar("Made")
 
 
 def texts(value: object) -> Iterator[str]:
@@ -22,43 +22,42 @@ def texts(value: object) -> Iterator[str]:
             yield from texts(part)
 
 
-class Kept:
-    """What a reader made of its tables the last time, and of what it was made."""
-
-    def __init__(self, read: Reader, tables: tuple[str, ...]) -> None:
-        self.read, self.tables = read, tables
-        self.basis: tuple[object, ...] = ()
-        self.made: tuple[dict[Any, Any], list[int], list[str]] | None = None
-
-    def basis_of(self, source: Source, cluster: Cluster) -> tuple[object, ...]:
-        """All that the rows hang on: the tables, the named numbers in them, nodes, channels, cycles and units."""
-        entries = [source.entries.get(name) for name in self.tables]
-        names = {text.lstrip("+-").strip() for text in texts(entries)}
-        nodes = [(node.number, node.channels, node.key_slot is None, node.arbitrary) for node in cluster.nodes.values()]
-        return (repr(entries), repr(sorted((name, source.values[name]) for name in names if name in source.values)), repr(nodes),
-                cluster.cycles, cluster.parameters["gPayloadLengthStatic"], cluster.microtick_ns)
-
-    def __call__(self, source: Source, cluster: Cluster) -> None:
-        basis = self.basis_of(source, cluster)
-        name = "script" if "say" in self.tables else "delays"
-        if self.made is not None and basis == self.basis:
-            rows, arbitrary, notes = self.made
-            setattr(cluster, name, rows)
-            for node in arbitrary:
-                cluster.nodes[node].arbitrary = True
-            cluster.notes += notes
-            return
-        before, faults = len(cluster.notes), len(source.faults)
-        self.read(source, cluster)
-        self.basis = basis
-        self.made = None if len(source.faults) > faults else (getattr(cluster, name), cluster.arbitrary, cluster.notes[before:])
+class Kept(NamedTuple):
+    """What was made of some tables, with all that it hangs on: their values, the numbers that texts among these name, and what
+    stands beside; and what is noted as it is made."""
+    values: list[object]
+    named: dict[str, Fraction | None]
+    beside: tuple[object, ...]
+    made: Any
+    notes: list[str]
 
 
-def kept(read: Reader) -> Reader:
-    """A reader that keeps what it made, where its rows take long."""
-    if read.__name__ in KEPT:
-        return Kept(read, KEPT[read.__name__])
-    return read
+class Keeper:
+    """Hands out what was made before where it would be made again. A value that is the same one in two clusters was not changed: one that
+    is varied or drawn is another object in each."""
+
+    def __init__(self) -> None:
+        self.kept: dict[object, Kept] = {}
+
+    def __call__(self, what: object, source: Source, tables: Sequence[Table], beside: tuple[object, ...], make: Callable[[], Made],
+                 notes: list[str] | None = None) -> Made:
+        values = [value for table in tables for value in table.entries.values()]
+        found = self.kept.get(what)
+        if found is not None and found.beside == beside and len(values) == len(found.values) and all(
+                map(operator.is_, values, found.values)) and all(source.values.get(name) == number for name, number in found.named.items()):
+            if notes is not None:
+                notes += found.notes
+            made: Made = found.made
+            return made
+        faults, before = len(source.faults), len(notes or ())
+        made = make()
+        if len(source.faults) == faults:
+            names = {text.lstrip("+-").strip() for text in texts(values)}
+            named = {name: source.values.get(name) for name in names}
+            self.kept[what] = Kept(values, named, beside, made, (notes or [])[before:])
+        else:
+            self.kept.pop(what, None)
+        return made
 
 
 class Again:
@@ -69,7 +68,9 @@ class Again:
         self.path, self.text, self.entries = path, first.text, first.raw
         # A fault of names is told with those of each cluster.
         self.is_faulty = bool(first.faults)
-        self.readers: tuple[Reader, ...] = tuple(kept(read) for read in all_readers())
+        self.keeper = Keeper()
+        # Which tables have numbers that are drawn; the seed is in [run].
+        self.drawn = {"run", *(name for name, _, table in places(self.entries) if any(isinstance(value, dict) for value in table.values()))}
 
     def source(self, changes: dict[str, Fraction], drawing: tuple[int | None, int]) -> Source:
         """The source with these numbers: as `Source` reads it, but that names were checked before."""
@@ -78,7 +79,7 @@ class Again:
         found.raw, found.entries = self.entries, copied(self.entries)
         for key, number in changes.items():
             found.change(key, number)
-        found.drawn = draw(self.path, self.text, found.entries, *drawing)
+        found.drawn = draw(self.path, self.text, {name: table for name, table in found.entries.items() if name in self.drawn}, *drawing)
         found.named()
         return found
 
@@ -86,4 +87,4 @@ class Again:
         """The cluster with these numbers, the one that `read_cluster` reads."""
         if self.is_faulty:
             return read_cluster(self.path, changes, drawing)
-        return cluster_of(self.source(changes, drawing), self.readers)
+        return cluster_of(self.source(changes, drawing), self.keeper)

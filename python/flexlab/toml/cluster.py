@@ -1,10 +1,9 @@
 """A cluster as a TOML file describes it, in the numbers of flexray's files."""
 import json
-from collections.abc import Callable
+from collections.abc import Callable, Mapping, Sequence
 from dataclasses import dataclass, field
 from fractions import Fraction
-from collections.abc import Mapping
-from typing import NamedTuple
+from typing import NamedTuple, Protocol, TypeVar
 
 from ..base import ranges, units
 from ..base.ranges import Parameters
@@ -205,7 +204,8 @@ def shown_name(name: str) -> str:
     return json.dumps(name if len(name) <= NAME_LENGTH else name[:32] + "..")
 
 
-def read_node(table: Table, nodes: dict[int, Node], microtick_ns: Fraction, rate_limit: int) -> None:
+def read_node(table: Table, nodes: dict[int, Node], microtick_ns: Fraction, rate_limit: int) -> Node:
+    """The node of a table, behind those of the tables before it."""
     number = table.whole_of("id")
     if number in nodes:
         table.refuse("id", f"node {number} is there already")
@@ -219,15 +219,19 @@ def read_node(table: Table, nodes: dict[int, Node], microtick_ns: Fraction, rate
         table.refuse("coldstart", "a coldstart node needs a `key_slot`")
     if node.arbitrary and key_slot is None:
         table.refuse("arbitrary", "an arbitrary node needs a `key_slot`")
-    nodes[number] = node
+    return node
 
 
-def read_nodes(source: Source, microtick_ns: Fraction, rate_limit: int) -> dict[int, Node]:
+def read_nodes(source: Source, microtick_ns: Fraction, rate_limit: int, keep: "Keep") -> dict[int, Node]:
     nodes: dict[int, Node] = {}
-    for table in source.tables("node"):
+    tables = source.tables("node")
+    for at, table in enumerate(tables):
         with source.part():
-            read_node(table, nodes, microtick_ns, rate_limit)
-    if not source.tables("node"):
+            beside = microtick_ns, rate_limit, tuple([(node.number, node.name) for node in nodes.values()])
+            node = keep(("node", at), source, [table], beside, lambda: read_node(table, nodes, microtick_ns, rate_limit))
+            # What is kept stays as it is where this one is found to be arbitrary.
+            nodes[node.number] = Node(**vars(node))
+    if not tables:
         with source.part():
             source.table("node").refuse(None, "the file has no [[node]]")
     return dict(sorted(nodes.items()))
@@ -286,29 +290,49 @@ def read_cluster(path: str, changes: Mapping[str, Fraction] | None = None, drawi
     return cluster_of(Source(path, changes, drawing))
 
 
-def all_readers() -> "tuple[Callable[[Source, Cluster], None], ...]":
-    """What reads the rows of a cluster, in this order."""
-    from .rows import read_delays, read_joins, read_lengths, read_power, read_script
-    return read_script, read_joins, read_lengths, read_delays, read_power
+Made = TypeVar("Made")
 
 
-def cluster_of(source: Source, readers: "tuple[Callable[[Source, Cluster], None], ...] | None" = None) -> Cluster:
-    """The cluster of a source; who has rows at hand puts readers of his own in place of those that read them."""
-    microtick_ns, bit_rate, start_bits, doubles = Fraction(1000), Fraction(10), 15, 1
+class Keep(Protocol):
+    """Makes a part of a cluster, by its name, of some tables of a source and of what stands beside; or hands out what was made of the
+    same. What is noted as it is made goes into `notes`."""
+
+    def __call__(self, what: object, source: Source, tables: Sequence[Table], beside: tuple[object, ...], make: Callable[[], Made],
+                 notes: list[str] | None = None) -> Made: ...
+
+
+def anew(what: object, source: Source, tables: Sequence[Table], beside: tuple[object, ...], make: Callable[[], Made],
+         notes: list[str] | None = None) -> Made:
+    """Keeps nothing."""
+    return make()
+
+
+def read_bench(source: Source) -> tuple[Fraction, Fraction, int]:
+    """How many ns a microtick has, the bit rate, and the bits of a transmission start sequence."""
+    microtick_ns, bit_rate, start_bits = Fraction(1000), Fraction(10), 15
     with source.part():
         bench = source.table("bench")
         bit_rate = bench.number_of("bit_rate_mbit")
         start_bits = bench.whole_of("start_bits")
         microtick_ns = bench.number_of("microtick_ns")
-    parameters = read_parameters(source, microtick_ns)
+    return microtick_ns, bit_rate, start_bits
+
+
+def cluster_of(source: Source, keep: Keep = anew) -> Cluster:
+    """The cluster of a source."""
+    from .rows import read_rows
+    doubles = 1
+    microtick_ns, bit_rate, start_bits = keep("bench", source, [source.plain_table("bench")], (), lambda: read_bench(source))
+    parameters = keep("parameters", source, [source.plain_table("cluster"), source.plain_table("limits")], (microtick_ns,),
+                      lambda: read_parameters(source, microtick_ns))
     with source.part():
         doubles = source.table("run").whole_of("double_cycles")
-    nodes = read_nodes(source, microtick_ns, parameters["pRateCorrectionOut"])
-    if len(nodes) < len(source.tables("node")) or not nodes:
+    nodes = read_nodes(source, microtick_ns, parameters["pRateCorrectionOut"], keep)
+    if len(nodes) < len(source.entries.get("node", [])) or not nodes:
         source.tell()
-    cluster = Cluster(source.path, microtick_ns, bit_rate, start_bits, parameters, doubles, nodes,
-                      read_slots(source, nodes), drawn=source.drawn, text=source.text)
-    for read in readers or all_readers():
-        read(source, cluster)
+    slots = keep("slots", source, source.tables("slot"), tuple(nodes), lambda: read_slots(source, nodes))
+    cluster = Cluster(source.path, microtick_ns, bit_rate, start_bits, parameters, doubles, nodes, slots, drawn=source.drawn,
+                      text=source.text)
+    read_rows(source, cluster, keep)
     source.tell()
     return cluster

@@ -7,7 +7,7 @@ from typing import NamedTuple, TypeVar
 
 from ..base import ranges, units
 from ..base.ending import REFUSED, Stop
-from .cluster import Cluster, Fate, FrameAt, Join, Link, Power, Steps, amount
+from .cluster import Cluster, Fate, FrameAt, Join, Keep, Link, Power, Steps, amount
 from .keys import FRAME_DIGITS, TIMES, sizes
 from .source import Source
 from .values import Table
@@ -52,23 +52,54 @@ def note(table: Table, cluster: Cluster, key: str, why: str) -> None:
     cluster.notes.append(f"{cluster.path}:{table.line(key)}: {table.key(key)}: {why}")
 
 
-def read_lengths(source: Source, cluster: Cluster) -> None:
+def read_rows(source: Source, cluster: Cluster, keep: Keep) -> None:
+    """All rows of a cluster, whose nodes and parameters are there."""
+    def many(*names: str) -> list[Table]:
+        return [table for name in names for table in source.tables(name)]
+
+    known = (cluster.cycles, cluster.microtick_ns, cluster.parameters["gPayloadLengthStatic"])
+    cluster.script, arbitrary = keep("script", source, many("two_faced", "say", "lose", "flip"), (*known, described(cluster)),
+                                     lambda: read_script(source, cluster), cluster.notes)
+    for node in arbitrary:
+        cluster.nodes[node].arbitrary = True
+    read_joins(source, cluster)
+    read_lengths(source, cluster, keep)
+    cluster.delays = keep("delays", source, many("delay"), (*known, described(cluster)), lambda: read_delays(source, cluster),
+                          cluster.notes)
+    read_power(source, cluster)
+
+
+def described(cluster: Cluster) -> tuple[object, ...]:
+    """What rows hang on of the nodes."""
+    return tuple([(node.number, node.channels, node.key_slot is None, node.arbitrary) for node in cluster.nodes.values()])
+
+
+def read_lengths(source: Source, cluster: Cluster, keep: Keep) -> None:
     """For each node which length holds from which cycle on: the node's own, then [[oscillator]] by order."""
-    plans = {node.number: [Ramp(0, cluster.cycles - 1, node.ppm, node.ppm)] for node in cluster.nodes.values()}
-    for table in source.tables("node"):
+    def check(table: Table) -> None:
         with source.part():
             length(table, "ppm", cluster.nodes[table.whole_of("id")].ppm)
+
+    for at, table in enumerate(source.tables("node")):
+        keep(("ppm", at), source, [table], (), lambda: check(table))
+    ramps = keep("oscillators", source, source.tables("oscillator"), (cluster.cycles, described(cluster)),
+                 lambda: read_oscillators(source, cluster), cluster.notes)
+    made = 0
+    for number, node in cluster.nodes.items():
+        if not node.arbitrary:
+            plan = (Ramp(0, cluster.cycles - 1, node.ppm, node.ppm), *(row for nodes, row in ramps if number in nodes))
+            cluster.lengths[number] = keep(("lengths", number), source, (), (plan, cluster.cycles), lambda: steps(plan, cluster.cycles))
+            made += len(cluster.lengths[number])
+            make_room(cluster, "drift", made)
+
+
+def read_oscillators(source: Source, cluster: Cluster) -> list[tuple[list[int], Ramp]]:
+    """Each [[oscillator]] in this order: which nodes, and what it says of them."""
+    found = []
     for table in source.tables("oscillator"):
         with source.part():
-            nodes, row = read_oscillator(table, cluster)
-            for node in nodes:
-                plans[node].append(row)
-    made = 0
-    for node, plan in plans.items():
-        if not cluster.nodes[node].arbitrary:
-            cluster.lengths[node] = dict(steps(tuple(plan), cluster.cycles))
-            made += len(cluster.lengths[node])
-            make_room(cluster, "drift", made)
+            found.append(read_oscillator(table, cluster))
+    return found
 
 
 def read_oscillator(table: Table, cluster: Cluster) -> tuple[list[int], Ramp]:
@@ -140,7 +171,7 @@ def correct_only(table: Table, key: str, cluster: Cluster, why: str) -> list[int
     return nodes
 
 
-def read_delays(source: Source, cluster: Cluster) -> None:
+def read_delays(source: Source, cluster: Cluster) -> dict[Link, Steps]:
     made = sum(map(len, cluster.lengths.values()))
     for table in source.tables("delay"):
         with source.part():
@@ -155,6 +186,7 @@ def read_delays(source: Source, cluster: Cluster) -> None:
                     made += first not in times
                     times[first] = ticks
                 make_room(cluster, "drift", made)
+    return cluster.delays
 
 
 def delay_ends(table: Table, cluster: Cluster, key: str) -> list[int]:
@@ -164,7 +196,8 @@ def delay_ends(table: Table, cluster: Cluster, key: str) -> list[int]:
     return without_clock(table, key, table.nodes(key, cluster.nodes), cluster)
 
 
-def read_script(source: Source, cluster: Cluster) -> None:
+def read_script(source: Source, cluster: Cluster) -> tuple[dict[FrameAt, Fate], list[int]]:
+    """What becomes of frames, and the nodes that are arbitrary since it is said what they say."""
     frame_bits = 8 * (8 + 2 * cluster.parameters["gPayloadLengthStatic"])
     said = []
     for name in ("two_faced", "say"):
@@ -190,6 +223,7 @@ def read_script(source: Source, cluster: Cluster) -> None:
                 bit: int | str = table.whole_of("bit", most=frame_bits - 1) if name == "flip" else ""
                 for link in links(table, cluster, senders, receivers, channels, "channels"):
                     put(table, cluster, link, first, last, Fate(name, bit, ""))
+    return cluster.script, cluster.arbitrary
 
 
 def read_joins(source: Source, cluster: Cluster) -> None:
