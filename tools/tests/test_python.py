@@ -655,7 +655,7 @@ class Alone(Bench):
         self.assertRaises(ValueError, texts.report, "nodes 2 sync 2 arbitrary 0 doubles 2\nprecision many\n")
         for row in ("other,1", "dev,1,2", "dev,1,2,3,A,x,,", "join,1,,2,,,,", "arbitrary,", "run,x"):
             self.assertRaises(texts.Strange, texts.trace, f"run,1,,,,,,\n{row}\n")
-        report = Path(EXAMPLES, "lost", "printed.txt").read_text()
+        report = Path(EXAMPLES, "offset", "lost", "printed.txt").read_text()
         self.assertEqual(texts.report(report).gap, tuple(re.search("^covered no (.*)$", report, re.M)[1].split()))
         for gap in ("no", "no link 1 2", "no count 1 2 3", "no check x 1 2", "yes link 1 2 3", "no delay 1 2 C 3 4"):
             self.assertRaises(texts.Strange, texts.report, re.sub("(?m)^covered .*$", f"covered {gap}", report))

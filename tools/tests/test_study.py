@@ -3,6 +3,7 @@ import csv
 import io
 import json
 import os
+import random
 import re
 import signal
 import subprocess
@@ -10,14 +11,16 @@ import sys
 import time
 import unittest
 import unittest.mock
-from fractions import Fraction
 
 from bench import EXAMPLE, FLEXLAB, FLEXRAY, SERIES, Bench, edited, needs, needs_series
+from flexlab.base.ending import Stop
 from flexlab.cli.words import joined, parser
 from flexlab.program import calls
-from flexlab.runs import study
+from flexlab.base.files import drift_lines, parameter_lines, script_lines
+from flexlab.runs import quick, study
 from flexlab.toml.again import Again
 from flexlab.toml.cluster import read_cluster
+from flexlab.toml.draws import is_number, places
 
 SHORT = edited(("double_cycles = 200", "double_cycles = 100"))
 
@@ -112,10 +115,11 @@ class Studies(Bench):
         until = time.monotonic() + 60
         while time.monotonic() < until and not (os.path.exists(self.path("copies")) and len(set(self.read("copies").split())) > 2):
             time.sleep(0.02)
+        copies = set(self.read("copies").split())
         started.send_signal(end)
-        err = started.communicate(timeout=30)[1].decode()
+        err = started.communicate(timeout=120)[1].decode()
         self.assertNotIn("Traceback", err)
-        copies, until = set(self.read("copies").split()), time.monotonic() + 20
+        until = time.monotonic() + 60
         while time.monotonic() < until and any(map(lives, copies)):
             time.sleep(0.02)
         return started.returncode, [copy for copy in copies if lives(copy)]
@@ -335,6 +339,34 @@ class Studies(Bench):
         self.assertIn("not covered", self.read("a.study", "study.svg"))
 
 
+MORE = """
+[[lose]]
+from = 2
+to = 4
+channels = "A"
+cycles = 50
+[[flip]]
+from = 3
+channels = "B"
+cycles = "60-61"
+bit = 40
+[[say]]
+node = 6
+to = 1
+cycles = 402
+us = 2.5
+frame = "300601"
+[[join]]
+node = 5
+reference = 1
+double_cycle = 20
+[[delay]]
+from_cycle = 7
+ns = "drift"
+[[power]]
+nodes = [1, 2]
+on_ms = 5
+"""
 STUDIES = os.path.join(os.path.dirname(os.path.realpath(__file__)), "studies")
 
 
@@ -409,18 +441,42 @@ class AsBefore(Bench):
                 words = parser().parse_args(joined(["study", path, *file.read().split("\n")[:-1]]))
             plan, again = study.plan_of(words), Again(path)
             for _, values, draw in study.points(plan):
-                changes = {key: Fraction(value) for key, value in zip(plan["keys"], values)}
-                found = []
-                for read in (again.cluster, lambda *rest, at=path: read_cluster(at, *rest)):
-                    try:
-                        found.append(read(changes, (plan["seed"], draw)))
-                    except Stop as stop:
-                        found.append(stop.line)
-                        refused += 1
-                self.assertEqual(*found)
+                changes = {key: study.number_said(value) for key, value in zip(plan["keys"], values)}
+                refused += self.is_refused(again, path, changes, (plan["seed"], draw))
                 compared += 1
         self.assertGreater(compared, 40)
         self.assertGreater(refused, 2)
+
+    def is_refused(self, again, path, *how):
+        """Whether a cluster is refused, in the same words when it is read again and anew; else it is the same."""
+        found = []
+        for read in (again.cluster, lambda *rest: read_cluster(path, *rest)):
+            try:
+                found.append(read(*how))
+            except Stop as stop:
+                found.append(stop.line)
+        self.assertEqual(*found)
+        return isinstance(found[0], str)
+
+    def test_any_numbers_that_are_changed(self):
+        """In any order, a few at once, whether they are taken or not; with files that are written of what was kept."""
+        path = self.write("a.toml", edited(("ppm = 20\n\n[[node]]", "ppm = { uniform = [-150, 150] }\n\n[[node]]")) + MORE)
+        again, chance = Again(path), random.Random(7)
+        caller = quick.Caller(FLEXRAY, path, self.room)
+        keys = [f"{name}.{key}" if index is None else f"{name}[{index + 1}].{key}" for name, index, table in places(again.entries)
+                for key, value in table.items() if is_number(value) or isinstance(value, str) and value.lstrip("-") == "drift"]
+        self.assertGreater(len(keys), 50)
+        values = [study.number_said(text) for text in ("0", "1", "2", "3", "7", "40", "-1", "0.5", "150", "1000", "99999999")]
+        seen = {True: 0, False: 0}
+        for draw in range(1, 201):
+            changes = {key: chance.choice(values) for key in chance.sample(keys, chance.choice((0, 1, 1, 2)))}
+            is_refused = self.is_refused(again, path, changes, (5, draw // 2))
+            seen[is_refused] += 1
+            if not is_refused:
+                cluster = again.cluster(changes, (5, draw // 2))
+                texts = [b"".join(line.encode() for line in lines(cluster)) for lines in (parameter_lines, drift_lines, script_lines)]
+                self.assertEqual(caller.texts(cluster), texts)
+        self.assertGreater(min(seen.values()), 40, seen)
 
 
 if __name__ == "__main__":

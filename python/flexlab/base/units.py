@@ -28,7 +28,7 @@ def us_of_ticks(ticks: Number, microtick_ns: Number) -> Fraction:
 def decimal(value: Number, digits: int) -> str:
     """A number with so many digits behind the point, rounded like all else here."""
     scaled = (2 * abs(value.numerator) * 10 ** digits + value.denominator) // (2 * value.denominator)
-    sign = "-" if scaled and value < 0 else ""
+    sign = "-" if scaled and value.numerator < 0 else ""
     text = str(scaled).rjust(digits + 1, "0")
     return sign + (text if digits == 0 else text[:-digits] + "." + text[-digits:])
 

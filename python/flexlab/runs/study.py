@@ -309,14 +309,15 @@ def caller_of(plan: Plan) -> "Caller":
     return CALLERS[key]
 
 
-def run_whole(cluster: "Cluster", program: str, begin: int | None, folder: str | None) -> Run:
+def run_whole(cluster: "Cluster", plan: Plan, begin: int | None, folder: str | None) -> Run:
     """A run as `run` makes it, but for its traces; its files are gone where no folder is named."""
     from .runs import run_cluster
-    with contextlib.ExitStack() as room:
+    with contextlib.ExitStack() as done:
         if folder is None:
-            folder = os.path.join(room.enter_context(tempfile.TemporaryDirectory(prefix="flexlab-study-")), "run")
+            # In the room of the study, which is gone at its end also where this process is ended before.
+            folder = os.path.join(done.enter_context(tempfile.TemporaryDirectory(dir=plan["room"])), "run")
         make_folder(folder)
-        found = run_cluster(cluster, folder, program, begin=begin)
+        found = run_cluster(cluster, folder, plan["flexray"], begin=begin)
         for name in ("trace.csv", os.path.join("in-sync", "trace.csv")):
             if os.path.exists(os.path.join(folder, name)):
                 os.remove(os.path.join(folder, name))
@@ -349,7 +350,7 @@ def measure(plan: Plan, values: Sequence[str], number: int, folder: str | None) 
     is_short = plan.get("figures") == "report"
     run = None if folder and not is_short else run_of(cluster, caller, begin, is_short)
     if run is None or folder:
-        whole_run = run_whole(cluster, plan["flexray"], begin, folder)
+        whole_run = run_whole(cluster, plan, begin, folder)
         run = run or whole_run
     unit, more = cluster.microtick_ns, {name: written(value) for name, value in cluster.drawn.items()}
     for one in windows(run, spans) if spans and not is_short else ():
