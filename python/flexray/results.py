@@ -7,8 +7,8 @@ from dataclasses import dataclass, field
 from typing import NamedTuple, overload
 
 __all__ = ["Check", "Bound", "SharpSide", "SharpBound", "LostBound", "Skew", "Sent", "Heard", "NodeEnd", "Report", "SharpReport",
-           "SeriesCycle", "SeriesCycles", "Series", "SharpSeries", "CycleRow", "Deviation", "Join", "Trace", "Verdict", "Failing", "Failure",
-           "ObservedCycle", "ObservedNode", "ObservedFault", "ObservedSender",
+           "SeriesCycle", "SeriesCycles", "Series", "SharpSeries", "CycleRow", "Deviation", "Join", "Trace", "Verdict", "Failing",
+           "Failure", "ObservedCycle", "ObservedNode", "ObservedFault", "ObservedSender",
            "LogCounts", "Observation", "FailedCheck", "Settled", "SharpWay", "SharpSettled", "Lead", "Startup", "Frame",
            "CapturedFrame", "Capture", "Vector", "Vectors", "Upgraded"]
 
