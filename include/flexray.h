@@ -16,7 +16,7 @@
  *
  * What is owed. Pointers are valid for their lengths and not null (where a length is 0, null is fine; `texts`, `frame`,
  * `length` and `count` are never null); what is written to (places, texts, frame, length, count) overlaps nothing else that is
- * passed, and no other thread uses it meanwhile; 512 KiB of stack are free; malloc, realloc and free are those of one
+ * passed, and no other thread uses it meanwhile; 640 KiB of stack are free; malloc, realloc and free are those of one
  * allocator and align blocks as C says; no call is made from a signal handler or in the child of a fork from a process with
  * threads. Everything else is answered: all bytes, words and numbers, want of memory too. No call ends the process, waits, or
  * keeps anything behind its end.

@@ -311,11 +311,11 @@ function showVerdict() {
   const skew = last["sharp greatest"][0];
   cards.push(card("", `Precision, ${kind === "beside" ? "beside arbitrary nodes" : "no arbitrary node"}`, `${us(last.sharp[0])} us`,
     skew === "-" ? null : `the skew was ${us(skew)} us at most since, ${percent(skew, last.sharp[0])} of it`));
-  cards.push(card(run.covered ? "good" : "bad", "Covered, by the classical bound", run.covered ? "yes" : "no",
+  cards.push(card(run.covered ? "good" : "bad", "Classically covered", run.covered ? "yes" : "no",
     run.covered ? null : gapWords(run.gap, show), run.inSync === null ? "never in sync" : `in sync from double cycle ${run.inSync} (${msOfCycle(2 * run.inSync, known)} ms)`,
     joins && `nodes that join: ${ofJoins(bound).text}`));
   const since = last.greatest[0];
-  cards.push(card("", "Classical bound, of flexray run", `${us(run.precision)} us`,
+  cards.push(card("", "Classical bound", `${us(run.precision)} us`,
     since === "-" ? null : `the skew in sync was ${us(since)} us at most, ${percent(since, run.precision)} of it`));
   cards.push(card("", "Greatest skew of all", `${us(run.greatest.ticks)} us`, `cycle ${run.greatest.cycle}, macrotick ${run.greatest.macrotick}`,
     run.inSync === null || run.greatest.cycle < 2 * run.inSync ? "before sync, so not to be held against a precision" : null));

@@ -9,7 +9,7 @@ use fr_whole::{Status, flexray};
 use std::env;
 use std::process::ExitCode;
 
-/// How many bytes of stack are asked for at the begin: a third more than the command takes that takes most.
+/// How many bytes of stack are asked for at the begin: a fifth more than the command takes that takes most.
 const STACK: usize = 327680;
 
 /// Whether the stack has room for every command. Where it cannot grow the system ends the process by a signal, and here no text
