@@ -230,8 +230,9 @@ class Page(Bench):
         self.assertTrue(self.in_sight("#stale"))
 
     def in_sight(self, selector):
+        """Whether it is seen whole, but for a part of a pixel: a page scrolls by parts of pixels."""
         return self.run_in(f"(() => {{ const box = document.querySelector({json.dumps(selector)}).getBoundingClientRect(); "
-                           "return box.height > 0 && box.top >= 0 && box.bottom <= innerHeight; })()")
+                           "return box.height > 0 && box.top > -1 && box.bottom < innerHeight + 1; })()")
 
     def test_what_is_not_understood_is_marked_and_nothing_is_run(self):
         self.take("offset/run")
