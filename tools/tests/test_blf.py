@@ -34,12 +34,12 @@ def container(content, packing):
     return data + bytes(len(data) % 4)
 
 
-def frame_item(ns, mask, frame, kind=RECEIVED_MORE, direction=0, code=2, head=1, kept=None, error=False, place="both", crcs=None):
+def frame_item(ns, mask, frame, kind=RECEIVED_MORE, direction=0, code=2, head=1, kept=None, error=False, place="both", crcs=None, bus=1):
     """An object of a received frame, with its flags in both of the fields that may have them, or in one."""
     first, length, kept_crc = frame[0], 2 * (frame[2] >> 1), (frame[2] & 1) << 10 | frame[3] << 2 | frame[4] >> 6
     flags = (not first & 0x20) | 0x02 | bool(first & 0x10) << 2 | bool(first & 0x08) << 3 | error << 6
     payload = frame[5:5 + length][:kept]
-    fields = (1, 1, mask, direction, 0, 0, (first & 7) << 8 | frame[1], *(crcs or (kept_crc, kept_crc)), length, len(payload), frame[4] & 63, 0,
+    fields = (bus, 1, mask, direction, 0, 0, (first & 7) << 8 | frame[1], *(crcs or (kept_crc, kept_crc)), length, len(payload), frame[4] & 63, 0,
               flags if place in ("both", "data") else 0, flags if place in ("both", "flags") else 0, 0)
     more = bytes(40) if kind == RECEIVED_MORE else b""
     rest = b"" if kind == RECEIVED_MORE else bytes(254 - len(payload) + 6)
@@ -103,7 +103,7 @@ class Blf(Bench):
         made = [packet for packet in self.sent() if packet.channel == "A"]
         both = [frame_item(packet.ns, 3, packet.frame) for packet in made]
         self.keep("bus.blf", blf_file(both))
-        found, _ = blf.read_blf(self.path("bus.blf"))
+        found = blf.read_blf(self.path("bus.blf")).packets
         self.assertEqual([(packet.ns, packet.channel, packet.frame) for packet in found],
                          [(packet.ns, channel, packet.frame) for packet in made for channel in "AB"])
 
@@ -167,6 +167,56 @@ class Blf(Bench):
         self.assertIn("cannot be unpacked", self.flexlab("log", "bus.blf", "net.toml", status=5)[1])
         self.keep("bus.blf", whole.replace(struct.pack("<H6x", 2), struct.pack("<H6x", 9)))
         self.assertIn("packed by a method 9", self.flexlab("log", "bus.blf", "net.toml", status=5)[1])
+
+    def test_what_a_file_has_lost_is_told(self):
+        made = self.sent(SHORT + OBSERVER + "missed_none = true\n")
+        whole = blf_file(self.items(made), 0)
+        self.keep("bus.blf", whole)
+        self.assertEqual(blf.read_blf(self.path("bus.blf")).lost, {})
+        self.assertIn("whole,,,,", self.log("bus.blf")[0])
+        damaged = bytearray(whole)
+        damaged[2000:2040] = b"\xee" * 40
+        for data, reason in ((bytes(damaged), blf.STRAY), (whole[:len(whole) // 2], blf.SHORTER)):
+            self.keep("bus.blf", data)
+            lost = blf.read_blf(self.path("bus.blf")).lost
+            self.assertEqual(set(lost), {reason, blf.MISSING})
+            self.assertEqual(lost[blf.MISSING], len(made) - len(blf.read_blf(self.path("bus.blf")).packets))
+            log, told = self.log("bus.blf")
+            self.assertNotIn("whole,,,,", log)
+            self.assertIn(f"{lost[blf.MISSING]} {blf.MISSING}", told)
+            self.assertIn("it missed no frame, which is not taken", told)
+            page = self.one_line(self.flexlab("capture", "-o", "lab", "bus.blf")[0])
+            self.assertIn(f"WARNING not all of the file was read: {lost[reason]} {reason}", page)
+            self.assertEqual(json.loads(self.flexlab("capture", "-o", "lab", "--json", "bus.blf")[0])["lost"], lost)
+
+    def test_older_objects_are_told(self):
+        older = [item(41, bytes(100))] * 3
+        self.keep("bus.blf", blf_file(older))
+        self.write("net.toml", SHORT + OBSERVER)
+        self.assertIn("objects 41, which flexlab does not read and tshark does", self.flexlab("log", "bus.blf", "net.toml", status=5)[1])
+        self.keep("bus.blf", blf_file(older + self.items(self.sent(SHORT + OBSERVER + "missed_none = true\n"))))
+        log, told = self.log("bus.blf")
+        self.assertNotIn("whole,,,,", log)
+        self.assertIn(f"3 {blf.UNKNOWN}", told)
+
+    def test_one_network_of_several(self):
+        made = self.sent()
+        self.keep("one.blf", blf_file(self.items(made)))
+        wanted = self.log("one.blf")[0]
+        self.keep("bus.blf", blf_file(self.items(made) + self.items(made[40:60], bus=7)))
+        for words in (("log", "bus.blf", "net.toml"), ("capture", "bus.blf")):
+            err = self.flexlab(*words, status=5)[1]
+            self.assertIn("it has frames of the networks 1 and 7; --bus NUMBER takes those of one", err)
+        self.flexlab("log", "bus.blf", "net.toml", "--bus", "1", "-o", "bus.csv")
+        self.assertEqual(self.read("bus.csv"), wanted)
+        self.flexlab("capture", "-o", "lab", "bus.blf", "--bus", "7")
+        self.assertIn("it has no frame of network 2; there are those of 1 and 7",
+                      self.flexlab("log", "bus.blf", "net.toml", "--bus", "2", status=1)[1])
+        self.assertIn("it is no BLF file", self.flexlab("log", "sent/wireshark.pcap", "net.toml", "--bus", "1", status=2)[1])
+        # A logger that numbers the channels of one network.
+        both = [frame_item(one.ns, 1 + "AB".index(one.channel), one.frame, bus=1 + "AB".index(one.channel)) for one in made]
+        self.keep("bus.blf", blf_file(both))
+        self.assertEqual(len(blf.read_blf(self.path("bus.blf")).packets), len(made))
 
 
 if __name__ == "__main__":

@@ -344,6 +344,35 @@ class Logs(Bench):
             self.assertEqual(found["cycles"], self.observed(self.path("sent", "sent.pcap"))["cycles"])
             self.assertEqual(found["log"]["judged"], 160)
 
+    def test_a_part_of_a_file(self):
+        path = self.sent()
+        made = packets.read_capture(path)[1]
+        first = made[0].ns
+        packets.write_capture(self.path("part.pcap"), [(one.ns, one.channel, one.frame) for one in made
+                                                       if first + 25_000_000 <= one.ns < first + 75_500_000])
+        self.flexlab("log", "part.pcap", "net.toml", "-o", "wanted.csv")
+        told = self.one_line(self.flexlab("log", path, "net.toml", "-o", "log.csv", "--from", "0.025", "--to", "0.0755")[0])
+        self.assertEqual(self.read("log.csv"), self.read("wanted.csv"))
+        self.assertIn(f"{len(made) - len(packets.read_capture(self.path('part.pcap'))[1])} {observer.OUTSIDE}", told)
+        self.assertIn("there is no frame that could be used", self.flexlab("log", path, "net.toml", "--from", "900", status=1)[1])
+        for word in ("-1", "1e3", "0,5", "x"):
+            self.assertIn("is no number of seconds", self.flexlab("log", path, "net.toml", f"--from={word}", status=2)[1])
+
+    def test_a_counter_that_begins_anew(self):
+        made = packets.read_capture(self.sent())[1]
+        columns = ("--columns", "time=Time,channel=Channel,bytes=Data", "--time-unit", "ns", "-o", "log.csv")
+        logs = []
+        for begin in (0, (1 << 32) - 20_000_000 - made[0].ns):
+            rows = [f"{(begin + one.ns) % (1 << 32)},{one.channel},{one.frame.hex()}" for one in made]
+            self.write("bus.csv", "\n".join(["Time,Channel,Data", *rows]) + "\n")
+            told = self.one_line(self.flexlab("log", *columns, "bus.csv", "net.toml")[0])
+            self.assertEqual("the counter of 32 bits began anew 1 times" in told, begin != 0)
+            logs.append(self.read("log.csv"))
+        self.assertEqual(*logs)
+        # One channel behind the other is no counter that begins anew.
+        wraps = observer.Wraps()
+        self.assertEqual([wraps.before(time) for time in ("100", "3900000000", "100", "3900000000", "0.5")], [0] * 5)
+
     def test_refusals(self):
         path = self.sent(SHORT)
         self.assertIn("net.toml: a table [observer] states what is", self.flexlab("log", path, "net.toml", status=5)[1])

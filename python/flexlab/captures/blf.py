@@ -2,14 +2,17 @@
 
 An object keeps the fields of a header, and no frame CRC. The indicators of sync and startup are those that the header CRC shows.
 Of the two fields that may have the flags it is the one that agrees with that; it has the other indicators, and that of an error.
+
+What a file has lost is told: it says itself how many objects it has, and nothing but up to three bytes stands between two of them.
 """
 import struct
 import zlib
 from collections.abc import Iterable, Iterator
-from dataclasses import dataclass
+from dataclasses import dataclass, field
 from functools import cached_property
+from typing import NamedTuple
 
-from ..base.ending import REFUSED, Stop
+from ..base.ending import NO, REFUSED, Stop
 from ..base.files import LONGEST, MIB, read, too_long
 from .frames import proved_header
 from .packets import FRAME, UNSURE, Packet
@@ -22,6 +25,15 @@ FIELDS = struct.Struct("<4H2I6H4I")
 STEPS = {1: 10000, 2: 1}
 CHANNELS = {1: "A", 2: "B", 3: "AB"}
 NULL, SYNC, STARTUP, PREAMBLE, ERROR = 0x01, 0x04, 0x08, 0x10, 0x40
+# FlexRay messages as older tools kept them: their form is not known here.
+OLDER = 41
+# At most so many bytes stand behind an object, before the next one.
+PADDING = 3
+COUNT_AT = 32
+MISSING = "objects that the file says it has and that are not there"
+STRAY = "bytes that are of no object of the file"
+SHORTER = "bytes that objects of the file should have and that are not there"
+UNKNOWN = "FlexRay frames of an older form (objects 41)"
 # The error flag that packets of a capture have for a frame that was not coded as it should be.
 FLAWED = 0x02
 
@@ -72,10 +84,30 @@ class Received:
         return bytes([head[0] & 0x1F | first]) + head[1:]
 
 
-def objects(pieces: Iterable[bytes]) -> Iterator[tuple[int, bytes, int]]:
-    """(kind, bytes, length of its header) of objects, with what stands between them left out. What was passed of the pieces is
-    not kept."""
-    some, data, at = iter(pieces), bytearray(), 0
+@dataclass
+class Losses:
+    """What shows that a file has lost something: a reason with how much."""
+    found: dict[str, int] = field(default_factory=dict)
+
+    def add(self, reason: str, count: int) -> None:
+        if count > 0:
+            self.found[reason] = self.found.get(reason, 0) + count
+
+
+class Binary(NamedTuple):
+    """What a file has: its packets by channels, the longest step of its stamps in ns, and what it has lost."""
+    packets: list[Packet]
+    step: int
+    lost: dict[str, int]
+
+
+def objects(pieces: Iterable[bytes], losses: Losses) -> Iterator[tuple[int, bytes, int]]:
+    """(kind, bytes, length of its header) of objects, with what stands between them left out and counted. What was passed of the
+    pieces is not kept."""
+    some, data, at, passed = iter(pieces), bytearray(), 0, 0
+
+    def stray(count: int) -> None:
+        losses.add(STRAY, count if count > PADDING else 0)
 
     def reach(end: int) -> bool:
         while len(data) < end:
@@ -89,21 +121,28 @@ def objects(pieces: Iterable[bytes]) -> Iterator[tuple[int, bytes, int]]:
         found = data.find(b"LOBJ", at)
         if found < 0:
             # Its first letters may stand at the end of the piece.
-            del data[:max(at, len(data) - 3)]
+            left = max(at, len(data) - 3)
+            passed += left - at
+            del data[:left]
             at = 0
             if not reach(len(data) + 1):
-                return
+                break
             continue
+        stray(passed + found - at)
+        passed = 0
         if not reach(found + 16):
+            losses.add(SHORTER, found + 16 - len(data))
             return
         head, _, size, kind = struct.unpack_from("<HHII", data, found + 4)
         reach(found + size)
+        losses.add(SHORTER, found + size - len(data))
         yield kind, bytes(data[found:found + size]), head
         at = found + max(16, head, size)
         if at > MIB:
             reach(at)
             del data[:at]
             at = 0
+    stray(passed + len(data) - at)
 
 
 def pieces_of(data: bytes) -> Iterator[bytes]:
@@ -112,7 +151,7 @@ def pieces_of(data: bytes) -> Iterator[bytes]:
         yield data[at:at + MIB]
 
 
-def unpacked(path: str, item: bytes, head: int, most: int) -> bytes:
+def unpacked(path: str, item: bytes, head: int, most: int, losses: Losses) -> bytes:
     """What a container has, of which not more than so many bytes are made."""
     if len(item) < head + 16:
         return b""
@@ -122,41 +161,67 @@ def unpacked(path: str, item: bytes, head: int, most: int) -> bytes:
     try:
         if packing == 2:
             # Of a file that ends too early this is what is there. The size is the file's own word, and 0 would be no limit.
-            return zlib.decompressobj().decompress(item[head + 16:], min(size or most + 1, most + 1))
+            data = zlib.decompressobj().decompress(item[head + 16:], min(size or most + 1, most + 1))
+            losses.add(SHORTER, min(size, most + 1) - len(data))
+            return data
     except zlib.error as fault:
         raise Stop(REFUSED, f"{path}: a container of it cannot be unpacked: {fault}")
     raise Stop(REFUSED, f"{path}: a container of it is packed by a method {packing}, which flexlab does not know")
 
 
-def contents(path: str, data: bytes, most: int) -> Iterator[bytes]:
+def contents(path: str, data: bytes, most: int, losses: Losses) -> Iterator[bytes]:
     """What the containers of a file have, one after the other, of at most so many bytes in all."""
     left = most
-    for kind, item, head in objects(pieces_of(data)):
-        piece = unpacked(path, item, head, left) if kind == CONTAINER else item
+    for kind, item, head in objects(pieces_of(data), losses):
+        piece = unpacked(path, item, head, left, losses) if kind == CONTAINER else item
         left -= len(piece)
         if left < 0:
             raise too_long(path, most, is_capture=True, unpacked=True)
         yield piece
 
 
-def received(path: str, most: int = LONGEST) -> list[Received]:
+def received(path: str, most: int, losses: Losses) -> list[Received]:
     """The frames of a file in the order in which they stand there."""
     data = read(path, most, is_capture=True)
     length = struct.unpack_from("<I", data, 4)[0] if len(data) >= 8 else len(data)
-    found = []
-    for kind, item, head in objects(contents(path, data[length:], most)):
-        if kind in FRAMES and len(item) >= max(32, head) + FRAMES[kind] and len(item) == struct.unpack_from("<I", item, 8)[0]:
+    stated = struct.unpack_from("<I", data, COUNT_AT)[0] if len(data) >= COUNT_AT + 4 else 0
+    found, count = list[Received](), 0
+    for kind, item, head in objects(contents(path, data[length:], most, losses), losses):
+        is_whole = len(item) >= 12 and len(item) == struct.unpack_from("<I", item, 8)[0]
+        count += is_whole
+        losses.add(UNKNOWN, kind == OLDER)
+        if kind in FRAMES and is_whole and len(item) >= max(32, head) + FRAMES[kind]:
             code, stamp = struct.unpack_from("<I4xQ", item, 16)
             fields = FIELDS.unpack_from(item, head)
             if code in STEPS:
                 at = head + FRAMES[kind]
                 found.append(Received(code, stamp, fields, item[at:at + min(fields[9], fields[10])]))
+    losses.add(MISSING, stated - count)
     return found
 
 
-def read_blf(path: str, most: int = LONGEST) -> tuple[list[Packet], int]:
-    """The packets of a file, by channels, and the longest step of its stamps in ns; it unpacks to at most so many bytes."""
-    frames = received(path, most)
+def of_bus(path: str, frames: list[Received], bus: int | None) -> list[Received]:
+    """The frames of one network. Two numbers of the logger are two networks where both have frames of one channel."""
+    numbers = sorted({frame.fields[0] for frame in frames})
+    listed = " and ".join(map(str, numbers))
+    if bus is not None:
+        chosen = [frame for frame in frames if frame.fields[0] == bus]
+        if frames and not chosen:
+            raise Stop(NO, f"{path}: it has no frame of network {bus}; there are those of {listed}")
+        return chosen
+    ends = {(frame.fields[0], channel) for frame in frames for channel in frame.channels}
+    if len(ends) > len({channel for _, channel in ends}):
+        raise Stop(REFUSED, f"{path}: it has frames of the networks {listed}; --bus NUMBER takes those of one")
+    return frames
+
+
+def read_blf(path: str, most: int = LONGEST, bus: int | None = None) -> Binary:
+    """What a file has, of one network; it unpacks to at most so many bytes."""
+    losses = Losses()
+    frames = of_bus(path, received(path, most, losses), bus)
+    if not frames and losses.found.get(UNKNOWN):
+        raise Stop(REFUSED, f"{path}: its FlexRay frames are objects 41, which flexlab does not read and tshark does: "
+                            "tshark -r FILE -F pcapng -w NEW.pcapng")
     proved = [frame for frame in frames if frame.header]
     place = max((0, 1), key=lambda place: sum(frame.is_told(frame.flags[place]) for frame in proved))
     found: list[Packet] = []
@@ -167,4 +232,4 @@ def read_blf(path: str, most: int = LONGEST) -> tuple[list[Packet], int]:
             first = (kind if frame.channels else UNSURE) | (0x80 if channel == "B" else 0)
             data = bytes([first, FLAWED if flags & ERROR else 0]) + frame.head(flags) + frame.payload
             found.append(Packet(len(found) + 1, frame.stamp * STEPS[frame.code], data, frame.length - len(frame.payload)))
-    return found, max((STEPS[frame.code] for frame in frames), default=1)
+    return Binary(found, max((STEPS[frame.code] for frame in frames), default=1), losses.found)

@@ -11,7 +11,7 @@ from flexray import NoFrame, texts
 from ..program import calls as programs
 from ..program.calls import Told
 from ..program.report import understood
-from .blf import MAGIC, read_blf
+from .blf import MAGIC, Binary, read_blf
 from ..toml.cluster import read_cluster
 from ..base.ending import DONE, NO, PROGRAM, REFUSED, USAGE, Stop, printable
 from ..base.files import LONGEST, MIB, check_is_file, hold, named_faults, put_bytes, too_long, whole
@@ -27,23 +27,25 @@ LIMIT = 16777216
 CYCLES = 200000
 
 
-def load(path: str, most: int = LONGEST) -> list[Packet]:
+def load(path: str, most: int = LONGEST, bus: int | None = None) -> Binary:
     """The packets of a capture, a BLF file or whatever form tshark reads, by their numbers there; unpacked it has at most so many
-    bytes."""
+    bytes. Of a BLF file they are those of one network of the logger. The step is 0 where it is not known."""
     check_is_file(path)
     with named_faults(path), open(path, "rb") as file:
         first = file.read(4)
     if not first:
         raise Stop(NO, f"{path}: it has 0 bytes, so it is no capture: did the logger write?")
-    link, packets = (LINK_FLEXRAY, read_blf(path, most)[0]) if first == MAGIC else load_by_tshark(path, most)
-    if packets and link != LINK_FLEXRAY:
+    if bus is not None and first != MAGIC:
+        raise Stop(USAGE, f"{path}: it is no BLF file, and --bus is for these")
+    link, taken = (LINK_FLEXRAY, read_blf(path, most, bus)) if first == MAGIC else load_by_tshark(path, most)
+    if taken.packets and link != LINK_FLEXRAY:
         raise Stop(REFUSED, f"{path}: its link type is {link}, and FlexRay's is {LINK_FLEXRAY}")
-    if not packets:
+    if not taken.packets:
         raise Stop(NO, f"{path}: a capture without a packet: was the logger on the bus, and its filter open?")
-    return packets
+    return taken
 
 
-def load_by_tshark(path: str, most: int) -> tuple[int, list[Packet]]:
+def load_by_tshark(path: str, most: int) -> tuple[int, Binary]:
     """The link type and the packets. The file may be packed, so what comes of it is taken in pieces, and no more than so many
     bytes of it."""
     tshark = programs.helper("tshark")
@@ -54,7 +56,8 @@ def load_by_tshark(path: str, most: int) -> tuple[int, list[Packet]]:
         raise Stop(REFUSED, f"{path}: tshark does not read it: {printable(told)}")
     if status != 0:
         print(f"{'WARNING':<16}tshark says: {printable(told)}")
-    return packets_of(path, data)
+    link, packets = packets_of(path, data)
+    return link, Binary(packets, 0, {})
 
 
 def stated(frame: bytes) -> int | None:
@@ -62,11 +65,11 @@ def stated(frame: bytes) -> int | None:
     return 8 + 2 * (frame[2] >> 1) if len(frame) > 2 else None
 
 
-def sort_packets(packets: list[Packet]) -> tuple[Taken, dict[str, list[Packet]]]:
+def sort_packets(loaded: Binary) -> tuple[Taken, dict[str, list[Packet]]]:
     """Sorts by what a packet is; frames that are as long as they say are still to be looked at."""
-    taken = Taken(packets)
+    taken = Taken(loaded.packets, lost=loaded.lost)
     todo: dict[str, list[Packet]] = {"A": [], "B": []}
-    for packet in packets:
+    for packet in loaded.packets:
         if not packet.data or packet.kind not in (FRAME, SYMBOL):
             taken.other.append(packet)
         elif packet.kind == SYMBOL:
@@ -138,9 +141,9 @@ def count_cycles(taken: Taken) -> None:
     taken.ends = Ends(min(ends), max(ends)) if ends else None
 
 
-def take_apart(path: str, program: str, most: int = LONGEST) -> Taken:
+def take_apart(path: str, program: str, most: int = LONGEST, bus: int | None = None) -> Taken:
     """What became of the packets of a capture."""
-    taken, todo = sort_packets(load(path, most))
+    taken, todo = sort_packets(load(path, most, bus))
     with tempfile.TemporaryDirectory() as room:
         for channel in "AB":
             check_channel(program, channel, todo[channel], taken.whole, taken, room)
@@ -261,7 +264,7 @@ def capture_object(path: str, taken: Taken, times: Timing | None) -> dict[str, A
     ends = [min(taken.cycles.values()), max(taken.cycles.values())] if taken.cycles else None
     return {"file": path, "packets": len(taken.packets), "whole": len(taken.whole), "damaged": damaged,
             "without_trailer": len(taken.bare), "header_right": len(taken.headed), "symbols": len(taken.symbols),
-            "others": len(taken.other), "cycles": ends, "ids": ids, "times": timing_objects(times)}
+            "others": len(taken.other), "lost": taken.lost, "cycles": ends, "ids": ids, "times": timing_objects(times)}
 
 
 def id_lines(taken: Taken, channel: str) -> list[str]:
@@ -308,6 +311,9 @@ def page_lines(path: str, taken: Taken, beyond: int, times: Timing | None) -> li
     if taken.cycles:
         found += lines_of("Cycles", f"{min(taken.cycles.values())} to {max(taken.cycles.values())}, counted on "
                                     "from the first cycle count; a silence of 64 cycles or more is not seen")
+    if taken.lost:
+        lost = ", ".join(f"{count} {reason}" for reason, count in taken.lost.items())
+        found += lines_of("WARNING", f"not all of the file was read: {lost}")
     if taken.bare and not taken.whole:
         found += lines_of("WARNING", "no payload could be checked: have the logger keep the three bytes of the frame CRC")
     listed = [line for channel in "AB" for line in id_lines(taken, channel)]
@@ -337,7 +343,7 @@ def capture(words: Namespace, folder: str) -> int:
         raise Stop(USAGE, f"--nm: {words.nm} is not from 1 to 12 bytes")
     program = programs.flexray(words.flexray)
     cluster = read_cluster(words.cluster) if words.cluster else None
-    taken = take_apart(words.file, program, words.most_mib * MIB)
+    taken = take_apart(words.file, program, words.most_mib * MIB, words.bus)
     times = timing(taken, cluster)
     hold(folder)
     files = [path for channel in "AB" for path in write_bytes(folder, channel, [

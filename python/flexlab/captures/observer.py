@@ -17,7 +17,7 @@ from argparse import Namespace
 
 from ..base import ranges
 from .asc import UNPROVED, read_asc
-from .blf import MAGIC, read_blf
+from .blf import MAGIC, MISSING, SHORTER, STRAY, UNKNOWN, read_blf
 from .capture import load, sort_packets
 from ..base.ending import NO, REFUSED, USAGE, Refused, Stop, printable
 from ..base.files import LONGEST, MIB, check_is_file, named_faults, put, text_of
@@ -35,6 +35,10 @@ WANTED = ("a table [observer] states what is known of the analyzer: resolution_n
           "delay_to_ns; docs/FLEXLAB.md, \"Logs\", has more")
 SHORT, FLAWED = "frames that are not as long as they say", "frames without a trailer, with an error flag"
 REQUESTED = "frames that may be mere requests to transmit"
+OUTSIDE = "frames before --from or from --to on"
+# A counter of stamps has so many values. It is taken to begin anew where a stamp from its last part is followed by one of its first.
+WRAP = 1 << 32
+WRAP_PART = WRAP >> 6
 UNITS = {"s": Fraction(10**9), "ms": Fraction(10**6), "us": Fraction(1000), "ns": Fraction(1)}
 
 
@@ -88,6 +92,7 @@ class Frames:
     found: list[Seen]
     left: dict[str, int] = field(default_factory=dict)
     columns: str = ""
+    wraps: int = 0
 
     def leave(self, reason: str, count: int = 1) -> None:
         if count:
@@ -96,7 +101,7 @@ class Frames:
     @cached_property
     def is_torn(self) -> bool:
         """Whether frames of key slots may have been left out, or are damaged."""
-        return any(reason in self.left for reason in (SHORT, FLAWED, UNPROVED, REQUESTED)) or any(
+        return any(reason in self.left for reason in (SHORT, FLAWED, UNPROVED, REQUESTED, MISSING, SHORTER, STRAY, UNKNOWN)) or any(
             is_damaged(channel, data, is_all) for _, channel, data, is_all in self.found)
 
 
@@ -176,7 +181,7 @@ def step_of(path: str, most: int = LONGEST) -> Fraction | None:
     with named_faults(path), open(path, "rb") as file:
         data = file.read(1 << 16)
     if data[:4] == MAGIC:
-        return Fraction(read_blf(path, most)[1])
+        return Fraction(read_blf(path, most).step)
     if data[:4] in (b"\xd4\xc3\xb2\xa1", b"\xa1\xb2\xc3\xd4"):
         return Fraction(1000)
     if data[:4] in (b"\x4d\x3c\xb2\xa1", b"\xa1\xb2\x3c\x4d"):
@@ -208,11 +213,12 @@ def interface_step(options: bytes, order: str) -> Fraction:
     return Fraction(1000)
 
 
-def capture_frames(path: str, most: int = LONGEST) -> Frames:
+def capture_frames(path: str, most: int = LONGEST, bus: int | None = None) -> Frames:
     """The frames of a capture. Of one without its frame CRC, or that was cut, the header counts, where the logger saw no
     error. Of a file that does not say its steps, as one that is packed, these are microseconds where its times are."""
-    taken, todo = sort_packets(load(path, most))
-    step = step_of(path, most)
+    loaded = load(path, most, bus)
+    taken, todo = sort_packets(loaded)
+    step = Fraction(loaded.step) if loaded.step else step_of(path, most)
     if step is None:
         step = Fraction(1000 if all(packet.ns % 1000 == 0 for packet in taken.packets) else 1)
     frames = Frames(path, max(Fraction(1), step), [])
@@ -227,6 +233,8 @@ def capture_frames(path: str, most: int = LONGEST) -> Frames:
     frames.leave("packets of another kind", len(taken.other) - requested)
     frames.leave(SHORT, len(taken.damaged) - len(cut))
     frames.leave(FLAWED, sum(packet.flags != 0 for packet in bare))
+    for reason, count in taken.lost.items():
+        frames.leave(reason, count)
     return frames
 
 
@@ -276,9 +284,24 @@ def time_of(path: str, line: int, time: str) -> re.Match[str]:
     raise Refused(path, line, f"the time '{printable(time)}' is not a number from 0 on{form}")
 
 
+class Wraps:
+    """How often a counter of 32 bits has begun anew, by the whole numbers of a column in the order of the file."""
+
+    def __init__(self) -> None:
+        self.count, self.last = 0, 0
+
+    def before(self, time: str) -> int:
+        """What the counter had passed when it began anew, before this time."""
+        stamp = int(time) if time.isdecimal() else -1
+        if 0 <= stamp < WRAP:
+            self.count += self.last >= WRAP - WRAP_PART and stamp < WRAP_PART
+            self.last = stamp
+        return self.count * WRAP
+
+
 def table_frames(path: str, columns: dict[str, str], unit: str, most_bytes: int = LONGEST) -> Frames:
     """The frames of a CSV file: bytes are those of a whole frame, of one without its frame CRC, or of a header."""
-    frames, most = Frames(path, Fraction(0), []), 0
+    frames, most, whole = Frames(path, Fraction(0), []), 0, Wraps()
     for line, time, channel, text in table_rows(path, columns, most_bytes):
         most = max(most, len(time_of(path, line, time)[1] or ""))
         if channel.upper() not in ("A", "B"):
@@ -291,8 +314,8 @@ def table_frames(path: str, columns: dict[str, str], unit: str, most_bytes: int 
         if len(data) not in (5, length - 3, length) or len(data) < 5:
             frames.leave(SHORT)
         else:
-            frames.found.append(Seen(Fraction(time) * UNITS[unit], channel.upper(), data, len(data) == length))
-    frames.step = UNITS[unit] / 10**most
+            frames.found.append(Seen((Fraction(time) + whole.before(time)) * UNITS[unit], channel.upper(), data, len(data) == length))
+    frames.step, frames.wraps = UNITS[unit] / 10**most, whole.count
     return frames
 
 
@@ -305,11 +328,25 @@ def asc_frames(path: str, cluster: Any, most: int = LONGEST) -> Frames:
     return frames
 
 
-def read_frames(cluster: Any, path: str, columns: str | None, unit: str, most: int = LONGEST) -> Frames:
+def read_frames(cluster: Any, path: str, columns: str | None, unit: str, most: int = LONGEST, bus: int | None = None) -> Frames:
     """The frames of a file, by the columns that are named, by its name, or by its first bytes."""
+    is_asc = path.lower().endswith(".asc")
+    if bus is not None and (columns or is_asc):
+        raise Stop(USAGE, f"{path}: it is no BLF file, and --bus is for these")
     if columns:
         return table_frames(path, columns_of(columns), unit, most)
-    return asc_frames(path, cluster, most) if path.lower().endswith(".asc") else capture_frames(path, most)
+    return asc_frames(path, cluster, most) if is_asc else capture_frames(path, most, bus)
+
+
+def cut_out(frames: Frames, begin: Fraction | None, end: Fraction | None) -> None:
+    """Keeps the frames from one time on and before another, in seconds behind the first frame of the file."""
+    if not frames.found or (begin is None and end is None):
+        return
+    zero, giga = min(frame.ns for frame in frames.found), 10**9
+    kept = [frame for frame in frames.found if (begin is None or frame.ns >= zero + begin * giga)
+            and (end is None or frame.ns < zero + end * giga)]
+    frames.leave(OUTSIDE, len(frames.found) - len(kept))
+    frames.found = kept
 
 
 # ---- the log
@@ -382,13 +419,15 @@ def log_of(cluster: Cluster, observer: Observer, frames: Frames) -> tuple[str, i
 def left_lines(frames: Frames) -> list[str]:
     """Lines of a page: what was left out, and which columns were read."""
     left = [f"{count} {reason}" for reason, count in frames.left.items()] or ["nothing"]
-    return lines_of("Left out", *left) + (lines_of("Columns", frames.columns) if frames.columns else [])
+    found = lines_of("Left out", *left) + (lines_of("Columns", frames.columns) if frames.columns else [])
+    return found + (lines_of("Stamps", f"the counter of 32 bits began anew {frames.wraps} times") if frames.wraps else [])
 
 
 def write_log(cluster: Cluster, path: str, words: Namespace) -> Log:
     """Writes the log of a capture: its observer, its frames, and how many entries it has."""
     observer, frames = stated(cluster), read_frames(
-        cluster, words.file, words.columns, words.time_unit, words.most_mib * MIB)
+        cluster, words.file, words.columns, words.time_unit, words.most_mib * MIB, words.bus)
+    cut_out(frames, words.begin, words.end)
     text, entries = log_of(cluster, observer, frames)
     put(path, text, "ascii")
     return Log(observer, frames, entries)

@@ -37,6 +37,8 @@ class Taken:
     other: list[Packet] = field(default_factory=list)
     cycles: dict[int, int] = field(default_factory=dict)
     ends: Ends | None = None
+    # What shows that the file has lost something, with how much.
+    lost: dict[str, int] = field(default_factory=dict)
 
     @property
     def known(self) -> dict[int, Header]:

@@ -19,6 +19,8 @@ from ..base.numbers import whole
 from ..base.version import version
 
 if TYPE_CHECKING:
+    from fractions import Fraction
+
     from _typeshed import SupportsWrite
 
     from ..toml.cluster import Cluster
@@ -33,6 +35,15 @@ def mebibytes(text: str) -> int:
     if not 1 <= count <= 1 << 20:
         raise argparse.ArgumentTypeError(f"{count} is not from 1 to {1 << 20}")
     return count
+
+
+def seconds(text: str) -> Fraction:
+    """A time of --from and --to."""
+    import re
+    from fractions import Fraction
+    if not re.fullmatch(r"[0-9]{1,9}(?:\.[0-9]{1,9})?", text):
+        raise argparse.ArgumentTypeError(f"'{printable(text)}' is no number of seconds from 0 on, as 1.25")
+    return Fraction(text)
 
 
 class Parser(argparse.ArgumentParser):
@@ -263,6 +274,8 @@ def parser() -> argparse.ArgumentParser:
         one.add_argument("--columns", metavar="LIST", help="of a CSV file: time=NAME,channel=NAME,bytes=NAME")
         one.add_argument("--time-unit", metavar="UNIT", choices=("s", "ms", "us", "ns"), default="s",
                          help="of its times: s, ms, us or ns (s)")
+        one.add_argument("--from", dest="begin", metavar="SECONDS", type=seconds, help="take frames from this time of the file on")
+        one.add_argument("--to", dest="end", metavar="SECONDS", type=seconds, help="take frames before this time of it")
     log.add_argument("-o", "--out", metavar="LOG", help="the file to be written (CAPTURE.log.csv beside the capture)")
 
     observe.add_argument("-o", "--out", metavar="FOLDER", help="where files go (CAPTURE.lab beside the capture)")
@@ -274,6 +287,7 @@ def parser() -> argparse.ArgumentParser:
     for one in (capture, log, observe):
         one.add_argument("--most-mib", metavar="COUNT", type=mebibytes, default=256,
                          help="take captures of up to so many MiB, of packed ones what they unpack to (256)")
+        one.add_argument("--bus", metavar="NUMBER", type=whole, help="of a BLF file with several networks, take the one of this number")
 
     for one in (read_in, write_back, case, run, power, design, explain, study, capture, observe):
         one.add_argument("--json", action="store_true", help="print one JSON object in place of the page")
