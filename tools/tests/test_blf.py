@@ -39,7 +39,8 @@ def frame_item(ns, mask, frame, kind=RECEIVED_MORE, direction=0, code=2, head=1,
     first, length, kept_crc = frame[0], 2 * (frame[2] >> 1), (frame[2] & 1) << 10 | frame[3] << 2 | frame[4] >> 6
     flags = (not first & 0x20) | 0x02 | bool(first & 0x10) << 2 | bool(first & 0x08) << 3 | error << 6
     payload = frame[5:5 + length][:kept]
-    fields = (bus, 1, mask, direction, 0, 0, (first & 7) << 8 | frame[1], *(crcs or (kept_crc, kept_crc)), length, len(payload), frame[4] & 63, 0,
+    slot = (first & 7) << 8 | frame[1]
+    fields = (bus, 1, mask, direction, 0, 0, slot, *(crcs or (kept_crc, kept_crc)), length, len(payload), frame[4] & 63, 0,
               flags if place in ("both", "data") else 0, flags if place in ("both", "flags") else 0, 0)
     more = bytes(40) if kind == RECEIVED_MORE else b""
     rest = b"" if kind == RECEIVED_MORE else bytes(254 - len(payload) + 6)
