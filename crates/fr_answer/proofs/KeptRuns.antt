@@ -18,7 +18,7 @@ use Rattle.fr_sharp.specs.LossStatement.{CoveredFilesKeepThroughLosses}
 use Rattle.fr_sharp.specs.SharpFiles.{CoveredFilesKeepSharply}
 use Rattle.fr_answer.specs.RunAnswer.{IsKeptRunText, kept_run_command}
 
-pub kept_text : CoveredFilesKeepSharply → CoveredFilesKeepSharplyJoined → CoveredFilesKeepThroughLosses → (p : Values) (d : DriftView) (s : ScriptView) (text : List ℕ) → IsSane p → DriftFits p d → ScriptFits p s → IsRunText p d s text
+kept_text : CoveredFilesKeepSharply → CoveredFilesKeepSharplyJoined → CoveredFilesKeepThroughLosses → (p : Values) (d : DriftView) (s : ScriptView) (text : List ℕ) → IsSane p → DriftFits p d → ScriptFits p s → IsRunText p d s text
     → IsKeptRunText p d s text
 kept_text keep joined lost p d s text sane drift_fits script_fits report = record {
   report = report;

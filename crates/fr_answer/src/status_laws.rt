@@ -138,8 +138,8 @@ pub fn a_check_has_one_status()
     a_passing_trace_keeps_its_precision();
 }
 
-/// A law: whatever words of `flexray` but `observe` ask for, the bytes of the files that they name define exactly one status beside
-/// want of memory.
+/// A law: whatever words of the core ask for, the bytes of the files that they name define exactly one status beside want
+/// of memory.
 pub fn each_request_has_one_status()
     ensures { HasOneStatusEach }
 {

@@ -8,8 +8,8 @@ pub fn files_keep_through_losses()
     ensures { FilesKeepThroughLosses }
 {}
 
-/// A law: so it is of any sane parameters, drift and script; they give a run as the law of losses asks for; and the numbers from a later double cycle on are no
-/// greater than those from the first one on, in ticks.
+/// A law: so it is of any sane parameters, drift and script; they give a run as the law of losses asks for; and the
+/// numbers from a later double cycle on are no greater than those from the first one on, in ticks.
 pub fn lossy_files_give_runs()
     ensures keep { CoveredFilesKeepThroughLosses }
     ensures runs { LossyFilesGiveRuns }
