@@ -358,6 +358,22 @@ class Logs(Bench):
         for word in ("-1", "1e3", "0,5", "x"):
             self.assertIn("is no number of seconds", self.flexlab("log", path, "net.toml", f"--from={word}", status=2)[1])
 
+    def test_a_log_of_another_network(self):
+        path = self.sent()
+        found = self.observed(path)
+        self.assertEqual(found["differs"], [])
+        self.write("net.toml", edited(("double_cycles = 200", "double_cycles = 10"), ("gPayloadLengthStatic = 8", "gPayloadLengthStatic = 7"))
+                   + OBSERVER)
+        page = self.one_line(self.flexlab("observe", "-o", "seen", path, "net.toml", status=1)[0])
+        self.assertIn("DIFFERS most frames are not as the file of the cluster has them: is the log of another network?", page)
+        self.assertIn("a payload of 8 words, and `gPayloadLengthStatic` is 7", page)
+
+    def test_a_text_is_no_capture(self):
+        self.write("bus.csv", "Time;Channel;Data\n0,5;A;00\n")
+        for words in (("capture", "bus.csv"), ("log", "bus.csv", "net.toml"), ("observe", "bus.csv", "net.toml")):
+            self.write("net.toml", SHORT + OBSERVER)
+            self.assertIn("bus.csv: it is a text and no capture", self.flexlab(*words, status=5)[1])
+
     def test_a_counter_that_begins_anew(self):
         made = packets.read_capture(self.sent())[1]
         columns = ("--columns", "time=Time,channel=Channel,bytes=Data", "--time-unit", "ns", "-o", "log.csv")

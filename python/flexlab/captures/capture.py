@@ -27,14 +27,25 @@ LIMIT = 16777216
 CYCLES = 200000
 
 
+def is_text(begin: bytes) -> bool:
+    """Whether a file that begins so is lines of text."""
+    if begin[:2] in (b"\xff\xfe", b"\xfe\xff"):
+        return b"\n" in begin
+    return b"\n" in begin and not any(byte < 32 and byte not in b"\t\r\n\f" for byte in begin)
+
+
 def load(path: str, most: int = LONGEST, bus: int | None = None) -> Binary:
     """The packets of a capture, a BLF file or whatever form tshark reads, by their numbers there; unpacked it has at most so many
     bytes. Of a BLF file they are those of one network of the logger. The step is 0 where it is not known."""
     check_is_file(path)
     with named_faults(path), open(path, "rb") as file:
-        first = file.read(4)
+        begin = file.read(4096)
+    first = begin[:4]
     if not first:
         raise Stop(NO, f"{path}: it has 0 bytes, so it is no capture: did the logger write?")
+    if is_text(begin):
+        raise Stop(REFUSED, f"{path}: it is a text and no capture. `log` and `observe` read tables, whose columns "
+                            "--columns time=NAME,channel=NAME,bytes=NAME names, and ASC files, whose names end in .asc")
     if bus is not None and first != MAGIC:
         raise Stop(USAGE, f"{path}: it is no BLF file, and --bus is for these")
     link, taken = (LINK_FLEXRAY, read_blf(path, most, bus)) if first == MAGIC else load_by_tshark(path, most)

@@ -19,7 +19,7 @@ from ..base.ending import DONE, NO, UNMET, USAGE, Stop, printable
 from ..base.files import hold, parameter_lines, put
 from ..program.report import understood
 from ..pages.machine import printed
-from .observer import Frames, Observer, analyzer_words, left_lines, plain, write_log
+from .observer import Frames, Observer, analyzer_words, differences, left_lines, plain, write_log
 from ..pages.page import field as lines_of
 from ..pages.page import ms_of_cycle
 from ..pages.pictures import COLOURS, POINTS, draw, node_label, node_texts, plain_axes
@@ -272,6 +272,8 @@ def page_lines(cluster: Cluster, told: Observation, observer: Observer, frames: 
     found += lines_of("Analyzer", analyzer_words(observer, frames))
     found += lines_of("Frames", ", ".join(f"{count} {fate}" for count, fate in zip(asdict(told.log).values(), FATES)))
     found += left_lines(frames)
+    if differs := differences(cluster, frames):
+        found += lines_of("DIFFERS", "most frames are not as the file of the cluster has them: is the log of another network?", *differs)
     if told.cycles:
         found += lines_of("Cycles", f"{told.cycles[0].cycle} to {told.cycles[-1].cycle}, by the cycle counts: {told.within} within the "
                                     f"precision, {told.over} over it, {told.open} open")
@@ -286,7 +288,8 @@ def observed_object(cluster: Cluster, told: Observation, frames: Frames, entries
     def us(ticks: int | None, rounded: Callable[[Number, int], str]) -> float | None:
         return None if ticks is None else float(rounded(us_of_ticks(ticks, cluster.microtick_ns), 6))
     return {
-        "names": cluster.names, "entries": entries, "left_out": frames.left, "precision": {"ticks": told.precision},
+        "names": cluster.names, "entries": entries, "left_out": frames.left, "differs": differences(cluster, frames),
+        "precision": {"ticks": told.precision},
         "log": asdict(told.log), "said": {"within": told.within, "over": told.over, "open": told.open}, "verdict": told.verdict,
         "judged": told.judged, "double_cycles": told.doubles, "sync": told.sync, "covered": told.covered, "numbers": told.numbers,
         "faults": [{**asdict(fault), "told": Words(cluster).told(fault.kind, fault.fields)} for fault in told.faults],

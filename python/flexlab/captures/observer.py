@@ -18,7 +18,7 @@ from argparse import Namespace
 from ..base import ranges
 from .asc import UNPROVED, read_asc
 from .blf import MAGIC, MISSING, SHORTER, STRAY, UNKNOWN, read_blf
-from .capture import load, sort_packets
+from .capture import load, sort_packets, spans
 from ..base.ending import NO, REFUSED, USAGE, Refused, Stop, printable
 from ..base.files import LONGEST, MIB, check_is_file, named_faults, put, text_of
 from ..toml.cluster import Cluster
@@ -414,6 +414,31 @@ def log_of(cluster: Cluster, observer: Observer, frames: Frames) -> tuple[str, i
             lines.append(line)
             entries += 1
     return "".join(lines), entries
+
+
+def differences(cluster: Cluster, frames: Frames) -> list[str]:
+    """What most frames of a slot have otherwise than the file of the cluster: where the log is of another network, it shows here."""
+    words, last = cluster.parameters["gPayloadLengthStatic"], cluster.parameters["gNumberOfStaticSlots"]
+    keys = {node.key_slot for node in cluster.nodes.values() if node.key_slot}
+    counts: dict[int, int] = {}
+    kinds: dict[str, dict[int, int]] = {}
+    for _, channel, data, is_all in frames.found:
+        slot, length, is_sync = (data[0] & 7) << 8 | data[1], data[2] >> 1, data[0] & 0x10 != 0
+        if slot > last or is_damaged(channel, data, is_all):
+            continue
+        counts[slot] = counts.get(slot, 0) + 1
+        kind = (f"a payload of {length} words, and `gPayloadLengthStatic` is {words}" if length != words else
+                "no sync indicator, and it is the key slot of a node" if slot in keys and not is_sync else
+                "a sync indicator, and it is no node's key slot" if slot not in keys and is_sync else "")
+        if kind:
+            kinds.setdefault(kind, {}).setdefault(slot, 0)
+            kinds[kind][slot] += 1
+    found = []
+    for kind, slots in kinds.items():
+        most = [slot for slot, count in slots.items() if 2 * count > counts[slot]]
+        if most:
+            found.append(f"slot{'s' * (len(most) > 1)} {spans(most)}: {kind}")
+    return found
 
 
 def left_lines(frames: Frames) -> list[str]:
