@@ -27,6 +27,8 @@ CHANNELS = {1: "A", 2: "B", 3: "AB"}
 NULL, SYNC, STARTUP, PREAMBLE, ERROR = 0x01, 0x04, 0x08, 0x10, 0x40
 # FlexRay messages as older tools kept them: their form is not known here.
 OLDER = 41
+# Objects that tools put between those that the head of a file counts.
+UNCOUNTED = 115
 # At most so many bytes stand behind an object, before the next one.
 PADDING = 3
 COUNT_AT = 32
@@ -188,7 +190,7 @@ def received(path: str, most: int, losses: Losses) -> list[Received]:
     found, count = list[Received](), 0
     for kind, item, head in objects(contents(path, data[length:], most, losses), losses):
         is_whole = len(item) >= 12 and len(item) == struct.unpack_from("<I", item, 8)[0]
-        count += is_whole
+        count += is_whole and kind != UNCOUNTED
         losses.add(UNKNOWN, kind == OLDER)
         if kind in FRAMES and is_whole and len(item) >= max(32, head) + FRAMES[kind]:
             code, stamp = struct.unpack_from("<I4xQ", item, 16)
