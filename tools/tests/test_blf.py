@@ -175,8 +175,10 @@ class Blf(Bench):
         self.keep("bus.blf", whole)
         self.assertEqual(blf.read_blf(self.path("bus.blf")).lost, {})
         self.assertIn("whole,,,,", self.log("bus.blf")[0])
-        damaged = bytearray(whole)
-        damaged[2000:2040] = b"\xee" * 40
+        # The head of an object amid the first container.
+        damaged, at = bytearray(whole), whole.index(b"LOBJ", 1500)
+        self.assertLess(at, 3000)
+        damaged[at:at + 16] = b"\xee" * 16
         for data, reason in ((bytes(damaged), blf.STRAY), (whole[:len(whole) // 2], blf.SHORTER)):
             self.keep("bus.blf", data)
             lost = blf.read_blf(self.path("bus.blf")).lost
