@@ -358,6 +358,28 @@ class Logs(Bench):
         for word in ("-1", "1e3", "0,5", "x"):
             self.assertIn("is no number of seconds", self.flexlab("log", path, "net.toml", f"--from={word}", status=2)[1])
 
+    def test_a_silence_begins_a_part(self):
+        path = self.sent(SHORT + OBSERVER + "missed_none = true\n")
+        made = [(one.ns, one.channel, one.frame) for one in packets.read_capture(path)[1]]
+        alone = self.observed(path)
+        self.assertEqual(alone["parts"], [])
+        packets.write_capture(self.path("two.pcap"), made + [(ns + 400_000_000, channel, frame) for ns, channel, frame in made])
+        found = self.observed("two.pcap")
+        self.assertEqual(len(found["parts"]), 2)
+        for part in found["parts"]:
+            for name in ("cycles", "nodes", "verdict", "log", "sync"):
+                self.assertEqual(part[name], alone[name], name)
+            self.assertEqual(self.read(part["folder"], "log.csv").count("whole,,,,"), 1)
+        self.assertEqual(found["verdict"], alone["verdict"])
+        page = self.one_line(self.flexlab("observe", "-o", "seen", "two.pcap", "net.toml", status=(0, 1))[0])
+        self.assertIn("Part 1 of 2: 0.000000 s to 0.0", page)
+        self.assertIn("Part 2 of 2: 0.400000 s to 0.4", page)
+        self.assertIn(f"Parts 2, since behind a silence of more than 30 cycles a count begins anew: 2 {alone['verdict'][0]}", page)
+        # What is stated of sync is stated of the first part.
+        self.write("net.toml", SHORT + OBSERVER + "in_sync_from_cycle = 4\n")
+        self.observed("two.pcap")
+        self.assertEqual(["since,4,,," in self.read("seen", f"part-{number}", "log.csv") for number in (1, 2)], [True, False])
+
     def test_a_log_of_another_network(self):
         path = self.sent()
         found = self.observed(path)

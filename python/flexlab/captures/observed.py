@@ -4,7 +4,7 @@ from __future__ import annotations
 import os
 import re
 import sys
-from dataclasses import asdict
+from dataclasses import asdict, replace
 from fractions import Fraction
 from argparse import Namespace
 from collections.abc import Callable, Sequence
@@ -16,10 +16,11 @@ from flexray.results import Observation, ObservedFault, ObservedNode
 from ..program import calls as programs
 from ..toml.cluster import Cluster, read_cluster
 from ..base.ending import DONE, NO, UNMET, USAGE, Stop, printable
-from ..base.files import hold, parameter_lines, put
+from ..base.files import hold, make_folder, parameter_lines, put
 from ..program.report import understood
 from ..pages.machine import printed
-from .observer import Frames, Observer, analyzer_words, differences, left_lines, plain, write_log
+from .observer import Frames, Log, Observer, analyzer_words, differences, left_lines, plain, taken, write_log
+from .parts import SILENCE, WORST, begins, parts_of, span_of
 from ..pages.page import field as lines_of
 from ..pages.page import ms_of_cycle
 from ..pages.pictures import COLOURS, POINTS, draw, node_label, node_texts, plain_axes
@@ -382,24 +383,79 @@ def status_of(told: Observation, wanted: int | None) -> int:
     return DONE
 
 
+class Part(NamedTuple):
+    """A log and what flexray tells of it, with the folder that has both."""
+    log: Log
+    told: Observation
+    folder: str
+
+
+def asked(program: str, cluster: Cluster, params: str, folder: str, log: tuple[Observer, Frames]) -> Part:
+    """Writes a log into the folder, and asks flexray for what it tells."""
+    path = os.path.join(folder, "log.csv")
+    written = write_log(cluster, path, *log)
+    text = answer(program, ["observe", params, path], cluster=cluster)
+    keep(folder, "observed.csv", text)
+    return Part(written, understood(texts.observation, "log", text), folder)
+
+
+def all_parts(program: str, cluster: Cluster, params: str, folder: str, observer: Observer, frames: Frames) -> list[Part]:
+    """The log as one, or each of its parts, where frames come behind a silence."""
+    one = asked(program, cluster, params, folder, (observer, replace(frames, left=dict(frames.left))))
+    cuts = begins(cluster, frames) if one.told.log.behind else []
+    if not cuts:
+        return [one]
+    found = []
+    for number, part in enumerate(parts_of(observer, frames, cuts), 1):
+        place = os.path.join(folder, f"part-{number}")
+        make_folder(place)
+        found.append(asked(program, cluster, params, place, part))
+    return found
+
+
+def pages_of(cluster: Cluster, parts: list[Part], name: str) -> list[str]:
+    """The page of a log, or those of its parts, each behind its span, and then how their verdicts are."""
+    pages = [page_lines(cluster, part.told, *part.log[:2], part.log.entries, name) for part in parts]
+    if len(parts) == 1:
+        return pages[0]
+    found, spans, verdicts = list[str](), spans_of(parts), [part.told.verdict[0] for part in parts]
+    for number, (page, span) in enumerate(zip(pages, spans), 1):
+        found += lines_of("Part", f"{number} of {len(parts)}: {span}") + page + [""]
+    counts = ", ".join(f"{verdicts.count(word)} {word}" for word in WORST if word in verdicts)
+    return found + lines_of("Parts", f"{len(parts)}, since behind a silence of more than {SILENCE} cycles a count begins anew: {counts}. "
+                                     "Each may be of a history of its own: nothing is said across a silence")
+
+
+def spans_of(parts: list[Part]) -> list[str]:
+    zero = min(frame.ns for part in parts for frame in part.log.frames.found)
+    return [span_of(part.log.frames, zero) for part in parts]
+
+
+def parts_object(cluster: Cluster, parts: list[Part]) -> dict[str, Any]:
+    """That of the part whose verdict is worst, and of several parts all of them."""
+    found = [observed_object(cluster, part.told, part.log.frames, part.log.entries) for part in parts]
+    worst = min(range(len(parts)), key=lambda place: WORST.index(parts[place].told.verdict[0]))
+    several = [{**one, "span": span, "folder": part.folder} for one, span, part in zip(found, spans_of(parts), parts)]
+    return {**found[worst], "parts": several if len(parts) > 1 else []}
+
+
 def observe(words: Namespace, folder: str) -> int:
     wanted = least_judged(words.require)
     program, cluster = programs.flexray(words.flexray, "observe"), read_cluster(words.cluster)
-    params, log = os.path.join(folder, "params.csv"), os.path.join(folder, "log.csv")
+    params, name = os.path.join(folder, "params.csv"), os.path.basename(words.file)
     hold(folder)
     put(params, "".join(parameter_lines(cluster)), "ascii")
-    observer, frames, entries = write_log(cluster, log, words)
-    text = answer(program, ["observe", params, log], cluster=cluster)
-    told, name = understood(texts.observation, "log", text), os.path.basename(words.file)
-    keep(folder, "observed.csv", text)
-    lines = page_lines(cluster, told, observer, frames, entries, name)
+    parts = all_parts(program, cluster, params, folder, *taken(cluster, words))
+    lines = pages_of(cluster, parts, name)
     keep(folder, "observed.txt", "\n".join(lines) + "\n")
-    drawn = draw_observed(cluster, told, folder, name) if words.pictures else []
+    drawn = [path for part in parts for path in draw_observed(cluster, part.told, part.folder, name)] if words.pictures else []
     if words.json:
-        printed({**observed_object(cluster, told, frames, entries), "folder": folder, "pictures": drawn})
+        printed({**parts_object(cluster, parts), "folder": folder, "pictures": drawn})
     else:
         print("\n".join(lines))
-        print(f"{'Files':<16}{folder}/: params.csv, log.csv, observed.csv, observed.txt")
+        several = "" if len(parts) == 1 else f", and of each part in part-1 to part-{len(parts)}"
+        print(f"{'Files':<16}{folder}/: params.csv, log.csv, observed.csv, observed.txt{several}")
         for path in drawn:
             print(f"{'Picture':<16}{path}")
-    return status_of(told, wanted)
+    statuses = [status_of(part.told, wanted) for part in parts]
+    return NO if NO in statuses else max(statuses)

@@ -35,6 +35,7 @@ WANTED = ("a table [observer] states what is known of the analyzer: resolution_n
           "delay_to_ns; docs/FLEXLAB.md, \"Logs\", has more")
 SHORT, FLAWED = "frames that are not as long as they say", "frames without a trailer, with an error flag"
 REQUESTED = "frames that may be mere requests to transmit"
+LOSSES = (SHORT, FLAWED, UNPROVED, REQUESTED, MISSING, SHORTER, STRAY, UNKNOWN)
 OUTSIDE = "frames before --from or from --to on"
 # A counter of stamps has so many values. It is taken to begin anew where a stamp from its last part is followed by one of its first.
 WRAP = 1 << 32
@@ -85,14 +86,16 @@ class Observer:
 
 @dataclass
 class Frames:
-    """The frames of a file that keeps times in steps of so many ns; how many were left out, by reason; and the columns that
-    were read, where these are not stated by their names."""
+    """The frames of a file that keeps times in steps of so many ns; how many were left out, by reason; the columns that were
+    read, where these are not stated by their names; how often a counter of stamps began anew; and whether frames of key slots
+    may be lost beside what these tell."""
     path: str
     step: Fraction
     found: list[Seen]
     left: dict[str, int] = field(default_factory=dict)
     columns: str = ""
     wraps: int = 0
+    is_lossy: bool = False
 
     def leave(self, reason: str, count: int = 1) -> None:
         if count:
@@ -101,7 +104,7 @@ class Frames:
     @cached_property
     def is_torn(self) -> bool:
         """Whether frames of key slots may have been left out, or are damaged."""
-        return any(reason in self.left for reason in (SHORT, FLAWED, UNPROVED, REQUESTED, MISSING, SHORTER, STRAY, UNKNOWN)) or any(
+        return self.is_lossy or any(reason in self.left for reason in LOSSES) or any(
             is_damaged(channel, data, is_all) for _, channel, data, is_all in self.found)
 
 
@@ -448,11 +451,16 @@ def left_lines(frames: Frames) -> list[str]:
     return found + (lines_of("Stamps", f"the counter of 32 bits began anew {frames.wraps} times") if frames.wraps else [])
 
 
-def write_log(cluster: Cluster, path: str, words: Namespace) -> Log:
-    """Writes the log of a capture: its observer, its frames, and how many entries it has."""
+def taken(cluster: Cluster, words: Namespace) -> tuple[Observer, Frames]:
+    """What is stated of the analyzer, and the frames of the file that are asked for."""
     observer, frames = stated(cluster), read_frames(
         cluster, words.file, words.columns, words.time_unit, words.most_mib * MIB, words.bus)
     cut_out(frames, words.begin, words.end)
+    return observer, frames
+
+
+def write_log(cluster: Cluster, path: str, observer: Observer, frames: Frames) -> Log:
+    """Writes a log: its observer, its frames, and how many entries it has."""
     text, entries = log_of(cluster, observer, frames)
     put(path, text, "ascii")
     return Log(observer, frames, entries)

@@ -472,10 +472,11 @@ def do_capture(words: argparse.Namespace) -> int:
 
 def do_log(words: argparse.Namespace) -> int:
     from ..toml.cluster import read_cluster
-    from ..captures.observer import analyzer_words, left_lines, write_log
+    from ..captures.observer import analyzer_words, left_lines, taken, write_log
     from ..pages.page import field
     path = folder_of(words, ".log.csv")
-    observer, frames, entries = write_log(read_cluster(words.cluster), path, words)
+    cluster = read_cluster(words.cluster)
+    observer, frames, entries = write_log(cluster, path, *taken(cluster, words))
     print("\n".join(field("Log", f"{path}: {entries} frames of key slots") + field("Analyzer", analyzer_words(observer, frames))
                     + left_lines(frames)))
     return DONE
