@@ -24,3 +24,5 @@ pub mod Remembered
 pub mod Caught
 pub mod Members
 pub mod Among
+pub mod Lying
+pub mod Reaching

@@ -17,3 +17,5 @@ pub mod Turns
 pub mod Kept
 pub mod Cells
 pub mod Listening
+pub mod Lines
+pub mod Reaching

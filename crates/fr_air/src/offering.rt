@@ -1,20 +1,25 @@
-ghost use Rattle.std.specs.Prelude.{◌≡◌, ℕ, ◌≤◌, List, All, Some, length, map};
+ghost use Rattle.std.specs.Prelude.{◌≡◌, ℕ, ◌+◌, ◌-◌, ◌≤◌, true, List, All, Some, length, map, IfSome, IsSome};
 ghost use Rattle.fr_base.specs.Counts.{AreAtMost};
 ghost use Rattle.fr_node.specs.View.{node_row_of};
+ghost use Rattle.fr_node.specs.declared.answers.Reception.TheVariants as Reception;
+ghost use Rattle.fr_reception.specs.declared.heard.Ignored.TheVariants as reason;
 ghost use Rattle.fr_time.specs.Instant.{IsSlotOf};
 ghost use Rattle.fr_air.specs.Cycling.{IsReady};
 ghost use Rattle.fr_air.specs.Files.{setting_in};
 ghost use Rattle.fr_air.specs.Memory.{frame_on};
+ghost use Rattle.fr_air.specs.Reaching.{listening_on, IsReach, SendsAmong};
 ghost use Rattle.fr_air.specs.Sending.{coming_offer, hears, offer_heard, said_by, said_with, sent_with, ComesAs, IsComing, IsDue, IsEarlyRow};
 ghost use Rattle.fr_air.specs.Turns.{heard_on_air, offer_on, AreReady, CanHear, HasHeard, HaveHeard, IsOnAir, IsSent};
 
 use crate::files::RunInputs;
 use crate::instants::{said_at, sent_at};
 use crate::memory::Memory;
+use crate::reach::Reach;
 use crate::tally::count;
 use crate::turn::{Air, Bytes, Coming, Turn};
-use fr_base::{Channel, Counts, NodeId, NodeRow, State};
-use fr_node::Node;
+use fr_base::{Channel, Counts, NodeId, NodeRow, Slot, State};
+use fr_node::{Node, Reception};
+use fr_reception::Ignored;
 use fr_script::Event;
 
 // Whether a receiver with this row hears a sender on a channel.
@@ -168,6 +173,77 @@ pub fn offer_to_all(
 {
     for node in nodes.iter_mut() {
         offer_to(files, air, memory, node, counts);
+    }
+}
+
+// How many nodes hear on a channel.
+fn listening_on(reach: Reach, channel: Channel) -> usize
+    ensures { result ≡ listening_on reach channel }
+{
+    match channel {
+        Channel::A => reach.on_a,
+        Channel::B => reach.on_b,
+    }
+}
+
+// Counts a plain frame at all nodes that hear on its channel but its sender.
+fn count_plain(reach: Reach, channel: Channel, counts: &mut Counts)
+    requires some { 1 ≤ listening_on reach channel }
+    requires few_nodes { listening_on reach channel ≤ 64 }
+    requires few { AreAtMost 1_000_000 counts.old }
+    ensures { counts.new ≡ record counts.old { plain = counts.old.plain + (listening_on reach channel - 1) } }
+{
+    let others = listening_on(reach, channel) - 1;
+    counts.plain += others as u64;
+}
+
+// Whether receivers ignore a frame that arrives in its slot as a plain one.
+fn is_plain(reception: &Reception) -> bool
+    ensures { result ≡ true → reception.now ≡ Reception.Ignored reason.Plain }
+{
+    matches!(reception, Reception::Ignored(Ignored::Plain))
+}
+
+// What holds of each slot: the read of its number opens its invariant.
+fn counted_from_one(slot: Slot)
+    ensures { 1 ≤ slot }
+{
+    let _number = slot.0;
+}
+
+// Whether each node that hears a frame on the air ignores it as a plain one that came in its slot.
+fn is_plain_to_all(air: &Air<'_>, reach: Reach) -> bool
+    ensures slot { 1 ≤ air.now.turn.now.slot }
+    ensures whole { result ≡ true → reach.whole ≡ true }
+    ensures correct { result ≡ true → IsSome air.now.sender.now.row }
+    ensures plain { result ≡ true → air.now.reception.now ≡ Reception.Ignored reason.Plain }
+{
+    counted_from_one(air.turn.slot);
+    reach.whole && air.sender.row.is_some() && is_plain(air.reception)
+}
+
+// Offers a frame on the air to each node that hears its sender, and counts the answers. Where it is a plain one and
+// comes to all in its slot, it is counted at once, since it changes no node.
+pub fn offer_in_reach(
+    files: &RunInputs,
+    air: &Air<'_>,
+    reach: Reach,
+    memory: &mut Memory,
+    nodes: &mut [Node],
+    counts: &mut Counts,
+)
+    requires air { IsOnAir files.now air.now memory.old }
+    requires ready { AreReady files.now air.now.turn.now.cycle 1_000_000 nodes.old counts.old }
+    requires reach { IsReach files.now air.now.turn.now.cycle (map node_row_of nodes.old) reach }
+    requires sends { IfSome air.now.sender.now.row (SendsAmong files.now air.now (map node_row_of nodes.old)) }
+    ensures heard { HaveHeard files.now air.now.turn.now.cycle (offer_on files.now air.now memory.old)
+        nodes.old counts.old nodes.new counts.new }
+    ensures stays { memory.new ≡ memory.old }
+{
+    if is_plain_to_all(air, reach) {
+        count_plain(reach, air.turn.channel, counts);
+    } else {
+        offer_to_all(files, air, memory, nodes, counts);
     }
 }
 

@@ -1,4 +1,4 @@
-ghost use Rattle.std.specs.Prelude.{◌≡◌, ◌≤◌, ◌<◌, ◌-◌, ◌*◌, ◌↔◌, false, filter_map, length, map, true, vec_capacity, All, AllPairs, IfOk, IsTrue, Some, None};
+ghost use Rattle.std.specs.Prelude.{◌≡◌, ◌≤◌, ◌<◌, ◌-◌, ◌*◌, ◌↔◌, false, filter_map, length, map, true, vec_capacity, All, AllPairs, IfOk, IfSome, IsTrue, Some, None};
 ghost use Rattle.fr_base.specs.Counts.{AreAtMost};
 ghost use Rattle.fr_cluster.specs.Values.{amount};
 ghost use Rattle.fr_cluster.specs.declared.names.ParamName.TheVariants as name;
@@ -9,7 +9,8 @@ ghost use Rattle.fr_air.specs.Listening.{after_listening, CanBeHeard, IsListener
 ghost use Rattle.fr_air.specs.Listing.{listed_among, HasRoom, IsListed};
 ghost use Rattle.fr_air.specs.Memory.{frame_on, HasFrame};
 ghost use Rattle.fr_air.specs.Walk.{after_both_channels};
-ghost use Rattle.fr_air.specs.Sending.{offer_heard, IsEarlyRow};
+ghost use Rattle.fr_air.specs.Reaching.{IsReach, SendsAmong};
+ghost use Rattle.fr_air.specs.Sending.{offer_heard, sending_row_in, IsEarlyRow};
 ghost use Rattle.fr_world.specs.Stage.{answered, answered_by_nodes, begun_nodes, begun_stage, ended_stage, heard_after, after_turn, saying, sent_on, stage_before, AllReady, CanAnswer, HearsTurn, IsBefore, IsStage};
 ghost use Rattle.fr_world.specs.Succeeding.{first_now, followers_without, listeners_now, nodes_with, succeeded, AllFit, CanPass, HasFew, HasHeardBoth, HasPassed};
 ghost use Rattle.fr_air.specs.Turns.{frame_of_turn, heard_on_air, offer_on, AreReady, IsOnAir};
@@ -30,7 +31,8 @@ use fr_air::catching::listen_all;
 use fr_air::files::{RunInputs, sane};
 use fr_air::instants::due_at;
 use fr_air::memory::Memory;
-use fr_air::offering::{offer_to_all, offer_to_followers};
+use fr_air::offering::{offer_in_reach, offer_to_followers};
+use fr_air::reach::{Reach, no_reach, reach_of};
 use fr_air::senders::sending_row;
 use fr_air::turn::{Air, Sender, Turn};
 use fr_base::{Channel, Counts, CycleRow, NodeId, NodeRow, RowList, Slot, State};
@@ -226,14 +228,16 @@ impl Stage {
     }
 
     // Offers a frame on the air to all nodes, and to all followers.
-    fn offer(&mut self, files: &RunInputs, air: &Air<'_>)
+    fn offer(&mut self, files: &RunInputs, air: &Air<'_>, reach: Reach)
         requires air { IsOnAir files.now air.now self.old.memory }
         requires stage { CanAnswer files.now air.now.turn.now.cycle self.old }
+        requires reach { IsReach files.now air.now.turn.now.cycle self.old.rows reach }
+        requires sends { IfSome air.now.sender.now.row (SendsAmong files.now air.now self.old.rows) }
         ensures heard { self.new ≡ answered (setting_in files.now) air.now.turn.now.cycle
             (offer_on files.now air.now self.old.memory) self.old }
         ensures ready { AllReady files.now air.now.turn.now.cycle self.new }
     {
-        self.offer_to_nodes(files, air);
+        self.offer_to_nodes(files, air, reach);
         self.offer_to_followers(files, air);
     }
 
@@ -251,17 +255,20 @@ impl Stage {
     }
 
     // Offers it to all nodes that have a row.
-    fn offer_to_nodes(&mut self, files: &RunInputs, air: &Air<'_>)
+    fn offer_to_nodes(&mut self, files: &RunInputs, air: &Air<'_>, reach: Reach)
         requires air { IsOnAir files.now air.now self.old.memory }
         requires rows { self.old.rows ≡ map node_row_of self.old.nodes }
         requires ready { AreReady files.now air.now.turn.now.cycle 1_000_000 self.old.nodes self.old.counts }
+        requires reach { IsReach files.now air.now.turn.now.cycle self.old.rows reach }
+        requires sends { IfSome air.now.sender.now.row (SendsAmong files.now air.now self.old.rows) }
         ensures heard { self.new ≡ answered_by_nodes (setting_in files.now) air.now.turn.now.cycle
             (offer_on files.now air.now self.old.memory) self.old }
         ensures ready { All (IsReady files.now air.now.turn.now.cycle) self.new.nodes }
     {
-        offer_to_all(
+        offer_in_reach(
             files,
             air,
+            reach,
             &mut self.memory,
             self.nodes.as_mut_slice(),
             &mut self.counts,
@@ -284,10 +291,20 @@ impl Stage {
     }
 
     // Sends the frame of a correct sender with this row to all nodes: it is written once, into its cell, and counted.
-    fn send(&mut self, files: &RunInputs, turn: &Turn, sending: &Sending, row: NodeRow)
+    fn send(
+        &mut self,
+        files: &RunInputs,
+        turn: &Turn,
+        sending: &Sending,
+        row: NodeRow,
+        reach: Reach,
+    )
         requires before { IsBefore files.now turn.now self.old }
         requires sends { sender_of files.now.params turn.now.slot turn.now.cycle ≡ Some sending.now }
         requires row { IsEarlyRow files.now.params row }
+        requires among { sending_row_in (setting_in files.now) self.old.rows sending.now.node turn.now.channel
+            ≡ Some row }
+        requires reach { IsReach files.now turn.now.cycle self.old.rows reach }
         ensures heard { self.new ≡ answered (setting_in files.now) turn.now.cycle
             (offer_heard (setting_in files.now) turn.now sending.now.node (Some row)
             (frame_of_turn files.now turn.now sending.now))
@@ -310,7 +327,7 @@ impl Stage {
             cell: Some(cell),
             reception: &reception,
         };
-        self.offer(files, &air);
+        self.offer(files, &air, reach);
     }
 
     // Writes the frame of an arbitrary sender into a further cell.
@@ -353,7 +370,7 @@ impl Stage {
             cell: None,
             reception: &reception,
         };
-        self.offer(files, &air);
+        self.offer(files, &air, no_reach());
         self.end_saying();
     }
 
@@ -370,35 +387,45 @@ impl Stage {
     }
 
     // What a correct sender sends in a slot on a channel is heard.
-    fn hear_sent(&mut self, files: &RunInputs, turn: &Turn, sending: &Sending)
+    fn hear_sent(&mut self, files: &RunInputs, turn: &Turn, sending: &Sending, reach: Reach)
         requires before { IsBefore files.now turn.now self.old }
         requires sends { sender_of files.now.params turn.now.slot turn.now.cycle ≡ Some sending.now }
         requires correct { is_arbitrary files.now.script sending.now.node ≡ false }
+        requires reach { IsReach files.now turn.now.cycle self.old.rows reach }
         ensures { HearsTurn files.now turn.now self.old self.new }
     {
         if let Some(row) = sending_row(files, turn, self.rows(), sending.node) {
-            self.send(files, turn, sending, row);
+            self.send(files, turn, sending, row, reach);
         }
     }
 
     // The nodes hear a slot on a channel, in which a node sends.
-    fn hear_on(&mut self, files: &RunInputs, turn: &Turn, sending: &Sending)
+    fn hear_on(&mut self, files: &RunInputs, turn: &Turn, sending: &Sending, reach: Reach)
         requires before { IsBefore files.now turn.now self.old }
         requires sends { sender_of files.now.params turn.now.slot turn.now.cycle ≡ Some sending.now }
+        requires reach { IsReach files.now turn.now.cycle self.old.rows reach }
         ensures { HearsTurn files.now turn.now self.old self.new }
     {
         if files.script.arbitrary(sending.node) {
             self.hear_said(files, turn, sending);
         } else {
-            self.hear_sent(files, turn, sending);
+            self.hear_sent(files, turn, sending, reach);
         }
     }
 
     // The nodes hear a slot in which a node sends, first on channel A and then on channel B.
-    fn hear_both(&mut self, files: &RunInputs, cycle: u32, slot: Slot, sending: &Sending)
+    fn hear_both(
+        &mut self,
+        files: &RunInputs,
+        cycle: u32,
+        slot: Slot,
+        sending: &Sending,
+        reach: Reach,
+    )
         requires slot { slot ≤ amount files.now.params name.gNumberOfStaticSlots }
         requires stage { IsStage files.now cycle (130 * (slot - 1)) self.old }
         requires sends { sender_of files.now.params slot cycle ≡ Some sending.now }
+        requires reach { IsReach files.now cycle self.old.rows reach }
         ensures heard { self.new ≡ after_both_channels (after_turn (setting_in files.now) cycle) slot self.old }
         ensures stage { IsStage files.now cycle (130 * slot) self.new }
     {
@@ -407,30 +434,46 @@ impl Stage {
             slot,
             channel: Channel::A,
         };
-        self.hear_on(files, &on_a, sending);
+        self.hear_on(files, &on_a, sending, reach);
         let on_b = Turn {
             cycle,
             slot,
             channel: Channel::B,
         };
-        self.hear_on(files, &on_b, sending);
+        self.hear_on(files, &on_b, sending, reach);
     }
 
     // The nodes hear a slot: who sends in it is asked once for both channels.
-    fn hear_slot(&mut self, files: &RunInputs, cycle: u32, slot: Slot)
+    fn hear_slot(&mut self, files: &RunInputs, cycle: u32, slot: Slot, reach: Reach)
         requires slot { slot ≤ amount files.now.params name.gNumberOfStaticSlots }
         requires stage { IsStage files.now cycle (130 * (slot - 1)) self.old }
+        requires reach { IsReach files.now cycle self.old.rows reach }
         ensures heard { self.new ≡ after_both_channels (after_turn (setting_in files.now) cycle) slot self.old }
         ensures stage { IsStage files.now cycle (130 * slot) self.new }
     {
         if let Some(sending) = sender(&files.params, slot, cycle) {
-            self.hear_both(files, cycle, slot, &sending);
+            self.hear_both(files, cycle, slot, &sending, reach);
         }
     }
 
-    // The nodes hear all static slots of a cycle.
+    // The nodes hear all static slots of a cycle. What is known of it before them spares offers of plain frames.
     pub(crate) fn hear_all(&mut self, files: &RunInputs, cycle: u32)
-        requires { IsStage files.now cycle 0 self.old }
+        requires stage { IsStage files.now cycle 0 self.old }
+        requires nodes { AreListable self.old.nodes }
+        ensures heard { self.new ≡ heard_after (setting_in files.now) cycle
+            (amount files.now.params name.gNumberOfStaticSlots) self.old }
+        ensures few { AreAtMost 1_000_000 self.new.counts }
+        ensures ready { AllReady files.now cycle self.new }
+        ensures early { All (IsEarlyRow files.now.params) self.new.rows }
+    {
+        let reach = reach_of(files, cycle, self.rows());
+        self.hear_slots(files, cycle, reach);
+    }
+
+    // They hear them one after the other.
+    fn hear_slots(&mut self, files: &RunInputs, cycle: u32, reach: Reach)
+        requires stage { IsStage files.now cycle 0 self.old }
+        requires reach { IsReach files.now cycle self.old.rows reach }
         ensures heard { self.new ≡ heard_after (setting_in files.now) cycle
             (amount files.now.params name.gNumberOfStaticSlots) self.old }
         ensures few { AreAtMost 1_000_000 self.new.counts }
@@ -440,7 +483,7 @@ impl Stage {
         let slots = files.params.natural(ParamName::gNumberOfStaticSlots);
         for earlier in 0..slots {
             let slot = Slot(earlier as u16 + 1);
-            self.hear_slot(files, cycle, slot);
+            self.hear_slot(files, cycle, slot, reach);
         }
     }
 

@@ -7,12 +7,13 @@ use Rattle.fr_history.specs.Next.{cycles_of, next_cycle}
 use Rattle.fr_history.proofs.RunsExist.{length-cycles_of}
 use Rattle.fr_world.proofs.Asked.{all-listen, has-few, has-passed}
 use Rattle.fr_world.proofs.Early.{all-ended, early-rows}
-use Rattle.fr_air.proofs.OneCycle.{all-wait, are-listable, counts-are, devs-are, keys-ascend, record-is, rows-are, waiting-listable}
+use Rattle.fr_air.proofs.OneCycle.{all-wait, are-listable, begun-listable, counts-are, devs-are, keys-ascend, record-is, rows-are, waiting-listable}
 use Rattle.fr_world.proofs.Stepping.{AreHeard, IsBefore, before-is, early-caught, first-few, first-memory, first-succeeds, keeps-on, listeners-heard, nodes-caught, remembers-on, rows-early, rows-start}
 use Rattle.fr_world.proofs.Stages.{begun-stage, counts-walked}
 use Rattle.fr_air.specs.Files.{setting_in}
 use Rattle.fr_node.specs.Listening.{ListenerView}
 use Rattle.fr_node.specs.View.{node_row_of}
+use Rattle.fr_air.specs.Cycling.{AreListable}
 use Rattle.fr_air.specs.Listening.{IsListener}
 use Rattle.fr_world.specs.Stage.{AllReady, StageView}
 use Rattle.fr_world.proofs.running.run_cycle.Goals as goal
@@ -52,8 +53,13 @@ hear_all-requires c =
     let x : Setting = setting_in f in
     let before : IsBefore f a.cycle a.stage.now = before-is f a.cycle a.keys.now a.stage.now a.row.now.devs c.sane.ensures c.files_are_lawful.ensures c.requires.stand in
     let few = has-few x c.sane.ensures (cycles_of x a.cycle) c.succeed.new.self (first-succeeds f a.cycle a.stage.now c.succeed.new.self before c.succeed.ensures.succeeded) in
-    begun-stage f a.cycle c.succeed.new.self c.begin.new.self few.nodes few.followers (first-memory f a.cycle a.stage.now c.succeed.new.self before c.succeed.ensures.succeeded) c.begin.ensures.begun
-    (record { nodes = c.begin.ensures.ready; followers = c.begin.ensures.followers }) c.begin.ensures.early
+    let first = first-succeeds f a.cycle a.stage.now c.succeed.new.self before c.succeed.ensures.succeeded in
+    record {
+      stage = begun-stage f a.cycle c.succeed.new.self c.begin.new.self few.nodes few.followers (first-memory f a.cycle a.stage.now c.succeed.new.self before c.succeed.ensures.succeeded) c.begin.ensures.begun
+          (record { nodes = c.begin.ensures.ready; followers = c.begin.ensures.followers }) c.begin.ensures.early;
+      nodes = subst (λ (s : StageView). AreListable s.nodes) (sym c.begin.ensures.begun)
+          (begun-listable f a.cycle c.succeed.new.self.nodes (waiting-listable x c.sane.ensures (cycles_of x a.cycle) c.succeed.new.self.nodes first.nodes));
+    }
 
 pub listen-requires : goal.listen-requires
 listen-requires c =

@@ -1,19 +1,20 @@
-use Rattle.std.proofs.Common.{◌+◌, ◌-◌, ◌*◌, refl, arith}
-use Rattle.fr_world.proofs.Stages.{stage-more, walk-more}
-use Rattle.fr_air.specs.Files.{setting_in}
-use Rattle.fr_air.specs.Walk.{over_slots}
+use Rattle.std.proofs.Common.{◌∙◌, List, sym, subst}
+use Rattle.std.specs.Prelude.{All}
+use Rattle.fr_base.specs.declared.node_row.NodeRow.{NodeRow}
+use Rattle.fr_air.proofs.Reaching.{rows-apart}
+use Rattle.fr_air.specs.Reaching.{AreRowsApart, IsReach}
+use Rattle.fr_air.specs.Sending.{IsEarlyRow}
 use Rattle.fr_world.proofs.stage.Stage.hear_all.Goals as goal
 
-pub loop-earlier-init : goal.loop-earlier-init
-unfolding over_slots
-loop-earlier-init c = (refl, stage-more c.args.files.now c.args.cycle 0 (130 * 0) c.args.self.now (omega arith) c.requires)
+pub reach_of-reach-requires-clause-early : goal.reach_of-reach-requires-clause-early
+reach_of-reach-requires-clause-early c =
+    let P : List NodeRow → Type 0 = All (IsEarlyRow c.args.files.now.params) in
+    subst P (sym c.rows.ensures) c.requires.stage.early
 
-pub hear_slot-requires-clause-stage : goal.hear_slot-requires-clause-stage
-hear_slot-requires-clause-stage c =
-    let i = c.loop-earlier in
-    stage-more c.args.files.now c.args.cycle (130 * i.earlier) (130 * (i.earlier + 1 - 1)) i.self (omega arith) i.invariant.1
+pub reach_of-reach-requires-clause-apart : goal.reach_of-reach-requires-clause-apart
+reach_of-reach-requires-clause-apart c = subst AreRowsApart (sym (c.rows.ensures ∙ c.requires.stage.rows_are)) (rows-apart c.args.self.now.nodes c.requires.nodes)
 
-pub loop-earlier-preserved : goal.loop-earlier-preserved
-loop-earlier-preserved c =
-    let i = c.loop-earlier in
-    (walk-more (setting_in c.args.files.now) c.args.cycle i.earlier c.args.self.now i.self c.hear_slot.new.self i.invariant.0 c.hear_slot.ensures.heard, c.hear_slot.ensures.stage)
+pub hear_slots-requires-clause-reach : goal.hear_slots-requires-clause-reach
+hear_slots-requires-clause-reach c =
+    let P : List NodeRow → Type 0 = λ rows. IsReach c.args.files.now c.args.cycle rows c.reach_of-reach.result in
+    subst P c.rows.ensures c.reach_of-reach.ensures

@@ -18,6 +18,11 @@ sending_row-requires c =
     let P : List NodeRow → Type 0 = All (IsEarlyRow c.args.files.now.params) in
     subst P (sym c.rows.ensures) c.requires.before.is_stage.early
 
+pub send-requires-clause-among : goal.send-requires-clause-among
+send-requires-clause-among c =
+    let a = c.args in
+    ap (λ (rs : List NodeRow). sending_row_in (setting_in a.files.now) rs a.sending.now.node a.turn.now.channel) (sym c.rows.ensures) ∙ sym c.sending_row.ensures.row_is ∙ c.in-Some.is
+
 pub returns-in-Some : goal.returns-in-Some
 returns-in-Some c =
     let a = c.args in

@@ -23,3 +23,6 @@ returns-clause-heard c =
     ∙ ap (saying None) (c.offer.ensures.heard
     ∙ ap (λ (s : StageView). answered x t.cycle (offer_heard x t a.sending.now.node None (frame_on s.memory None)) s) c.begin_saying.ensures)
     ∙ quiet-again x t.cycle (offer_heard x t a.sending.now.node None frame) a.self.now frame (ap (λ memory. memory.said) c.requires.before.is_stage.memory_is)
+
+pub offer-requires-clause-reach : goal.offer-requires-clause-reach
+offer-requires-clause-reach c = c.no_reach.ensures c.args.files.now c.args.turn.now.cycle c.begin_saying.new.self.rows

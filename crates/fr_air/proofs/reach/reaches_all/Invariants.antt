@@ -1,0 +1,7 @@
+use Rattle.std.proofs.Common.{take, All}
+use Rattle.fr_air.specs.Reaching.{Reaches}
+use Rattle.fr_air.proofs.reach.reaches_all.Given as goal
+
+-- it reaches the nodes so far
+abbrev pub invariant-loop-row : goal.invariant-loop-row
+invariant-loop-row l = All (Reaches l.files l.cycle l.sender) (take l.row-index l.rows)
