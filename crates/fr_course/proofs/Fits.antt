@@ -2,7 +2,7 @@
 use Rattle.std.proofs.Common.{◌≡◌, ◌≤◌, ℕ, ℤ, pos, FitsSigned, w64, arith}
 use Rattle.std.specs.Prelude.{◌+ℤ◌, ◌-ℤ◌, ◌≤ℤ◌}
 use mir.Syntax.{w128}
-use mir.Val.{to_z}
+use mir.Val.{of_z, to_z}
 use Rattle.std.proofs.lemmas.Int.{ints, to_z_pos}
 use Rattle.fr_base.specs.Within.{IsBetween, IsWithin}
 use Rattle.fr_course.specs.Near.{IsBox, EndWithin}
@@ -66,3 +66,7 @@ boxes_apart from to =
 -- a natural number of an observer, read as a number with a sign
 pub natural_read : (n : ℕ) → n ≤ 1_000_000_000 → to_z w128 n ≡ pos n
 natural_read n le = to_z_pos w128 n (omega (arith, le))
+
+-- the end of an interval, read as a number of 64 bits
+pub end_read : (x : ℤ) → IsWithin (pos 21_000_000_000_000) x → to_z w64 (of_z w64 x) ≡ x
+end_read x near = omega (arith, ints, near.low, near.high)

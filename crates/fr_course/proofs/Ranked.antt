@@ -1,11 +1,14 @@
--- Of each rank a list has a number, and a search finds it.
-use Rattle.std.proofs.Common.{◌≡◌, ℕ, zero, suc, ◌+◌, ◌-◌, ◌≤◌, ◌<◌, Bool, true, false, ℤ, pos, negsuc, Some, unwrap_or, List, [], ◌∷◌, length, arith, ap, refl, sym, subst}
-use Rattle.std.specs.Prelude.{◌-ℤ◌, ◌≤ℤ◌, neg_ℤ, int_lt, int_le, count_by, find, nat_lt}
+-- Of each rank a list has a number, a search finds it, and in ascending order it stands at that rank.
+use Rattle.std.proofs.Common.{◌≡◌, ℕ, zero, suc, ◌+◌, ◌-◌, ◌≤◌, ◌<◌, Bool, true, false, cond, ℤ, pos, negsuc, None, Option, Some, unwrap_or, List, [], ◌∷◌, length, get_or, arith, ap, refl, sym, subst, ◌∙◌}
+use Rattle.std.specs.Prelude.{◌-ℤ◌, ◌≤ℤ◌, ◌&&◌, neg_ℤ, int_lt, int_le, count_by, find, nat_le, nat_lt}
 use Rattle.std.proofs.lemmas.Int.{ints}
+use Rattle.std.proofs.lemmas.List.Sorted.{length_permutation}
+use Rattle.std.proofs.lemmas.List.Sums.{count_by-le-length}
 use Rattle.std.proofs.lemmas.Bool.Decides.{nat_tests}
 use Rattle.fr_midpoint.specs.Midpoint.{is_high, is_low, IsHigh, IsLow}
 use Rattle.fr_midpoint.proofs.Counts.{both-le-length, count_by-cons_no, count_by-cons_yes, count_by-le-both, count_by-le-count_by, find-only, length-le-both}
-use Rattle.fr_midpoint.proofs.MidpointLemmas.{IsHigh-unique, IsLow-unique}
+use Rattle.fr_midpoint.proofs.MidpointLemmas.{IsHigh-ascending, IsHigh-permutation, IsHigh-unique, IsLow-ascending, IsLow-permutation, IsLow-unique}
+use Rattle.fr_course.specs.Ends.{AreRanked}
 use Rattle.fr_course.specs.Middles.{greatest_left, least_left}
 
 -- ---- a number of each rank
@@ -138,3 +141,39 @@ pub greatest_left-is_high : (k : ℕ) (xs : List ℤ) → k < length xs → IsHi
 greatest_left-is_high k xs short =
     let there = high_there xs k short in
     subst (IsHigh k xs) (sym (ap (λ o. unwrap_or o (pos 0)) (find-is_high k xs there.0 there.1))) there.1
+
+-- ---- where it stands
+
+pub least_left-ranked : (k : ℕ) (xs ys : List ℤ) (d : ℤ) → AreRanked xs ys → k < length ys → least_left k xs ≡ get_or ys k d
+least_left-ranked k xs ys d is short =
+    let same : length xs ≡ length ys = sym (length_permutation xs ys is.same) in
+    IsLow-unique k xs (least_left k xs) (get_or ys k d) (least_left-is_low k xs (omega (arith, same, short)))
+    (IsLow-permutation k xs ys (get_or ys k d) is.same (IsLow-ascending ys is.ascend k d short))
+
+pub greatest_left-ranked : (k : ℕ) (xs ys : List ℤ) (d : ℤ) → AreRanked xs ys → k < length ys
+    → greatest_left k xs ≡ get_or ys (length ys - 1 - k) d
+greatest_left-ranked k xs ys d is short =
+    let same : length xs ≡ length ys = sym (length_permutation xs ys is.same) in
+    IsHigh-unique k xs (greatest_left k xs) (get_or ys (length ys - 1 - k) d) (greatest_left-is_high k xs (omega (arith, same, short)))
+    (IsHigh-permutation k xs ys (get_or ys (length ys - 1 - k) d) is.same (IsHigh-ascending ys is.ascend k d short))
+
+find-fails : (p : ℤ → Bool) (xs : List ℤ) → ((x : ℤ) → p x ≡ false) → find p xs ≡ None
+find-fails p [] fails = refl
+find-fails p (x ∷ xs) fails = ap (λ (b : Bool). cond b (Some x) (find p xs)) (fails x) ∙ find-fails p xs fails
+
+too_few : (k n up : ℕ) (b : Bool) → n ≤ k → up ≤ n → (b && nat_lt k up) ≡ false
+too_few k n up true few up_to = grind (arith, nat_tests)
+too_few k n up false few up_to = refl
+
+-- no number has a rank that is none of a list
+pub least_left-none : (k : ℕ) (xs ys : List ℤ) → AreRanked xs ys → length ys ≤ k → least_left k xs ≡ pos 0
+least_left-none k xs ys is few =
+    let same : length xs ≡ length ys = sym (length_permutation xs ys is.same) in
+    ap (λ (o : Option ℤ). unwrap_or o (pos 0))
+    (find-fails (is_low k xs) xs (λ x. too_few k (length xs) (count_by (λ y. int_le y x) xs) (nat_le (count_by (λ y. int_lt y x) xs) k) (omega (arith, same, few)) (count_by-le-length (λ y. int_le y x) xs)))
+
+pub greatest_left-none : (k : ℕ) (xs ys : List ℤ) → AreRanked xs ys → length ys ≤ k → greatest_left k xs ≡ pos 0
+greatest_left-none k xs ys is few =
+    let same : length xs ≡ length ys = sym (length_permutation xs ys is.same) in
+    ap (λ (o : Option ℤ). unwrap_or o (pos 0))
+    (find-fails (is_high k xs) xs (λ x. too_few k (length xs) (count_by (λ y. int_le x y) xs) (nat_le (count_by (λ y. int_lt x y) xs) k) (omega (arith, same, few)) (count_by-le-length (λ y. int_le x y) xs)))

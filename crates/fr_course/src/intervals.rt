@@ -1,9 +1,7 @@
-ghost use Rattle.std.specs.Prelude.{◌≡◌, ◌<◌, [], ◌∷◌, ◌++◌, ℤ, All, IfSome, length};
+ghost use Rattle.std.specs.Prelude.{◌≡◌, ℤ, All, IfSome};
 ghost use Rattle.fr_course.specs.Course.{is_empty};
 ghost use Rattle.fr_course.specs.Near.{EndBetween};
 ghost use Rattle.fr_course.specs.Readings.{meet, meet_all, meet_if};
-
-use std::marker::Model;
 
 /// From one number to another; where the one is above the other, nothing lies there.
 #[derive(Clone, Copy, Debug, PartialEq, Eq)]
@@ -59,50 +57,4 @@ pub fn is_empty(interval: &Interval) -> bool
     ensures { result ≡ is_empty interval.now }
 {
     interval.high < interval.low
-}
-
-// At most 64 intervals: contracts see their list.
-#[derive(Drop)]
-pub(crate) struct IntervalList {
-    places: [Interval; 64],
-    used: usize,
-}
-
-impl Model for IntervalList {
-    ghost use Rattle.std.specs.Prelude.{◌≤◌, List, take};
-    ghost use Rattle.fr_course.specs.Readings.{Interval as Known};
-
-    ghost Value = { List Known };
-
-    ghost view = { λ list. take list.used list.places };
-
-    ghost invariant = { λ list. list.used ≤ 64 };
-}
-
-impl IntervalList {
-    // No intervals.
-    pub(crate) fn new() -> IntervalList
-        ensures { result ≡ [] }
-    {
-        IntervalList {
-            places: [Interval { low: 0, high: 0 }; 64],
-            used: 0,
-        }
-    }
-
-    // Appends an interval.
-    pub(crate) fn push(&mut self, interval: Interval)
-        requires { length self.old < 64 }
-        ensures { self.new ≡ self.old ++ interval ∷ [] }
-    {
-        self.places[self.used] = interval;
-        self.used += 1;
-    }
-
-    // The intervals as a slice.
-    pub(crate) fn as_slice(&self) -> &[Interval]
-        ensures { result.now ≡ self.now }
-    {
-        &self.places[..self.used]
-    }
 }

@@ -1,8 +1,7 @@
 //! Where the clock of a node can lie in a double cycle, by an observer's stamps of its frames; how far the clocks of
-//! several lie apart by that, which correction terms they can have applied, and which ones they must have computed.
+//! several lie apart by that, which correction terms they can have applied, and between which numbers a midpoint lies.
 #![tactic(auto)]
 
-mod computed;
 mod corners;
 mod corrections;
 mod courses;
@@ -18,13 +17,12 @@ mod skews;
 mod stamps;
 mod values;
 
-pub use computed::{offset_computed, rate_computed};
 pub use corners::{even_start, even_turn, odd_start, odd_turn};
 pub use corrections::{offset_seen, rate_step_seen};
 pub use courses::{Course, allowed, between, course_from, is_there, seen_apart};
 pub use intervals::{Interval, is_empty, meet, meet_all, meet_if};
 pub use laws::{middles_hold, values_are_counted};
-pub use measuring::Measuring;
+pub use measuring::{Measuring, undamped};
 pub use middles::middle;
 pub use scales::Scale;
 pub use skews::{

@@ -1,4 +1,5 @@
-ghost use Rattle.std.specs.Prelude.{◌≡◌, ◌+ℤ◌, ℤ, pos, int_lt, if◌then◌else◌};
+ghost use Rattle.std.specs.Prelude.{◌≡◌, ◌+ℤ◌, ℤ, pos, int_lt, if◌then◌else◌, IfSome};
+ghost use Rattle.std.specs.Option.{option_map};
 ghost use Rattle.fr_base.specs.Within.{IsBetween, IsWithin};
 ghost use Rattle.fr_course.specs.Computed.{further_by, measuring_of, values_from, counted_in, values_to};
 ghost use Rattle.fr_course.specs.Near.{EndWithin, IsMeasuring};
@@ -65,6 +66,19 @@ pub(crate) fn further_by(more: i128, interval: &Interval) -> Interval
     Interval {
         low: interval.low - more,
         high: interval.high + more,
+    }
+}
+
+/// The numbers that a damped one of these numbers (section 8.6.3) can have been, in microticks; none where it has no limits.
+pub fn undamped(measuring: &Measuring, damped: Option<Interval>) -> Option<Interval>
+    requires measuring { IsMeasuring measuring.now }
+    requires damped { IfSome damped (EndWithin (pos 21_000_000_000_000)) }
+    ensures value { result ≡ option_map (further_by measuring.now.damping) damped }
+    ensures near { IfSome result (EndWithin (pos 22_000_000_000_000)) }
+{
+    match damped {
+        None => None,
+        Some(damped) => Some(further_by(measuring.damping, &damped)),
     }
 }
 

@@ -1,18 +1,74 @@
-ghost use Rattle.std.specs.Prelude.{◌≡◌, ◌≤◌, if◌then◌else◌, pos, All, IfSome, Some, count_by, find, int_le, int_lt, length, map, unwrap_or};
-ghost use Rattle.std.specs.Option.{option_map};
+ghost use Rattle.std.specs.Prelude.{◌≡◌, ◌≤◌, ◌<◌, ◌∷◌, [], ◌++◌, if◌then◌else◌, List, ℤ, pos, All, IfSome, length, map};
 ghost use Rattle.fr_base.specs.Within.{IsWithin};
-ghost use Rattle.fr_midpoint.specs.Midpoint.{discarded, half_of_sum, is_high, is_low};
-ghost use Rattle.fr_course.specs.Ends.{interval_end};
-ghost use Rattle.fr_course.specs.Middles.{greatest_left, hull, joined, least_left, middle, middle_where, middle_with};
+ghost use Rattle.fr_midpoint.specs.Midpoint.{discarded, half_of_sum};
+ghost use Rattle.fr_course.specs.Ends.{interval_end, AreRanked};
+ghost use Rattle.fr_course.specs.Middles.{greatest_left, highs_of, hull, joined, least_left, lows_of, middle, middle_where, middle_with};
 ghost use Rattle.fr_course.specs.Near.{EndWithin};
+ghost use Rattle.fr_course.specs.Readings.{Interval as Known};
 
 use crate::intervals::Interval;
+use std::marker::Model;
 
 // An end of an interval.
 #[derive(Clone, Copy)]
 pub(crate) enum End {
     Low,
     High,
+}
+
+// At most 64 ends of intervals, each within 21,000,000,000,000 of 0: contracts see their list.
+#[derive(Drop)]
+struct EndList {
+    ends: [i64; 64],
+    used: usize,
+}
+
+impl Model for EndList {
+    ghost use Rattle.std.specs.Prelude.{◌≤◌, List, ℤ, pos, All, take};
+    ghost use Rattle.fr_base.specs.Within.{IsWithin};
+
+    ghost Value = { List ℤ };
+
+    ghost view = { λ list. take list.used list.ends };
+
+    ghost invariant = { λ list. (list.used ≤ 64) × All (IsWithin (pos 21_000_000_000_000)) (take list.used list.ends) };
+}
+
+impl EndList {
+    // No ends.
+    fn new() -> EndList
+        ensures { result ≡ [] }
+    {
+        EndList {
+            ends: [0; 64],
+            used: 0,
+        }
+    }
+
+    // Appends an end.
+    fn push(&mut self, end: i64)
+        requires room { length self.old < 64 }
+        requires within { IsWithin (pos 21_000_000_000_000) end }
+        ensures { self.new ≡ self.old ++ end ∷ [] }
+    {
+        self.ends[self.used] = end;
+        self.used += 1;
+    }
+
+    // Puts them into ascending order.
+    fn sort(&mut self)
+        ensures { AreRanked self.old self.new }
+    {
+        self.ends[..self.used].sort_unstable();
+    }
+
+    // They as a slice.
+    fn as_slice(&self) -> &[i64]
+        ensures value { result.now ≡ self.now }
+        ensures within { All (IsWithin (pos 21_000_000_000_000)) result.now }
+    {
+        &self.ends[..self.used]
+    }
 }
 
 /// Between which numbers the fault-tolerant midpoint of some values (section 8.6.1) lies, where each of the intervals
@@ -24,11 +80,28 @@ pub fn middle(further: usize, known: &[Interval]) -> Option<Interval>
     ensures value { result ≡ middle further known.now }
     ensures near { IfSome result (EndWithin (pos 21_000_000_000_000)) }
 {
-    let mut all = middle_with(0, known);
+    let low_ends = ranked(End::Low, known);
+    let high_ends = ranked(End::High, known);
+    let (lows, highs) = (low_ends.as_slice(), high_ends.as_slice());
+    let mut all = middle_with(0, lows, highs);
     for less in 0..further {
-        all = hull(all, middle_with(less + 1, known));
+        all = hull(all, middle_with(less + 1, lows, highs));
     }
     all
+}
+
+// The ends of some intervals in ascending order.
+fn ranked(end: End, known: &[Interval]) -> EndList
+    requires few { length known.now ≤ 64 }
+    requires known { All (EndWithin (pos 21_000_000_000_000)) known.now }
+    ensures { AreRanked (map (interval_end end) known.now) result }
+{
+    let mut list = EndList::new();
+    for interval in known {
+        list.push(interval_end(interval, end));
+    }
+    list.sort();
+    list
 }
 
 // What lies in one interval, in the other, or between both.
@@ -56,34 +129,35 @@ fn joined(one: &Interval, other: &Interval) -> Interval
     }
 }
 
-// With just so many further values.
-fn middle_with(further: usize, known: &[Interval]) -> Option<Interval>
+// With just so many further values, by the ends of the others in ascending order.
+fn middle_with(further: usize, lows: &[i64], highs: &[i64]) -> Option<Interval>
     requires further { further ≤ 64 }
-    requires few { length known.now ≤ 64 }
-    requires known { All (EndWithin (pos 21_000_000_000_000)) known.now }
-    ensures value { result ≡ middle_with further known.now }
+    requires lows { All (IsWithin (pos 21_000_000_000_000)) lows.now }
+    requires highs { All (IsWithin (pos 21_000_000_000_000)) highs.now }
+    requires few { length lows.now ≤ 64 }
+    ensures value { (known : List Known) → AreRanked (lows_of known) lows.now →
+        AreRanked (highs_of known) highs.now → result ≡ middle_with further known }
     ensures near { IfSome result (EndWithin (pos 21_000_000_000_000)) }
 {
-    middle_where(further, discarded_of(known.len() + further), known)
+    middle_where(further, discarded_of(lows.len() + further), lows, highs)
 }
 
 // Where so many are discarded at each end.
-fn middle_where(further: usize, ends: usize, known: &[Interval]) -> Option<Interval>
-    requires known { All (EndWithin (pos 21_000_000_000_000)) known.now }
-    ensures value { result ≡ middle_where further ends known.now }
+fn middle_where(further: usize, ends: usize, lows: &[i64], highs: &[i64]) -> Option<Interval>
+    requires lows { All (IsWithin (pos 21_000_000_000_000)) lows.now }
+    requires highs { All (IsWithin (pos 21_000_000_000_000)) highs.now }
+    ensures value { (known : List Known) → AreRanked (lows_of known) lows.now →
+        AreRanked (highs_of known) highs.now → result ≡ middle_where further ends known }
     ensures near { IfSome result (EndWithin (pos 21_000_000_000_000)) }
 {
     if ends < further {
         return None;
     }
     Some(Interval {
-        low: half_sum(
-            least_left(known, End::Low, ends - further),
-            greatest_left(known, End::Low, ends),
-        ),
+        low: half_sum(least_left(lows, ends - further), greatest_left(lows, ends)),
         high: half_sum(
-            least_left(known, End::High, ends),
-            greatest_left(known, End::High, ends - further),
+            least_left(highs, ends),
+            greatest_left(highs, ends - further),
         ),
     })
 }
@@ -102,129 +176,44 @@ fn discarded_of(count: usize) -> usize
 }
 
 // Half of the sum of two values, truncated toward zero.
-fn half_sum(low: i128, high: i128) -> i128
+fn half_sum(low: i64, high: i64) -> i128
     requires low { IsWithin (pos 21_000_000_000_000) low }
     requires high { IsWithin (pos 21_000_000_000_000) high }
     ensures value { result ≡ half_of_sum low high }
     ensures within { IsWithin (pos 21_000_000_000_000) result }
 {
-    (low + high) / 2
+    i128::from((low + high) / 2)
 }
 
-// The least of the ends of some intervals that remain where so many are discarded at each end.
-fn least_left(known: &[Interval], end: End, ends: usize) -> i128
-    requires known { All (EndWithin (pos 21_000_000_000_000)) known.now }
-    ensures value { result ≡ least_left ends (map (interval_end end) known.now) }
+// The least of some ends that remains where so many are discarded at each end, in ascending order.
+fn least_left(ranked: &[i64], ends: usize) -> i64
+    requires { All (IsWithin (pos 21_000_000_000_000)) ranked.now }
+    ensures value { (values : List ℤ) → AreRanked values ranked.now → result ≡ least_left ends values }
     ensures within { IsWithin (pos 21_000_000_000_000) result }
 {
-    end_if(low_found(known, end, ends), end)
+    if ends < ranked.len() { ranked[ends] } else { 0 }
 }
 
 // The greatest one.
-fn greatest_left(known: &[Interval], end: End, ends: usize) -> i128
-    requires known { All (EndWithin (pos 21_000_000_000_000)) known.now }
-    ensures value { result ≡ greatest_left ends (map (interval_end end) known.now) }
+fn greatest_left(ranked: &[i64], ends: usize) -> i64
+    requires { All (IsWithin (pos 21_000_000_000_000)) ranked.now }
+    ensures value { (values : List ℤ) → AreRanked values ranked.now → result ≡ greatest_left ends values }
     ensures within { IsWithin (pos 21_000_000_000_000) result }
 {
-    end_if(high_found(known, end, ends), end)
-}
-
-fn end_if(found: Option<Interval>, end: End) -> i128
-    ensures { result ≡ unwrap_or (option_map (interval_end end) found) (pos 0) }
-{
-    match found {
-        None => 0,
-        Some(interval) => interval_end(&interval, end),
+    if ends < ranked.len() {
+        ranked[ranked.len() - 1 - ends]
+    } else {
+        0
     }
 }
 
-fn low_found(known: &[Interval], end: End, ends: usize) -> Option<Interval>
-    ensures { result ≡
-        find (λ interval. is_low ends (map (interval_end end) known.now) (interval_end end interval)) known.now }
-{
-    let mut found = None;
-    for place in (0..known.len()).rev() {
-        let interval = known[place];
-        found = first_of(has_low(known, end, ends, &interval), interval, found);
-    }
-    found
-}
-
-fn high_found(known: &[Interval], end: End, ends: usize) -> Option<Interval>
-    ensures { result ≡
-        find (λ interval. is_high ends (map (interval_end end) known.now) (interval_end end interval)) known.now }
-{
-    let mut found = None;
-    for place in (0..known.len()).rev() {
-        let interval = known[place];
-        found = first_of(has_high(known, end, ends, &interval), interval, found);
-    }
-    found
-}
-
-fn first_of(passes: bool, first: Interval, rest: Option<Interval>) -> Option<Interval>
-    ensures { result ≡ (if passes then Some first else rest) }
-{
-    if passes { Some(first) } else { rest }
-}
-
-// The end of an interval is the least that remains: at most so many lie below it, and more at or below it.
-fn has_low(known: &[Interval], end: End, ends: usize, interval: &Interval) -> bool
-    ensures { result ≡ is_low ends (map (interval_end end) known.now) (interval_end end interval.now) }
-{
-    let low = interval_end(interval, end);
-    below(known, end, low) <= ends && ends < up_to(known, end, low)
-}
-
-// It is the greatest one: at most so many lie above it, and more at or above it.
-fn has_high(known: &[Interval], end: End, ends: usize, interval: &Interval) -> bool
-    ensures { result ≡ is_high ends (map (interval_end end) known.now) (interval_end end interval.now) }
-{
-    let high = interval_end(interval, end);
-    above(known, end, high) <= ends && ends < from(known, end, high)
-}
-
-// How many of the ends lie below a number.
-fn below(known: &[Interval], end: End, number: i128) -> usize
-    ensures { result ≡ count_by (λ value. int_lt value number) (map (interval_end end) known.now) }
-{
-    known
-        .iter()
-        .map(|interval| interval_end(interval, end))
-        .filter(|value| *value < number)
-        .count()
-}
-
-// How many at or below it: those that are not above it.
-fn up_to(known: &[Interval], end: End, number: i128) -> usize
-    ensures { result ≡ count_by (λ value. int_le value number) (map (interval_end end) known.now) }
-{
-    known.len() - above(known, end, number)
-}
-
-// How many above it.
-fn above(known: &[Interval], end: End, number: i128) -> usize
-    ensures { result ≡ count_by (λ value. int_lt number value) (map (interval_end end) known.now) }
-{
-    known
-        .iter()
-        .map(|interval| interval_end(interval, end))
-        .filter(|value| number < *value)
-        .count()
-}
-
-// How many at or above it: those that are not below it.
-fn from(known: &[Interval], end: End, number: i128) -> usize
-    ensures { result ≡ count_by (λ value. int_le number value) (map (interval_end end) known.now) }
-{
-    known.len() - below(known, end, number)
-}
-
-fn interval_end(interval: &Interval, end: End) -> i128
-    ensures { result ≡ interval_end end interval.now }
+fn interval_end(interval: &Interval, end: End) -> i64
+    requires { EndWithin (pos 21_000_000_000_000) interval.now }
+    ensures value { result ≡ interval_end end interval.now }
+    ensures within { IsWithin (pos 21_000_000_000_000) result }
 {
     match end {
-        End::Low => interval.low,
-        End::High => interval.high,
+        End::Low => interval.low as i64,
+        End::High => interval.high as i64,
     }
 }

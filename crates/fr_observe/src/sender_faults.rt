@@ -4,7 +4,7 @@ ghost use Rattle.std.specs.Option.{option_map};
 ghost use Rattle.fr_base.specs.Within.{IsBetween};
 ghost use Rattle.fr_course.specs.Computed.{measuring_of, offset_computed, rate_computed};
 ghost use Rattle.fr_course.specs.Course.{is_empty};
-ghost use Rattle.fr_course.specs.Near.{EndWithin, IsNearCourse, IsReadingScale};
+ghost use Rattle.fr_course.specs.Near.{EndWithin, IsReadingScale};
 ghost use Rattle.fr_course.specs.Terms.{rate_step_seen};
 ghost use Rattle.fr_sightings.specs.Ranges.{IsProperSender};
 ghost use Rattle.fr_observe.specs.Faults.{correction_fault, further_of, length_fault, length_fault_by, longest_cycle_of, offset_fault, other_courses, rate_fault, shortest_cycle_of, term_fault, unlike_fault};
@@ -16,11 +16,8 @@ use crate::telling::tell;
 use fr_base::{NodeId, PutFault, Sink};
 use fr_bound::{longest_microtick, shortest_microtick};
 use fr_cluster::{ParamName, Params};
-use fr_course::{
-    Interval, Measuring, Scale, is_empty, length_ticks, offset_computed, rate_computed,
-    rate_step_seen,
-};
-use fr_sightings::{CourseList, Sender, keyed_count};
+use fr_course::{Interval, Measuring, Scale, is_empty, length_ticks, rate_step_seen};
+use fr_sightings::{Sender, keyed_count, offset_computed, rate_computed};
 
 // What is asked of a sender.
 #[derive(Clone, Copy)]
@@ -164,22 +161,6 @@ fn unlike_fault(
     }
 }
 
-// The courses of the senders but one.
-fn other_courses(scale: &Scale, senders: &[Sender], node: NodeId) -> CourseList
-    requires few { length senders.now ≤ 64 }
-    requires senders { All (IsProperSender scale.now) senders.now }
-    ensures value { result ≡ other_courses senders.now node }
-    ensures near { All (IsNearCourse scale.now) result }
-{
-    let mut courses = CourseList::new();
-    for sender in senders {
-        if sender.node != node {
-            courses.push(sender.course);
-        }
-    }
-    courses
-}
-
 // How many further sync nodes may have been heard.
 fn further_of(params: &Params, senders: &[Sender]) -> usize
     ensures value { result ≡ further_of params.now senders.now }
@@ -204,12 +185,11 @@ fn offset_by(
         (other_courses senders.now sender.now.node) (further_of params.now senders.now) }
     ensures near { IfSome result (EndWithin (pos 22_000_000_000_000)) }
 {
-    let others = other_courses(scale, senders, sender.node);
     offset_computed(
         scale,
         &Measuring::of(params),
-        &sender.course,
-        others.as_slice(),
+        senders,
+        sender,
         further_of(params, senders),
     )
 }
@@ -225,12 +205,11 @@ fn rate_by(params: &Params, scale: &Scale, senders: &[Sender], sender: &Sender) 
         (other_courses senders.now sender.now.node) (further_of params.now senders.now) }
     ensures near { IfSome result (EndWithin (pos 22_000_000_000_000)) }
 {
-    let others = other_courses(scale, senders, sender.node);
     rate_computed(
         scale,
         &Measuring::of(params),
-        &sender.course,
-        others.as_slice(),
+        senders,
+        sender,
         further_of(params, senders),
     )
 }

@@ -10,3 +10,4 @@ pub mod Gathering
 pub mod Silence
 pub mod Counted
 pub mod Windows
+pub mod Others

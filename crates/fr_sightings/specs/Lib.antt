@@ -2,6 +2,7 @@
 pub mod Judging
 pub mod Sightings
 pub mod Senders
+pub mod Computing
 pub mod Ranges
 pub mod Sure
 -- what only functions inside cite

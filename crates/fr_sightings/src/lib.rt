@@ -1,9 +1,12 @@
-//! Which frames of the log of a bus analyzer say where a sender's clock was, and the courses of senders by them.
+//! Which frames of the log of a bus analyzer say where a sender's clock was, the courses of senders by them, and which
+//! correction terms these must have computed.
 #![tactic(auto)]
 
+mod computed;
 mod course_list;
 mod first_list;
 mod gathered;
+mod interval_list;
 mod intervals;
 mod judging;
 mod laws;
@@ -17,6 +20,7 @@ mod sighting;
 mod sure;
 mod walking;
 
+pub use computed::{offset_computed, rate_computed};
 pub use course_list::CourseList;
 pub use first_list::FirstList;
 pub use gathered::SightingList;

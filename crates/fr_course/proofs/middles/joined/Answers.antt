@@ -1,8 +1,7 @@
-use Rattle.std.proofs.Common.{◌≡◌, FitsSigned, pos, refl, subst, sym}
+use Rattle.std.proofs.Common.{◌≡◌, FitsSigned, pos, refl}
 use Rattle.std.specs.Int.{int_max, int_min}
 use mir.Syntax.{w128}
 use Rattle.std.proofs.lemmas.Int.{to_z-of_z}
-use Rattle.fr_course.specs.Near.{EndWithin}
 use Rattle.fr_course.proofs.Fits.{ends_near, fits, high_near, low_near}
 use Rattle.fr_course.proofs.Limits.{max_within, min_within}
 use Rattle.fr_course.proofs.middles.joined.Goals as goal

@@ -4,7 +4,7 @@ use mir.Syntax.{w128}
 use Rattle.std.proofs.lemmas.Int.{ints, to_z-of_z}
 use Rattle.fr_course.specs.Near.{EndWithin}
 use Rattle.fr_course.proofs.Limits.{wider}
-use Rattle.fr_course.proofs.computed.undamped.Goals as goal
+use Rattle.fr_course.proofs.measuring.undamped.Goals as goal
 
 pub returns-in-Some-clause-near : goal.returns-in-Some-clause-near
 returns-in-Some-clause-near c =

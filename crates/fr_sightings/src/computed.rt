@@ -1,0 +1,115 @@
+ghost use Rattle.std.specs.Prelude.{◌≡◌, ◌≤◌, ◌∷◌, pos, All, IfSome, length, map};
+ghost use Rattle.std.specs.List.{Contains};
+ghost use Rattle.fr_course.specs.Computed.{offset_computed, own_value, rate_computed};
+ghost use Rattle.fr_course.specs.Near.{EndWithin, IsMeasuring, IsNearCourse, IsReadingScale};
+ghost use Rattle.fr_sightings.specs.Computing.{heard_courses, value_seen};
+ghost use Rattle.fr_sightings.specs.Ranges.{IsProperSender};
+
+use crate::interval_list::IntervalList;
+use crate::sender::Sender;
+use fr_course::{
+    Course, Interval, Measuring, Scale, deviation_seen, middle, rate_value_seen, undamped,
+};
+
+// What a receiver measures of a sender.
+#[derive(Clone, Copy)]
+pub(crate) enum Measured {
+    Deviation,
+    RateValue,
+}
+
+/// Which offset terms a sender must have computed in a double cycle (sections 8.6.1 and 8.6.2), by its course and those of
+/// the other senders, which it heard, and where it heard at most so many further nodes; in microticks, none without limits.
+pub fn offset_computed(
+    scale: &Scale,
+    measuring: &Measuring,
+    senders: &[Sender],
+    sender: &Sender,
+    further: usize,
+) -> Option<Interval>
+    requires scale { IsReadingScale scale.now }
+    requires measuring { IsMeasuring measuring.now }
+    requires few { length senders.now ≤ 64 }
+    requires senders { All (IsProperSender scale.now) senders.now }
+    requires among { Contains senders.now sender.now }
+    requires sender { IsProperSender scale.now sender.now }
+    requires further { further ≤ 64 }
+    ensures value { result ≡ offset_computed scale.now measuring.now sender.now.course
+        (heard_courses senders.now sender.now.node) further }
+    ensures near { IfSome result (EndWithin (pos 21_000_000_000_000)) }
+{
+    let known = values_seen(Measured::Deviation, scale, measuring, senders, sender);
+    middle(further, known.as_slice())
+}
+
+/// By how much its rate term must have grown (sections 8.6.1 and 8.6.3); in microticks, none without limits.
+pub fn rate_computed(
+    scale: &Scale,
+    measuring: &Measuring,
+    senders: &[Sender],
+    sender: &Sender,
+    further: usize,
+) -> Option<Interval>
+    requires scale { IsReadingScale scale.now }
+    requires measuring { IsMeasuring measuring.now }
+    requires few { length senders.now ≤ 64 }
+    requires senders { All (IsProperSender scale.now) senders.now }
+    requires among { Contains senders.now sender.now }
+    requires sender { IsProperSender scale.now sender.now }
+    requires further { further ≤ 64 }
+    ensures value { result ≡ rate_computed scale.now measuring.now sender.now.course
+        (heard_courses senders.now sender.now.node) further }
+    ensures near { IfSome result (EndWithin (pos 22_000_000_000_000)) }
+{
+    let known = values_seen(Measured::RateValue, scale, measuring, senders, sender);
+    undamped(measuring, middle(further, known.as_slice()))
+}
+
+// The values of a sender: its own one, and one of each other sender.
+fn values_seen(
+    measured: Measured,
+    scale: &Scale,
+    measuring: &Measuring,
+    senders: &[Sender],
+    sender: &Sender,
+) -> IntervalList
+    requires scale { IsReadingScale scale.now }
+    requires measuring { IsMeasuring measuring.now }
+    requires few { length senders.now ≤ 64 }
+    requires senders { All (IsProperSender scale.now) senders.now }
+    requires sender { IsProperSender scale.now sender.now }
+    ensures value { result ≡
+        own_value ∷ map (value_seen measured scale.now measuring.now sender.now.course)
+        (heard_courses senders.now sender.now.node) }
+    ensures near { All (EndWithin (pos 21_000_000_000_000)) result }
+{
+    let mut known = IntervalList::new();
+    known.push(Interval { low: 0, high: 0 });
+    for other in senders {
+        if other.node != sender.node {
+            known.push(value_seen(measured, scale, measuring, &sender.course, &other.course));
+        }
+    }
+    known
+}
+
+// A value of a receiver of a sender.
+fn value_seen(
+    measured: Measured,
+    scale: &Scale,
+    measuring: &Measuring,
+    receiver: &Course,
+    sender: &Course,
+) -> Interval
+    requires scale { IsReadingScale scale.now }
+    requires measuring { IsMeasuring measuring.now }
+    requires receiver { IsNearCourse scale.now receiver.now }
+    requires sender { IsNearCourse scale.now sender.now }
+    ensures value { result ≡ value_seen measured scale.now measuring.now receiver.now sender.now }
+    ensures near { EndWithin (pos 21_000_000_000_000) result }
+{
+    match measured {
+        Measured::Deviation => deviation_seen(scale, measuring, receiver, sender),
+        Measured::RateValue => rate_value_seen(scale, measuring, receiver, sender),
+    }
+}
