@@ -4,6 +4,7 @@ use Rattle.std.specs.Option.{option_or}
 use Rattle.fr_log.specs.View.{LogView}
 use Rattle.fr_observe.specs.Faults.{first_of_faults}
 use Rattle.fr_observe.specs.Obstacles.{farther}
+use Rattle.fr_observe.specs.Skews.{AreSkews}
 use Rattle.fr_findings.specs.Counting.{AreFewCycles, counted}
 use Rattle.fr_findings.specs.Verdict.{Basis, DoubleCycle, double_with, faults_told, judged_by, obstacle_told, reach_behind_both, sync_told}
 use Rattle.fr_findings.specs.declared.ground.Around.{Around}
@@ -58,13 +59,14 @@ pub record IsAround (g : Ground) (a : Around) : Type 0 where
   pub next : AreLogStamps g.log.now a.next.now
   pub offending : AreOffending g.log.now (offending_given a.offending)
 
--- and senders are those of a cluster
+-- and senders are those of a cluster, with the limits of their skew
 pub record IsDouble (g : Ground) (d : Double) : Type 0 where
   pub number : d.number < 1_000_000
   pub here : AreLogStamps g.log.now d.here.now
   pub offending : AreOffending g.log.now (offending_given d.offending)
   pub few : length d.senders.now ≤ 64
   pub senders : All (IsProperSender g.scale.now) d.senders.now
+  pub skews : AreSkews g.scale.now d.senders.now d.skews.now
 
 -- sightings come in the order of their double cycles, and stamps lie within the limits of a log
 pub record ComeInOrder (l : LogView) (seen : List Sighting) : Type 0 where

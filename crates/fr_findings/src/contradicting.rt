@@ -147,6 +147,7 @@ fn put_in_sync<O: Sink>(
         double.here,
         double.number,
         double.senders,
+        double.skews,
         first,
         out,
     )

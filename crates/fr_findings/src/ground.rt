@@ -2,7 +2,7 @@ use crate::coverable::Coverable;
 use fr_cluster::Params;
 use fr_course::Scale;
 use fr_log::Log;
-use fr_observe::LogSpan;
+use fr_observe::{LogSpan, Skews};
 use fr_sightings::{Sender, Sighting};
 
 // What stays the same over a log: the precision of its cluster in ticks, the cluster's numbers as readings, both files,
@@ -34,7 +34,8 @@ pub(crate) struct Around<'a> {
     pub(crate) offending: Offending<'a>,
 }
 
-// A double cycle: its number, the sightings of the one before and its own, its offending frames, and its senders.
+// A double cycle: its number, the sightings of the one before and its own, its offending frames, and its senders with the
+// limits of their skew.
 #[derive(Clone, Copy)]
 pub(crate) struct Double<'a> {
     pub(crate) number: u32,
@@ -42,4 +43,5 @@ pub(crate) struct Double<'a> {
     pub(crate) here: &'a [Sighting],
     pub(crate) offending: Offending<'a>,
     pub(crate) senders: &'a [Sender],
+    pub(crate) skews: &'a Skews,
 }

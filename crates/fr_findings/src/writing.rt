@@ -147,13 +147,12 @@ fn put_double<O: Sink>(
     ensures progress { OnOk result (progress.new ≡
         progress_told (basis_in ground.now) (double_in double.now) progress.old) }
 {
-    let (scale, senders) = (ground.scale, double.senders);
-    let skews = skews_of(scale, senders);
+    let (scale, senders, skews) = (ground.scale, double.senders, double.skews);
     let precision = ground.precision;
-    put_rows(scale, precision, double.number, senders, &skews, out)?;
+    put_rows(scale, precision, double.number, senders, skews, out)?;
     put_faults(ground, double, progress, out)?;
-    let (even, odd) = both_say(ground, double, &skews);
-    let over = first_over(double.number, &skews, even, odd);
+    let (even, odd) = both_say(ground, double, skews);
+    let over = first_over(double.number, skews, even, odd);
     let judged = is_judged(ground, progress.sync);
     progress.pass(double.number, judged, even, odd, over);
     Ok(())
@@ -184,12 +183,14 @@ fn put_around<O: Sink>(
         around.next,
         number,
     );
+    let skews = skews_of(ground.scale, list.as_slice());
     let double = Double {
         number,
         before: around.before,
         here: around.here,
         offending: around.offending,
         senders: list.as_slice(),
+        skews: &skews,
     };
     put_double(ground, &double, progress, out)
 }

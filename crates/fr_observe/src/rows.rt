@@ -94,21 +94,19 @@ fn high_of(term: Option<Interval>) -> Option<i64>
     }
 }
 
-// The least and the greatest offset term of a sender.
-fn least_term(scale: &Scale, sender: &Sender) -> Piece<'static>
-    requires scale { IsReadingScale scale.now }
-    requires sender { IsProperSender scale.now sender.now }
-    ensures { Spells result (known (option_map (λ t. t.low) (terms_of scale.now sender.now))) 20 }
+// The least and the greatest one of these terms.
+fn least_term(term: Option<Interval>) -> Piece<'static>
+    requires { IfSome term (EndWithin (pos 6_000_000_000_000_000_000)) }
+    ensures { Spells result (known (option_map (λ t. t.low) term)) 20 }
 {
-    known(low_of(terms_of(scale, sender)))
+    known(low_of(term))
 }
 
-fn most_term(scale: &Scale, sender: &Sender) -> Piece<'static>
-    requires scale { IsReadingScale scale.now }
-    requires sender { IsProperSender scale.now sender.now }
-    ensures { Spells result (known (option_map (λ t. t.high) (terms_of scale.now sender.now))) 20 }
+fn most_term(term: Option<Interval>) -> Piece<'static>
+    requires { IfSome term (EndWithin (pos 6_000_000_000_000_000_000)) }
+    ensures { Spells result (known (option_map (λ t. t.high) term)) 20 }
 {
-    known(high_of(terms_of(scale, sender)))
+    known(high_of(term))
 }
 
 // A length of cycles, in ticks of the observer's clock.
@@ -133,6 +131,7 @@ pub fn node_row(scale: &Scale, double: u32, sender: &Sender) -> Line
     requires sender { IsProperSender scale.now sender.now }
     ensures { result ≡ node_row scale.now double sender.now }
 {
+    let term = terms_of(scale, sender);
     row_of(
         b"node",
         &[
@@ -140,8 +139,8 @@ pub fn node_row(scale: &Scale, double: u32, sender: &Sender) -> Line
             natural(u64::from(sender.node.0)),
             ticks(sender.course.length.low),
             ticks(sender.course.length.high),
-            least_term(scale, sender),
-            most_term(scale, sender),
+            least_term(term),
+            most_term(term),
             Word(b""),
         ],
     )

@@ -5,13 +5,14 @@ ghost use Rattle.fr_course.specs.Spread.{lengths_apart, starts_apart};
 ghost use Rattle.fr_sightings.specs.Ranges.{IsProperSender};
 ghost use Rattle.fr_observe.specs.Faults.{beyond_fault, length_fault, missing_frames, offset_fault, rate_fault, skew_fault, sync_faults};
 ghost use Rattle.fr_observe.specs.Observing.{courses_of, even_high, even_low, odd_high, odd_low};
+ghost use Rattle.fr_observe.specs.Skews.{AreSkews};
 ghost use Rattle.fr_observe.specs.Telling.{TellsFaults};
 ghost use Rattle.fr_observe.specs.declared.fault.FaultKind.TheVariants as of;
 
 use crate::fault::{Fault, FaultKind, LogSpan, printed};
 use crate::missing::put_missing;
 use crate::sender_faults::{Asked, put_of_senders};
-use crate::skews::{courses_of, skews_of};
+use crate::skews::{Skews, courses_of};
 use crate::telling::tell;
 use fr_base::{PutFault, Sink};
 use fr_bound::bounds;
@@ -106,8 +107,9 @@ fn lengths_fault(params: &Params, scale: &Scale, cycle: u32, courses: &[Course])
     beyond_fault(FaultKind::Lengths, cycle, bounds(params).lambda, &apart)
 }
 
-/// Tells what contradicts a covered run in sync in a double cycle, by its sightings, those of the double cycle before
-/// and its senders: each in one put, and the first one of all that were told is kept. The precision is in ticks.
+/// Tells what contradicts a covered run in sync in a double cycle, by its sightings, those of the double cycle before,
+/// its senders and the limits of their skew: each in one put, and the first one of all that were told is kept. The
+/// precision is in ticks.
 #[tactic(auto, unfolding(crate::specs::Faults::sync_faults))]
 pub fn put_sync_faults<O: Sink>(
     precision: i64,
@@ -119,6 +121,7 @@ pub fn put_sync_faults<O: Sink>(
     here: &[Sighting],
     double: u32,
     senders: &[Sender],
+    skews: &Skews,
     first: &mut Option<Fault>,
     out: &mut O,
 ) -> Result<(), PutFault>
@@ -126,11 +129,11 @@ pub fn put_sync_faults<O: Sink>(
     requires double { double < 1_000_000 }
     requires few { length senders.now ≤ 64 }
     requires senders { All (IsProperSender scale.now) senders.now }
+    requires skews { AreSkews scale.now senders.now skews.now }
     ensures { TellsFaults result (O.state out.old) (O.state out.new) first.old first.new
         (sync_faults precision params.now scale.now log.now span.now before.now here.now double senders.now) }
 {
     let (even, odd) = (2 * double, 2 * double + 1);
-    let skews = skews_of(scale, senders);
     let courses = courses_of(scale, senders);
     let starts = starts_fault(params, scale, even, courses.as_slice());
     let lengths = lengths_fault(params, scale, even, courses.as_slice());

@@ -57,7 +57,7 @@ returns-clause-progress g c =
     let over : c.first_over-over.result ≡ over_told b d =
     c.first_over-over.ensures
     ∙ (
-    λ i. option_or (over_row (2 * d.number) (c.skews_of-skews.ensures.even_low i) (c.both_say-even.ensures.even i))
-    (over_row (2 * d.number + 1) (c.skews_of-skews.ensures.odd_low i) (c.both_say-even.ensures.odd i))
+    λ i. option_or (over_row (2 * d.number) (c.requires.double.skews.even_low i) (c.both_say-even.ensures.even i))
+    (over_row (2 * d.number + 1) (c.requires.double.skews.odd_low i) (c.both_say-even.ensures.odd i))
     ) in
     c.pass.ensures ∙ (λ i. with_both (faults_are i) d.number (judged i) (c.both_say-even.ensures.even i) (c.both_say-even.ensures.odd i) (over i))
