@@ -39,7 +39,7 @@ use Rattle.fr_air.specs.Cycling.{AreListable, IsReady}
 use Rattle.fr_air.specs.Files.{setting_in}
 use Rattle.fr_air.specs.Hearing.{after_offer}
 use Rattle.fr_air.specs.Memory.{MemoryView, frame_on}
-use Rattle.fr_air.specs.Reaching.{how_many_listen, listening_on, listens, AreRowsApart, IsWholeReach, Reaches, SendsAmong}
+use Rattle.fr_air.specs.Reaching.{can_send, how_many_listen, listening_on, listens, AreRowsApart, IsWholeReach, Reaches, ReachesAll, SendsAmong}
 use Rattle.fr_air.specs.Sending.{hears, offer_at, offer_from, offer_heard, sending_row_by, sent_instant, sent_with}
 use Rattle.fr_air.specs.Turns.{offer_on, HaveHeard, IsOnAir}
 use Rattle.fr_air.specs.declared.files.RunInputs.{RunInputs}
@@ -69,12 +69,14 @@ not_halted Active is = refl
 not_halted Passive is = refl
 not_halted Halt is = absurd (cc)
 
--- a node that sends listens
-sender_listens : (x : Setting) (node : ℕ) (channel : Channel) (row : NodeRow) → row.node ≡ node → (is_active row.state && is_on x node channel) ≡ true → listens x channel row ≡ true
-sender_listens x node channel row is does =
-    let parts : (is_active row.state ≡ true) × (is_on x node channel ≡ true) = and_parts _ _ does in
-    let on : is_on x row.node channel ≡ true = ap (λ (n : ℕ). is_on x n channel) is ∙ parts.1 in
-    ap (λ (b : Bool). b && is_on x row.node channel) (not_halted row.state parts.0) ∙ on
+-- a node that sends can send by its own row, and listens
+sender_can : (x : Setting) (node : ℕ) (channel : Channel) (row : NodeRow) → row.node ≡ node → (is_active row.state && is_on x node channel) ≡ true → can_send x channel row ≡ true
+sender_can x node channel row is does = ap (λ (n : ℕ). is_active row.state && is_on x n channel) is ∙ does
+
+sender_listens : (x : Setting) (channel : Channel) (row : NodeRow) → can_send x channel row ≡ true → listens x channel row ≡ true
+sender_listens x channel row does =
+    let parts : (is_active row.state ≡ true) × (is_on x row.node channel ≡ true) = and_parts _ _ does in
+    ap (λ (b : Bool). b && is_on x row.node channel) (not_halted row.state parts.0) ∙ parts.1
 
 -- ---- how many hear it: all that listen but itself
 
@@ -173,68 +175,84 @@ module _ (f : RunInputs) (air : Air) (memory : MemoryView) (row : NodeRow) (on :
   abbrev heard_at : NodeRow → Bool
   heard_at receiver = hears x receiver air.sender.now.node t.channel
 
-  offer-is : (receiver : NodeRow) → Reaches f t.cycle row receiver → offer_on f air memory receiver ≡ cond (heard_at receiver) (Some (offered receiver)) None
-  offer-is receiver reaches =
-      ap (λ (o : Option NodeRow). if heard_at receiver then offer_from x t air.sender.now.node o frame receiver else None) has
-      ∙ ap (λ (e : Event). if heard_at receiver then option_map (λ bytes. offer_at t (sent_instant x t row receiver.node) bytes) (arrived_of e frame) else None) (reaches t.channel).regular
+  -- who hears it is not halted
+  not-halted : (receiver : NodeRow) → heard_at receiver ≡ true → is_halted receiver.state ≡ false
+  not-halted receiver hears =
+      let parts : (listens x t.channel receiver ≡ true) × (not (air.sender.now.node == receiver.node) ≡ true) = and_parts _ _ hears in
+      awake receiver.state (and_parts (not (is_halted receiver.state)) (is_on x receiver.node t.channel) parts.0).0
+    where
+      awake : (state : State) → not (is_halted state) ≡ true → is_halted state ≡ false
+      awake Active is = refl
+      awake Passive is = refl
+      awake Halt is = absurd (cc)
 
-  answer-is : (receiver : NodeRow) → Reaches f t.cycle row receiver → answer_of f.params t.cycle receiver (offered receiver) ≡ heard.Ignored reason.Plain
-  answer-is receiver reaches =
+  offer-is : (receiver : NodeRow) → Reaches f t.cycle row t.channel receiver → offer_on f air memory receiver ≡ cond (heard_at receiver) (Some (offered receiver)) None
+  offer-is receiver reaches = ap (λ (o : Option NodeRow). if heard_at receiver then offer_from x t air.sender.now.node o frame receiver else None) has ∙ by (heard_at receiver) refl
+    where
+      by : (b : Bool) → heard_at receiver ≡ b → cond b (offer_from x t air.sender.now.node (Some row) frame receiver) None ≡ cond b (Some (offered receiver)) None
+      by true hears = ap (λ (e : Event). option_map (λ bytes. offer_at t (sent_instant x t row receiver.node) bytes) (arrived_of e frame)) (reaches (not-halted receiver hears)).regular
+      by false unheard = refl
+
+  answer-is : (receiver : NodeRow) → Reaches f t.cycle row t.channel receiver → heard_at receiver ≡ true → answer_of f.params t.cycle receiver (offered receiver) ≡ heard.Ignored reason.Plain
+  answer-is receiver reaches hears =
       let offer = offered receiver in
       let made : received_as f.params t.cycle t.slot (read_as t.channel frame) ≡ Ignored reason.Plain = sym on.reception ∙ plain in
       answer_received f.params t.cycle receiver offer
       ∙ ap (λ (r : Reception). answer_with f.params receiver offer r) made
       ∙ ap (λ (b : Bool). if b then heard.Ignored (reason.Outside offer.arrival (slot_begins f.params receiver t.slot) (slot_ends f.params receiver t.slot)) else heard.Ignored reason.Plain)
-      ((reaches t.channel).inside t.slot some on.sent.static_slot)
+      ((reaches (not-halted receiver hears)).inside t.slot some on.sent.static_slot)
 
   -- it is counted where it is heard
-  counted-one : (receiver : NodeRow) (c : Counts) → Reaches f t.cycle row receiver → counted_offer x t.cycle receiver (offer_on f air memory receiver) c ≡ plainer (heard_at receiver) c
-  counted-one receiver c reaches = ap (λ (o : Option Offer). counted_offer x t.cycle receiver o c) (offer-is receiver reaches) ∙ by (heard_at receiver)
+  counted-one : (receiver : NodeRow) (c : Counts) → Reaches f t.cycle row t.channel receiver → counted_offer x t.cycle receiver (offer_on f air memory receiver) c ≡ plainer (heard_at receiver) c
+  counted-one receiver c reaches = ap (λ (o : Option Offer). counted_offer x t.cycle receiver o c) (offer-is receiver reaches) ∙ by (heard_at receiver) refl
     where
-      by : (b : Bool) → counted_offer x t.cycle receiver (cond b (Some (offered receiver)) None) c ≡ plainer b c
-      by true = ap (λ (h : Heard). with_answer h c) (answer-is receiver reaches)
-      by false = refl
+      by : (b : Bool) → heard_at receiver ≡ b → counted_offer x t.cycle receiver (cond b (Some (offered receiver)) None) c ≡ plainer b c
+      by true hears = ap (λ (h : Heard). with_answer h c) (answer-is receiver reaches hears)
+      by false unheard = refl
 
   -- and changes nothing
-  stays-one : (node : NodeView) → Reaches f t.cycle row (node_row_of node) → after_offer x t.cycle node (offer_on f air memory (node_row_of node)) ≡ node
-  stays-one node reaches = ap (after_offer x t.cycle node) (offer-is (node_row_of node) reaches) ∙ by (heard_at (node_row_of node))
+  stays-one : (node : NodeView) → Reaches f t.cycle row t.channel (node_row_of node) → after_offer x t.cycle node (offer_on f air memory (node_row_of node)) ≡ node
+  stays-one node reaches = ap (after_offer x t.cycle node) (offer-is (node_row_of node) reaches) ∙ by (heard_at (node_row_of node)) refl
     where
-      by : (b : Bool) → after_offer x t.cycle node (cond b (Some (offered (node_row_of node))) None) ≡ node
-      by true = ap (λ (h : Heard). after_hearing f.params node t.slot t.channel h) (answer-is (node_row_of node) reaches)
-      by false = refl
+      by : (b : Bool) → heard_at (node_row_of node) ≡ b → after_offer x t.cycle node (cond b (Some (offered (node_row_of node))) None) ≡ node
+      by true hears = ap (λ (h : Heard). after_hearing f.params node t.slot t.channel h) (answer-is (node_row_of node) reaches hears)
+      by false unheard = refl
 
-  counted-all : (rows : List NodeRow) (c : Counts) → All (Reaches f t.cycle row) rows → counted_offers x t.cycle (offer_on f air memory) rows c ≡ plain_by (count_by heard_at rows) c
+  counted-all : (rows : List NodeRow) (c : Counts) → All (Reaches f t.cycle row t.channel) rows → counted_offers x t.cycle (offer_on f air memory) rows c ≡ plain_by (count_by heard_at rows) c
   unfolding counted_offers
   counted-all [] c all = plain_none c
   counted-all (r ∷ rs) c all =
-      let P : NodeRow → Type 0 = Reaches f t.cycle row in
+      let P : NodeRow → Type 0 = Reaches f t.cycle row t.channel in
       ap (counted_offers x t.cycle (offer_on f air memory) rs) (counted-one r c (All-head P r rs all))
       ∙ counted-all rs (plainer (heard_at r) c) (All-tail P r rs all)
       ∙ plain_more (heard_at r) (count_by heard_at rs) c
       ∙ ap (λ (n : ℕ). plain_by n c) (sym (count-cons heard_at r rs))
 
-  pub stay-all : (nodes : List NodeView) → All (Reaches f t.cycle row) (map node_row_of nodes) → nodes ≡ map (λ (node : NodeView). after_offer x t.cycle node (offer_on f air memory (node_row_of node))) nodes
+  pub stay-all : (nodes : List NodeView) → All (Reaches f t.cycle row t.channel) (map node_row_of nodes) → nodes ≡ map (λ (node : NodeView). after_offer x t.cycle node (offer_on f air memory (node_row_of node))) nodes
   stay-all [] all = refl
   stay-all (n ∷ ns) all =
-      let P : NodeRow → Type 0 = Reaches f t.cycle row in
+      let P : NodeRow → Type 0 = Reaches f t.cycle row t.channel in
       let first : n ≡ after_offer x t.cycle n (offer_on f air memory (node_row_of n)) = sym (stays-one n (All-head P (node_row_of n) (map node_row_of ns) all)) in
       let rest = stay-all ns (All-tail P (node_row_of n) (map node_row_of ns) all) in
       cc
 
   -- the sender itself listens, and does not hear itself
-  pub plain-all : (rows : List NodeRow) (c : Counts) → AllPairs (λ (a : NodeRow) (b : NodeRow). a.node < b.node) rows → SendsAmong f air rows row → All (Reaches f t.cycle row) rows →
+  pub plain-all : (rows : List NodeRow) (c : Counts) → AllPairs (λ (a : NodeRow) (b : NodeRow). a.node < b.node) rows → SendsAmong f air rows row → All (Reaches f t.cycle row t.channel) rows →
       (1 ≤ how_many_listen x t.channel rows) × (counted_offers x t.cycle (offer_on f air memory) rows c ≡ plain_by (how_many_listen x t.channel rows - 1) c)
   plain-all rows c ascend among all =
       let does = sends x (row_in rows air.sender.now.node) air.sender.now.node t.channel row among in
       let at : row.node ≡ air.sender.now.node = named rows air.sender.now.node row does.0 in
       let one : count_by heard_at rows + 1 ≡ how_many_listen x t.channel rows =
-      all_but_one x air.sender.now.node t.channel rows row ascend does.0 (sender_listens x air.sender.now.node t.channel row at does.1) in
+      all_but_one x air.sender.now.node t.channel rows row ascend does.0 (sender_listens x t.channel row (sender_can x air.sender.now.node t.channel row at does.1)) in
       let left : count_by heard_at rows ≡ how_many_listen x t.channel rows - 1 = omega (arith, one) in
       (omega (arith, one), counted-all rows c all ∙ ap (λ (n : ℕ). plain_by n c) left)
 
--- the senders of a whole cycle reach all: what holds of all holds of one that sends
-pub among-all : (P : NodeRow → Type 0) (x : Setting) (rows : List NodeRow) (node : ℕ) (channel : Channel) (row : NodeRow) → All P rows → sending_row_by x (row_in rows node) node channel ≡ Some row → P row
-among-all P x rows node channel row all is = found rows all (sends x (row_in rows node) node channel row is).0
+-- what holds of all senders holds of one that sends, and it can
+among-all : (P : NodeRow → Type 0) (x : Setting) (rows : List NodeRow) (node : ℕ) (channel : Channel) (row : NodeRow) → All P rows → sending_row_by x (row_in rows node) node channel ≡ Some row →
+    P row × (can_send x channel row ≡ true)
+among-all P x rows node channel row all is =
+    let does = sends x (row_in rows node) node channel row is in
+    (found rows all does.0, sender_can x node channel row (named rows node row does.0) does.1)
   where
     found : (rs : List NodeRow) → All P rs → row_in rs node ≡ Some row → P row
     found [] every at = absurd (cc)
@@ -258,8 +276,8 @@ module _ (f : RunInputs) (air : Air) (memory : MemoryView) (reach : Reach) (node
   by_row counted None has is sent = absurd (cc)
   by_row counted (Some row) has is sent =
       let rows : List NodeRow = map node_row_of nodes in
-      let P : NodeRow → Type 0 = λ sender. All (Reaches f air.turn.now.cycle sender) rows in
-      let all : P row = among-all P (setting_in f) rows air.sender.now.node air.turn.now.channel row whole.all sent in
+      let found = among-all (ReachesAll f air.turn.now.cycle rows) (setting_in f) rows air.sender.now.node air.turn.now.channel row whole.all sent in
+      let all : All (Reaches f air.turn.now.cycle row air.turn.now.channel) rows = found.0 air.turn.now.channel found.1 in
       let counts = plain-all f air memory row on some plain has rows counted whole.apart.ascending sent all in
       let hear : known ≡ how_many_listen (setting_in f) air.turn.now.channel rows = whole.listening air.turn.now.channel in (
         omega (arith, hear, counts.0),

@@ -1,10 +1,11 @@
 ghost use Rattle.std.specs.Prelude.{◌≡◌, ℕ, true, All, List};
+ghost use Rattle.fr_base.specs.States.{is_halted};
 ghost use Rattle.fr_base.specs.declared.channel.Channel.{Channel};
 ghost use Rattle.fr_base.specs.declared.node_row.NodeRow.{NodeRow};
 ghost use Rattle.fr_air.specs.declared.files.RunInputs.{RunInputs};
 ghost use Rattle.fr_air.specs.Files.{setting_in};
 ghost use Rattle.fr_air.specs.Lines.{IsRoomOf};
-ghost use Rattle.fr_air.specs.Reaching.{how_many_listen, listening_on, listens, AreRowsApart, IsReach, Reaches, ReachesOn};
+ghost use Rattle.fr_air.specs.Reaching.{can_send, how_many_listen, listening_on, listens, AreRowsApart, IsReach, Reaches, ReachesAll, ReachesOn};
 ghost use Rattle.fr_air.specs.Sending.{IsEarlyRow};
 
 use crate::files::RunInputs;
@@ -38,6 +39,20 @@ fn count_listening(files: &RunInputs, channel: Channel, rows: &[NodeRow]) -> usi
         .count()
 }
 
+// Whether a node with this row sends on a channel.
+fn can_send(files: &RunInputs, channel: Channel, row: &NodeRow) -> bool
+    ensures { result ≡ can_send (setting_in files.now) channel row.now }
+{
+    matches!(row.state, State::Active) && files.params.common(row.node, row.node, channel)
+}
+
+// Whether a node with this row is halted.
+fn is_halted(row: &NodeRow) -> bool
+    ensures { result ≡ is_halted row.now.state }
+{
+    matches!(row.state, State::Halt)
+}
+
 // Whether what a sender sends on a channel comes to a receiver inside of its slots, with nothing done to it.
 fn reaches_on(
     files: &RunInputs,
@@ -62,18 +77,64 @@ fn reaches_on(
     comes_inside(&files.params, room, sender, receiver, delay)
 }
 
-// The same on both channels.
-fn reaches(files: &RunInputs, room: &Room, cycle: u32, sender: &NodeRow, receiver: &NodeRow) -> bool
+// The same, if the receiver is not halted.
+fn reaches(
+    files: &RunInputs,
+    room: &Room,
+    cycle: u32,
+    sender: &NodeRow,
+    channel: Channel,
+    receiver: &NodeRow,
+) -> bool
     requires room { IsRoomOf files.now.params room.now }
     requires sender { IsEarlyRow files.now.params sender.now }
     requires receiver { IsEarlyRow files.now.params receiver.now }
-    ensures { result ≡ true → Reaches files.now cycle sender.now receiver.now }
+    ensures { result ≡ true → Reaches files.now cycle sender.now channel receiver.now }
 {
-    reaches_on(files, room, cycle, sender, receiver, Channel::A)
-        && reaches_on(files, room, cycle, sender, receiver, Channel::B)
+    is_halted(receiver) || reaches_on(files, room, cycle, sender, receiver, channel)
 }
 
 // The same at all receivers.
+fn reaches_each(
+    files: &RunInputs,
+    room: &Room,
+    cycle: u32,
+    sender: &NodeRow,
+    channel: Channel,
+    rows: &[NodeRow],
+) -> bool
+    requires room { IsRoomOf files.now.params room.now }
+    requires sender { IsEarlyRow files.now.params sender.now }
+    requires rows { All (IsEarlyRow files.now.params) rows.now }
+    ensures { result ≡ true → All (Reaches files.now cycle sender.now channel) rows.now }
+{
+    for row in rows {
+        if !reaches(files, room, cycle, sender, channel, row) {
+            return false;
+        }
+    }
+    true
+}
+
+// The same, if the sender sends on the channel.
+fn reaches_if_sent(
+    files: &RunInputs,
+    room: &Room,
+    cycle: u32,
+    sender: &NodeRow,
+    channel: Channel,
+    rows: &[NodeRow],
+) -> bool
+    requires room { IsRoomOf files.now.params room.now }
+    requires sender { IsEarlyRow files.now.params sender.now }
+    requires rows { All (IsEarlyRow files.now.params) rows.now }
+    ensures { result ≡ true → can_send (setting_in files.now) channel sender.now ≡ true →
+        All (Reaches files.now cycle sender.now channel) rows.now }
+{
+    !can_send(files, channel, sender) || reaches_each(files, room, cycle, sender, channel, rows)
+}
+
+// The same on both channels.
 fn reaches_all(
     files: &RunInputs,
     room: &Room,
@@ -84,21 +145,17 @@ fn reaches_all(
     requires room { IsRoomOf files.now.params room.now }
     requires sender { IsEarlyRow files.now.params sender.now }
     requires rows { All (IsEarlyRow files.now.params) rows.now }
-    ensures { result ≡ true → All (Reaches files.now cycle sender.now) rows.now }
+    ensures { result ≡ true → ReachesAll files.now cycle rows.now sender.now }
 {
-    for row in rows {
-        if !reaches(files, room, cycle, sender, row) {
-            return false;
-        }
-    }
-    true
+    reaches_if_sent(files, room, cycle, sender, Channel::A, rows)
+        && reaches_if_sent(files, room, cycle, sender, Channel::B, rows)
 }
 
 // The same of all senders.
 fn all_reach(files: &RunInputs, room: &Room, cycle: u32, rows: &[NodeRow]) -> bool
     requires room { IsRoomOf files.now.params room.now }
     requires rows { All (IsEarlyRow files.now.params) rows.now }
-    ensures { result ≡ true → All (λ sender. All (Reaches files.now cycle sender) rows.now) rows.now }
+    ensures { result ≡ true → All (ReachesAll files.now cycle rows.now) rows.now }
 {
     for row in rows {
         if !reaches_all(files, room, cycle, row, rows) {
@@ -110,13 +167,13 @@ fn all_reach(files: &RunInputs, room: &Room, cycle: u32, rows: &[NodeRow]) -> bo
 
 // Whether a cluster has so many further slots that it saves time to look at all pairs of nodes before a cycle.
 fn is_worth(params: &Params, rows: &[NodeRow]) -> bool {
-    params.slots.len() >= rows.len() / 4
+    params.slots.len() >= rows.len() - rows.len() / 4
 }
 
 // Whether what each of these nodes sends comes to all of them inside of its slots, with nothing done to it.
 fn is_whole(files: &RunInputs, cycle: u32, rows: &[NodeRow]) -> bool
     requires { All (IsEarlyRow files.now.params) rows.now }
-    ensures { result ≡ true → All (λ sender. All (Reaches files.now cycle sender) rows.now) rows.now }
+    ensures { result ≡ true → All (ReachesAll files.now cycle rows.now) rows.now }
 {
     if !is_worth(&files.params, rows) {
         return false;

@@ -1,19 +1,13 @@
-use Rattle.std.proofs.Common.{◌≤◌, List, All, length, subst, arith}
-use Rattle.std.proofs.lemmas.List.{take_all}
-use Rattle.std.proofs.lemmas.List.Elements.{All-more}
-use Rattle.fr_base.specs.declared.node_row.NodeRow.{NodeRow}
-use Rattle.fr_air.specs.Reaching.{Reaches}
+use Rattle.std.proofs.Common.{◌≡◌, All, true}
+use Rattle.fr_base.specs.declared.channel.Channel.{Channel}
+use Rattle.fr_base.specs.declared.channel.Channel.TheVariants.{A, B}
+use Rattle.fr_air.specs.Files.{setting_in}
+use Rattle.fr_air.specs.Reaching.{can_send, Reaches}
 use Rattle.fr_air.proofs.reach.reaches_all.Goals as goal
 
-pub loop-row-preserved : goal.loop-row-preserved
-loop-row-preserved c =
-    let Has : NodeRow → Type 0 = Reaches c.args.files.now c.args.cycle c.args.sender.now in
-    All-more Has c.args.rows.now c.loop-row.row-index c.row-item.result c.loop-row-test.true c.loop-row.invariant
-    (subst Has c.row-item.is (c.reaches.ensures c.if-not-reaches.false))
-
-pub returns : goal.returns
-returns c held =
-    let rows = c.args.rows.now in
-    let done : length rows ≤ c.loop-row.row-index = omega arith in
-    let Has : List NodeRow → Type 0 = All (Reaches c.args.files.now c.args.cycle c.args.sender.now) in
-    subst Has (take_all c.loop-row.row-index rows done) c.loop-row.invariant
+pub returns-then-reaches_if_sent : goal.returns-then-reaches_if_sent
+returns-then-reaches_if_sent c is = by
+  where
+    by : (channel : Channel) → can_send (setting_in c.args.files.now) channel c.args.sender.now ≡ true → All (Reaches c.args.files.now c.args.cycle c.args.sender.now channel) c.args.rows.now
+    by A = c.reaches_if_sent.ensures c.if-reaches_if_sent.true
+    by B = c.reaches_if_sent-then-reaches_if_sent.ensures is
