@@ -329,6 +329,20 @@ class Studies(Bench):
         self.assertEqual(set(calls), {"run", "bound"})
         self.assertIn("another study", self.flexlab(*words, "-o", "short", status=2)[1])
 
+    def test_figures_by_one_call(self):
+        """A run is one call of flexray, and its bounds are asked for by none."""
+        counting = self.write("counting", f"#!/bin/sh\necho \"$1 ${{5-}}\" >>{self.path('calls')}\nexec {FLEXRAY} \"$@\"\n")
+        os.chmod(counting, 0o755)
+        self.write("a.toml", SHORT)
+        words = ("study", "a.toml", "--vary", "values.drift", "--values", "50,250", "--keep", "none", "--figures", "sharp")
+        out = self.flexlab(*words, "-o", "one", "--flexray", counting)[0]
+        self.assertEqual(self.read("calls"), "run sharp\n" * 2)
+        self.assertIn("; skew in sharp sync ", out)
+        self.assertIn("another study", self.flexlab(*words[:-2], "-o", "one", status=2)[1])
+        # Where that call fails, the run is told as it is elsewhere.
+        failing = self.flexlab("study", "a.toml", "--vary", "cluster.gdNIT", "--values", "2001", "--figures", "sharp", "-o", "f", status=1)[0]
+        self.assertIn("params: constraint 1", failing)
+
     @needs("parallel")
     @needs("gnuplot")
     def test_the_picture(self):
@@ -374,7 +388,7 @@ class AsBefore(Bench):
     """Studies of which studies/ has the results as they were when each run was made with its trace: by the programs with and without
     flexray-series, byte for byte. The column of seconds is empty there."""
 
-    def results(self, name, env):
+    def results(self, name, env, *more):
         folder = name + ".study"
         toml = [f"{name}.toml"] if os.path.exists(os.path.join(STUDIES, f"{name}.toml")) else []
         for file in toml:
@@ -383,7 +397,7 @@ class AsBefore(Bench):
         with open(os.path.join(STUDIES, f"{name}.words"), encoding="utf-8") as file:
             words = file.read().split("\n")[:-1]
         env = {**os.environ, "FLEXRAY": FLEXRAY, "FLEXLAB_LIBRARY": "no", **env}
-        subprocess.run([sys.executable, FLEXLAB, "study", *toml, *words, "--keep", "none", "-o", folder, "--jobs", "2"], cwd=self.room,
+        subprocess.run([sys.executable, FLEXLAB, "study", *toml, *words, *more, "--keep", "none", "-o", folder, "--jobs", "2"], cwd=self.room,
                        env=env, capture_output=True, check=False)
         with open(self.path(folder, "study.csv"), "rb") as file:
             data = file.read()
@@ -429,6 +443,29 @@ class AsBefore(Bench):
         for name in self.names():
             with self.subTest(name=name):
                 self.assertEqual(self.results(name, {"FLEXLAB_LIBRARY": "yes"}), self.wanted(name, "series"))
+
+    def test_by_one_call_each(self):
+        """With the figures of the sharper bounds alone the columns are the same, but for those that need the skew of each cycle, which
+        are empty; two of these are there where the report tells them."""
+        seen = dict.fromkeys(("skew_in_sync_us", "in_sync_at_end", "sharp_skew_us"), 0)
+        for name in self.names():
+            if name == "made":
+                continue
+            with self.subTest(name=name):
+                wanted = list(csv.DictReader(io.StringIO(self.wanted(name, "series").decode("utf-8"))))
+                rows = list(csv.DictReader(io.StringIO(self.results(name, {"FLEXRAY_SERIES": ""}, "--figures", "sharp").decode("utf-8"))))
+                self.assertEqual(len(rows), len(wanted))
+                for row, full in zip(rows, wanted):
+                    for column, value in full.items():
+                        if column.startswith(("later_", "cycles_")):
+                            self.assertIn(row.get(column, ""), ("",), column)
+                        elif column in ("skew_in_sync_us", "percent_of_precision", "in_sync_at_end"):
+                            self.assertIn(row[column], ("", value), column)
+                        else:
+                            self.assertEqual(row[column], value, column)
+                    for column in seen:
+                        seen[column] += row[column] != ""
+        self.assertGreater(min(seen.values()), 10, seen)
 
     def test_clusters_that_are_read_again(self):
         """They are those that are read anew, and so are refusals."""

@@ -33,10 +33,10 @@ def curves(plan: Plan, good: list[Line]) -> list[Curve]:
     return [Curve(name, sorted(best.items(), key=lambda one: Fraction(one[0]))) for name, best in found.items()]
 
 
-def row(x: str, line: Line) -> str:
+def row(x: str, line: Line, later: str) -> str:
     """A line of the data: x, the precision, the skews in sync, greatest and later, and that of a run that is not covered."""
     greatest = line["greatest_skew_us"]
-    return (f"{x} {line['precision_us']} {line['skew_in_sync_us'] or 'NaN'} {greatest} {line.get('later_skew_us') or 'NaN'} "
+    return (f"{x} {line['precision_us']} {line['skew_in_sync_us'] or 'NaN'} {greatest} {line.get(later) or 'NaN'} "
             f"{'NaN' if line['covered'] == 'yes' else greatest}\n")
 
 
@@ -52,8 +52,11 @@ def picture(folder: str, plan: Plan, lines: dict[int, Line]) -> list[str]:
         title += f", the worst of {plan['draws']} draws"
     joined = "points" if "make" in plan else "linespoints"
     blocks, plots = [], []
+    # Without the skew of each cycle that in sharp sync stands in the place of the later one.
+    later, what = ("later_skew_us", "later skew") if any(line.get("later_skew_us") for line in good) else (
+        "sharp_skew_us", "skew in sharp sync")
     for at, (name, points_) in enumerate(drawn[:8]):
-        rows = "".join(row(x, line) for x, line in points_)
+        rows = "".join(row(x, line, later) for x, line in points_)
         blocks.append(f"$runs{at} << end\n{rows}end\n")
         if len(drawn) == 1:
             plots += [f"$runs{at} using 1:2 title 'precision' with lines linewidth 2 linecolor '#b00020'",
@@ -63,8 +66,8 @@ def picture(folder: str, plan: Plan, lines: dict[int, Line]) -> list[str]:
             if any(line["covered"] != "yes" for line in good):
                 plots.append(f"$runs{at} using 1:6 title 'not covered' with points pointtype 2 pointsize 1.6 "
                              "linecolor '#b00020'")
-        if any(line.get("later_skew_us") for _, line in points_):
-            names[f"curve{at}"] = "later skew" + (f", {name}" if name else "")
+        if any(line.get(later) for _, line in points_):
+            names[f"curve{at}"] = what + (f", {name}" if name else "")
             plots.append(f"$runs{at} using 1:5 title curve{at} noenhanced with {joined} "
                          f"pointtype 7 pointsize 0.6 linecolor '{COLOURS[(at + 2) % len(COLOURS)]}'")
     if not plots:

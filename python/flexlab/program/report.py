@@ -120,7 +120,16 @@ class Report:
 
 
 def read_report(text: str) -> Report:
-    told = understood(texts.report, "report", text)
+    return report_of(understood(texts.report, "report", text))
+
+
+def read_sharp_report(text: str) -> tuple[results.SharpReport, Report]:
+    """What `run PARAMS DRIFT SCRIPT sharp` printed: what the sharper bounds say of the run, and its report."""
+    told = understood(texts.sharp_report, "report", text)
+    return told, report_of(told.report)
+
+
+def report_of(told: results.Report) -> Report:
     sent = {channel: Sent(one.frames, f"{one.xor:06X}") for channel, one in (("A", told.sent_a), ("B", told.sent_b))}
     ends = {end.node: NodeEnd(end.state, end.next, end.rate, end.offset) for end in told.ends}
     return Report(told.nodes, told.sync, told.arbitrary, told.doubles, told.precision, None if told.covered else list(told.gap),

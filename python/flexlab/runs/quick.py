@@ -1,13 +1,17 @@
 """A run of a study by what flexray and flexray-series print of it, without a trace: so the figures of a run that keeps no files cost
-what these two need. Where they do not suffice, a run is one as `run` makes it."""
+what these two need, and by the sharper bounds alone what one call of flexray does. Where they do not suffice, a run is one as `run`
+makes it."""
 import operator
 import os
 from collections.abc import Callable, Iterable
+from typing import NamedTuple
+
+from flexray.results import SharpReport
 
 from ..base import ranges
 from ..base.files import delay_lines, length_lines, parameter_lines, script_lines, start_lines
 from ..program import calls as programs
-from ..program.report import Bounds, Report, Series, SharpBounds, Skew, read_report, read_series, read_sharp_bounds
+from ..program.report import Bounds, Report, Series, SharpBounds, Skew, read_report, read_series, read_sharp_bounds, read_sharp_report
 from ..toml.again import Again
 from ..toml.cluster import Cluster
 from .runs import Run
@@ -105,10 +109,30 @@ def run_of(cluster: Cluster, caller: Caller, begin: int | None, is_short: bool =
     return with_series(run, series) if series is not None else None
 
 
-def skew_of(report: Report) -> Skew | None:
-    """The greatest skew where it lies in sync."""
-    known = report.in_sync is not None and report.cycle >= 2 * report.in_sync
-    return Skew(report.skew, report.cycle, report.macrotick) if known else None
+class Short(NamedTuple):
+    """A run by one call: its report, and what the sharper bounds say of it."""
+    report: Report
+    sharp: SharpReport
+
+
+def short_of(cluster: Cluster, caller: Caller) -> Short | None:
+    """That of a run; None where the call fails, or delays flutter by more than flexray bound takes, which the longer way then tells."""
+    texts = caller.texts(cluster)
+    printed = caller.answer(caller.program, ["run", *NAMES, "sharp"], texts) if texts else None
+    if printed is None:
+        return None
+    told, report = read_sharp_report(printed)
+    return Short(report, told) if told.flutter <= MOST else None
+
+
+def skew_of(report: Report, since: int | None = None, greatest: Skew | None = None) -> Skew | None:
+    """The greatest skew in sync, where that of the run lies in sync, or that since an earlier double cycle does."""
+    if report.in_sync is None:
+        return None
+    if report.cycle >= 2 * report.in_sync:
+        return Skew(report.skew, report.cycle, report.macrotick)
+    known = greatest is not None and since is not None and since <= report.in_sync and greatest.cycle >= 2 * report.in_sync
+    return greatest if known else None
 
 
 def with_series(run: Run, series: Series) -> Run | None:

@@ -40,6 +40,7 @@ from .runs import Run
 from .windows import Window
 
 if TYPE_CHECKING:
+    from flexray.results import SharpReport
     from ..toml.cluster import Cluster
     from .quick import Caller
 
@@ -62,7 +63,7 @@ COLUMNS = ("status", "covered", "in_sync_double", "in_sync_at_end", "precision_u
 # Columns of numbers, of which each may be empty.
 NUMBERS = tuple(name for name in COLUMNS if name.endswith("_us"))
 # By which column runs are the worst: the first that a run has.
-WORST = ("later_skew_us", "skew_in_sync_us", "greatest_skew_us")
+WORST = ("later_skew_us", "sharp_skew_us", "skew_in_sync_us", "greatest_skew_us")
 MOST = 10000000
 MOST_RESULTS = 16 << 30
 LONGEST_PLAN = 90000
@@ -228,7 +229,8 @@ def told_line(line: Line) -> str:
         sync += ", not at the end"
     skew = (f"skew in sync {line['skew_in_sync_us']} us ({line['percent_of_precision']} % of the precision)"
             if line["skew_in_sync_us"] else f"greatest skew {line['greatest_skew_us']} us, before sync")
-    later = f", later {line['later_skew_us']} us" if line.get("later_skew_us") else ""
+    later = (f", later {line['later_skew_us']} us" if line.get("later_skew_us") else
+             f", in sharp sync {line['sharp_skew_us']} us" if line.get("sharp_skew_us") else "")
     gap = f" ({line['gap']})" if line["gap"] else ""
     sharply = f", sharply covered {line['sharply_covered']}" if line.get("sharply_covered") else ""
     return f"{sync}, covered {line['covered']}{gap}, {skew}{later}{sharply}"
@@ -265,6 +267,22 @@ def sharply(run: Run, unit: Fraction) -> Line:
     return {**found, "sharp_precision_us": decimal(us_of_ticks(run.sharp.bounds.precision, unit), 6),
             "in_sharp_sync_double": "never" if first is None else first,
             "sharp_skew_us": "" if skew is None else decimal(us_of_ticks(skew.ticks, unit), 6)}
+
+
+def sharply_told(told: "SharpReport", unit: Fraction) -> Line:
+    """The same by what flexray prints of them in front of a report."""
+    return {"sharply_covered": "yes" if told.covered else "no", "sharp_gap": "" if told.covered else " ".join(told.gaps[0]),
+            "sharp_precision_us": decimal(us_of_ticks(told.precision, unit), 6),
+            "in_sharp_sync_double": "never" if told.in_sync is None else told.in_sync,
+            "sharp_skew_us": "" if told.greatest is None else decimal(us_of_ticks(told.greatest.ticks, unit), 6)}
+
+
+def known_end(run_report: Report, joins: bool) -> bool | None:
+    """Whether clocks are in sync at the end of a run, where its report tells; a covered run that came into sync stays so: that is
+    proved."""
+    if joins:
+        return None
+    return False if run_report.in_sync is None else True if run_report.gap is None else None
 
 
 def shortly(run: Run, unit: Fraction) -> Line:
@@ -333,26 +351,28 @@ def number_said(text: str) -> Fraction:
 def measure(plan: Plan, values: Sequence[str], number: int, folder: str | None) -> tuple[Line, dict[str, str]]:
     """(columns, what was drawn) of a run; where a folder keeps it, or it has no series, it is one as `run` makes it."""
     from ..program.report import read_report
-    from .quick import run_of
+    from .quick import run_of, skew_of
     from .runs import answer
     from .windows import begin_of, later, ranges_of, windows
     if "make" in plan:
         report = read_report(answer(plan["flexray"], ["make", values[0], str(plan["make"])]))
-        known = report.in_sync is not None and report.cycle >= 2 * report.in_sync
-        # A covered run that came into sync stays so: that is proved.
+        known = skew_of(report)
         at_end = True if report.in_sync is not None and report.gap is None else None
-        return measured(report, MAKE_NS, report.skew if known else None, at_end), {}
+        return measured(report, MAKE_NS, known.ticks if known else None, at_end), {}
     caller = caller_of(plan)
     changes = {key: number_said(value) for key, value in zip(plan["keys"], values)}
     cluster = caller.clusters.cluster(changes, (plan["seed"], number))
     spans = ranges_of(plan.get("cycles") or "", cluster)
     begin = begin_of(plan.get("from"), cluster)
-    is_short = plan.get("figures") == "report"
+    figures = plan.get("figures")
+    unit, more = cluster.microtick_ns, {name: written(value) for name, value in cluster.drawn.items()}
+    if figures == "sharp":
+        return sharp_measure(cluster, plan, begin, folder), more
+    is_short = figures == "report"
     run = None if folder and not is_short else run_of(cluster, caller, begin, is_short)
     if run is None or folder:
         whole_run = run_whole(cluster, plan, begin, folder)
         run = run or whole_run
-    unit, more = cluster.microtick_ns, {name: written(value) for name, value in cluster.drawn.items()}
     for one in windows(run, spans) if spans and not is_short else ():
         for name, ticks in (("greatest", Fraction(one.greatest)), ("99", Fraction(one.most)), ("mean", one.mean)):
             more[f"cycles_{one.first}-{one.last}_{name}_us"] = decimal(us_of_ticks(ticks, unit), 6)
@@ -361,6 +381,20 @@ def measure(plan: Plan, values: Sequence[str], number: int, folder: str | None) 
         return {**measured(run.report, unit, in_sync_skew, None), **shortly(run, unit)}, more
     found = measured(run.report, unit, in_sync_skew, run.at_end, later(run, run.begin))
     return {**found, **sharply(run, unit)}, more
+
+
+def sharp_measure(cluster: "Cluster", plan: Plan, begin: int | None, folder: str | None) -> Line:
+    """The columns that `flexray run .. sharp` prints, of a run by that one call; its files where a folder keeps it."""
+    from .quick import short_of, skew_of
+    unit, short = cluster.microtick_ns, short_of(cluster, caller_of(plan))
+    whole_run = run_whole(cluster, plan, begin, folder) if folder or short is None else None
+    if short is not None:
+        report, first, greatest, columns = short.report, short.sharp.in_sync, short.sharp.greatest, sharply_told(short.sharp, unit)
+    else:
+        assert whole_run is not None
+        report, first, greatest, columns = whole_run.report, sharp.first_of(whole_run), sharp.skew_of(whole_run), sharply(whole_run, unit)
+    skew = skew_of(report, first, greatest)
+    return {**measured(report, unit, skew.ticks if skew else None, known_end(report, bool(cluster.joins))), **columns}
 
 
 def run_folder(folder: str, number: int) -> str:
@@ -626,7 +660,8 @@ def summary(folder: str, plan: Plan, lines: dict[int, Line]) -> None:
     name = next(name for name in WORST if order[0].get(name))
     values = sorted(worth(line) for line in order)
     most = values[-(-99 * len(values) // 100) - 1]
-    what = {"later_skew_us": "later skew", "skew_in_sync_us": "skew in sync", "greatest_skew_us": "greatest skew"}[name]
+    what = {"later_skew_us": "later skew", "sharp_skew_us": "skew in sharp sync", "skew_in_sync_us": "skew in sync",
+            "greatest_skew_us": "greatest skew"}[name]
     print(f"{'Runs':<16}{len(order)} of {count_of(plan)}, {both}; {what} {decimal(values[-1], 3)} us at "
           f"most, 99 % of runs within {decimal(most, 3)} us, the mean is {decimal(sum(values, Fraction(0)) / len(values), 3)} us")
     worst = order[0]
