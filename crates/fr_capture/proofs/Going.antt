@@ -3,12 +3,12 @@ use Rattle.std.specs.Prelude.{All, codes}
 use Rattle.std.specs.Fmt.{decimal}
 use Rattle.std.proofs.Common.{◌≡◌, ℕ, zero, suc, ◌+◌, ◌-◌, ◌^◌, ◌≤◌, ◌<◌, List, [], ◌∷◌, ◌++◌, length, take, drop, Option, Some, None, Result, Ok, Err, refl, ap, sym, ◌∙◌, subst, inl, inr, ◌⊎◌, lit<, arith, length-append, length-drop, append_assoc, append-nil, take-append-drop}
 use Rattle.std.specs.Result.{IsErr}
-use Rattle.std.proofs.Math.Seq.{take-add}
+use Rattle.std.proofs.Math.Seq.{take-add, take-append_seam}
 use Rattle.std.proofs.lemmas.List.{take-take, take_all, length-take-le}
 use Rattle.fr_base.specs.Device.{IsEnded, Puts, Sunk}
 use Rattle.fr_base.specs.declared.sink.PutFault.{PutFault}
 use Rattle.fr_base.specs.declared.channel.Channel.{Channel}
-use Rattle.fr_base.proofs.Putting.{cut, then, puts_none}
+use Rattle.fr_base.proofs.Putting.{cut, then}
 use Rattle.fr_crc.specs.Computed.{frame_crc_of}
 use Rattle.fr_crc.proofs.Existence.{a_header_crc, a_frame_crc}
 use Rattle.fr_crc.proofs.Unique.{header_crc_is_one, frame_crc_is_one}
@@ -26,11 +26,13 @@ use Rattle.fr_capture.proofs.Beginning.{fault_of_few, no_fault}
 use Rattle.fr_capture.proofs.Filling.{nothing_begins, stopped_stays, whole_frames}
 use Rattle.fr_capture.proofs.Standing.{frames_are, frames_are_one, front_of_frames, rest_begins_none, stand_more}
 use Rattle.fr_capture.proofs.Walking.{frames_found}
+use Rattle.fr_program.specs.Gathered.{Gathers, PutsOn}
+use Rattle.fr_program.proofs.Gathering.{gathers_end, gathers_none, gathers_then}
 use Rattle.fr_text.specs.Numerals.{hexadecimal}
 use Rattle.fr_capture.specs.CaptureText.{PutsFrames, WasFed, capture_text, closed_by, closing_text, found_line, frames_text, fresh_capture, line_at, shown_text}
 
--- what a capture was fed of bytes so far, and what was put of their frames
-pub record Going (channel : Channel) (capture : CaptureView) (bytes : List ℕ) (done count : ℕ) (before after : Sunk) : Type 0 where
+-- what a capture was fed of bytes so far, and what was put of their frames, or waits
+pub record Going (channel : Channel) (capture : CaptureView) (bytes waits : List ℕ) (done count : ℕ) (before after : Sunk) : Type 0 where
   pub within : done ≤ length bytes
   pub same : capture.channel ≡ channel
   pub fed : List ℕ
@@ -38,7 +40,7 @@ pub record Going (channel : Channel) (capture : CaptureView) (bytes : List ℕ) 
   pub stands : StandsFor capture fed
   pub counted : count ≡ length stands.frames
   pub few : count ≤ done
-  pub put : Puts (Ok tt) before after (frames_text channel stands.frames)
+  pub put : PutsOn [] waits before after (frames_text channel stands.frames)
 
 -- the lines of some frames and of others after them
 frames_text-append : (channel : Channel) (frames others : List Found) → frames_text channel (frames ++ others) ≡ frames_text channel frames ++ frames_text channel others
@@ -46,8 +48,8 @@ frames_text-append channel [] others = refl
 frames_text-append channel (f ∷ frames) others =
     ap (λ (xs : List ℕ). found_line channel f ++ xs) (frames_text-append channel frames others) ∙ sym (append_assoc (found_line channel f) (frames_text channel frames) (frames_text channel others))
 
-pub going_none : (channel : Channel) (capture : CaptureView) (bytes : List ℕ) (at : Sunk) → capture ≡ fresh_capture channel → Going channel capture bytes 0 0 at at
-going_none channel capture bytes at is = subst (λ (c : CaptureView). Going channel c bytes 0 0 at at) (sym is) (record {
+pub going_none : (channel : Channel) (capture : CaptureView) (bytes waits : List ℕ) (at : Sunk) → waits ≡ [] → capture ≡ fresh_capture channel → Going channel capture bytes waits 0 0 at at
+going_none channel capture bytes waits at none is = subst (λ (c : CaptureView). Going channel c bytes waits 0 0 at at) (sym is) (record {
   within = omega arith;
   same = refl;
   fed = [];
@@ -55,7 +57,7 @@ going_none channel capture bytes at is = subst (λ (c : CaptureView). Going chan
   stands = record { frames = []; are = frames_are channel [] [] [] refl (nothing_begins channel); placed = refl };
   counted = refl;
   few = omega arith;
-  put = puts_none at;
+  put = subst (λ (l : List ℕ). PutsOn [] l at at []) (sym none) (gathers_none [] at);
 })
 
 -- the bytes that are used of the next piece
@@ -104,10 +106,10 @@ piece-length bytes done end later within =
     omega (arith, long)
 
 -- it was fed, and no frame was completed
-pub going_on : (channel : Channel) (capture after : CaptureView) (bytes : List ℕ) (done end count used : ℕ) (a b : Sunk) → (going : Going channel capture bytes done count a b) → done ≤ end → end ≤ length bytes →
+pub going_on : {waits : List ℕ} (channel : Channel) (capture after : CaptureView) (bytes : List ℕ) (done end count used : ℕ) (a b : Sunk) → (going : Going channel capture bytes waits done count a b) → done ≤ end → end ≤ length bytes →
     used ≤ length (piece_of bytes done end) → ((bs : List ℕ) → StandsFor capture bs → StandsFor after (bs ++ take used (piece_of bytes done end))) → after.channel ≡ capture.channel →
-    IsUnfinished capture after (piece_of bytes done end) used → Going channel after bytes (done + used) count a b
-going_on channel capture after bytes done end count used a b going later within few goes_on same unfinished =
+    IsUnfinished capture after (piece_of bytes done end) used → Going channel after bytes waits (done + used) count a b
+going_on {waits = waits} channel capture after bytes done end count used a b going later within few goes_on same unfinished =
     let taken : List ℕ = take used (piece_of bytes done end) in
     let they : StandsFor after (going.fed ++ taken) = goes_on going.fed going.stands in
     let part = used_of bytes done end used within few later in
@@ -120,7 +122,7 @@ going_on channel capture after bytes done end count used a b going later within 
       stands = they;
       counted = going.counted ∙ ap length (sym frames);
       few = omega (arith, going.few);
-      put = subst (λ (fs : List Found). Puts (Ok tt) a b (frames_text channel fs)) (sym frames) going.put;
+      put = subst (λ (fs : List Found). PutsOn [] waits a b (frames_text channel fs)) (sym frames) going.put;
     }
 
 -- the text of one frame more
@@ -139,7 +141,7 @@ pub record OneMore (channel : Channel) (capture after : CaptureView) (bytes fed 
   pub long : length stands.frames ≡ length frames + 1
   pub text : frames_text channel stands.frames ≡ frames_text channel frames ++ line
 
-pub completed : (channel : Channel) (capture after : CaptureView) (bytes : List ℕ) (done end count used place : ℕ) (a b : Sunk) → (going : Going channel capture bytes done count a b) → done ≤ end → end ≤ length bytes →
+pub completed : {waits : List ℕ} (channel : Channel) (capture after : CaptureView) (bytes : List ℕ) (done end count used place : ℕ) (a b : Sunk) → (going : Going channel capture bytes waits done count a b) → done ≤ end → end ≤ length bytes →
     used ≤ length (piece_of bytes done end) → ((bs : List ℕ) → StandsFor capture bs → StandsFor after (bs ++ take used (piece_of bytes done end))) → after.channel ≡ capture.channel →
     IsCompleted capture after (take used (piece_of bytes done end)) place → (header : Header) (payload : List ℕ) (header_crc crc : ℕ) → IsFrameWith after.channel header payload header_crc crc after.kept →
     OneMore channel capture after bytes (going.fed ++ take used (piece_of bytes done end)) (line_at place header crc) going.stands.frames (done + used)
@@ -178,9 +180,9 @@ completed_moves capture after piece zero place whole header payload header_crc c
     absurd cc
 
 -- its line was put
-pub going_more : (channel : Channel) (capture after : CaptureView) (bytes fed line : List ℕ) (frames : List Found) (done next count : ℕ) (a b c : Sunk) → OneMore channel capture after bytes fed line frames next →
-    count ≡ length frames → count ≤ done → done + 1 ≤ next → Puts (Ok tt) a b (frames_text channel frames) → Puts (Ok tt) b c line → Going channel after bytes next (count + 1) a c
-going_more channel capture after bytes fed line frames done next count a b c more counted few later so_far put = record {
+pub going_more : {v w : List ℕ} (channel : Channel) (capture after : CaptureView) (bytes fed line : List ℕ) (frames : List Found) (done next count : ℕ) (a b c : Sunk) → OneMore channel capture after bytes fed line frames next →
+    count ≡ length frames → count ≤ done → done + 1 ≤ next → PutsOn [] v a b (frames_text channel frames) → Gathers (Ok tt) v w b c line → Going channel after bytes w next (count + 1) a c
+going_more {w = w} channel capture after bytes fed line frames done next count a b c more counted few later so_far put = record {
   within = more.within;
   same = more.same;
   fed = fed;
@@ -188,7 +190,7 @@ going_more channel capture after bytes fed line frames done next count a b c mor
   stands = more.stands;
   counted = omega (arith, counted, more.long);
   few = omega arith;
-  put = subst (λ (text : List ℕ). Puts (Ok tt) a c text) (sym more.text) (then (Ok tt) so_far put);
+  put = subst (λ (text : List ℕ). PutsOn [] w a c text) (sym more.text) (gathers_then (Ok tt) so_far put).whole;
 }
 
 -- the line of a frame ends with a line feed
@@ -222,17 +224,17 @@ begins_text channel capture bytes fed done small same fed_is stands =
     )
 
 -- a put failed
-pub going_cut : (channel : Channel) (capture after : CaptureView) (bytes fed line : List ℕ) (frames : List Found) (next : ℕ) (a b c : Sunk) (why : PutFault) (result : Result ℕ PutFault) → All (λ b. b < 2 ^ 8) bytes →
-    OneMore channel capture after bytes fed line frames next → Puts (Ok tt) a b (frames_text channel frames) → Puts (Err why) b c line → IsErr result → PutsFrames after channel bytes a c result
+pub going_cut : {v w : List ℕ} (channel : Channel) (capture after : CaptureView) (bytes fed line : List ℕ) (frames : List Found) (next : ℕ) (a b c : Sunk) (why : PutFault) (result : Result ℕ PutFault) → All (λ b. b < 2 ^ 8) bytes →
+    OneMore channel capture after bytes fed line frames next → PutsOn [] v a b (frames_text channel frames) → Gathers (Err why) v w b c line → IsErr result → PutsFrames after channel bytes w a c result
 going_cut channel capture after bytes fed line frames next a b c why (Ok count) small more so_far put is = absurd cc
 going_cut channel capture after bytes fed line frames next a b c why (Err other) small more so_far put is =
     let whole = begins_text channel after bytes fed next small more.same more.fed_is more.stands in
     let text : capture_text channel bytes ≡ (frames_text channel frames ++ line) ++ whole.0 = whole.1 ∙ ap (λ (xs : List ℕ). xs ++ whole.0) more.text in
-    let failed : Puts (Err why) a c (frames_text channel frames ++ line) = then (Err why) so_far put in
+    let failed : Puts (Err why) a c (frames_text channel frames ++ line) = (gathers_then (Err why) so_far put).failed in
     subst (λ (xs : List ℕ). Puts (Err other) a c xs) (sym text) (cut (Err other) whole.0 failed refl)
 
 -- all was fed
-pub going_over : (channel : Channel) (capture : CaptureView) (bytes : List ℕ) (done count : ℕ) (a b : Sunk) → (going : Going channel capture bytes done count a b) → length bytes ≤ done → WasFed channel capture bytes a b count
+pub going_over : {waits : List ℕ} (channel : Channel) (capture : CaptureView) (bytes : List ℕ) (done count : ℕ) (a b : Sunk) → (going : Going channel capture bytes waits done count a b) → length bytes ≤ done → WasFed channel capture bytes waits a b count
 going_over channel capture bytes done count a b going all = record {
   same = going.same;
   fed = going.fed;
@@ -245,8 +247,8 @@ going_over channel capture bytes done count a b going all = record {
 }
 
 -- a fault is shown
-pub going_shown : (channel : Channel) (before capture : CaptureView) (bytes : List ℕ) (done end used count : ℕ) (a b : Sunk) → (going : Going channel capture bytes (done + used) count a b) → done ≤ end → end ≤ length bytes → done + used < end →
-    IsUnfinished before capture (piece_of bytes done end) used → WasFed channel capture bytes a b count
+pub going_shown : {waits : List ℕ} (channel : Channel) (before capture : CaptureView) (bytes : List ℕ) (done end used count : ℕ) (a b : Sunk) → (going : Going channel capture bytes waits (done + used) count a b) → done ≤ end → end ≤ length bytes → done + used < end →
+    IsUnfinished before capture (piece_of bytes done end) used → WasFed channel capture bytes waits a b count
 going_shown channel before capture bytes done end used count a b going later within less unfinished = record {
   same = going.same;
   fed = going.fed;
@@ -301,7 +303,7 @@ there channel fed behind bytes rest place told s cut shown same =
     subst (λ (xs : List ℕ). (t : IsStopped channel xs place told) × (t.frames ≡ s.frames)) (sym cut) (stopped_stays channel fed behind place told s (subst IsLasting one shown.lasting))
 
 -- the capture was fed, and its end is told: this is the text
-pub closes : (channel : Channel) (capture : CaptureView) (bytes : List ℕ) (a b : Sunk) (count : ℕ) (end : Result ℕ (ℕ × CaptureFault)) → All (λ b. b < 2 ^ 8) bytes → (fed : WasFed channel capture bytes a b count) →
+pub closes : {waits : List ℕ} (channel : Channel) (capture : CaptureView) (bytes : List ℕ) (a b : Sunk) (count : ℕ) (end : Result ℕ (ℕ × CaptureFault)) → All (λ b. b < 2 ^ 8) bytes → (fed : WasFed channel capture bytes waits a b count) →
     ((bs : List ℕ) → StandsFor capture bs → IsEndOf capture.channel bs end) → capture_text channel bytes ≡ frames_text channel fed.stands.frames ++ closing_text count end
 closes channel capture bytes a b count end small fed ends =
     subst (λ (ch : Channel). capture_text ch bytes ≡ frames_text ch fed.stands.frames ++ closing_text count end) fed.same
@@ -328,8 +330,16 @@ closes channel capture bytes a b count end small fed ends =
         stopped_text capture.channel bytes stop.0 stop.1 small told.0
         ∙ ap (λ (fs : List Found). frames_text capture.channel fs ++ closing_text (length fs) (Err stop)) (told.1 ∙ same.0)
 
--- the last lines were put, too
-pub printed : (channel : Channel) (capture : CaptureView) (bytes : List ℕ) (a b c : Sunk) (count : ℕ) (end : Result ℕ (ℕ × CaptureFault)) (result : Result (Unit {0}) PutFault) → All (λ b. b < 2 ^ 8) bytes → (fed : WasFed channel capture bytes a b count) →
-    ((bs : List ℕ) → StandsFor capture bs → IsEndOf capture.channel bs end) → Puts result b c (closing_text count end) → Puts result a c (capture_text channel bytes)
-printed channel capture bytes a b c count end result small fed ends put =
-    subst (λ (text : List ℕ). Puts result a c text) (sym (closes channel capture bytes a b count end small fed ends)) (then result fed.put put)
+-- what waited was put, and the last lines were, too
+pub printed : {waits : List ℕ} (channel : Channel) (capture : CaptureView) (bytes : List ℕ) (a b m c : Sunk) (count : ℕ) (end : Result ℕ (ℕ × CaptureFault)) (result : Result (Unit {0}) PutFault) → All (λ b. b < 2 ^ 8) bytes → (fed : WasFed channel capture bytes waits a b count) →
+    ((bs : List ℕ) → StandsFor capture bs → IsEndOf capture.channel bs end) → Puts (Ok tt) b m waits → Puts result m c (closing_text count end) → Puts result a c (capture_text channel bytes)
+printed channel capture bytes a b m c count end result small fed ends put last =
+    subst (λ (text : List ℕ). Puts result a c text) (sym (closes channel capture bytes a b count end small fed ends)) (then result (gathers_end (Ok tt) fed.put put) last)
+
+-- what waited was not put whole
+pub unprinted : {waits : List ℕ} {fault : PutFault} (channel : Channel) (capture : CaptureView) (bytes : List ℕ) (a b c : Sunk) (count : ℕ) (result : Result (Unit {0}) PutFault) → All (λ b. b < 2 ^ 8) bytes → (fed : WasFed channel capture bytes waits a b count) →
+    Puts (Err fault) b c waits → IsErr result → Puts result a c (capture_text channel bytes)
+unprinted {fault = fault} channel capture bytes a b c count result small fed put is =
+    let taken : fed.fed ≡ take (length fed.fed) bytes = sym (ap (take (length fed.fed)) fed.cut ∙ take-append_seam fed.fed fed.behind) in
+    let whole = begins_text channel capture bytes fed.fed (length fed.fed) small fed.same taken fed.stands in
+    subst (λ (xs : List ℕ). Puts result a c xs) (sym whole.1) (cut result whole.0 (gathers_end (Err fault) fed.put put) is)

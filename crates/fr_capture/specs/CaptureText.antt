@@ -13,6 +13,7 @@ use Rattle.fr_capture.specs.Frames.{Found}
 use Rattle.fr_capture.specs.Rest.{ShowsFault}
 use Rattle.fr_capture.specs.View.{CaptureView, StandsFor, unread_bytes}
 use Rattle.fr_capture.specs.Walk.{frames_in, why_no_frame}
+use Rattle.fr_program.specs.Gathered.{PutsOn}
 use Rattle.fr_text.specs.Numerals.{hexadecimal}
 use Rattle.fr_text.specs.Pieces.{line}
 
@@ -64,8 +65,8 @@ capture_text channel bytes = shown_text channel bytes (frames_in channel bytes).
 abbrev pub fresh_capture : Channel → CaptureView
 fresh_capture channel = record { channel = channel; place = 0; kept = []; whole = None }
 
--- a capture was fed bytes, up to their end or to a fault, and the lines of so many frames were put
-pub record WasFed (channel : Channel) (capture : CaptureView) (bytes : List ℕ) (before after : Sunk) (count : ℕ) : Type 0 where
+-- a capture was fed bytes, up to their end or to a fault, and the lines of so many frames were put, or wait
+pub record WasFed (channel : Channel) (capture : CaptureView) (bytes waits : List ℕ) (before after : Sunk) (count : ℕ) : Type 0 where
   pub same : capture.channel ≡ channel
   pub fed : List ℕ
   pub behind : List ℕ
@@ -73,9 +74,9 @@ pub record WasFed (channel : Channel) (capture : CaptureView) (bytes : List ℕ)
   pub stands : StandsFor capture fed
   pub over : (behind ≡ []) ⊎ ShowsFault capture.channel (unread_bytes capture)
   pub counted : count ≡ length stands.frames
-  pub put : Puts (Ok tt) before after (frames_text channel stands.frames)
+  pub put : PutsOn [] waits before after (frames_text channel stands.frames)
 
 -- it was, or a put failed
-abbrev pub PutsFrames : CaptureView → Channel → List ℕ → Sunk → Sunk → Result ℕ PutFault → Type 0
-PutsFrames capture channel bytes before after (Ok count) = WasFed channel capture bytes before after count
-PutsFrames capture channel bytes before after (Err why) = Puts (Err why) before after (capture_text channel bytes)
+abbrev pub PutsFrames : CaptureView → Channel → List ℕ → List ℕ → Sunk → Sunk → Result ℕ PutFault → Type 0
+PutsFrames capture channel bytes waits before after (Ok count) = WasFed channel capture bytes waits before after count
+PutsFrames capture channel bytes waits before after (Err why) = Puts (Err why) before after (capture_text channel bytes)

@@ -12,13 +12,13 @@ use crate::Capture;
 use crate::feeding::put_frames;
 use crate::lines::end_lines;
 use fr_base::{Channel, MAX_FILE, PutFault, Shelf, Sink};
-use fr_program::Failure;
+use fr_program::{Failure, Gathered};
 use fr_text::{loaded, put_lines};
 use std::alloc::Global;
 
 /// Writes a line for each frame of the recording in the file, one after the other up to the first byte that no
-/// frame explains, then how many frames and bytes these are, and then the reason. Each line is one put. It loads
-/// the file once. A failure comes where the file can't be loaded or memory runs out (`Stopped`), or where the
+/// frame explains, then how many frames and bytes these are, and then the reason. The lines of many frames are one
+/// put. It loads the file once. A failure comes where the file can't be loaded or memory runs out (`Stopped`), or where the
 /// sink counted a fault (`WriteFault`).
 pub fn answer_capture<S: Shelf, O: Sink>(
     alloc: Global,
@@ -32,20 +32,27 @@ pub fn answer_capture<S: Shelf, O: Sink>(
     ensures unwritten { EndingWritesNothing result → out.new ≡ out.old }
 {
     let bytes = loaded(alloc, b"capture", file, shelf)?;
-    match print(channel, &bytes, out) {
+    match print(alloc, channel, &bytes, out) {
         Ok(()) => Ok(()),
         Err(_) => Err(Failure::WriteFault),
     }
 }
 
 // Feeds the bytes to a capture, and writes what comes of it.
-fn print<O: Sink>(channel: Channel, bytes: &[u8], out: &mut O) -> Result<(), PutFault>
+fn print<O: Sink>(
+    alloc: Global,
+    channel: Channel,
+    bytes: &[u8],
+    out: &mut O,
+) -> Result<(), PutFault>
     requires { length bytes.now ≤ MAX_FILE }
     ensures puts { Puts result (O.state out.old) (O.state out.new) (capture_text channel bytes.now) }
     ensures frames { AreFrames channel bytes.now
         (frames_in channel bytes.now).frames (frames_in channel bytes.now).rest }
 {
     let mut capture = Capture::new(channel);
-    let count = put_frames(&mut capture, bytes, out)?;
+    let mut waiting = Gathered::new(alloc);
+    let count = put_frames(&mut capture, bytes, &mut waiting, out)?;
+    waiting.put_all(out)?;
     put_lines(&end_lines(count, capture.finish()), out)
 }

@@ -2,7 +2,7 @@
 // process.
 use fr_base::{LoadFault, MAX_FILE, NumberFault, PutFault, Shelf, Sink, number};
 use fr_program::{
-    DiskShelf, MemoryShelf, MemorySink, StreamSink, SureShelf, SureSink, request_words,
+    DiskShelf, Gathered, MemoryShelf, MemorySink, StreamSink, SureShelf, SureSink, request_words,
 };
 use fr_text::Piece::{Bytes, Hex, Natural, Signed, Word};
 use fr_text::{Draft, Line, line_of, put_line, put_lines, row_of};
@@ -260,6 +260,39 @@ fn each_line_is_one_put(rt: HostRuntime) -> Result<(), Fail> {
         assert!(rt; is_put(&mut sink, written));
     }
     assert!(rt; are_put(&mut MemorySink::new(rt.alloc(), 100)?));
+    Ok(())
+}
+
+// So many lines of 16 bytes.
+fn lines_of_16(alloc: Global, count: usize) -> Result<Vec<u8>, AllocError> {
+    let mut lines = Vec::new(alloc);
+    for _line in 0..count {
+        lines.extend_from_slice(b"fifteen letters\n")?;
+    }
+    Ok(lines)
+}
+
+// Pieces of so many lines of 16 bytes, one after the other: whether each is taken, and how many bytes are put behind it.
+const WAITING: &[(usize, bool, usize)] = &[
+    (0, false, 0),
+    (4095, true, 0),
+    (1, true, 65_536),
+    (9217, false, 65_536),
+    (9216, true, 212_992),
+];
+
+#[test]
+fn lines_wait_until_they_are_many(rt: HostRuntime) -> Result<(), Fail> {
+    let mut waiting = Gathered::new(rt.alloc());
+    let mut sink = MemorySink::new(rt.alloc(), 300_000)?;
+    for (count, taken, put) in WAITING {
+        let piece = lines_of_16(rt.alloc(), *count)?;
+        assert_eq!(rt; waiting.put(&piece).is_ok(), *taken);
+        assert!(rt; waiting.put_many(&mut sink).is_ok());
+        assert_eq!(rt; sink.bytes().len(), *put);
+    }
+    assert!(rt; waiting.add(b"one\n", &mut sink).is_ok() && waiting.len() == 4);
+    assert!(rt; waiting.put_all(&mut sink).is_ok() && sink.bytes().len() == 212_996);
     Ok(())
 }
 

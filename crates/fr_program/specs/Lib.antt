@@ -4,6 +4,7 @@ pub mod AskedNames
 pub mod Command
 pub mod DiskShelf
 pub mod Failure
+pub mod Gathered
 pub mod MemoryShelf
 pub mod MemorySink
 pub mod Program

@@ -10,7 +10,7 @@ use std::io::{Read, Write};
 use std::rt::Files;
 
 // How many bytes are read at once.
-const CHUNK: usize = 65_536;
+const CHUNK: usize = 16_384;
 
 /// A shelf over the files of a runtime. It tells no content and no name that it was asked for, and has one count of faults
 /// for all names: each error of the file system is a fault of every name. The count stays at its last value.

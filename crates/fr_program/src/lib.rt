@@ -7,6 +7,7 @@
 mod adapters;
 mod asked_names;
 mod failure;
+mod gathered;
 mod memory_shelf;
 mod memory_sink;
 mod put_log;
@@ -16,6 +17,7 @@ mod watched;
 
 pub use adapters::{DiskShelf, StreamSink};
 pub use failure::Failure;
+pub use gathered::Gathered;
 pub use memory_shelf::MemoryShelf;
 pub use memory_sink::MemorySink;
 pub use sure::{SureShelf, SureSink};

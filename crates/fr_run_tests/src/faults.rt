@@ -214,14 +214,16 @@ beside peak 252043600\n\
 beside settles 29\n\
 ";
 
-// A program, words and files whose answer has several lines, the answer, and how many puts it has with one behind it.
-const WRITTEN: &[(Program, &[&str], &[File], &str, usize)] = &[
-    (Program::Flexray, BOUND, &[CLUSTER], BOUNDS, 10),
+// A program, words and files whose answer has several lines, the answer, how many lines its first put has, and how many
+// puts it has with one behind it. All other puts have one line.
+const WRITTEN: &[(Program, &[&str], &[File], &str, usize, usize)] = &[
+    (Program::Flexray, BOUND, &[CLUSTER], BOUNDS, 1, 10),
     (
         Program::Flexray,
         &["settle", "p", "190032800", "30005200"],
         &[CLUSTER],
         "start 190032800 rate 30005200\npeak 252043600\nsettles 0\n",
+        1,
         4,
     ),
     (
@@ -229,6 +231,7 @@ const WRITTEN: &[(Program, &[&str], &[File], &str, usize)] = &[
         &["bound", "p", "sharp", "1000000"],
         &[CLUSTER],
         SHARP_BOUNDS,
+        1,
         17,
     ),
     (
@@ -236,32 +239,56 @@ const WRITTEN: &[(Program, &[&str], &[File], &str, usize)] = &[
         &["settle", "p", "190032800", "30005200", "sharp", "1000000"],
         &[CLUSTER],
         SHARP_WAYS,
+        1,
         6,
     ),
-    (Program::Flexray, BOUND_JOIN, &[CLUSTER], JOIN_BOUNDS, 15),
+    (Program::Flexray, BOUND_JOIN, &[CLUSTER], JOIN_BOUNDS, 1, 15),
     (
         Program::Flexray,
         SHARP_JOIN,
         &[CLUSTER],
         SHARP_JOIN_BOUNDS,
+        1,
         27,
     ),
-    (Program::Flexray, UPGRADE, &[CLUSTER], UPGRADED, 24),
-    (Program::Flexray, COLD, STARTED, STARTUP_LINES, 5),
-    (Program::Flexray, NM, &[VECTORS], VECTOR_LINES, 3),
-    (Program::Flexray, RECORDED, &[Bytes("f", TWO)], TWO_LINES, 5),
-    (Program::Flexray, RUN, FILES, LATER_REPORT, 12),
-    (Program::Flexray, &["make", "7", "1"], &[], MADE_REPORT, 16),
+    (Program::Flexray, UPGRADE, &[CLUSTER], UPGRADED, 1, 24),
+    (Program::Flexray, COLD, STARTED, STARTUP_LINES, 1, 5),
+    (Program::Flexray, NM, &[VECTORS], VECTOR_LINES, 1, 3),
+    (
+        Program::Flexray,
+        RECORDED,
+        &[Bytes("f", TWO)],
+        TWO_LINES,
+        2,
+        4,
+    ),
+    (Program::Flexray, RUN, FILES, LATER_REPORT, 1, 12),
+    (
+        Program::Flexray,
+        &["make", "7", "1"],
+        &[],
+        MADE_REPORT,
+        1,
+        16,
+    ),
     (
         Program::Flexray,
         &["trace", "p", "d", "s"],
         &[CLUSTER, DRIFT, CALM],
         TRACE,
+        1,
         10,
     ),
-    (Program::Flexray, CHECK, CHECKED, VERDICT, 5),
-    (Program::Series, SERIES, APART_FILES, APART_SERIES, 9),
-    (Program::Series, SHARP_SERIES, HELD_FILES, HELD_FOR_NONE, 13),
+    (Program::Flexray, CHECK, CHECKED, VERDICT, 1, 5),
+    (Program::Series, SERIES, APART_FILES, APART_SERIES, 1, 9),
+    (
+        Program::Series,
+        SHARP_SERIES,
+        HELD_FILES,
+        HELD_FOR_NONE,
+        1,
+        13,
+    ),
 ];
 
 // Whether the lines before a put, so many bytes, were written where it fails.
@@ -289,23 +316,28 @@ fn kept(
     words: &[&str],
     files: &[File<'_>],
     text: &str,
+    first: usize,
 ) -> Result<usize, AllocError> {
     let mut kept = 0usize;
     let mut front = 0usize;
+    let mut lines = 0usize;
     let mut put = 1u64;
     for line in text.lines() {
-        if is_kept(
-            alloc,
-            program,
-            words,
-            files,
-            text.as_bytes().get(..front),
-            put,
-        )? {
-            kept = kept.saturating_add(1);
+        if lines == 0 || lines >= first {
+            if is_kept(
+                alloc,
+                program,
+                words,
+                files,
+                text.as_bytes().get(..front),
+                put,
+            )? {
+                kept = kept.saturating_add(1);
+            }
+            put = put.saturating_add(1);
         }
         front = front.saturating_add(line.len()).saturating_add(1);
-        put = put.saturating_add(1);
+        lines = lines.saturating_add(1);
     }
     let wanted = (Done, text.as_bytes(), "");
     if answers(alloc, program, words, files, (0, put, 2), wanted)? {
@@ -316,9 +348,12 @@ fn kept(
 
 // Each put of an answer fails in its turn, and one behind it, which is never made.
 #[test]
-fn each_line_is_a_put(rt: HostRuntime) -> Result<(), Fail> {
-    for (program, words, files, text, puts) in WRITTEN {
-        assert_eq!(rt; kept(rt.alloc(), *program, words, files, text)?, *puts);
+fn each_put_fails_in_its_turn(rt: HostRuntime) -> Result<(), Fail> {
+    for (program, words, files, text, first, puts) in WRITTEN {
+        assert_eq!(rt;
+            kept(rt.alloc(), *program, words, files, text, *first)?,
+            *puts
+        );
     }
     Ok(())
 }
