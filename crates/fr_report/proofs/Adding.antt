@@ -1,13 +1,11 @@
 -- What a report that holds the cycles of a world needs of the row of its next one, and holds after it.
-use Rattle.std.proofs.Common.{◌≡◌, ℕ, ◌+◌, ◌<◌, Bool, not, ◌∷◌, refl, sym, ap, subst, ◌∙◌, add-one}
+use Rattle.std.proofs.Common.{◌≡◌, ℕ, ◌+◌, ◌<◌, Bool, ◌∷◌, refl, sym, ap, subst, ◌∙◌, add-one}
 use Rattle.std.specs.Prelude.{All}
 use Rattle.fr_base.specs.declared.cycle_row.CycleRow.{CycleRow}
 use Rattle.fr_time.specs.Placed.{IsPlacedRow}
 use Rattle.fr_time.specs.declared.grid.Grid.{Grid}
 use Rattle.fr_cluster.specs.Setting.{Setting}
-use Rattle.fr_history.specs.Cycles.{Cycle, Cycles}
 use Rattle.fr_history.specs.Next.{cycles_of, next_cycle}
-use Rattle.fr_history.specs.Unfollowed.{is_none}
 use Rattle.fr_history.proofs.RunsExist.{length-cycles_of}
 use Rattle.fr_history.proofs.FollowedSync.{gathered_counted}
 use Rattle.fr_world.specs.World.{IsLastRowOf, IsRowOf, WorldView, followed_last, setting_after}

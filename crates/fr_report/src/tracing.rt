@@ -1,23 +1,30 @@
-ghost use Rattle.std.specs.Prelude.{◌≡◌, ◌+◌, ◌*◌, ◌<◌};
+ghost use Rattle.std.specs.Prelude.{◌≡◌, ◌+◌, ◌*◌, ◌<◌, length};
 ghost use Rattle.fr_base.specs.Device.{Puts};
+ghost use Rattle.fr_coverage.specs.Decided.{setting_of};
 ghost use Rattle.fr_drift.specs.Questions.{doubles_of};
 ghost use Rattle.fr_history.specs.Cycles.{told_of};
+ghost use Rattle.fr_history.specs.History.{History};
 ghost use Rattle.fr_history.specs.Next.{cycles_of, next_cycle};
+ghost use Rattle.fr_history.specs.Recorded.{recorded};
 ghost use Rattle.fr_trace.specs.Items.{items_in};
-ghost use Rattle.fr_trace.specs.Text.{cycle_text, items_text};
+ghost use Rattle.fr_trace.specs.Text.{arbitrary_in, cycle_text, head_text, items_text, joining_in};
 ghost use Rattle.fr_world.specs.World.{setting_after};
 ghost use Rattle.fr_program.specs.Around.{around_of};
 ghost use Rattle.fr_program.specs.Command.{CommandEnds};
 ghost use Rattle.fr_program.specs.Failure.{EndingWritesNothing};
+ghost use Rattle.fr_program.specs.Gathered.{Gathers};
 ghost use Rattle.fr_report.specs.Files.{run_command};
 ghost use Rattle.fr_report.specs.Names.{run_names_of};
 ghost use Rattle.fr_report.specs.TraceAnswer.{IsTraceText, trace_text};
 
 use crate::trace_laws::a_trace_is_lawful;
 use crate::{RunFiles, world_of};
-use fr_base::{PutFault, Shelf, Sink};
+use fr_base::{CycleRow, PutFault, Shelf, Sink};
+use fr_cluster::Params;
+use fr_drift::Drift;
 use fr_history::one_lawful_run;
-use fr_program::Failure;
+use fr_program::{Failure, Gathered};
+use fr_script::Script;
 use fr_trace::{write_cycle, write_head};
 use fr_world::World;
 use std::alloc::Global;
@@ -38,46 +45,111 @@ pub fn answer_trace<S: Shelf, O: Sink>(
 {
     a_trace_is_lawful();
     let mut world = world_of(alloc, files, shelf)?;
-    match write_trace(&mut world, out) {
+    match write_trace(alloc, &mut world, out) {
         Ok(()) => Ok(()),
         Err(_) => Err(Failure::WriteFault),
     }
 }
 
 // Runs all cycles of a world that has run none, and writes the trace of the run.
-fn write_trace<O: Sink>(world: &mut World, out: &mut O) -> Result<(), PutFault>
+fn write_trace<O: Sink>(alloc: Global, world: &mut World, out: &mut O) -> Result<(), PutFault>
     requires { world.old.cycles ≡ 0 }
     ensures { Puts result (O.state out.old) (O.state out.new)
         (trace_text world.old.params world.old.drift world.old.script) }
 {
-    write_head(world.params(), world.drift(), world.script(), out)?;
-    write_cycles(world, out)
+    let mut waiting = Gathered::new(alloc);
+    write_lines(world, &mut waiting, out)?;
+    waiting.put_all(out)
+}
+
+// Writes all lines, of which the last ones wait in the end.
+fn write_lines<O: Sink>(
+    world: &mut World,
+    waiting: &mut Gathered,
+    out: &mut O,
+) -> Result<(), PutFault>
+    requires { world.old.cycles ≡ 0 }
+    ensures { Gathers result waiting.old.bytes waiting.new.bytes (O.state out.old) (O.state out.new)
+        (trace_text world.old.params world.old.drift world.old.script) }
+{
+    gather_head(world.params(), world.drift(), world.script(), waiting, out)?;
+    write_cycles(world, waiting, out)
 }
 
 // Writes the lines of all cycles.
-fn write_cycles<O: Sink>(world: &mut World, out: &mut O) -> Result<(), PutFault>
+fn write_cycles<O: Sink>(
+    world: &mut World,
+    waiting: &mut Gathered,
+    out: &mut O,
+) -> Result<(), PutFault>
     requires { world.old.cycles ≡ 0 }
-    ensures { Puts result (O.state out.old) (O.state out.new)
+    ensures { Gathers result waiting.old.bytes waiting.new.bytes (O.state out.old) (O.state out.new)
         (items_text (items_in (told_of (cycles_of (setting_after world.old) (2 * doubles_of world.old.drift))))) }
 {
     let cycles = 2 * world.drift().doubles();
     for _done in 0..cycles {
-        write_next(world, out)?;
+        write_next(world, waiting, out)?;
     }
     Ok(())
 }
 
 // Runs the next cycle, and writes its lines.
-fn write_next<O: Sink>(world: &mut World, out: &mut O) -> Result<(), PutFault>
+fn write_next<O: Sink>(
+    world: &mut World,
+    waiting: &mut Gathered,
+    out: &mut O,
+) -> Result<(), PutFault>
     requires { world.old.cycles < 2 * doubles_of world.old.drift }
     ensures ran { world.new ≡ record world.old { cycles = world.old.cycles + 1 } }
-    ensures text { Puts result (O.state out.old) (O.state out.new)
+    ensures text { Gathers result waiting.old.bytes waiting.new.bytes (O.state out.old) (O.state out.new)
         (cycle_text (told_of (cycles_of (setting_after world.old) world.old.cycles))
         (next_cycle (setting_after world.old) (cycles_of (setting_after world.old) world.old.cycles)).told) }
 {
     one_lawful_run();
     match world.cycle() {
-        Some(row) => write_cycle(row, out),
+        Some(row) => gather_cycle(row, waiting, out),
         None => unreachable!(),
+    }
+}
+
+// Lets the lines before the cycles wait, or puts them behind what waits where there is no room for them.
+fn gather_head<O: Sink>(
+    params: &Params,
+    drift: &Drift,
+    script: &Script,
+    waiting: &mut Gathered,
+    out: &mut O,
+) -> Result<(), PutFault>
+    ensures { Gathers result waiting.old.bytes waiting.new.bytes (O.state out.old) (O.state out.new)
+        (head_text (doubles_of drift.now) (arbitrary_in (setting_of params.now drift.now script.now))
+        (joining_in (setting_of params.now drift.now script.now))) }
+{
+    let before = waiting.len();
+    match write_head(params, drift, script, waiting) {
+        Ok(()) => waiting.put_many(out),
+        Err(_) => {
+            waiting.put_front(before, out)?;
+            write_head(params, drift, script, out)
+        }
+    }
+}
+
+// The same of the lines of a cycle.
+fn gather_cycle<O: Sink>(
+    row: &CycleRow,
+    waiting: &mut Gathered,
+    out: &mut O,
+) -> Result<(), PutFault>
+    ensures { (h : History) → length h ≡ row.now.cycle →
+        Gathers result waiting.old.bytes waiting.new.bytes (O.state out.old) (O.state out.new)
+        (cycle_text h (recorded row.now)) }
+{
+    let before = waiting.len();
+    match write_cycle(row, waiting) {
+        Ok(()) => waiting.put_many(out),
+        Err(_) => {
+            waiting.put_front(before, out)?;
+            write_cycle(row, out)
+        }
     }
 }

@@ -1,33 +1,15 @@
-use Rattle.std.proofs.Common.{◌≡◌, ◌*◌, List, ℕ, ◌++◌, subst}
-use Rattle.fr_base.specs.Device.{Puts}
-use Rattle.fr_base.proofs.Putting.{cut, then}
-use Rattle.fr_coverage.specs.Decided.{setting_of}
-use Rattle.fr_drift.specs.Questions.{doubles_of}
-use Rattle.fr_trace.specs.Text.{arbitrary_in, head_text, joining_in, text_of}
-use Rattle.fr_world.specs.World.{setting_after}
-use Rattle.fr_report.proofs.Texts.{text_of_cycles}
+use Rattle.std.proofs.Common.{List, ℕ, subst}
+use Rattle.fr_program.specs.Gathered.{PutsOn}
+use Rattle.fr_program.proofs.Gathering.{gathers_end, gathers_failed}
+use Rattle.fr_report.specs.TraceAnswer.{trace_text}
 use Rattle.fr_report.proofs.tracing.write_trace.Goals as goal
 
-pub returns-in_err-write_head : goal.returns-in_err-write_head
-unfolding text_of
-returns-in_err-write_head g c =
-    let w = c.args.world.now in
-    let rest = text_of_cycles (setting_after w) (2 * doubles_of w.drift) in
-    let text : head_text (doubles_of c.drift.result.now) (arbitrary_in (setting_of c.params.result.now c.drift.result.now c.script.result.now)) (joining_in (setting_of c.params.result.now c.drift.result.now c.script.result.now))
-    ≡ head_text (doubles_of w.drift) (arbitrary_in (setting_after w)) (joining_in (setting_after w)) =
-    λ i. head_text (doubles_of (c.drift.ensures.value i)) (arbitrary_in (setting_of (c.params.ensures.value i) (c.drift.ensures.value i) (c.script.ensures.value i))) (joining_in (setting_of (c.params.ensures.value i) (c.drift.ensures.value i) (c.script.ensures.value i)))
-    in
-    let P : List ℕ → Type 0 = λ l. Puts c.from_residual.result (g.O.Sink.state c.args.out.now) (g.O.Sink.state c.write_head.new.out) (l ++ rest) in
-    subst P text (cut c.from_residual.result rest c.in_err-write_head.ensures c.from_residual.ensures.0)
+pub returns-in_err-write_lines : goal.returns-in_err-write_lines
+returns-in_err-write_lines g c =
+    gathers_failed c.from_residual.result (rw c.new-waiting.ensures at c.in_err-write_lines.ensures) c.from_residual.ensures.0
 
 pub returns : goal.returns
-unfolding text_of
 returns g c =
     let w = c.args.world.now in
-    let rest = text_of_cycles (setting_after w) (2 * doubles_of w.drift) in
-    let text : head_text (doubles_of c.drift.result.now) (arbitrary_in (setting_of c.params.result.now c.drift.result.now c.script.result.now)) (joining_in (setting_of c.params.result.now c.drift.result.now c.script.result.now))
-    ≡ head_text (doubles_of w.drift) (arbitrary_in (setting_after w)) (joining_in (setting_after w)) =
-    λ i. head_text (doubles_of (c.drift.ensures.value i)) (arbitrary_in (setting_of (c.params.ensures.value i) (c.drift.ensures.value i) (c.script.ensures.value i))) (joining_in (setting_of (c.params.ensures.value i) (c.drift.ensures.value i) (c.script.ensures.value i)))
-    in
-    let P : List ℕ → Type 0 = λ l. Puts c.write_cycles.result (g.O.Sink.state c.args.out.now) (g.O.Sink.state c.write_cycles.new.out) (l ++ rest) in
-    subst P text (then c.write_cycles.result c.in_ok-write_head.ensures c.write_cycles.ensures)
+    let P : List ℕ → Type 0 = λ l. PutsOn l c.write_lines.new.waiting.bytes (g.O.Sink.state c.args.out.now) (g.O.Sink.state c.write_lines.new.out) (trace_text w.params w.drift w.script) in
+    gathers_end c.put_all.result (subst P c.new-waiting.ensures c.in_ok-write_lines.ensures.whole) c.put_all.ensures.puts
