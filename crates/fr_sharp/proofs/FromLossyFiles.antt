@@ -35,7 +35,7 @@ use Rattle.fr_sharp.proofs.LostHistories.{histories_keep_through_losses_lem}
 
 -- ---- lists
 
-all_pass : {X : Type 0} (test : X → Bool) (xs : List X) (x : X) → list_all test xs ≡ true → Contains xs x → test x ≡ true
+pub all_pass : {X : Type 0} (test : X → Bool) (xs : List X) (x : X) → list_all test xs ≡ true → Contains xs x → test x ≡ true
 all_pass test [] x all among = absurd (Contains-none x among)
 all_pass test (y ∷ xs) x all among =
     let parts = and_parts (test y) (list_all test xs) all in

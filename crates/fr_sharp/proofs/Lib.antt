@@ -68,6 +68,7 @@ pub mod TraceWorked
 pub mod JoinBounds
 pub mod FromLossyFiles
 pub mod LossBurstLaws
+pub mod LossTold
 pub mod LossesWorked
 pub mod JoinWorked
 pub mod SharpListened

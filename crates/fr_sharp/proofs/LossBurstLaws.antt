@@ -113,14 +113,14 @@ bursts_cost_no_more p flutter count whole cost k sane bursts is =
 
 -- ---- of files
 
-keeps_wider : (x : Setting) (h : Cycles) (double apart wide : ℕ) → apart ≤ wide → KeepsApart x h double apart → KeepsApart x h double wide
+pub keeps_wider : (x : Setting) (h : Cycles) (double apart wide : ℕ) → apart ≤ wide → KeepsApart x h double apart → KeepsApart x h double wide
 keeps_wider x h double apart wide le keeps = record { skew = λ macrotick is_odd less. further _ (keeps.skew macrotick is_odd less); ends = keeps.ends }
   where
     further : (z : ℤ) → z ≤ℤ pos apart → z ≤ℤ pos wide
     further z below = omega (arith, ints, below, le)
 
 -- the number from a later double cycle on is no greater than that from the first one on
-later_apart : (p : Values) (flutter : ℕ) (whole : ℕ → Bool) (double k : ℕ) → lost_apart p flutter (λ m. whole (double + m)) k ≤ lost_apart p flutter whole (double + k)
+pub later_apart : (p : Values) (flutter : ℕ) (whole : ℕ → Bool) (double k : ℕ) → lost_apart p flutter (λ m. whole (double + m)) k ≤ lost_apart p flutter whole (double + k)
 later_apart p flutter whole double k =
     let one = later_below p flutter whole double k in
     let other = later_below p flutter whole double (suc k) in

@@ -11,6 +11,7 @@ pub mod JoinedHistories
 pub mod Lengths
 pub mod LossBursts
 pub mod LossCosts
+pub mod LossRuns
 pub mod LossSteps
 pub mod Losses
 pub mod LossStatement

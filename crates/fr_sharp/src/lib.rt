@@ -1,6 +1,6 @@
 //! Why clocks keep a sharper precision where delays change little from one cycle of a double cycle to the next, without
 //! arbitrary nodes and beside them. The bounds, the checks, how long these hold and when clocks come there are computed
-//! here, and whether a run has an arbitrary node. Laws over rows and values, over the lawful histories of runs that no
+//! here, and what a run loses and whether it has an arbitrary node. Laws over rows and values, over the lawful histories of runs that no
 //! node joins and of runs that nodes join, over recorded traces that no node joins, and over what the files of a run
 //! promise. And worked runs and a worked trace that meet what these ask, runs that come near the precision, in closed
 //! form too, and runs that lose it where a check fails.
@@ -19,6 +19,7 @@ mod files;
 mod following;
 mod grouping;
 mod halting_run;
+mod heard;
 mod hearing;
 mod histories;
 mod join_checking;
@@ -35,6 +36,7 @@ mod loss_checks;
 mod loss_cost_laws;
 mod loss_costs;
 mod loss_steps;
+mod losses_of_runs;
 mod lossy_files;
 mod nearness;
 mod reached_run;
@@ -63,6 +65,7 @@ pub use files::{
 pub use following::followers_hear_steadily;
 pub use grouping::sharp_groups_are_kept;
 pub use halting_run::the_first_sharp_check_is_needed;
+pub use heard::all_reach;
 pub use hearing::rounds_are_heard_steadily;
 pub use histories::{
     histories_come_into_sharp_sync, histories_keep_sharp_sync, histories_settle_sharply,
@@ -82,6 +85,7 @@ pub use loss_checks::{LossSides, limits_hold, loss_side};
 pub use loss_cost_laws::{bursts_keep_the_peak, costs_are_one, costs_are_there};
 pub use loss_costs::{LossCost, SecondCost, every_second_cost, longest_loss, loss_cost};
 pub use loss_steps::LossSpread;
+pub use losses_of_runs::{RunLosses, losses_are_told, run_losses};
 pub use lossy_files::{files_keep_through_losses, files_that_lose_frames, lossy_files_give_runs};
 pub use nearness::nodes_lie_near;
 pub use reached_run::the_sharper_precision_is_reached;

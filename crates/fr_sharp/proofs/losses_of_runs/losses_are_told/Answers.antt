@@ -1,0 +1,13 @@
+use Rattle.fr_sharp.proofs.LossTold.{covered_is_through, losses_are_told_lem, runs_keep_their_bounds, through_is_covered}
+use Rattle.fr_sharp.proofs.losses_of_runs.losses_are_told.Goals as goal
+
+pub returns-clause-figures : goal.returns-clause-figures
+returns-clause-figures c = losses_are_told_lem
+
+pub returns-clause-covered : goal.returns-clause-covered
+returns-clause-covered c = λ p d s flutter sane some flutters.
+    let finds = c.found_gap_of_run_is_first.ensures p d s sane in
+    (through_is_covered p d s flutter finds some flutters, covered_is_through p d s flutter finds some)
+
+pub returns-clause-keeps : goal.returns-clause-keeps
+returns-clause-keeps c = runs_keep_their_bounds

@@ -1,0 +1,158 @@
+-- What a run loses, by its files: in how many double cycles, how far macroticks may then lie apart in each, whether each correct node
+-- has some value in each, and whether the run is covered through losses.
+use Rattle.std.specs.Prelude.{◌≡◌, ◌↔◌, ◌+◌, ◌<◌, ◌≤◌, ℕ, zero, suc, pos, max, nat_lt, Bool, true, false, not, ◌&&◌, ◌||◌, if◌then◌else◌, List, Option, Some, None}
+use Rattle.std.specs.List.{list_all, list_any}
+use Rattle.fr_base.specs.declared.channel.Channel.{Channel}
+use Rattle.fr_base.specs.declared.channel.Channel.TheVariants as channel
+use Rattle.fr_cluster.specs.Sane.{IsSane}
+use Rattle.fr_cluster.specs.Values.{Values}
+use Rattle.fr_cluster.specs.declared.nodes.NodeSpec.{NodeSpec}
+use Rattle.fr_drift.specs.Questions.{doubles_of}
+use Rattle.fr_drift.specs.View.{DriftView}
+use Rattle.fr_script.specs.View.{ScriptView, is_arbitrary}
+use Rattle.fr_coverage.specs.Coverage.{gap_of_run, some_join}
+use Rattle.fr_coverage.specs.Decided.{setting_of}
+use Rattle.fr_coverage.specs.Flutter.{flutter_of}
+use Rattle.fr_coverage.specs.Links.{is_carried, is_carried_on, is_link, is_sync, shares}
+use Rattle.fr_coverage.specs.declared.gap.Gap.{Gap}
+use Rattle.fr_coverage.specs.declared.gap.Gap.TheVariants as gap
+use Rattle.fr_history.specs.Cycles.{Cycles}
+use Rattle.fr_promise.specs.Statement.{IsRunOf}
+use Rattle.fr_sharp.specs.Among.{lost_spread}
+use Rattle.fr_sharp.specs.LossCosts.{limits_hold}
+use Rattle.fr_sharp.specs.Losses.{lost_apart}
+use Rattle.fr_sharp.specs.LossStatement.{whole_in, IsCoveredThroughLosses}
+use Rattle.fr_sharp.specs.SharpChecks.{sharp_holds_of}
+use Rattle.fr_sharp.specs.SharpHistories.{IsInSharpSyncAt, KeepsApart}
+use Rattle.fr_sharp.specs.SharpRun.{WalkLastsAfter}
+use Rattle.fr_sharp.specs.SharpSettling.{sharply_near_in}
+use Rattle.fr_sharp.specs.SharpStatement.{has_arbitrary}
+use Rattle.fr_sharp.specs.declared.losses_of_runs.RunLosses.{RunLosses}
+
+-- ---- what is heard in a double cycle, or could be if nothing were lost
+
+-- a channel that both nodes have carries the frames of both cycles, or both have one
+abbrev pub reaches_on : ScriptView → NodeSpec → NodeSpec → Option ℕ → Channel → Bool
+reaches_on s a b None ch = shares a b ch
+reaches_on s a b (Some double) ch = is_carried_on s a b double ch
+
+abbrev pub reaches : ScriptView → NodeSpec → NodeSpec → Option ℕ → Bool
+reaches s a b when = reaches_on s a b when channel.A || reaches_on s a b when channel.B
+
+-- so it is of one sender and each of some nodes, and of any two
+abbrev pub reaches_each : List NodeSpec → ScriptView → Option ℕ → NodeSpec → Bool
+reaches_each nodes s when a = list_all (λ b. not (is_link s a b) || reaches s a b when) nodes
+
+abbrev pub all_reach : List NodeSpec → ScriptView → Option ℕ → Bool
+all_reach nodes s when = list_all (reaches_each nodes s when) nodes
+
+-- a node has a value of some of these nodes, or its own, if it is correct
+abbrev pub hears_of_some : List NodeSpec → ScriptView → ℕ → NodeSpec → Bool
+hears_of_some nodes s double node = list_any (λ a. is_link s a node && is_carried s a node double) nodes
+
+abbrev pub hears_among : List NodeSpec → ScriptView → ℕ → NodeSpec → Bool
+hears_among nodes s double node = is_arbitrary s node.id || (is_sync node || hears_of_some nodes s double node)
+
+abbrev pub all_hear : List NodeSpec → ScriptView → ℕ → Bool
+all_hear nodes s double = list_all (hears_among nodes s double) nodes
+
+-- ---- what a run loses
+
+-- how many of the first so many double cycles lose frames
+unfoldable pub lost_before : (ℕ → Bool) → ℕ → ℕ
+lost_before whole zero = 0
+lost_before whole (suc k) = if whole k then lost_before whole k else lost_before whole k + 1
+
+-- the last of so many that does, if one does
+abbrev pub IsLastLost : (ℕ → Bool) → ℕ → Option ℕ → Type 0
+IsLastLost whole doubles None = (k : ℕ) → k < doubles → whole k ≡ true
+IsLastLost whole doubles (Some last) =
+    (last < doubles) × (whole last ≡ false) × ((k : ℕ) → last < k → k < doubles → whole k ≡ true)
+
+-- in how many of the first so many, one or more, and the last of these; the greatest of the numbers by what was heard since the first,
+-- and the first double cycle with it; a reach that takes in how far action points may lie apart; and whether each node has some value
+pub record AreLosses (p : Values) (flutter : ℕ) (whole hears : ℕ → Bool) (doubles : ℕ) (losses : RunLosses) : Type 0 where
+  pub count : losses.doubles ≡ lost_before whole doubles
+  pub last : IsLastLost whole doubles losses.last
+  pub greatest : (k : ℕ) → k < doubles → lost_apart p flutter whole k ≤ losses.peak
+  pub place : losses.place < doubles
+  pub reached : lost_apart p flutter whole losses.place ≡ losses.peak
+  pub first : (k : ℕ) → k < losses.place → lost_apart p flutter whole k < losses.peak
+  pub near : (k : ℕ) → k < doubles → sharply_near_in p (lost_spread p flutter whole k) ≤ losses.reach
+  pub least : (reach : ℕ) → ((k : ℕ) → k < doubles → sharply_near_in p (lost_spread p flutter whole k) ≤ reach) → losses.reach ≤ reach
+  pub never_deaf : losses.hears ≡ true → (k : ℕ) → k < doubles → hears k ≡ true
+  pub none_deaf : ((k : ℕ) → k < doubles → hears k ≡ true) → losses.hears ≡ true
+
+-- ---- the same, one double cycle after another
+
+abbrev pub no_losses : RunLosses
+no_losses = record { doubles = 0; last = None; peak = 0; place = 0; reach = 0; hears = true }
+
+abbrev pub next_losses : Bool → Bool → ℕ → ℕ → ℕ → RunLosses → RunLosses
+next_losses heard hears double apart near was = record {
+  doubles = if heard then was.doubles else was.doubles + 1;
+  last = if heard then was.last else Some double;
+  peak = if nat_lt was.peak apart then apart else was.peak;
+  place = if nat_lt was.peak apart then double else was.place;
+  reach = max was.reach near;
+  hears = was.hears && hears;
+}
+
+unfoldable pub losses_by : Values → ℕ → (ℕ → Bool) → (ℕ → Bool) → ℕ → RunLosses
+losses_by p flutter whole hears zero = no_losses
+losses_by p flutter whole hears (suc k) =
+    next_losses (whole k) (hears k) k (lost_apart p flutter whole k) (sharply_near_in p (lost_spread p flutter whole k))
+    (losses_by p flutter whole hears k)
+
+-- what the run of some parameters, a drift and a script loses, where its delays flutter by so many ticks
+abbrev pub losses_of : Values → DriftView → ScriptView → ℕ → RunLosses
+losses_of p d s flutter = losses_by p flutter (whole_in p s) (all_hear p.nodes s) (doubles_of d)
+
+-- ---- whether it is covered through losses
+
+-- it has no gap, or the first one is a link
+abbrev pub is_link_at_most : Option Gap → Bool
+is_link_at_most None = true
+is_link_at_most (Some (gap.Link sender receiver double)) = true
+is_link_at_most (Some (gap.Check number left right)) = false
+is_link_at_most (Some (gap.Count correct arbitrary)) = false
+is_link_at_most (Some (gap.Length node cycle ticks)) = false
+is_link_at_most (Some (gap.Change node cycle ticks)) = false
+is_link_at_most (Some (gap.Delay sender receiver ch cycle ticks)) = false
+
+-- the sharper checks from 2 to 5 hold with the reach of what it loses
+abbrev pub through_checks : Values → ℕ → ℕ → Bool
+through_checks p flutter reach = sharp_holds_of 2 flutter reach p && limits_hold flutter reach p
+
+-- what else is asked of the nodes and the links
+abbrev pub through_nodes : Values → ScriptView → Option Gap → Bool
+through_nodes p s found = not (has_arbitrary p s) && (not (some_join p s) && (is_link_at_most found && all_reach p.nodes s None))
+
+abbrev pub is_through_losses : Values → ScriptView → ℕ → Option Gap → RunLosses → Bool
+is_through_losses p s flutter found losses = losses.hears && (through_checks p flutter losses.reach && through_nodes p s found)
+
+-- ---- laws
+
+-- what a run loses means what it is called
+abbrev pub LossesAreTold : Type 0
+LossesAreTold =
+    (p : Values) (d : DriftView) (s : ScriptView) (flutter : ℕ)
+    → 1 ≤ doubles_of d → AreLosses p flutter (whole_in p s) (all_hear p.nodes s) (doubles_of d) (losses_of p d s flutter)
+
+-- what is said to be covered through losses is, with the reach of what it loses
+abbrev pub ThroughLossesIsTold : Type 0
+ThroughLossesIsTold =
+    (p : Values) (d : DriftView) (s : ScriptView) (flutter : ℕ)
+    → IsSane p → 1 ≤ doubles_of d → flutter_of p d s ≤ flutter
+    → is_through_losses p s flutter (gap_of_run p d s) (losses_of p d s flutter) ≡ true
+    ↔ IsCoveredThroughLosses p d s flutter (losses_of p d s flutter).reach
+
+-- then, from a double cycle in sharp sync on and as long as the walk lasts, no macroticks lie further apart in any than by the number of
+-- that double cycle, which is no greater than the greatest
+abbrev pub RunsKeepTheirBounds : Type 0
+RunsKeepTheirBounds =
+    (p : Values) (d : DriftView) (s : ScriptView) (flutter : ℕ) (h : Cycles) (double passed : ℕ)
+    → IsSane p → IsCoveredThroughLosses p d s flutter (losses_of p d s flutter).reach → IsRunOf (setting_of p d s) h
+    → IsInSharpSyncAt false p flutter (pos 0) h double → double + passed < doubles_of d → WalkLastsAfter p flutter passed
+    → KeepsApart (setting_of p d s) h (double + passed) (lost_apart p flutter (whole_in p s) (double + passed))
+    × KeepsApart (setting_of p d s) h (double + passed) (losses_of p d s flutter).peak

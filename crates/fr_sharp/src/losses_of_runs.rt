@@ -1,0 +1,131 @@
+ghost use Rattle.std.specs.Prelude.{◌≡◌, ◌≤◌, ◌<◌, ◌+◌, nat_lt, None, Some, if◌then◌else◌};
+ghost use Rattle.fr_sharp.specs.LossRuns.{all_hear, losses_of, next_losses, no_losses, LossesAreTold, RunsKeepTheirBounds, ThroughLossesIsTold};
+ghost use Rattle.fr_sharp.specs.LossStatement.{whole_in};
+ghost use Rattle.fr_sharp.specs.LossSteps.{most_lost};
+ghost use Rattle.fr_sharp.specs.SharpBounds.{most_flutter};
+
+use crate::heard::{all_hear, all_reach};
+use crate::loss_steps::LossSpread;
+use fr_cluster::Params;
+use fr_coverage::found_gap_of_run_is_first;
+use fr_drift::Drift;
+use fr_script::Script;
+
+/// What a run loses, by its files, and how far apart that may take its clocks, from a double cycle in sharp sync on without
+/// arbitrary sync nodes.
+#[derive(Clone, Copy, Debug, PartialEq, Eq)]
+pub struct RunLosses {
+    /// In how many double cycles frames are lost: between two correct nodes no channel carries those of both cycles.
+    pub doubles: u32,
+    /// The last of them, if there is one.
+    pub last: Option<u32>,
+    /// How far macroticks may lie apart in the double cycle in which they may lie furthest, in ticks.
+    pub peak: u128,
+    /// The first such double cycle.
+    pub place: u32,
+    /// How far instants of the same action point may lie apart, in ticks.
+    pub reach: u128,
+    /// Whether each correct node has some value in each double cycle.
+    pub hears: bool,
+}
+
+/// What the run of some files loses, where its delays flutter by so many ticks, 0 to 1,000,000,000.
+pub fn run_losses(params: &Params, drift: &Drift, script: &Script, flutter: u64) -> RunLosses
+    requires { flutter ≤ most_flutter }
+    ensures value { result ≡ losses_of params.now drift.now script.now flutter }
+    ensures most { result.reach ≤ most_lost }
+{
+    let mut spread = LossSpread::first(params, flutter);
+    let mut losses = RunLosses::none();
+    for double in 0..drift.doubles() {
+        let heard = is_whole(params, script, double);
+        let hears = none_is_deaf(params, script, double);
+        let apart = spread.apart(params, flutter, heard);
+        losses = losses.followed(double, heard, hears, apart, spread.near(params));
+        spread.step(params, flutter, heard);
+    }
+    losses
+}
+
+fn is_whole(params: &Params, script: &Script, double: u32) -> bool
+    requires { double ≤ 100_000 }
+    ensures { result ≡ whole_in params.now script.now double }
+{
+    let nodes = &params.nodes;
+    all_reach(nodes, script, Some(double))
+}
+
+fn none_is_deaf(params: &Params, script: &Script, double: u32) -> bool
+    requires { double ≤ 100_000 }
+    ensures { result ≡ all_hear params.now.nodes script.now double }
+{
+    let nodes = &params.nodes;
+    all_hear(nodes, script, double)
+}
+
+impl RunLosses {
+    // Those of no double cycle.
+    fn none() -> RunLosses
+        ensures { result ≡ no_losses }
+    {
+        RunLosses {
+            doubles: 0,
+            last: None,
+            peak: 0,
+            place: 0,
+            reach: 0,
+            hears: true,
+        }
+    }
+
+    // Those after one more double cycle, by what is heard in it and how far its macroticks and action points may lie apart.
+    fn followed(self, double: u32, heard: bool, hears: bool, apart: u128, near: u128) -> RunLosses
+        requires { self.doubles < 100_000 }
+        ensures { result ≡ next_losses heard hears double apart near self }
+    {
+        let (doubles, last) = self.counted(double, heard);
+        let (peak, place) = self.raised(double, apart);
+        RunLosses {
+            doubles,
+            last,
+            peak,
+            place,
+            reach: self.reach.max(near),
+            hears: self.hears && hears,
+        }
+    }
+
+    fn counted(self, double: u32, heard: bool) -> (u32, Option<u32>)
+        requires { self.doubles < 100_000 }
+        ensures doubles { result.0 ≡ (if heard then self.doubles else self.doubles + 1) }
+        ensures last { result.1 ≡ (if heard then self.last else Some double) }
+    {
+        if heard {
+            (self.doubles, self.last)
+        } else {
+            (self.doubles + 1, Some(double))
+        }
+    }
+
+    fn raised(self, double: u32, apart: u128) -> (u128, u32)
+        ensures peak { result.0 ≡ (if nat_lt self.peak apart then apart else self.peak) }
+        ensures place { result.1 ≡ (if nat_lt self.peak apart then double else self.place) }
+    {
+        if self.peak < apart {
+            (apart, double)
+        } else {
+            (self.peak, self.place)
+        }
+    }
+}
+
+/// A law: what a run loses is what it is called; where it is said to be covered through losses, and there alone, it is; and
+/// then no macroticks lie further apart, in ticks, than the number of their double cycle by what was heard since the first,
+/// from each double cycle in sharp sync on and as long as the walk lasts.
+pub fn losses_are_told()
+    ensures figures { LossesAreTold }
+    ensures covered { ThroughLossesIsTold }
+    ensures keeps { RunsKeepTheirBounds }
+{
+    found_gap_of_run_is_first();
+}
