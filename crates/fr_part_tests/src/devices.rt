@@ -291,7 +291,7 @@ fn lines_wait_until_they_are_many(rt: HostRuntime) -> Result<(), Fail> {
         assert!(rt; waiting.put_many(&mut sink).is_ok());
         assert_eq!(rt; sink.bytes().len(), *put);
     }
-    assert!(rt; waiting.add(b"one\n", &mut sink).is_ok() && waiting.len() == 4);
+    assert!(rt; waiting.put(b"one\n").is_ok() && waiting.len() == 4);
     assert!(rt; waiting.put_all(&mut sink).is_ok() && sink.bytes().len() == 212_996);
     Ok(())
 }
