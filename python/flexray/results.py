@@ -6,8 +6,8 @@ from collections.abc import Iterator, Sequence
 from dataclasses import dataclass, field
 from typing import NamedTuple, overload
 
-__all__ = ["Check", "Bound", "SharpSide", "SharpBound", "LostBound", "Skew", "Sent", "Heard", "NodeEnd", "Report", "SharpReport",
-           "SeriesCycle", "SeriesCycles", "Series", "SharpSeries", "CycleRow", "Deviation", "Join", "Trace", "Verdict", "Failing",
+__all__ = ["Check", "Bound", "SharpSide", "SharpBound", "LostBound", "Skew", "Sent", "Heard", "NodeEnd", "Report", "Losses",
+           "SharpReport", "SeriesCycle", "SeriesCycles", "Series", "SharpSeries", "CycleRow", "Deviation", "Join", "Trace", "Verdict", "Failing",
            "Failure", "ObservedCycle", "ObservedNode", "ObservedFault", "ObservedSender",
            "LogCounts", "Observation", "FailedCheck", "Settled", "SharpWay", "SharpSettled", "Lead", "Startup", "Frame",
            "CapturedFrame", "Capture", "Vector", "Vectors", "Upgraded"]
@@ -162,6 +162,17 @@ class Report:
     ends: tuple[NodeEnd, ...]
 
 
+class Losses(NamedTuple):
+    """What a run loses: in how many double cycles, and the last one. `bound` is the greatest bound of a double cycle, and `double`
+    the first with it: from the first double cycle in sync on no skew is above the bound of its own. Both are None where the run
+    is not covered through losses."""
+
+    doubles: int
+    last: int | None
+    bound: int | None
+    double: int | None
+
+
 @dataclass(frozen=True)
 class SharpReport:
     """What the sharper bounds say of a run, and its report. `kind` is `alone` or `beside`. `gaps` has the words of each gap that is
@@ -180,6 +191,7 @@ class SharpReport:
     greatest: Skew | None
     within: bool | None
     beyond: Skew | None
+    losses: Losses
     report: Report
 
 
@@ -268,6 +280,7 @@ class SharpSeries(Series):
     sharp_greatest: Skew | None
     sharp_within: bool | None
     sharp_beyond: tuple[int, int] | None
+    losses: Losses
 
 
 class CycleRow(NamedTuple):

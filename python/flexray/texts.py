@@ -6,7 +6,7 @@ import re
 from collections.abc import Iterable, Iterator
 
 from .results import (Bound, Capture, CapturedFrame, Check, CycleRow, Deviation, FailedCheck, Failing, Failure, Frame, Heard,
-                      Join, Lead, LogCounts, LostBound, NodeEnd, Observation, ObservedCycle, ObservedFault, ObservedNode,
+                      Join, Lead, LogCounts, Losses, LostBound, NodeEnd, Observation, ObservedCycle, ObservedFault, ObservedNode,
                       ObservedSender, Report, Sent, Series, SeriesCycles, Settled, SharpBound, SharpReport, SharpSeries,
                       SharpSettled, SharpSide, SharpWay, Skew, Startup, Trace, Upgraded, Vector, Vectors, Verdict)
 
@@ -156,10 +156,15 @@ def sharp_report(text: str) -> SharpReport:
     synced, lasts = lines.take(r"sharp in sync (?:no|(\d+) (on|\d+))")
     greatest = Skew(*_numbers(lines.take(rf"sharp greatest skew {PLACE}"))) if synced else None
     within, *beyond = lines.take(rf"sharp within (?:(yes|-)|no {PLACE})")
+    losses = _losses(*lines.take(r"sharp lost (\d+) last (-|\d+) bound (?:-|(\d+) double (\d+))"))
     below = "".join(f"{line}\n" for line in lines.lines[lines.at:])
     return SharpReport(text, flutter, int(precision), kind, not gaps, gaps, int(synced) if synced else None,
                        int(lasts) if lasts and lasts.isdigit() else None, greatest, None if within == "-" else within == "yes",
-                       Skew(*map(int, beyond)) if beyond[0] else None, report(below))
+                       Skew(*map(int, beyond)) if beyond[0] else None, losses, report(below))
+
+
+def _losses(doubles: str, last: str, bound: str, double: str) -> Losses:
+    return Losses(int(doubles), None if last == "-" else int(last), int(bound) if bound else None, int(double) if double else None)
 
 
 def _greatest(lines: _Lines, name: str, comma: str) -> Skew | None:
@@ -237,8 +242,9 @@ def sharp_series(text: str) -> SharpSeries:
     synced, lasts = lines.take(r"sharp synced,(?:-,|(\d+),(on|\d+)),,")
     greatest = _greatest(lines, "sharp greatest", ",")
     within, beyond = _within(lines, "sharp within", ",")
+    losses = _losses(*lines.take(r"lost,(\d+),(-|\d+),(?:-,-|(\d+),(\d+))"))
     return SharpSeries(text, cycles, *ends, flutter, int(precision), kind, covered == "yes", tuple(gap.split()) if gap else (),
-                       int(synced) if synced else None, None if lasts in (None, "on") else int(lasts), greatest, within, beyond)
+                       int(synced) if synced else None, None if lasts in (None, "on") else int(lasts), greatest, within, beyond, losses)
 
 
 def _cycle_row(line: str) -> CycleRow:

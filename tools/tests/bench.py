@@ -138,7 +138,7 @@ class Bench(unittest.TestCase):
         rows = "".join(f"{cycle},{'no' if cycle < 2 else 'yes'},{ticks},9,{'no' if cycle < 4 else 'yes'}\n"
                        for cycle, ticks in enumerate(skew))
         sharp = ("flutter,0,,,", "sharp,150237926,beside,,", "sharp covered,yes,,,", "sharp synced,2,on,,",
-                 f"sharp greatest,{max(skew[4:])},4,9,", "sharp within,yes,,,")
+                 f"sharp greatest,{max(skew[4:])},4,9,", "sharp within,yes,,,", "lost,0,-,-,-")
         self.write("series.txt", "cycle,in_sync,skew,macrotick,sharp\n" + rows + "".join(f"{line}\n" for line in last + sharp))
         path = self.write("series", f"#!/bin/sh\ncat {self.path('series.txt')}\n")
         os.chmod(path, 0o755)

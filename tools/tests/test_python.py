@@ -198,6 +198,7 @@ class Calls(Bench):
                          (series.flutter, series.precision, series.kind, series.sharp_covered, (), series.sharp_synced, series.lasts,
                           series.sharp_greatest, series.sharp_within, series.sharp_beyond))
         self.assertEqual((found.in_sync, found.lasts, found.greatest.ticks), (2, None, 18_760_436))
+        self.assertEqual((found.losses, series.losses), ((0, None, 36_003_994, 0),) * 2)
 
     def test_what_a_report_says(self):
         report = flexray.run(*OFFSET)
@@ -554,7 +555,7 @@ class Alone(Bench):
     HEAD = "cycle,in_sync,skew,macrotick,sharp\n"
     ROWS = ("0,no,119988000,4999,no\n", "1,no,178800000,4900,no\n", "2,yes,148983950,4999,no\n", "3,yes,181796250,4900,yes\n")
     END = ("greatest,181796250,3,4900,\nsynced,yes,,,\nwithin,yes,,,\nflutter,7,,,\nsharp,150237926,beside,,\nsharp covered,yes,,,\n"
-           "sharp synced,-,,,\nsharp greatest,-,-,-,\nsharp within,-,,,\n")
+           "sharp synced,-,,,\nsharp greatest,-,-,-,\nsharp within,-,,,\nlost,0,-,-,-\n")
 
     def test_the_cycles_of_a_series(self):
         """One by one, and by their columns."""
@@ -580,18 +581,22 @@ class Alone(Bench):
         self.assertEqual((found.flutter, found.precision, found.kind, found.sharp_covered, found.sharp_gap, found.sharp_synced, found.lasts,
                           found.sharp_greatest, found.sharp_within, found.sharp_beyond),
                          (7, 150237926, "beside", True, (), None, None, None, None, None))
+        self.assertEqual(found.losses, (0, None, None, None))
         end = ("greatest,-,-,-,\nsynced,no,0,,\nwithin,-,,,\nflutter,0,,,\nsharp,39007594,alone,,\nsharp covered,no,,,check 3 5 6\n"
-               "sharp synced,1,62,,\nsharp greatest,56495900,3,4687,\nsharp within,no,3,4687,\n")
+               "sharp synced,1,62,,\nsharp greatest,56495900,3,4687,\nsharp within,no,3,4687,\n"
+               "lost,2,5,75011786,1\n")
         found = texts.sharp_series(self.HEAD + end)
         self.assertEqual((found.greatest, found.synced, found.lost, found.within, found.beyond), (None, False, 0, None, None))
         self.assertEqual((found.flutter, found.precision, found.kind, found.sharp_covered, found.sharp_gap, found.sharp_synced, found.lasts,
                           found.sharp_greatest, found.sharp_within, found.sharp_beyond),
                          (0, 39007594, "alone", False, ("check", "3", "5", "6"), 1, 62, flexray.Skew(56495900, 3, 4687), False, (3, 4687)))
+        self.assertEqual(found.losses, (2, 5, 75011786, 1))
         self.assertIsNone(texts.sharp_series(self.HEAD + end.replace("1,62", "1,on")).lasts)
         for old, new in (("greatest,-,-,-,", "greatest,-,-,7,"), ("synced,no,0,,", "synced,no,,,"), ("synced,no,0,,", "synced,yes,0,,"),
                          ("within,-,,,", "within,maybe,,,"), ("flutter,0,,,", "flutter,-,,,"), ("39007594,alone", "1,both"),
                          ("check 3 5 6", "check 3 5"), ("no,,,check 3 5 6", "no,,,"), ("no,,,check 3 5 6", "yes,,,check 3 5 6"),
-                         ("synced,1,62", "synced,-,62"), ("synced,1,62", "synced,1,"), ("sharp within,", "sharp inside,")):
+                         ("synced,1,62", "synced,-,62"), ("synced,1,62", "synced,1,"), ("sharp within,", "sharp inside,"),
+                         ("lost,2,5", "lost,-,5"), ("75011786,1", "75011786,-"), ("lost,2,5,75011786,1\n", "")):
             with self.subTest(new=new), self.assertRaises(texts.Strange):
                 self.assertIn(old, end)
                 texts.sharp_series(self.HEAD + end.replace(old, new, 1))

@@ -4,6 +4,7 @@ import itertools
 import json
 import os
 import re
+import subprocess
 import unittest
 
 from bench import EXAMPLE, FLEXRAY, REPOSITORY, SERIES, Bench, edited, needs, needs_series
@@ -491,6 +492,26 @@ class Losses(Case):
                 self.assertEqual((told.every_second, told.every_second_holds),
                                  (max(max(apart) for apart, _ in seconds), self.holds(alone, max(reach for _, reach in seconds))))
                 self.assertEqual((told.longest, told.lasts), (longest if longest >= 0 else None, alone.lasts))
+
+    @needs_series
+    def test_what_a_run_loses(self):
+        """Its numbers by what is heard in each double cycle, from the first one on, are stepped here too."""
+        self.longest = 1_000_000 + self.p["xRateBound"]
+        self.changes = 2 * (self.p["pMicroPerCycle"] + self.p["pRateCorrectionOut"]) * self.p["xChangeBound"]
+        folder = os.path.join(REPOSITORY, "examples", "sharp")
+        alone = self.told(0)["alone"]
+        for lost in ((), (3,), (3, 4), (0, 9), (3, 4, 5)):
+            script = "".join(f"lose,{2 * double},1,2,{channel},,\n" for double in lost for channel in "AB")
+            path = self.write("script.csv", script)
+            told = texts.sharp_series(subprocess.run(
+                [SERIES, os.path.join(folder, "params.csv"), os.path.join(folder, "drift.csv"), path, "sharp"],
+                capture_output=True, text=True, check=True).stdout)
+            doubles = len(told.cycles) // 2
+            apart, reach = self.costs(alone, [double not in lost for double in range(doubles)])
+            bound = (max(apart), apart.index(max(apart))) if self.holds(alone, reach) else (None, None)
+            with self.subTest(lost=lost):
+                self.assertEqual(told.losses, (len(lost), max(lost, default=None), *bound))
+                self.assertEqual(told.sharp_covered, not lost)
 
 
 class Reading(unittest.TestCase):

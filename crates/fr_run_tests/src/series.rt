@@ -57,6 +57,7 @@ sharp covered,no,,,check 2 79984000 80000000\n\
 sharp synced,0,0,,\n\
 sharp greatest,0,0,0,\n\
 sharp within,yes,,,\n\
+lost,0,-,-,-\n\
 ";
 
 pub(crate) const APART_SERIES: &str = "\
@@ -137,6 +138,7 @@ sharp covered,no,,,length 1 2 1001500\n\
 sharp synced,0,on,,\n\
 sharp greatest,594000000,3,4900,\n\
 sharp within,no,2,651,\n\
+lost,0,-,-,-\n\
 ",
             "",
         ),

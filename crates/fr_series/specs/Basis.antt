@@ -2,7 +2,7 @@
 use Rattle.std.specs.Prelude.{◌≡◌, ℕ, pos, Bool, List, Option, Some, if◌then◌else◌}
 use Rattle.fr_base.specs.declared.node_row.NodeRow.{NodeRow}
 use Rattle.fr_cluster.specs.Values.{Values}
-use Rattle.fr_coverage.specs.Coverage.{some_join}
+use Rattle.fr_coverage.specs.Coverage.{gap_of_run, some_join}
 use Rattle.fr_coverage.specs.Flutter.{flutter_of}
 use Rattle.fr_drift.specs.View.{DriftView}
 use Rattle.fr_script.specs.View.{ScriptView}
@@ -11,6 +11,7 @@ use Rattle.fr_time.specs.declared.grid.Grid.{Grid}
 use Rattle.fr_skew.specs.Sync.{are_in_sync_by_even}
 use Rattle.fr_history.specs.Cycles.{Cycles}
 use Rattle.fr_sharp.specs.JoinedHistories.{first_rates_last}
+use Rattle.fr_sharp.specs.LossRuns.{is_through_losses, losses_of}
 use Rattle.fr_sharp.specs.SharpBounds.{sharp_near, sharp_precision, walk_lasts}
 use Rattle.fr_sharp.specs.SharpChecks.{sharp_holds_of}
 use Rattle.fr_sharp.specs.SharpStatement.{has_arbitrary}
@@ -58,6 +59,11 @@ basis_of p d s = record {
   beside = has_arbitrary p s;
   lasts = sharp_held (some_join p s) (has_arbitrary p s) p (flutter_of p d s);
   gap = first_sharp_gap p d s (flutter_of p d s);
+  lost = (losses_of p d s (flutter_of p d s)).doubles;
+  last_lost = (losses_of p d s (flutter_of p d s)).last;
+  through = is_through_losses p s (flutter_of p d s) (gap_of_run p d s) (losses_of p d s (flutter_of p d s));
+  peak = (losses_of p d s (flutter_of p d s)).peak;
+  place = (losses_of p d s (flutter_of p d s)).place;
   scales = scales_of (has_arbitrary p s) p (flutter_of p d s);
 }
 

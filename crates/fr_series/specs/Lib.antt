@@ -9,6 +9,7 @@ pub mod SeriesMeaning
 pub mod Basis
 pub mod SharpAnswer
 pub mod SharpCovered
+pub mod SharpLosses
 pub mod SharpMeaning
 pub mod SharpReport
 pub mod SharpReportAnswer

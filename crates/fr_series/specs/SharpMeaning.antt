@@ -6,6 +6,7 @@ use Rattle.fr_coverage.specs.Coverage.{some_join}
 use Rattle.fr_coverage.specs.Flutter.{flutter_of, IsFlutterOf}
 use Rattle.fr_coverage.specs.Order.{IsFirstGapOfRun}
 use Rattle.fr_coverage.specs.declared.gap.Gap.{Gap}
+use Rattle.fr_drift.specs.Questions.{doubles_of}
 use Rattle.fr_drift.specs.View.{DriftView}
 use Rattle.fr_script.specs.View.{ScriptView}
 use Rattle.fr_skew.specs.declared.peak.Peak.{Peak}
@@ -20,6 +21,7 @@ use Rattle.fr_sharp.specs.SharpStatement.{has_arbitrary}
 use Rattle.fr_sharp.specs.SharpTested.{IsFirstSharpSync, IsUnfollowedSharpSyncAt}
 use Rattle.fr_series.specs.Basis.{sharp_figures_of}
 use Rattle.fr_series.specs.SharpCovered.{failed_sharp, failed_sharp_join, first_sharp_gap, IsCoveredSharply}
+use Rattle.fr_series.specs.SharpLosses.{TellsLosses}
 use Rattle.fr_series.specs.declared.figures.Figures.{Figures}
 
 -- ---- why a run is not sharply covered
@@ -109,7 +111,8 @@ pub record AreSharpFiguresOf (beside : Bool) (p : Values) (flutter : ℕ) (h : C
   pub greatest : IsGreatestSince p (told_of h) figures.synced figures.greatest
   pub above : IsAboveSince p (told_of h) (pos (sharp_precision beside p flutter)) figures.synced figures.above
 
--- what a sharper series tells of a run: its flutter, why it is not sharply covered, and the figures of sharp sync
+-- what a sharper series tells of a run: its flutter, why it is not sharply covered, the figures of sharp sync, and what it loses; an
+-- accepted drift file has one double cycle or more
 pub record AreSharpFigures (params : Values) (drift : DriftView) (script : ScriptView) (h : Cycles) : Type 0 where
   pub flutter : IsFlutterOf params drift script (flutter_of params drift script)
   pub gap :
@@ -118,3 +121,4 @@ pub record AreSharpFigures (params : Values) (drift : DriftView) (script : Scrip
   pub sharp :
       AreSharpFiguresOf (has_arbitrary params script) params (flutter_of params drift script) h
       (sharp_figures_of (has_arbitrary params script) params (flutter_of params drift script) h)
+  pub losses : 1 ≤ doubles_of drift → TellsLosses params drift script h

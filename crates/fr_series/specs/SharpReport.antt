@@ -16,6 +16,7 @@ use Rattle.fr_report.specs.RunText.{run_text}
 use Rattle.fr_text.specs.Lines.{shown}
 use Rattle.fr_text.specs.Pieces.{line}
 use Rattle.fr_series.specs.Basis.{basis_of, sharp_figures_of}
+use Rattle.fr_series.specs.SharpLosses.{lost_told}
 use Rattle.fr_series.specs.SharpText.{beside_or_alone, doubles_or_on}
 use Rattle.fr_series.specs.declared.basis.Basis.{Basis}
 use Rattle.fr_series.specs.declared.figures.Figures.{Figures}
@@ -72,6 +73,7 @@ sharp_lines_of basis figures =
     ++ line (synced_told figures.synced basis.lasts)
     ++ shown (option_map greatest_shown figures.greatest)
     ++ line (within_told figures.synced figures.above)
+    ++ line (lost_told basis)
 
 -- what they say of some cycles
 abbrev pub sharp_lines_by : Values → Basis → Cycles → List ℕ

@@ -20,6 +20,7 @@ use Rattle.fr_text.specs.Pieces.{line}
 use Rattle.fr_sharp.specs.SharpTested.{is_in_sharp_sync}
 use Rattle.fr_series.specs.Basis.{basis_of, tally_of}
 use Rattle.fr_series.specs.Scale.{peak_by}
+use Rattle.fr_series.specs.SharpLosses.{lost_text}
 use Rattle.fr_series.specs.SeriesText.{above_text, greatest_text, series_head, series_row, synced_text, within_text, yes_or_no}
 use Rattle.fr_series.specs.declared.basis.Basis.{Basis}
 use Rattle.fr_series.specs.declared.tally.Tally.{Tally}
@@ -102,6 +103,7 @@ sharp_end basis tally =
     ++ line (sharp_synced_text tally.sharp.synced basis.lasts)
     ++ line (sharp_greatest_text tally.sharp.greatest)
     ++ line (sharp_within_text tally.sharp.synced tally.sharp.above)
+    ++ line (lost_text basis)
 
 -- the sharper series of some cycles
 unfoldable pub sharp_series_by : Values → Basis → Cycles → List ℕ

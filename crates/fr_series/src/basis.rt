@@ -6,11 +6,14 @@ ghost use Rattle.fr_time.specs.Position.{grid_for};
 
 use crate::scale::Scale;
 use crate::sharp_covered::first_sharp_gap;
+use crate::through::is_through;
 use fr_cluster::Params;
 use fr_coverage::{Gap, flutter, some_join};
 use fr_drift::Drift;
 use fr_script::Script;
-use fr_sharp::{first_rates_last, has_arbitrary, sharp_bounds, sharp_lasts, sharp_side};
+use fr_sharp::{
+    first_rates_last, has_arbitrary, run_losses, sharp_bounds, sharp_lasts, sharp_side,
+};
 use fr_skew::{SyncBounds, sync_bounds};
 use fr_time::grid_of;
 
@@ -31,11 +34,20 @@ pub struct Basis {
     /// Whether some sync node is arbitrary.
     pub beside: bool,
     /// For how many double cycles the rate limit holds the walk of lengths, 0 where the second check fails; and where a
-    /// correct node joins, for how many it suffices for first rates too, 0 where the sixth check fails. None where it
-    /// does on and on.
+    /// correct node joins, for how many it suffices for first rates too, 0 where the sixth check fails. None: for ever.
     pub lasts: Option<u64>,
     /// Why the run is not sharply covered; None where it is.
     pub gap: Option<Gap>,
+    /// In how many double cycles it loses frames.
+    pub lost: u32,
+    /// The last of them, if there is one.
+    pub last_lost: Option<u32>,
+    /// Whether it is covered through losses.
+    pub through: bool,
+    /// How far macroticks may then lie apart in the double cycle in which they may lie furthest, in ticks.
+    pub peak: u128,
+    /// The first such double cycle.
+    pub place: u32,
     /// What its double cycles and skews are held against.
     pub scales: Scales,
 }
@@ -48,11 +60,17 @@ impl Basis {
     {
         let flutter = flutter(params, drift, script);
         let beside = has_arbitrary(params, script);
+        let losses = run_losses(params, drift, script, flutter);
         Basis {
             flutter,
             beside,
             lasts: sharp_held(params, some_join(&params.nodes, script), beside, flutter),
             gap: first_sharp_gap(params, drift, script, flutter),
+            lost: losses.doubles,
+            last_lost: losses.last,
+            through: is_through(params, drift, script, flutter, &losses),
+            peak: losses.peak,
+            place: losses.place,
             scales: scales_for(params, beside, flutter),
         }
     }

@@ -6,8 +6,7 @@ ghost use Rattle.fr_time.specs.Position.{grid_for};
 ghost use Rattle.fr_series.specs.Scale.{peak_by};
 ghost use Rattle.fr_series.specs.SeriesMeaning.{IsPeakFound};
 
-/// A law: what a line of a series tells of a cycle is its greatest skew over all its macroticks, in ticks, and the first
-/// of them at which it occurs.
+/// A law: a line of a series tells the greatest skew of a cycle over all its macroticks, in ticks, and its first place.
 pub fn the_peak_of_a_cycle_is_told()
     ensures { (p : Values) (cycle : ℕ) (rows : List NodeRow) → IsSane p →
         IsPeakFound p cycle rows (peak_by (grid_for p) cycle rows) }

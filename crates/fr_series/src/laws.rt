@@ -33,8 +33,7 @@ pub fn a_series_is_lawful()
     one_first_unfollowed_sync();
 }
 
-/// A law: the bytes of the files decide what is written. Two texts that the answer's clause allows for files of the
-/// same bytes are the same.
+/// A law: the bytes of the files decide what is written: two texts that the clause allows for the same bytes are one.
 pub fn files_decide_the_series()
     ensures { IsDecided (run_files IsSeriesText) }
 {

@@ -1,5 +1,4 @@
-//! What is printed of a run cycle by cycle: its series, its sharper series, and the command `flexray-series`; and the
-//! report of a run by the sharper bounds.
+//! What is printed of a run cycle by cycle: its series, and the command `flexray-series`; and its report by sharper bounds.
 #![tactic(auto)]
 
 mod basis;
@@ -22,6 +21,7 @@ mod sharp_writing;
 mod spread;
 mod status_laws;
 mod tally;
+mod through;
 mod top;
 mod writing;
 

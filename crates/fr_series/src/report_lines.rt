@@ -1,21 +1,23 @@
 ghost use Rattle.std.specs.Prelude.{◌≡◌, ◌++◌, ◌≤◌, codes, length};
 ghost use Rattle.std.specs.Fmt.{decimal, signed_decimal};
 ghost use Rattle.std.specs.Option.{option_map};
+ghost use Rattle.fr_series.specs.SharpLosses.{lost_told};
 ghost use Rattle.fr_series.specs.SharpReport.{above_told, covered_told, flutter_told, greatest_shown, precision_told, sharp_lines_of, synced_told, within_told};
 ghost use Rattle.fr_text.specs.Lines.{joined_lines};
 ghost use Rattle.fr_text.specs.Pieces.{line};
 
 use crate::basis::Basis;
 use crate::figures::Figures;
-use crate::sharp_lines::{kind, lasts_piece};
+use crate::sharp_lines::{kind, last_piece, lasts_piece};
 use fr_coverage::{Gap, gap_line};
+use fr_sharp::Digits;
 use fr_skew::Peak;
 use fr_text::Piece::{Natural, Signed, Word};
 use fr_text::{Line, line_of};
 
 // What the sharper bounds say of a run.
 #[tactic(auto, unfolding(crate::specs::SharpReport::sharp_lines_of))]
-pub(crate) fn sharp_report_lines(basis: &Basis, figures: &Figures) -> [Option<Line>; 6]
+pub(crate) fn sharp_report_lines(basis: &Basis, figures: &Figures) -> [Option<Line>; 7]
     ensures { joined_lines result ≡ sharp_lines_of basis.now figures.now }
 {
     [
@@ -25,6 +27,7 @@ pub(crate) fn sharp_report_lines(basis: &Basis, figures: &Figures) -> [Option<Li
         Some(synced_line(figures.synced, basis.lasts)),
         greatest_line(figures.greatest),
         Some(within_line(figures.synced, figures.above)),
+        Some(lost_line(basis)),
     ]
 }
 
@@ -109,4 +112,32 @@ fn place_line(front: &[u8], peak: Peak) -> Line
         Word(b" macrotick "),
         Natural(u64::from(peak.macrotick)),
     ])
+}
+
+fn lost_line(basis: &Basis) -> Line
+    ensures { result ≡ line (lost_told basis.now) }
+{
+    let doubles = Natural(u64::from(basis.lost));
+    let last = last_piece(basis.last_lost);
+    if basis.through {
+        let digits = Digits::of(basis.peak);
+        line_of(&[
+            Word(b"sharp lost "),
+            doubles,
+            Word(b" last "),
+            last,
+            Word(b" bound "),
+            Word(digits.bytes()),
+            Word(b" double "),
+            Natural(u64::from(basis.place)),
+        ])
+    } else {
+        line_of(&[
+            Word(b"sharp lost "),
+            doubles,
+            Word(b" last "),
+            last,
+            Word(b" bound -"),
+        ])
+    }
 }

@@ -1,5 +1,4 @@
 ghost use Rattle.std.specs.Prelude.{◌≡◌, ◌≤◌};
-ghost use Rattle.std.specs.Option.{option_or};
 ghost use Rattle.fr_bound.specs.Settling.{IsSettleCheck};
 ghost use Rattle.fr_coverage.specs.Coverage.{gap_of_run, some_join};
 ghost use Rattle.fr_sharp.specs.SharpBounds.{most_flutter};
@@ -13,6 +12,16 @@ use fr_drift::Drift;
 use fr_script::Script;
 use fr_sharp::{has_arbitrary, sharp_checks, sharp_join_checks, sharp_join_side, sharp_side};
 
+// The first gap of the run itself, whatever the checks say.
+pub(crate) fn gap_of_run(params: &Params, drift: &Drift, script: &Script) -> Option<Gap>
+    ensures { result ≡ gap_of_run params.now drift.now script.now }
+{
+    match run_covered(params, drift, script) {
+        Ok(()) => None,
+        Err(gap) => Some(gap),
+    }
+}
+
 // The first gap for which a run is not sharply covered, where its delays flutter by so many ticks.
 pub(crate) fn first_sharp_gap(
     params: &Params,
@@ -25,22 +34,9 @@ pub(crate) fn first_sharp_gap(
 {
     match failing_check(params, has_arbitrary(params, script), flutter) {
         Some(gap) => Some(gap),
-        None => gap_behind(params, drift, script, flutter),
-    }
-}
-
-// The first gap behind the sharper checks from 2 to 5.
-fn gap_behind(params: &Params, drift: &Drift, script: &Script, flutter: u64) -> Option<Gap>
-    requires { flutter ≤ most_flutter }
-    ensures { result ≡ option_or
-        (sharp_gap_to_join (some_join params.now script.now) (has_arbitrary params.now script.now) params.now flutter)
-        (gap_of_run params.now drift.now script.now) }
-{
-    match gap_to_join(params, script, flutter) {
-        Some(gap) => Some(gap),
-        None => match run_covered(params, drift, script) {
-            Ok(()) => None,
-            Err(gap) => Some(gap),
+        None => match gap_to_join(params, script, flutter) {
+            Some(gap) => Some(gap),
+            None => gap_of_run(params, drift, script),
         },
     }
 }

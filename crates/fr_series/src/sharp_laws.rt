@@ -19,13 +19,14 @@ ghost use Rattle.fr_series.specs.SharpText.{sharp_series_text};
 use fr_coverage::{flutter_is_the_greatest, found_gap_of_run_is_first};
 use fr_history::one_lawful_run;
 use fr_sharp::{
-    covered_files_keep_sharply, covered_files_keep_sharply_joined, one_first_sharp_sync,
+    covered_files_keep_sharply, covered_files_keep_sharply_joined, losses_are_told,
+    one_first_sharp_sync,
 };
 use fr_world::files_decide_one_run;
 
 /// A law: the text of the sharper series of some parameters, a drift and a script is that of their one lawful run over all
 /// cycles; it says that this is sharply covered exactly where it is, and then the run keeps the sharper precision as the
-/// promise says, whoever joins, and the text tells it; and its figures are what they are called. Where a correct node joins
+/// promise says, whoever joins, and the text tells it; and its figures are what they are called, what it loses too. Where a correct node joins
 /// the drift and the script fit the parameters; the other premises are the invariants of `Params` and of `Script`.
 pub fn a_sharp_series_is_lawful()
     ensures { (p : Values) (d : DriftView) (s : ScriptView) →
@@ -38,10 +39,10 @@ pub fn a_sharp_series_is_lawful()
     found_gap_of_run_is_first();
     flutter_is_the_greatest();
     one_first_sharp_sync();
+    losses_are_told();
 }
 
-/// A law: the bytes of the files decide what is written. Two texts that the answer's clause allows for files of the
-/// same bytes are the same.
+/// A law: the bytes of the files decide what is written: two texts that the clause allows for the same bytes are one.
 pub fn files_decide_the_sharp_series()
     ensures { IsDecided (run_files IsSharpSeriesText) }
 {
@@ -62,8 +63,7 @@ pub fn a_gap_is_told()
 /// A law: where the run is sharply covered it keeps, from its first double cycle in sharp sync on in which no node follows,
 /// what the promise says, whoever joins: as long as the rate limit holds the walk, and suffices for first rates where a
 /// node joins, no macroticks lie further apart than the sharper precision. So the last line of its series names no place
-/// in those double cycles, and says yes where they reach to the end of the run. Where a correct node joins the drift and
-/// the script fit the parameters.
+/// in those double cycles, and says yes where they reach to the end of the run. If one joins, drift and script fit.
 pub fn a_covered_run_stays_in_sharp_sync()
     ensures { (p : Values) (d : DriftView) (s : ScriptView) (h : Cycles) (first : ℕ) →
         IsSane p → FitsToJoin p d s → IsCoveredSharply p d s (flutter_of p d s) →

@@ -1,4 +1,5 @@
 ghost use Rattle.std.specs.Prelude.{◌≡◌, ◌++◌, ◌≤◌, codes, length};
+ghost use Rattle.fr_series.specs.SharpLosses.{last_lost_text, lost_text};
 ghost use Rattle.fr_series.specs.SeriesText.{above_text, greatest_text, synced_text, within_text};
 ghost use Rattle.fr_series.specs.SharpText.{beside_or_alone, doubles_or_on, flutter_text, older_end, sharp_covered_text, sharp_end};
 ghost use Rattle.fr_series.specs.SharpText.{sharp_head, sharp_precision_text, sharp_row, sharp_synced_text};
@@ -9,6 +10,7 @@ use crate::basis::Basis;
 use crate::lines::yes_or_no;
 use crate::tally::Tally;
 use fr_coverage::{Gap, gap_line};
+use fr_sharp::Digits;
 use fr_skew::Peak;
 use fr_text::Piece::{Natural, Signed, Word};
 use fr_text::{Line, Piece, line_of};
@@ -59,7 +61,7 @@ pub(crate) fn older_lines(tally: &Tally) -> [Option<Line>; 3]
 
 // Those of sharp sync.
 #[tactic(auto, unfolding(crate::specs::SharpText::sharp_end))]
-pub(crate) fn sharp_lines(basis: &Basis, tally: &Tally) -> [Option<Line>; 6]
+pub(crate) fn sharp_lines(basis: &Basis, tally: &Tally) -> [Option<Line>; 7]
     ensures { joined_lines result ≡ sharp_end basis.now tally.now }
 {
     let figures = tally.sharp;
@@ -70,6 +72,7 @@ pub(crate) fn sharp_lines(basis: &Basis, tally: &Tally) -> [Option<Line>; 6]
         Some(sharp_synced_line(figures.synced, basis.lasts)),
         Some(greatest_line(b"sharp ", figures.greatest)),
         Some(within_line(b"sharp ", figures.synced, figures.above)),
+        Some(lost_line(basis)),
     ]
 }
 
@@ -187,5 +190,37 @@ pub(crate) fn lasts_piece(lasts: Option<u64>) -> Piece<'static>
     match lasts {
         None => Word(b"on"),
         Some(doubles) => Natural(doubles),
+    }
+}
+
+// How many double cycles lose frames, the last one, and the greatest bound with its place, if there is one.
+fn lost_line(basis: &Basis) -> Line
+    ensures { result ≡ line (lost_text basis.now) }
+{
+    let doubles = Natural(u64::from(basis.lost));
+    let last = last_piece(basis.last_lost);
+    if basis.through {
+        let digits = Digits::of(basis.peak);
+        line_of(&[
+            Word(b"lost,"),
+            doubles,
+            Word(b","),
+            last,
+            Word(b","),
+            Word(digits.bytes()),
+            Word(b","),
+            Natural(u64::from(basis.place)),
+        ])
+    } else {
+        line_of(&[Word(b"lost,"), doubles, Word(b","), last, Word(b",-,-")])
+    }
+}
+
+pub(crate) fn last_piece<'a>(last: Option<u32>) -> Piece<'a>
+    ensures { Spells result (last_lost_text last) 20 }
+{
+    match last {
+        None => Word(b"-"),
+        Some(double) => Natural(u64::from(double)),
     }
 }

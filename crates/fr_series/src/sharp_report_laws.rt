@@ -25,8 +25,7 @@ pub fn a_sharp_report_is_lawful()
     files_decide_one_run();
 }
 
-/// A law: the bytes of the files decide what is written. Two texts that the answer's clause allows for files of the
-/// same bytes are the same.
+/// A law: the bytes of the files decide what is written: two texts that the clause allows for the same bytes are one.
 pub fn files_decide_the_sharp_report()
     ensures { IsDecided (run_files IsSharpRunText) }
 {

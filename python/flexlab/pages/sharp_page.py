@@ -88,6 +88,19 @@ def skew_lines(run: Run, field: Lines) -> list[str]:
     return found + field("Within", f"NO: since then the skew was above the precision{place}")
 
 
+def losses_lines(run: Run, field: Lines) -> list[str]:
+    """How far the clocks may come apart through frames that are lost, where flexray-series tells it."""
+    told, cluster = run.sharp.told, run.cluster
+    if told is None or not told.losses.doubles:
+        return []
+    losses = told.losses
+    where = (f"frames are lost in {losses.doubles} of {run.report.doubles} double cycles, the last is double cycle {losses.last}")
+    if losses.bound is None:
+        return field("Losses", where, "nothing is proved of this run through losses")
+    return field("Losses", where, f"covered through losses: while in sync the clocks lie no further apart than "
+                                  f"{microseconds(losses.bound, cluster.microtick_ns)}, the number of double cycle {losses.double}")
+
+
 def sharp_lines(run: Run, field: Lines, ms_of_cycle: Callable[[int, Cluster], Fraction]) -> list[str]:
     """The lines of the page."""
     bounds, unit = run.sharp.bounds, run.cluster.microtick_ns
@@ -96,7 +109,7 @@ def sharp_lines(run: Run, field: Lines, ms_of_cycle: Callable[[int, Cluster], Fr
     found += field("Covered", *covered_words(run))
     found += field("Precision", f"{microseconds(bounds.precision, unit)} ({decimal(Fraction(bounds.precision, 1000000), 3)} "
                                 f"microticks), {kind_words(run.sharp, unit)}")
-    return found + skew_lines(run, field)
+    return found + skew_lines(run, field) + losses_lines(run, field)
 
 
 def check_lines(run: Run, field: Lines) -> list[str]:

@@ -1,8 +1,10 @@
-use Rattle.std.proofs.Common.{◌≡◌, ◌∙◌, ◌*◌, List, ◌++◌, ℕ, ap, ap₂, refl, subst, rules}
+use Rattle.std.proofs.Common.{◌≡◌, ◌∙◌, ◌*◌, List, ◌++◌, ℕ, Result, Ok, Err, Option, None, Some, ap, ap₂, refl, subst}
+use Rattle.std.specs.Prelude.{IfErr, OnOk}
 use Rattle.std.specs.Result.{result_err}
 use Rattle.fr_base.specs.Device.{Puts}
 use Rattle.fr_base.proofs.Putting.{cut, then}
 use Rattle.fr_coverage.specs.Coverage.{first_gap}
+use Rattle.fr_coverage.specs.declared.gap.Gap.{Gap}
 use Rattle.fr_drift.specs.Questions.{doubles_of}
 use Rattle.fr_history.specs.Cycles.{Cycles}
 use Rattle.fr_history.specs.Next.{cycles_of}
@@ -19,6 +21,11 @@ use Rattle.fr_series.proofs.sharp_gathering.write_sharp_report.Goals as goal
 
 abbrev run_of : WorldView → Cycles
 run_of w = cycles_of (setting_after w) (2 * doubles_of w.drift)
+
+-- what is answered is the first gap
+told_gap : (answer : Result (Unit {0}) Gap) (found : Option Gap) → OnOk answer (found ≡ None) → IfErr answer (λ gap. found ≡ Some gap) → result_err answer ≡ found
+told_gap (Ok done) found none some = sym none
+told_gap (Err gap) found none some = sym some
 
 pub run_all-requires-clause-none : goal.run_all-requires-clause-none
 run_all-requires-clause-none g c = c.none-figures.ensures ∙ sym (sharp_figures-none c.of-basis.result.beside c.args.world.now.params c.of-basis.result.flutter)
@@ -40,7 +47,10 @@ returns-clause-text g c =
     let b : Basis = c.of-basis.result in
     let is : b ≡ basis_of w.params w.drift w.script = c.of-basis.ensures.value ∙ rw (c.params.ensures.value, c.drift.ensures.value, c.script.ensures.value) refl in
     let lines : joined_lines c.sharp_report_lines.result ≡ sharp_lines_by w.params b (run_of w) = c.sharp_report_lines.ensures ∙ ap (sharp_lines_of b) c.run_all.ensures.figures in
-    let gap : result_err c.covered-gap.result ≡ first_gap v.params v.drift v.script = search rules in
+    let same : first_gap c.params-3.result.now c.drift-2.result.now c.script-2.result.now ≡ first_gap v.params v.drift v.script =
+    rw (c.params-3.ensures.value, c.drift-2.ensures.value, c.script-2.ensures.value) refl in
+    let gap : result_err c.covered-gap.result ≡ first_gap v.params v.drift v.script =
+    told_gap c.covered-gap.result (first_gap c.params-3.result.now c.drift-2.result.now c.script-2.result.now) c.covered-gap.ensures.whole c.covered-gap.ensures.gap ∙ same in
     let report : world_text v ≡ run_text w.params w.drift w.script = ap world_text c.run_all.ensures.ran in
     let P : List ℕ → Type 0 = λ l. Puts c.write_report.result (g.O.Sink.state c.args.out.now) (g.O.Sink.state c.write_report.new.out) l in
     subst P (ap₂ (λ (l m : List ℕ). l ++ m) (lines ∙ ap (λ (x : Basis). sharp_lines_by w.params x (run_of w)) is) report)

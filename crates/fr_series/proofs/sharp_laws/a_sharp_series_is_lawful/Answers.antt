@@ -33,5 +33,11 @@ returns c = λ p d s sane fits proper.
         sharp =
             sharp_figures_are beside p flutter h some (c.one_first_sharp_sync.ensures.found beside p flutter h)
             (c.one_first_sharp_sync.ensures.none beside p flutter h);
+        losses = λ some. record {
+          lost = c.losses_are_told.ensures.figures p d s flutter some;
+          through = c.losses_are_told.ensures.covered p d s flutter sane some (omega arith);
+          keeps = λ covered double passed sync within lasts.
+              c.losses_are_told.ensures.keeps p d s flutter h double passed sane covered (record { lawful = lawful; whole = whole }) sync within lasts;
+        };
       };
     }

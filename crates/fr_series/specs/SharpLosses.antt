@@ -1,0 +1,62 @@
+-- What a sharper series and a report tell of what a run loses, and what that means.
+use Rattle.std.specs.Prelude.{◌≡◌, ◌↔◌, ◌+◌, ◌<◌, ℕ, pos, Bool, true, false, List, ◌++◌, codes, Option, Some, None}
+use Rattle.std.specs.Fmt.{decimal}
+use Rattle.fr_cluster.specs.Values.{Values}
+use Rattle.fr_coverage.specs.Coverage.{gap_of_run}
+use Rattle.fr_coverage.specs.Decided.{setting_of}
+use Rattle.fr_coverage.specs.Flutter.{flutter_of}
+use Rattle.fr_drift.specs.Questions.{doubles_of}
+use Rattle.fr_drift.specs.View.{DriftView}
+use Rattle.fr_script.specs.View.{ScriptView}
+use Rattle.fr_history.specs.Cycles.{Cycles}
+use Rattle.fr_sharp.specs.Losses.{lost_apart}
+use Rattle.fr_sharp.specs.LossRuns.{all_hear, is_through_losses, losses_of, AreLosses}
+use Rattle.fr_sharp.specs.LossStatement.{whole_in, IsCoveredThroughLosses}
+use Rattle.fr_sharp.specs.SharpHistories.{IsInSharpSyncAt, KeepsApart}
+use Rattle.fr_sharp.specs.SharpRun.{WalkLastsAfter}
+use Rattle.fr_series.specs.declared.basis.Basis.{Basis}
+
+-- ---- the texts
+
+-- the last double cycle that loses frames, if one does
+abbrev pub last_lost_text : Option ℕ → List ℕ
+last_lost_text None = codes "-"
+last_lost_text (Some double) = decimal double
+
+-- the greatest bound of a double cycle, in ticks, and the first double cycle with it; none where the run is not covered through losses
+abbrev pub lost_bound_text : Bool → ℕ → ℕ → List ℕ
+lost_bound_text false peak place = codes "-,-"
+lost_bound_text true peak place = decimal peak ++ codes "," ++ decimal place
+
+-- in a series: how many double cycles lose frames, the last one, and the greatest bound with its place
+abbrev pub lost_text : Basis → List ℕ
+lost_text basis =
+    codes "lost," ++ decimal basis.lost ++ codes "," ++ last_lost_text basis.last_lost ++ codes ","
+    ++ lost_bound_text basis.through basis.peak basis.place
+
+-- in a report
+abbrev pub lost_bound_told : Bool → ℕ → ℕ → List ℕ
+lost_bound_told false peak place = codes "-"
+lost_bound_told true peak place = decimal peak ++ codes " double " ++ decimal place
+
+abbrev pub lost_told : Basis → List ℕ
+lost_told basis =
+    codes "sharp lost " ++ decimal basis.lost ++ codes " last " ++ last_lost_text basis.last_lost ++ codes " bound "
+    ++ lost_bound_told basis.through basis.peak basis.place
+
+-- ---- what they mean
+
+-- of a run with its own flutter: what it loses means what it is called; a bound is told exactly where it is covered through losses; and
+-- then, from each double cycle in sharp sync on and as long as the walk lasts, no macroticks lie further apart than by the number of
+-- their double cycle, nor than the greatest of these, no term is cut or missing, and every correct node is active
+pub record TellsLosses (p : Values) (d : DriftView) (s : ScriptView) (h : Cycles) : Type 0 where
+  pub lost : AreLosses p (flutter_of p d s) (whole_in p s) (all_hear p.nodes s) (doubles_of d) (losses_of p d s (flutter_of p d s))
+  pub through :
+      is_through_losses p s (flutter_of p d s) (gap_of_run p d s) (losses_of p d s (flutter_of p d s)) ≡ true
+      ↔ IsCoveredThroughLosses p d s (flutter_of p d s) (losses_of p d s (flutter_of p d s)).reach
+  pub keeps :
+      IsCoveredThroughLosses p d s (flutter_of p d s) (losses_of p d s (flutter_of p d s)).reach → (double passed : ℕ)
+      → IsInSharpSyncAt false p (flutter_of p d s) (pos 0) h double → double + passed < doubles_of d
+      → WalkLastsAfter p (flutter_of p d s) passed
+      → KeepsApart (setting_of p d s) h (double + passed) (lost_apart p (flutter_of p d s) (whole_in p s) (double + passed))
+      × KeepsApart (setting_of p d s) h (double + passed) (losses_of p d s (flutter_of p d s)).peak
