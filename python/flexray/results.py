@@ -6,11 +6,10 @@ from collections.abc import Iterator, Sequence
 from dataclasses import dataclass, field
 from typing import NamedTuple, overload
 
-__all__ = ["Check", "Bound", "SharpSide", "SharpBound", "LostBound", "Skew", "Sent", "Heard", "NodeEnd", "Report", "Losses",
-           "SharpReport", "SeriesCycle", "SeriesCycles", "Series", "SharpSeries", "CycleRow", "Deviation", "Join", "Trace", "Verdict", "Failing",
-           "Failure", "ObservedCycle", "ObservedNode", "ObservedFault", "ObservedSender",
-           "LogCounts", "Observation", "FailedCheck", "Settled", "SharpWay", "SharpSettled", "Lead", "Startup", "Frame",
-           "CapturedFrame", "Capture", "Vector", "Vectors", "Upgraded"]
+__all__ = ["Check", "Bound", "SharpSide", "SharpBound", "LostBound", "Skew", "Sent", "Heard", "NodeEnd", "Report", "Losses", "SharpReport",
+           "SeriesCycle", "SeriesCycles", "Series", "SharpSeries", "CycleRow", "Deviation", "Join", "Trace", "Verdict", "Failing",
+           "Failure", "ObservedCycle", "ObservedNode", "ObservedFault", "ObservedSender", "LogCounts", "Observation", "FailedCheck",
+           "Settled", "SharpWay", "SharpSettled", "Lead", "Startup", "Frame", "CapturedFrame", "Capture", "Vector", "Vectors", "Upgraded"]
 
 
 @dataclass(frozen=True)
@@ -164,8 +163,8 @@ class Report:
 
 class Losses(NamedTuple):
     """What a run loses: in how many double cycles, and the last one. `bound` is the greatest bound of a double cycle, and `double`
-    the first with it: from the first double cycle in sync on no skew is above the bound of its own. Both are None where the run
-    is not covered through losses."""
+    the first with it: in the `lasts` double cycles from the first in sharp sync on no skew is above the bound of its own. Both are
+    None where the run is not covered through losses. (`lost` of a series is something else: where sync is lost.)"""
 
     doubles: int
     last: int | None

@@ -407,6 +407,9 @@ class Logs(Bench):
             self.assertEqual("the counter of 32 bits began anew 1 times" in told, begin != 0)
             logs.append(self.read("log.csv"))
         self.assertEqual(*logs)
+        # A row of before that stands behind is of before.
+        wraps = observer.Wraps()
+        self.assertEqual([wraps.before(str(time % (1 << 32))) >> 32 for time in (-6, 5, -1, 10, 20, -2)], [0, 1, 0, 1, 1, 0])
         # One channel behind the other is no counter that begins anew.
         wraps = observer.Wraps()
         self.assertEqual([wraps.before(time) for time in ("100", "3900000000", "100", "3900000000", "0.5")], [0] * 5)

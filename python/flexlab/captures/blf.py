@@ -163,8 +163,11 @@ def unpacked(path: str, item: bytes, head: int, most: int, losses: Losses) -> by
     try:
         if packing == 2:
             # Of a file that ends too early this is what is there. The size is the file's own word, and 0 would be no limit.
-            data = zlib.decompressobj().decompress(item[head + 16:], min(size or most + 1, most + 1))
-            losses.add(SHORTER, min(size, most + 1) - len(data))
+            stream = zlib.decompressobj()
+            data = stream.decompress(item[head + 16:], min(size or most + 1, most + 1))
+            # The checksum stands behind the last byte.
+            if len(data) <= most and not stream.eof and (stream.decompress(stream.unconsumed_tail, 1) or not stream.eof):
+                losses.add(SHORTER, max(1, size - len(data)))
             return data
     except zlib.error as fault:
         raise Stop(REFUSED, f"{path}: a container of it cannot be unpacked: {fault}")

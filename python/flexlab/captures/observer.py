@@ -288,7 +288,8 @@ def time_of(path: str, line: int, time: str) -> re.Match[str]:
 
 
 class Wraps:
-    """How often a counter of 32 bits has begun anew, by the whole numbers of a column in the order of the file."""
+    """How often a counter of 32 bits has begun anew, by the whole numbers of a column in the order of the file, in which rows may
+    stand a little too late."""
 
     def __init__(self) -> None:
         self.count, self.last = 0, 0
@@ -296,6 +297,8 @@ class Wraps:
     def before(self, time: str) -> int:
         """What the counter had passed when it began anew, before this time."""
         stamp = int(time) if time.isdecimal() else -1
+        if self.count and self.last < WRAP_PART and WRAP - WRAP_PART <= stamp < WRAP:
+            return (self.count - 1) * WRAP
         if 0 <= stamp < WRAP:
             self.count += self.last >= WRAP - WRAP_PART and stamp < WRAP_PART
             self.last = stamp

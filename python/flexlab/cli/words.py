@@ -275,8 +275,9 @@ def parser() -> argparse.ArgumentParser:
         one.add_argument("--columns", metavar="LIST", help="of a CSV file: time=NAME,channel=NAME,bytes=NAME")
         one.add_argument("--time-unit", metavar="UNIT", choices=("s", "ms", "us", "ns"), default="s",
                          help="of its times: s, ms, us or ns (s)")
-        one.add_argument("--from", dest="begin", metavar="SECONDS", type=seconds, help="take frames from this time of the file on")
-        one.add_argument("--to", dest="end", metavar="SECONDS", type=seconds, help="take frames before this time of it")
+        one.add_argument("--from", dest="begin", metavar="SECONDS", type=seconds,
+                         help="take frames from so long behind the first one of the file on")
+        one.add_argument("--to", dest="end", metavar="SECONDS", type=seconds, help="take frames that come earlier than so long behind it")
     log.add_argument("-o", "--out", metavar="LOG", help="the file to be written (CAPTURE.log.csv beside the capture)")
 
     observe.add_argument("-o", "--out", metavar="FOLDER", help="where files go (CAPTURE.lab beside the capture)")

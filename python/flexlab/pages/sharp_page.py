@@ -95,9 +95,14 @@ def losses_lines(run: Run, field: Lines) -> list[str]:
         return []
     losses = told.losses
     where = (f"frames are lost in {losses.doubles} of {run.report.doubles} double cycles, the last is double cycle {losses.last}")
+    first, lasts = first_of(run), run.sharp.bounds.lasts
     if losses.bound is None:
         return field("Losses", where, "nothing is proved of this run through losses")
-    return field("Losses", where, f"covered through losses: while in sync the clocks lie no further apart than "
+    if first is None or lasts == 0:
+        why = "never in sync" if first is None else "C1 fails, and the rate limit holds the walk for no double cycle"
+        return field("Losses", where, f"covered through losses, but {why}: nothing is promised")
+    span = "to the end" if lasts is None else f"for {lasts} double cycles"
+    return field("Losses", where, f"covered through losses: from double cycle {first} on, {span}, the clocks lie no further apart than "
                                   f"{microseconds(losses.bound, cluster.microtick_ns)}, the number of double cycle {losses.double}")
 
 
