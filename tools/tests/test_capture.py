@@ -231,7 +231,9 @@ class Captures(Bench):
 
     def test_what_is_no_capture(self):
         self.write("text.pcap", "hello, this is no capture at all\n")
-        self.assertIn("tshark does not read it", self.flexlab("capture", "text.pcap", status=5)[1])
+        self.assertIn("it is a text and no capture", self.flexlab("capture", "text.pcap", status=5)[1])
+        self.write("other.pcap", "hello\0this is none either\n")
+        self.assertIn("tshark does not read it", self.flexlab("capture", "other.pcap", status=5)[1])
         self.assertIn("none.pcap: No such file", self.flexlab("capture", "none.pcap", status=3)[1])
         packets.LINK_FLEXRAY, kept = 1, packets.LINK_FLEXRAY
         try:
