@@ -287,7 +287,7 @@ const WRITTEN: &[(Program, &[&str], &[File], &str, usize, usize)] = &[
         HELD_FILES,
         HELD_FOR_NONE,
         1,
-        13,
+        14,
     ),
 ];
 
