@@ -182,6 +182,21 @@ class House(Case):
         self.write("docs/ARCHITECTURE.md", "a line\n" * 351)
         self.ends(1, "lines of docs/ARCHITECTURE.md 351", "house")
 
+    def test_what_hurts(self):
+        self.write("crates/fr_low/src/long.rt", "".join(
+            f"fn wide_{number}(&self, a: Vec<(u8, u8)>, b: u8, c: u8, d: u8, e: u8, f: u8)\n{{\n}}\n\n" for number in range(42)))
+        self.ends(1, "functions with more than 6 arguments: 42 (at most 41)", "house")
+        self.write("crates/fr_low/src/long.rt", "fn six(&self, a: Map<u8, u8>, b: fn(u8, u8) -> u8, c: u8, d: u8, e: u8)\n{\n}\n")
+        self.ends(0, "functions with more than 6 arguments: 0", "house")
+        for name in ("low", "high", "low/proofs/deep"):
+            self.write(f"crates/fr_{name}/proofs/Long.antt".replace("deep/proofs/", "deep/"), "-- a line\n" * 9001)
+        self.ends(0, "crates over 9,000 lines of proofs: 2", "house")
+        for number in range(17):
+            self.write(f"docs/part_{number}.md", "heard stored 4\n")
+            self.write(f"crates/fr_low/proofs/part_{number}.antt", "-- flip\n" * 3)
+        self.ends(1, "heard stored: 17 (at most 16)", "house")
+        self.ends(1, "[Ff]lip: 0 (at most 49)", "house")
+
 
 class Promises(Case):
     def test_all_is_there(self):
