@@ -1,5 +1,5 @@
 -- The gaps of each kind, and all of them.
-use Rattle.std.proofs.Common.{◌≡◌, ℕ, zero, suc, ◌-◌, ◌<◌, ◌≤◌, true, false, List, [], ◌∷◌, Some, None, ap, sym, ◌∙◌, refl, arith, ◌⊎◌, inl, inr}
+use Rattle.std.proofs.Common.{◌≡◌, ℕ, zero, suc, ◌-◌, ◌<◌, ◌≤◌, true, false, List, [], ◌∷◌, Option, Some, None, ap, sym, ◌∙◌, refl, arith, ◌⊎◌, inl, inr}
 use Rattle.std.specs.Prelude.{pos, ◌-ℤ◌, AllPairs, Contains}
 use Rattle.fr_base.specs.Rows.{channel_rank}
 use Rattle.fr_base.specs.declared.channel.Channel.{Channel}
@@ -14,6 +14,7 @@ use Rattle.fr_script.specs.View.{ScriptView, is_arbitrary}
 use Rattle.fr_coverage.specs.First.{first_below, first_in}
 use Rattle.fr_coverage.specs.Links.{is_link, shares, is_carried, link_gap}
 use Rattle.fr_coverage.specs.Coverage.{asked_checks, how_many_cycles, check_gap, count_of, outweighs, count_gap, is_off, length_gap, lengths_gap, has_jumped, change_gap, changes_gap, is_wrong, delay_gap, channel_gap, delays_gap, links_gap, first_of_nodes, first_of_pairs, gap_of_run, first_gap}
+use Rattle.fr_coverage.specs.Kinds.{gaps_by_kind, AreFirstGaps, IsFirstOf}
 use Rattle.fr_coverage.specs.Order.{place_of_gap, IsEarlierGap, IsFailingCheck, IsRunCheckGap, IsCountGap, IsLengthGap, IsChangeGap, IsDelayGap, IsLinkGap, IsGap, IsGapOfRun, IsFirstGap, IsFirstGapOfRun, FindsGapOfRun}
 use Rattle.fr_coverage.specs.declared.gap.Gap.{Gap}
 use Rattle.fr_coverage.specs.declared.gap.Gap.TheVariants as gap
@@ -357,3 +358,18 @@ pub found-of-run : (p : Values) (d : DriftView) (s : ScriptView) → IsSane p �
 found-of-run p d s sane =
     let l = gaps-of-run-least p d s sane.lists.nodes_ascend in
     (λ e g w. l.none e g w, λ g e. record { is_gap = l.some g e; first = λ h w before. l.least g h e w before })
+
+-- of each kind the first is found
+first-of : (G : Gap → Type 0) (o : Option Gap) → IsLeast G o → IsFirstOf G o
+first-of G o l = record { some = l.some; first = l.least; none = l.none }
+
+pub found-by-kind : (p : Values) (d : DriftView) (s : ScriptView) → IsSane p → AreFirstGaps p d s (gaps_by_kind p d s)
+found-by-kind p d s sane =
+    let ascend = sane.lists.nodes_ascend in
+    record {
+      count = first-of (IsCountGap p s) _ (count-least p s);
+      lengths = first-of (IsLengthGap p d s) _ (lengths-least p d s ascend);
+      changes = first-of (IsChangeGap p d s) _ (changes-least p d s ascend);
+      delays = first-of (IsDelayGap p d s) _ (delays-least p d s ascend);
+      links = first-of (IsLinkGap p d s) _ (links-least p d s ascend);
+    }

@@ -3,6 +3,7 @@ pub mod Breaks
 pub mod Stretches
 pub mod Checks
 pub mod Pairs
+pub mod ByKind
 pub mod Least
 pub mod GapParts
 pub mod OneGap

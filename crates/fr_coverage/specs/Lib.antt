@@ -6,3 +6,4 @@ pub mod Order
 pub mod Decided
 pub mod Flutter
 pub mod Phrases
+pub mod Kinds

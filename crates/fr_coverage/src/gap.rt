@@ -44,3 +44,18 @@ pub enum Gap {
         double: u32,
     },
 }
+
+/// The first gap of a run of each kind but the checks, in the order in which they are looked for.
+#[derive(Clone, Copy, Debug, PartialEq, Eq)]
+pub struct RunGaps {
+    /// Where the correct nodes do not outweigh the arbitrary ones.
+    pub count: Option<Gap>,
+    /// Of a microtick that is too short or too long.
+    pub lengths: Option<Gap>,
+    /// Of a microtick that changes by too much.
+    pub changes: Option<Gap>,
+    /// Of a delay.
+    pub delays: Option<Gap>,
+    /// Of a link.
+    pub links: Option<Gap>,
+}

@@ -2,9 +2,10 @@ ghost use Rattle.std.specs.Prelude.{◌≡◌, ◌≤◌, ◌+◌, pos, Some, No
 ghost use Rattle.fr_bound.specs.Checks.{AllChecksHold, IsCheck, left_of, right_of};
 ghost use Rattle.fr_coverage.specs.First.{first_below, first_in};
 ghost use Rattle.fr_coverage.specs.declared.gap.Gap.TheVariants as gap;
+ghost use Rattle.fr_coverage.specs.Kinds.{gaps_by_kind};
 ghost use Rattle.fr_coverage.specs.Coverage.{asked_where, channel_gap, changes_gap, check_gap, count_of, delays_gap, first_gap, gap_of_run, lengths_gap, links_gap, outweighs, pairs_gap, weighed};
 
-use crate::gap::Gap;
+use crate::gap::{Gap, RunGaps};
 use crate::joining::{is_counted, some_join};
 use crate::linking::{first_break, is_link, shares};
 use crate::search::{Search, first_among};
@@ -52,6 +53,26 @@ pub fn run_covered(params: &Params, drift: &Drift, script: &Script) -> Result<()
     match gap_of_run(run) {
         Some(gap) => Err(gap),
         None => Ok(()),
+    }
+}
+
+/// The first gap of a run of each kind, whatever the checks of its parameters say. The first of these is the gap that
+/// `run_covered` answers.
+pub fn gaps_by_kind(params: &Params, drift: &Drift, script: &Script) -> RunGaps
+    ensures { result ≡ gaps_by_kind params.now drift.now script.now }
+{
+    let nodes = &params.nodes;
+    let run = Run {
+        params,
+        drift,
+        script,
+    };
+    RunGaps {
+        count: outweighed(nodes, script),
+        lengths: first_among(nodes, &Lengths(run)),
+        changes: first_among(nodes, &Changes(run)),
+        delays: first_among(nodes, &Delays(run)),
+        links: first_among(nodes, &Links(run)),
     }
 }
 

@@ -5,6 +5,7 @@ ghost use Rattle.fr_drift.specs.View.{DriftView};
 ghost use Rattle.fr_script.specs.View.{ScriptView};
 ghost use Rattle.fr_coverage.specs.Coverage.{first_gap};
 ghost use Rattle.fr_coverage.specs.Flutter.{FlutterGapsAreFound, FlutterIsGreatest, HasOneFlutter};
+ghost use Rattle.fr_coverage.specs.Kinds.{gaps_by_kind, AreFirstGaps};
 ghost use Rattle.fr_coverage.specs.Order.{FindsFirst, FindsGapOfRun, FirstIsFound, HasNoGap};
 
 /// What is found of a run is its first gap: it is a gap of the run, and none is looked for before it.
@@ -26,6 +27,11 @@ pub fn covered_run_has_no_gap()
 /// where none is found it has none.
 pub fn found_gap_of_run_is_first()
     ensures { (p : Values) (d : DriftView) (s : ScriptView) → IsSane p → FindsGapOfRun p d s }
+{}
+
+/// What is found of each kind is the first gap of that kind, and nothing only where the run has none of that kind.
+pub fn each_kind_is_found()
+    ensures { (p : Values) (d : DriftView) (s : ScriptView) → IsSane p → AreFirstGaps p d s (gaps_by_kind p d s) }
 {}
 
 /// What is found as the flutter of a run is the greatest: no delay of a correct node's sync frames at another correct node, on a

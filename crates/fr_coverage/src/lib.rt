@@ -15,12 +15,12 @@ mod spans;
 
 pub use clocks::{precision_line, skew_line, sync_line};
 pub use fluttering::flutter;
-pub use gap::Gap;
+pub use gap::{Gap, RunGaps};
 pub use gap_words::gap_line;
-pub use gaps::{covered, run_covered};
+pub use gaps::{covered, gaps_by_kind, run_covered};
 pub use joining::some_join;
 pub use laws::{
-    covered_run_has_no_gap, first_gap_is_found, flutter_is_the_greatest, found_gap_is_first,
-    found_gap_of_run_is_first,
+    covered_run_has_no_gap, each_kind_is_found, first_gap_is_found, flutter_is_the_greatest,
+    found_gap_is_first, found_gap_of_run_is_first,
 };
 pub use linking::{is_link, shares};
