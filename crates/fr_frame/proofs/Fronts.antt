@@ -6,7 +6,7 @@ use Rattle.fr_crc.specs.Crc.{IsHeaderCrc}
 use Rattle.fr_crc.proofs.Existence.{a_header_crc}
 use Rattle.fr_crc.proofs.Unique.{header_crc_is_one}
 use Rattle.fr_frame.specs.declared.header.Header.{Header}
-use Rattle.fr_frame.specs.Frame.{header_bytes, IsFrame}
+use Rattle.fr_frame.specs.Frame.{IsFrame}
 use Rattle.fr_frame.specs.Fault.{HasHeader}
 use Rattle.fr_frame.specs.Reading.{crc_of, header_of, header_crc_in}
 use Rattle.fr_frame.proofs.Exact.{lengths_fit}

@@ -7,3 +7,4 @@ pub mod Exact
 pub mod FirstRefusal
 pub mod Rows
 pub mod Fronts
+pub mod Writing

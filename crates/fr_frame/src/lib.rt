@@ -10,7 +10,7 @@ mod header;
 mod laws;
 
 pub use decoding::{Frame, decode};
-pub use encoding::encode;
+pub use encoding::{encode, seal};
 pub use fault::{EncodeFault, FrameFault};
 pub use front::{Front, front_of};
 pub use header::Header;

@@ -1,10 +1,14 @@
-use Rattle.std.proofs.Common.{◌++◌, [], ◌∷◌, ap, sym, ◌∙◌, List, ℕ, arith}
-use Rattle.std.proofs.lemmas.List.{take_more_set}
-use Rattle.fr_node.proofs.Written.{payload_more}
+use Rattle.std.proofs.Common.{◌≡◌, ◌+◌, ◌-◌, ℕ, Bool, length, take, drop, ap, sym, ◌∙◌, arith}
+use Rattle.fr_reception.specs.Regular.{payload_of}
+use Rattle.fr_node.proofs.Written.{ramp, ramp_payload}
 use Rattle.fr_node.proofs.frames.fill.Goals as goal
 
-pub loop-place-preserved : goal.loop-place-preserved
-loop-place-preserved c =
-    take_more_set c.loop-place.bytes c.loop-place.place c.byte_at.result (omega arith)
-    ∙ ap (λ (xs : List ℕ). xs ++ c.byte_at.result ∷ []) c.loop-place.invariant
-    ∙ sym (payload_more c.args.valid c.loop-place.place c.args.slot c.args.cycle c.byte_at.result c.byte_at.ensures.pattern c.byte_at.ensures.zero)
+pub returns-then-valid : goal.returns-then-valid
+returns-then-valid c =
+    let first : ℕ = c.first_byte-first.result in
+    let n : ℕ = length c.args.bytes.now in
+    let long : first + n - first ≡ n = omega arith in
+    c.copy_from_slice.ensures.after
+    ∙ ap (λ (k : ℕ). take k (drop first ramp)) long
+    ∙ ramp_payload c.args.slot c.args.cycle first n c.first_byte-first.ensures.value c.first_byte-first.ensures.most c.requires
+    ∙ ap (λ (v : Bool). payload_of v n c.args.slot c.args.cycle) (sym c.if-valid.true)
