@@ -1,14 +1,20 @@
 """Logs of an analyzer, from captures and tables: runs go through `flexlab pcap` and `flexlab observe`, and each limit
-is held against the trace. FLEXLAB_OBSERVE_CLUSTERS is how many clusters are taken (6)."""
+is held against the trace. FLEXLAB_OBSERVE_CLUSTERS is how many clusters are taken (6), and FLEXLAB_OBSERVE_ROWS of how many random
+logs the page is held against the rows (40)."""
+import contextlib
 import gzip
+import io
 import json
 import os
 import random
+import re
 import struct
 import subprocess
 import unittest
 from fractions import Fraction
+from types import SimpleNamespace
 
+import test_observe
 from bench import EXAMPLE, REPOSITORY, Bench, edited, needs
 from flexray import texts
 from flexray.results import ObservedFault
@@ -17,6 +23,7 @@ from flexlab.program import report
 from flexlab.captures.frames import frame_bytes
 
 CLUSTERS = int(os.environ.get("FLEXLAB_OBSERVE_CLUSTERS", "6"))
+ROWS = int(os.environ.get("FLEXLAB_OBSERVE_ROWS", "40"))
 SHORT = edited(("double_cycles = 200", "double_cycles = 10"))
 OBSERVER = """
 [observer]
@@ -48,6 +55,66 @@ def instants(row, cycle):
     return [row.start + row.length * (at * micros // MACROS if at <= last else
                                       base + (at - TURN) * (micros + row.offset - base) // (MACROS - TURN))
             for at in range(MACROS)]
+
+
+class Rows(Bench):
+    """The page of a log says what its rows say."""
+    run_of = test_observe.Observed.run_of
+
+    def told(self, seed):
+        """What flexray tells of a random log, with what pages ask of its cluster."""
+        draw = random.Random(seed)
+        drawn = self.run_of(draw, False, seed % 3 > 0)
+        analyzer = test_observe.Analyzer(draw, drawn)
+        stated = [f"since,{draw.randrange(3) * 2},,,\n"] * (seed % 4 == 1)
+        entries = analyzer.entries(analyzer.rates[0], analyzer.zero, "AB", draw.choice([0, 0, 0.2])) if seed % 2 else analyzer.see(False)
+        self.write("log.csv", analyzer.log(entries, *stated))
+        rows = [line.split(",") for line in drawn.params().splitlines()]
+        cluster = Cluster()
+        cluster.nodes = {int(row[1]): SimpleNamespace(key_slot=row[2]) for row in rows if row[0] == "node"}
+        return cluster, texts.observation(self.flexray("observe", "params.csv", "log.csv")[1])
+
+    def test_no_word_is_against_a_row(self):
+        said = set()
+        for seed in range(ROWS):
+            with self.subTest(seed=seed):
+                cluster, told = self.told(seed)
+                lines = observed.skew_lines(cluster, told) + observed.verdict_lines(cluster, told) + observed.fault_lines(cluster, told)
+                self.hold(told, self.one_line("\n".join(lines)))
+                said |= {told.verdict[0], told.sync[1], told.sync[4], told.covered[0]}
+        if ROWS >= 40:
+            self.assertLessEqual({"no", "over", "open", "within", "partly", "seen", "stated", "checks", "unseen"}, said)
+
+    def hold(self, told, page):
+        words = {word: [row.cycle for row in told.cycles if row.says == word] for word in ("within", "over", "open")}
+        self.assertEqual(bool(re.search(r"OVER in", page)), bool(words["over"]), page)
+        if found := re.search(r"OVER in (\d+) cycles, the first of them (\d+)", page):
+            self.assertEqual((int(found[1]), int(found[2])), (len(words["over"]), words["over"][0]))
+        if found := re.search(r"at least (\S+) us in cycle (\d+); at most (\S+) us", page):
+            self.assertLessEqual(Fraction(found[1]), Fraction(found[3]), page)
+        verdict = page.split("Verdict ")[1]
+        self.assertTrue(verdict.startswith({"no": "NO:", "over": "OVER:", "open": "open:", "within": "in cycles", "partly": "partly:"}[
+            told.verdict[0]]), page)
+        self.assertEqual("CONTRADICTION" in page, verdict.startswith("NO:"))
+        if found := re.match(r"in cycles (\d+) to (\d+) the clocks", verdict):
+            self.assertEqual(set(range(int(found[1]), int(found[2]) + 1)) - set(words["within"]), set())
+        if found := re.match(r"partly: of cycles (\d+) to (\d+) .* precision in (\d+), for certain; of (\d+) it", verdict):
+            begin, end, *counts = map(int, found.groups())
+            self.assertEqual([sum(begin <= cycle <= end for cycle in words[word]) for word in ("within", "open")], counts)
+        if found := re.match(r"open: .*; in (\d+) cycles the clocks", verdict):
+            self.assertEqual(int(found[1]), len(words["within"]))
+        judged = re.search(r"Judged (\d+) of (\d+) double cycles", page)
+        self.assertEqual((0, told.doubles) if judged is None else (int(judged[1]), int(judged[2])), (told.judged, told.doubles))
+        self.assertEqual("nothing was held against the rules of sync" in page, verdict.startswith("open:"))
+        self.assertEqual("of no double cycle it is certain" in page, told.sync[0] == "-")
+        # What is advised would change something.
+        self.assertTrue("can state it" not in page or (told.covered[0] == "open" and told.cycles), page)
+        self.assertEqual(observed.status_of(told, None), 0 if told.verdict[0] == "within" else 1)
+        if told.verdict[0] in ("within", "partly"):
+            self.assertEqual(observed.status_of(told, told.judged), 0)
+        with contextlib.redirect_stderr(io.StringIO()) as line:
+            self.assertEqual(observed.status_of(told, told.judged + 1), 1 if told.verdict[0] in ("no", "over") else 7)
+        self.assertEqual(bool(line.getvalue()), told.verdict[0] not in ("no", "over"))
 
 
 class Steps(unittest.TestCase):

@@ -171,8 +171,12 @@ def sync_lines(cluster: Cluster, told: Observation) -> list[str]:
     """From when on the cluster is in sync, and what of the log is held against the rules of sync."""
     sync = told.sync
     if sync[0] == "-":
-        return lines_of("In sync", f"of no double cycle it is certain: {why_unjudged(cluster, told, sync[4:])}; in_sync_from_cycle of "
-                                   "[observer] can state it")
+        why = why_unjudged(cluster, told, sync[4:])
+        if sync[4] in UNPROMISED:
+            text = f"of no double cycle it is certain; none would be held against the rules of sync, since {why}"
+        else:
+            text = f"of no double cycle it is certain: {why}" + ("; in_sync_from_cycle of [observer] can state it" if told.cycles else "")
+        return lines_of("In sync", text)
     found = lines_of("In sync", f"double cycle {sync[0]} is, as " + ("its stamps show" if sync[1] == "seen" else "[observer] states")
                      + "; a covered cluster stays so")
     text = f"{told.judged} of {told.doubles} double cycles are held against the rules of sync"
@@ -372,15 +376,15 @@ def least_judged(text: str | None) -> int | None:
 
 
 def status_of(told: Observation, wanted: int | None) -> int:
-    """Done where all is judged to the end and within the precision, or, where so many double cycles have to be judged, where nothing is
-    over it."""
+    """Done where all is judged to the end and within the precision, or, where so many double cycles have to be judged, where these are
+    and nothing is contradicted or over it."""
     word = told.verdict[0]
-    if wanted is None or word not in ("within", "partly"):
+    if wanted is None or word in ("no", "over"):
         return DONE if word == "within" else NO
     if told.judged < wanted:
         print(f"flexlab: not met: judged={wanted}: {told.judged} of {told.doubles} double cycles are judged", file=sys.stderr)
         return UNMET
-    return DONE
+    return NO if word == "open" else DONE
 
 
 class Part(NamedTuple):
@@ -439,23 +443,49 @@ def parts_object(cluster: Cluster, parts: list[Part]) -> dict[str, Any]:
     return {**found[worst], "parts": several if len(parts) > 1 else []}
 
 
+class Seen(NamedTuple):
+    """A file, and what flexray tells of its log, or of those of its parts."""
+    cluster: Cluster
+    parts: list[Part]
+    name: str
+
+    @property
+    def page(self) -> list[str]:
+        return pages_of(self.cluster, self.parts, self.name)
+
+    @property
+    def files(self) -> str:
+        several = "" if len(self.parts) == 1 else f", and of each part in part-1 to part-{len(self.parts)}"
+        return f"params.csv, log.csv, observed.csv, observed.txt{several}"
+
+    def drawn(self) -> list[str]:
+        return [path for part in self.parts for path in draw_observed(self.cluster, part.told, part.folder, self.name)]
+
+    def status(self, wanted: int | None) -> int:
+        statuses = [status_of(part.told, wanted) for part in self.parts]
+        return NO if NO in statuses else max(statuses)
+
+
+def seen_in(program: str, cluster: Cluster, words: Namespace, folder: str) -> Seen:
+    """Asks flexray for what the file tells, whose log and text go into the folder, with its page."""
+    params = os.path.join(folder, "params.csv")
+    put(params, "".join(parameter_lines(cluster)), "ascii")
+    seen = Seen(cluster, all_parts(program, cluster, params, folder, *taken(cluster, words)), os.path.basename(words.file))
+    keep(folder, "observed.txt", "\n".join(seen.page) + "\n")
+    return seen
+
+
 def observe(words: Namespace, folder: str) -> int:
     wanted = least_judged(words.require)
     program, cluster = programs.flexray(words.flexray, "observe"), read_cluster(words.cluster)
-    params, name = os.path.join(folder, "params.csv"), os.path.basename(words.file)
     hold(folder)
-    put(params, "".join(parameter_lines(cluster)), "ascii")
-    parts = all_parts(program, cluster, params, folder, *taken(cluster, words))
-    lines = pages_of(cluster, parts, name)
-    keep(folder, "observed.txt", "\n".join(lines) + "\n")
-    drawn = [path for part in parts for path in draw_observed(cluster, part.told, part.folder, name)] if words.pictures else []
+    seen = seen_in(program, cluster, words, folder)
+    drawn = seen.drawn() if words.pictures else []
     if words.json:
-        printed({**parts_object(cluster, parts), "folder": folder, "pictures": drawn})
+        printed({**parts_object(cluster, seen.parts), "folder": folder, "pictures": drawn})
     else:
-        print("\n".join(lines))
-        several = "" if len(parts) == 1 else f", and of each part in part-1 to part-{len(parts)}"
-        print(f"{'Files':<16}{folder}/: params.csv, log.csv, observed.csv, observed.txt{several}")
+        print("\n".join(seen.page))
+        print(f"{'Files':<16}{folder}/: {seen.files}")
         for path in drawn:
             print(f"{'Picture':<16}{path}")
-    statuses = [status_of(part.told, wanted) for part in parts]
-    return NO if NO in statuses else max(statuses)
+    return seen.status(wanted)

@@ -46,6 +46,14 @@ def seconds(text: str) -> Fraction:
     return Fraction(text)
 
 
+def shift(text: str) -> int:
+    """The cycles of --shift."""
+    import re
+    if not re.fullmatch(r"-?[0-9]{1,6}", text) or int(text) % 64:
+        raise argparse.ArgumentTypeError(f"'{printable(text)}' is no multiple of 64")
+    return int(text)
+
+
 class Parser(argparse.ArgumentParser):
     """A parser whose texts are written like all others: what cannot be written is told."""
 
@@ -280,6 +288,11 @@ def parser() -> argparse.ArgumentParser:
         one.add_argument("--to", dest="end", metavar="SECONDS", type=seconds, help="take frames that come earlier than so long behind it")
     log.add_argument("-o", "--out", metavar="LOG", help="the file to be written (CAPTURE.log.csv beside the capture)")
 
+    observe.add_argument("--second", nargs=2, metavar=("CAPTURE", "CLUSTER.toml"),
+                         help="the log of another analyzer, and the same cluster with its [observer]: both logs are held against each "
+                              "other")
+    observe.add_argument("--shift", metavar="CYCLES", type=shift, default=0,
+                         help="how much later the second log begins than its cycle counts say, a multiple of 64 (0)")
     observe.add_argument("-o", "--out", metavar="FOLDER", help="where files go (CAPTURE.lab beside the capture)")
     observe.add_argument("-p", "--pictures", action="store_true", help="draw skew, rates and offset terms, by gnuplot")
     observe.add_argument("--require", metavar="judged=COUNT",
@@ -485,8 +498,9 @@ def do_log(words: argparse.Namespace) -> int:
 
 
 def do_observe(words: argparse.Namespace) -> int:
+    from ..captures.both import observe_both
     from ..captures.observed import observe
-    return observe(words, folder_of(words))
+    return (observe_both if words.second else observe)(words, folder_of(words))
 
 
 DO: dict[str, Callable[[argparse.Namespace], int]] = {
@@ -500,14 +514,14 @@ def joined(arguments: list[str]) -> list[str]:
     found, rest = list[str](), list(arguments)
     while rest:
         word = rest.pop(0)
-        takes = word in ("--values", "--seeds", "--seed", "--parallel", "--line", "--ssh") and rest
+        takes = word in ("--values", "--seeds", "--seed", "--parallel", "--line", "--ssh", "--shift") and rest
         found.append(f"{word}={rest.pop(0)}" if takes else word)
     return found
 
 
 def check_names(words: argparse.Namespace) -> None:
     """Ends flexlab where the name of a file or folder has a control character: it could stand for a line of its own."""
-    for key in ("file", "files", "out", "cluster", "source", "map", "flexray"):
+    for key in ("file", "files", "out", "cluster", "second", "source", "map", "flexray"):
         given = getattr(words, key, None)
         for name in given if isinstance(given, list) else [given] if given else []:
             if any(not one.isprintable() and not "\udc80" <= one <= "\udcff" for one in name):
