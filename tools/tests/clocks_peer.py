@@ -10,7 +10,7 @@ import sys
 sys.path.insert(0, os.path.join(os.path.dirname(os.path.dirname(os.path.dirname(os.path.realpath(__file__)))), "python"))
 
 from flexlab.captures.frames import crc  # noqa: E402
-from observe_peer import midpoint  # noqa: E402
+from observe_peer import Params, midpoint  # noqa: E402
 
 MILLION = 1_000_000
 # A cluster with a cycle of 5 ms, a macrotick of 1 us and a microtick of 25 ns, whose oscillators lie within 200 ppm and do
@@ -86,14 +86,14 @@ class Network:
             kept[slot] = 1 << 37 | (3 << 18 | slot << 7) << 17 | crc(11, 0x385, 0x01A, 3 << 18 | slot << 7, 20) << 6
         return (kept[slot] | cycle % 64).to_bytes(5, "big").hex().upper()
 
-    def log(self, draw, rows, unit, width=0):
-        """The log of an analyzer with a true clock that misses nothing: delays are the same for all, but for so many ticks
-        that it states as their range, and a stamp is of the unit in which the frame came."""
+    def log(self, draw, rows, unit, width=0, drift=0):
+        """The log of an analyzer that misses nothing, with a true clock of which it states a drift of so many ppm: delays are the
+        same for all, but for so many ticks that it states as their range, and a stamp is of the unit in which the frame came."""
         low, zero = MILLION, draw.randrange(10**9, 10**10)
         later = {(node, channel): low + draw.randint(0, width) for node in self.nodes for channel in "AB"}
         seen = sorted((self.instant(node, row) + later[node, channel] + zero, node, channel, cycle)
                       for cycle, of_cycle in enumerate(rows) for node, row in enumerate(of_cycle) for channel in "AB")
-        return (f"unit,{unit},,,\ndrift,0,,,\ndelay,,,{low},{low + width}\njitter,0,,,\nwhole,,,,\n"
+        return (f"unit,{unit},,,\ndrift,{drift},,,\ndelay,,,{low},{low + width}\njitter,0,,,\nwhole,,,,\n"
                 + "".join(f"head,{at // unit},{channel},{self.head(node, cycle)},\n" for at, node, channel, cycle in seen))
 
 
@@ -106,8 +106,24 @@ def near_oscillators(draw, doubles):
     return Network([34, 150, 84], [middle - 16, middle, middle + 16], [draw.randrange(3 * MILLION) for _ in range(3)], doubles)
 
 
-def any_oscillators(draw, doubles):
+def any_oscillators(draw, doubles, values=None):
     """A network of 3 to 8 nodes with oscillators and slots as they come."""
     count = draw.randrange(3, 9)
-    return Network(draw.sample(range(1, 161), count), [MILLION + draw.randrange(-200, 201) for _ in range(count)],
-                   [draw.randrange(3 * MILLION) for _ in range(count)], doubles)
+    slots = ((values or VALUES)["gNumberOfStaticSlots"])
+    return Network(draw.sample(range(1, slots + 1), count), [MILLION + draw.randrange(-200, 201) for _ in range(count)],
+                   [draw.randrange(3 * MILLION) for _ in range(count)], doubles, values)
+
+
+def with_delay_error(microticks):
+    """The values of a cluster whose delays are stated to so many microticks, with what the five checks ask then."""
+    values = {**VALUES, "xDelayError": microticks * MILLION}
+    learnt = 2 * values["xDelayError"] + 2 * (MILLION + values["xRateBound"])
+    values["pClusterDriftDamping"] = -(-learnt // (MILLION - values["xRateBound"]))
+    params = Params([["param", name, value] for name, value in values.items()])
+    values["pOffsetCorrectionOut"] = (params.precision + values["xDelayError"]) // (MILLION - values["xRateBound"]) + 3
+    first = -(-(params.precision + values["xDelayError"]) * values["gMacroPerCycle"] // (values["pMicroPerCycle"] * MILLION)) + 2
+    # A slot of twice the action point.
+    values.update(gdActionPointOffset=first, gdStaticSlot=2 * first + 2)
+    values["gNumberOfStaticSlots"] = (values["gMacroPerCycle"] - 200) // values["gdStaticSlot"]
+    values["gdNIT"] = values["gMacroPerCycle"] - values["gNumberOfStaticSlots"] * values["gdStaticSlot"]
+    return values
