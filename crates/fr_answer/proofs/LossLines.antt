@@ -4,7 +4,8 @@ use Rattle.std.specs.Prelude.{codes}
 use Rattle.std.specs.Fmt.{decimal}
 use Rattle.fr_bound.specs.declared.settling.Spread.{Spread}
 use Rattle.fr_cluster.specs.Values.{Values}
-use Rattle.fr_sharp.specs.Among.{lost_spread, next_lost_spread}
+use Rattle.fr_bound.specs.SharpSpreads.{next_lost_spread}
+use Rattle.fr_sharp.specs.Among.{lost_spread}
 use Rattle.fr_sharp.specs.LossCosts.{heard_behind}
 use Rattle.fr_sharp.specs.LossSteps.{heard_apart}
 use Rattle.fr_sharp.specs.Losses.{lost_apart}

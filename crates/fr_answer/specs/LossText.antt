@@ -6,7 +6,7 @@ use Rattle.fr_cluster.specs.Values.{Values}
 use Rattle.fr_sharp.specs.declared.loss_costs.SecondCost.{SecondCost}
 use Rattle.fr_sharp.specs.LossCosts.{heard_behind, limits_hold}
 use Rattle.fr_sharp.specs.Losses.{lost_apart}
-use Rattle.fr_sharp.specs.SharpChecks.{sharp_holds_of, sharp_left_of, sharp_right_of}
+use Rattle.fr_bound.specs.SharpChecks.{sharp_holds_of, sharp_left_of, sharp_right_of}
 use Rattle.fr_text.specs.Pieces.{line}
 use Rattle.fr_answer.specs.declared.bound_lost.LossFigures.{LossFigures}
 use Rattle.fr_answer.specs.BoundText.{holds_text}

@@ -4,8 +4,8 @@ use Rattle.std.specs.Prelude.{ℕ, Bool, true, false, if◌then◌else◌, List,
 use Rattle.std.specs.Fmt.{decimal}
 use Rattle.fr_cluster.specs.Values.{Values}
 use Rattle.fr_bound.specs.Checks.{holds_of}
-use Rattle.fr_sharp.specs.SharpBounds.{sharp_lambda, sharp_near, sharp_pi, sharp_precision, walk_lasts}
-use Rattle.fr_sharp.specs.SharpChecks.{sharp_holds_of, sharp_left_of, sharp_right_of}
+use Rattle.fr_bound.specs.SharpBounds.{sharp_lambda, sharp_near, sharp_pi, sharp_precision, walk_lasts}
+use Rattle.fr_bound.specs.SharpChecks.{sharp_holds_of, sharp_left_of, sharp_right_of}
 use Rattle.fr_text.specs.Pieces.{line}
 use Rattle.fr_answer.specs.BoundText.{holds_text}
 

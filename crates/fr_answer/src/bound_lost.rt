@@ -4,7 +4,7 @@ ghost use Rattle.fr_base.specs.Device.{Puts};
 ghost use Rattle.fr_sharp.specs.Losses.{lost_apart};
 ghost use Rattle.fr_sharp.specs.LossCosts.{heard_behind};
 ghost use Rattle.fr_sharp.specs.LossSteps.{most_lost};
-ghost use Rattle.fr_sharp.specs.SharpBounds.{most_flutter};
+ghost use Rattle.fr_bound.specs.SharpBounds.{most_flutter};
 ghost use Rattle.fr_text.specs.Lines.{joined_lines};
 ghost use Rattle.fr_text.specs.Pieces.{line};
 ghost use Rattle.fr_program.specs.Around.{around_of};

@@ -1,7 +1,7 @@
 ghost use Rattle.std.specs.Prelude.{◌≡◌, ◌≤◌, ◌++◌, length};
 ghost use Rattle.std.specs.Fmt.{decimal};
 ghost use Rattle.fr_base.specs.Device.{Puts};
-ghost use Rattle.fr_sharp.specs.SharpBounds.{most_flutter};
+ghost use Rattle.fr_bound.specs.SharpBounds.{most_flutter};
 ghost use Rattle.fr_text.specs.Lines.{joined_lines};
 ghost use Rattle.fr_text.specs.Pieces.{line};
 ghost use Rattle.fr_program.specs.Around.{around_of};
@@ -14,11 +14,10 @@ ghost use Rattle.fr_answer.specs.SharpText.{sharp_checks_text, sharp_text};
 
 use crate::bound::value_line;
 use fr_base::{PutFault, Shelf, Sink};
-use fr_bound::{CheckSides, side};
+use fr_bound::{CheckSides, sharp_bounds, sharp_lasts, sharp_side, side};
 use fr_cluster::Params;
 use fr_params::ParamsFile;
 use fr_program::Failure;
-use fr_sharp::{sharp_bounds, sharp_lasts, sharp_side};
 use fr_text::Piece::{Natural, Word};
 use fr_text::{Line, accepted, line_of, put_lines};
 use std::alloc::Global;

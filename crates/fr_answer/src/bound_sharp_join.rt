@@ -1,7 +1,7 @@
 ghost use Rattle.std.specs.Prelude.{◌≡◌, ◌≤◌, length};
 ghost use Rattle.fr_base.specs.Device.{Puts};
 ghost use Rattle.fr_sharp.specs.JoinedHistories.{first_rates_last};
-ghost use Rattle.fr_sharp.specs.SharpBounds.{most_flutter};
+ghost use Rattle.fr_bound.specs.SharpBounds.{most_flutter};
 ghost use Rattle.fr_text.specs.Lines.{joined_lines};
 ghost use Rattle.fr_program.specs.Around.{around_of};
 ghost use Rattle.fr_program.specs.Command.{CommandEnds};

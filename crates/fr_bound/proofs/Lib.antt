@@ -5,3 +5,5 @@ pub mod Sync
 pub mod Halving
 pub mod Settled
 pub mod SettledRows
+pub mod SharpNumbers
+pub mod JudgedNumbers

@@ -1,5 +1,9 @@
 -- what the public contract cites
 pub mod Bounds
 pub mod Checks
+pub mod Judged
 pub mod Settling
+pub mod SharpBounds
+pub mod SharpChecks
+pub mod SharpSpreads
 pub mod Sync

@@ -9,8 +9,8 @@ use Rattle.fr_coverage.specs.Order.{FindsGapOfRun, HasNoGapOfRun}
 use Rattle.fr_coverage.specs.declared.gap.Gap.{Gap}
 use Rattle.fr_drift.specs.View.{DriftView}
 use Rattle.fr_script.specs.View.{ScriptView}
-use Rattle.fr_sharp.specs.SharpBounds.{sharp_near}
-use Rattle.fr_sharp.specs.SharpChecks.{FirstSharpFailing, SharpChecksHold, sharp_holds_of}
+use Rattle.fr_bound.specs.SharpBounds.{sharp_near}
+use Rattle.fr_bound.specs.SharpChecks.{FirstSharpFailing, SharpChecksHold, sharp_holds_of}
 use Rattle.fr_sharp.specs.SharpJoining.{FirstSharpJoinFailing, SharpJoinChecksHold, sharp_join_holds_of}
 use Rattle.fr_sharp.specs.SharpStatement.{has_arbitrary}
 use Rattle.fr_sharp.proofs.JoinBounds.{sharp_join_checks_suffice_lem}

@@ -11,8 +11,8 @@ use Rattle.fr_coverage.specs.declared.gap.Gap.{Gap}
 use Rattle.fr_drift.specs.View.{DriftView}
 use Rattle.fr_script.specs.View.{ScriptView}
 use Rattle.fr_history.specs.Cycles.{Cycle, Cycles, told_of}
-use Rattle.fr_sharp.specs.SharpBounds.{sharp_near}
-use Rattle.fr_sharp.specs.SharpChecks.{SharpChecksHold}
+use Rattle.fr_bound.specs.SharpBounds.{sharp_near}
+use Rattle.fr_bound.specs.SharpChecks.{SharpChecksHold}
 use Rattle.fr_sharp.specs.SharpStatement.{has_arbitrary}
 use Rattle.fr_sharp.specs.SharpTested.{IsFirstSharpSync, IsUnfollowedSharpSyncAt, first_sharp_sync_of}
 use Rattle.fr_sharp.proofs.FreeLemmas.{sharp_sync_within}

@@ -25,7 +25,7 @@ use Rattle.fr_skew.specs.declared.peak.Peak.{Peak}
 use Rattle.fr_skew.specs.declared.sync.SyncBounds.{SyncBounds}
 use Rattle.fr_sharp.specs.JoinedFiles.{CoveredFilesKeepSharplyJoined, KeepsSharplyJoined}
 use Rattle.fr_sharp.specs.JoinedHistories.{first_rates_last}
-use Rattle.fr_sharp.specs.SharpBounds.{sharp_precision, walk_lasts}
+use Rattle.fr_bound.specs.SharpBounds.{sharp_precision, walk_lasts}
 use Rattle.fr_sharp.specs.SharpFiles.{CoveredFilesKeepSharply}
 use Rattle.fr_sharp.specs.SharpStatement.{has_arbitrary, KeepsSharply}
 use Rattle.fr_sharp.specs.SharpTested.{IsFirstSharpSync, first_sharp_sync_of, is_in_sharp_sync, sharp_sync_bounds_of}

@@ -12,8 +12,8 @@ use Rattle.fr_skew.specs.Sync.{are_in_sync_by_even}
 use Rattle.fr_history.specs.Cycles.{Cycles}
 use Rattle.fr_sharp.specs.JoinedHistories.{first_rates_last}
 use Rattle.fr_sharp.specs.LossRuns.{is_through_losses, losses_of}
-use Rattle.fr_sharp.specs.SharpBounds.{sharp_near, sharp_precision, walk_lasts}
-use Rattle.fr_sharp.specs.SharpChecks.{sharp_holds_of}
+use Rattle.fr_bound.specs.SharpBounds.{sharp_near, sharp_precision, walk_lasts}
+use Rattle.fr_bound.specs.SharpChecks.{sharp_holds_of}
 use Rattle.fr_sharp.specs.SharpStatement.{has_arbitrary}
 use Rattle.fr_sharp.specs.SharpTested.{first_sharp_sync_of, is_in_sharp_sync, sharp_sync_bounds_of}
 use Rattle.fr_series.specs.Figures.{figures_by, figures_of}

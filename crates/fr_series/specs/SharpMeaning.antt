@@ -14,8 +14,8 @@ use Rattle.fr_time.specs.Cycles.{even_cycle}
 use Rattle.fr_history.specs.Cycles.{Cycles, told_of}
 use Rattle.fr_history.specs.History.{History}
 use Rattle.fr_history.specs.Skew.{IsEarlierPlace, skew_at}
-use Rattle.fr_sharp.specs.SharpBounds.{sharp_near, sharp_precision}
-use Rattle.fr_sharp.specs.SharpChecks.{FirstSharpFailing, SharpChecksHold}
+use Rattle.fr_bound.specs.SharpBounds.{sharp_near, sharp_precision}
+use Rattle.fr_bound.specs.SharpChecks.{FirstSharpFailing, SharpChecksHold}
 use Rattle.fr_sharp.specs.SharpJoining.{FirstSharpJoinFailing, SharpJoinChecksHold}
 use Rattle.fr_sharp.specs.SharpStatement.{has_arbitrary}
 use Rattle.fr_sharp.specs.SharpTested.{IsFirstSharpSync, IsUnfollowedSharpSyncAt}

@@ -1,19 +1,18 @@
 ghost use Rattle.std.specs.Prelude.{◌≡◌, ◌≤◌};
 ghost use Rattle.fr_series.specs.Basis.{basis_of, scales_of, sharp_held, sharp_scale_of, walk_held, AreScales};
 ghost use Rattle.fr_series.specs.Scale.{IsScale};
-ghost use Rattle.fr_sharp.specs.SharpBounds.{most_flutter};
+ghost use Rattle.fr_bound.specs.SharpBounds.{most_flutter};
 ghost use Rattle.fr_time.specs.Position.{grid_for};
 
 use crate::scale::Scale;
 use crate::sharp_covered::first_sharp_gap;
 use crate::through::is_through;
+use fr_bound::{sharp_bounds, sharp_lasts, sharp_side};
 use fr_cluster::Params;
 use fr_coverage::{Gap, flutter, some_join};
 use fr_drift::Drift;
 use fr_script::Script;
-use fr_sharp::{
-    first_rates_last, has_arbitrary, run_losses, sharp_bounds, sharp_lasts, sharp_side,
-};
+use fr_sharp::{first_rates_last, has_arbitrary, run_losses};
 use fr_skew::{SyncBounds, sync_bounds};
 use fr_time::grid_of;
 

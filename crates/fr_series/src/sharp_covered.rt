@@ -1,16 +1,17 @@
 ghost use Rattle.std.specs.Prelude.{◌≡◌, ◌≤◌};
 ghost use Rattle.fr_bound.specs.Settling.{IsSettleCheck};
 ghost use Rattle.fr_coverage.specs.Coverage.{gap_of_run, some_join};
-ghost use Rattle.fr_sharp.specs.SharpBounds.{most_flutter};
+ghost use Rattle.fr_bound.specs.SharpBounds.{most_flutter};
 ghost use Rattle.fr_sharp.specs.SharpStatement.{has_arbitrary};
 ghost use Rattle.fr_series.specs.SharpCovered.{failed_sharp, failed_sharp_join, first_sharp_gap, sharp_checks_gap};
 ghost use Rattle.fr_series.specs.SharpCovered.{sharp_gap_to_join, sharp_join_checks_gap};
 
+use fr_bound::{sharp_checks, sharp_side};
 use fr_cluster::Params;
 use fr_coverage::{Gap, run_covered, some_join};
 use fr_drift::Drift;
 use fr_script::Script;
-use fr_sharp::{has_arbitrary, sharp_checks, sharp_join_checks, sharp_join_side, sharp_side};
+use fr_sharp::{has_arbitrary, sharp_join_checks, sharp_join_side};
 
 // The first gap of the run itself, whatever the checks say.
 pub(crate) fn gap_of_run(params: &Params, drift: &Drift, script: &Script) -> Option<Gap>

@@ -2,7 +2,7 @@ ghost use Rattle.std.specs.Prelude.{◌≡◌, ◌≤◌};
 ghost use Rattle.fr_coverage.specs.Coverage.{gap_of_run};
 ghost use Rattle.fr_sharp.specs.LossRuns.{is_link_at_most, is_through_losses, through_checks, through_nodes};
 ghost use Rattle.fr_sharp.specs.LossSteps.{most_lost};
-ghost use Rattle.fr_sharp.specs.SharpBounds.{most_flutter};
+ghost use Rattle.fr_bound.specs.SharpBounds.{most_flutter};
 
 use crate::sharp_covered::gap_of_run;
 use fr_cluster::Params;

@@ -14,7 +14,7 @@ use Rattle.fr_precision.specs.Placement.{IsRegular}
 use Rattle.fr_precision.specs.Step.{IsAmong, Member}
 use Rattle.fr_precision.proofs.OffsetLaws.{micro_lasts, offset_terms_are_uncut}
 use Rattle.fr_precision.proofs.Senders.{All-along}
-use Rattle.fr_sharp.specs.SharpBounds.{odd_spread, sharp_lambda, steady_error}
+use Rattle.fr_bound.specs.SharpBounds.{odd_spread, sharp_lambda, steady_error}
 use Rattle.fr_sharp.specs.Ends.{TakesOffsets}
 use Rattle.fr_sharp.specs.SharpStep.{ActInReach, IsSharpLimit}
 use Rattle.fr_sharp.specs.Among.{ComputesOwn, LieAcross, LostSpreadsGrow, OneLossCosts}

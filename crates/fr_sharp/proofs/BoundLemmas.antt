@@ -3,23 +3,23 @@ use Rattle.std.proofs.Common.{◌≡◌, ℕ, zero, suc, ◌+◌, ◌-◌, ◌*�
 use Rattle.std.specs.Prelude.{◌+ℤ◌, ◌-ℤ◌, ◌*ℤ◌, ◌≤ℤ◌, ◌<ℤ◌, ◌↔◌, int_le, int_lt, max, nat_abs, nat_le, nat_lt}
 use Rattle.std.proofs.lemmas.Bool.Decides.{nat_tests}
 use Rattle.std.proofs.lemmas.Int.{ints}
-use Rattle.std.proofs.lemmas.List.Elements.{All-cons, All-contains, All-head, All-nil, All-tail}
-use Rattle.std.proofs.Math.Nat.{div-add-mod', div-le_of_le-mul, le-max_left, le-max_right, max-le, mul-add, mul-le-mul_left, mul-le-mul_right, mul_comm}
+use Rattle.std.proofs.lemmas.List.Elements.{All-cons, All-contains, All-nil}
+use Rattle.std.proofs.Math.Nat.{div-add-mod', div-le_of_le-mul, le-max_left, le-max_right, mul-add, mul-le-mul_left, mul-le-mul_right, mul_comm}
 use Rattle.fr_cluster.specs.Values.{Values, amount}
 use Rattle.fr_cluster.specs.Sane.{IsSane}
 use Rattle.fr_cluster.specs.Constraints.{correction_macros, key_slots, least_micros}
 use Rattle.fr_cluster.specs.declared.names.ParamName.TheVariants as name
 use Rattle.fr_midpoint.proofs.Products.{addz-mulz, mulz_from, mulz-lez_left, subz-mulz}
 use Rattle.fr_time.specs.Position.{floor_of}
-use Rattle.fr_time.specs.Slots.{action_point_of, slot_end_of}
-use Rattle.fr_time.proofs.Placing.{action_point_lt, slot_end_lt}
+use Rattle.fr_bound.proofs.SharpNumbers.{acts_later, last_acts_early, le_along}
 use Rattle.fr_bound.specs.Bounds.{arrival_error, cycle_change, lambda_of, longest_micro, nominal, pi_of, precision_of, shortest_micro, widest}
 use Rattle.fr_bound.specs.Checks.{back_need_of, front_need_of, holds_of, left_of, right_of}
 use Rattle.fr_precision.proofs.Figures.{nat_le-true, natural, times_natural}
 use Rattle.fr_precision.proofs.PlacementLaws.{limit_below}
-use Rattle.fr_sharp.specs.SharpBounds.{last_action, last_of, near_by, odd_spread, rate_room, rate_walk, sharp_lambda, sharp_near, sharp_pi, sharp_precision, steady_error, wide_change, AloneIsBelow, NearIsBelow, SharpIsBelow}
+use Rattle.fr_bound.specs.SharpBounds.{last_action, last_of, near_by, odd_spread, rate_room, rate_walk, sharp_lambda, sharp_near, sharp_pi, sharp_precision, steady_error, wide_change, AloneIsBelow, NearIsBelow, SharpIsBelow}
 use Rattle.fr_precision.specs.Offsets.{LimitSuffices}
-use Rattle.fr_sharp.specs.SharpChecks.{sharp_holds_of, FirstCheckStopsWalk, OlderChecksSuffice, RateSuffices, SharpChecksSuffice, WalkIsBounded}
+use Rattle.fr_bound.specs.SharpChecks.{sharp_holds_of, FirstCheckStopsWalk, OlderChecksSuffice, RateSuffices, WalkIsBounded}
+use Rattle.fr_sharp.specs.SharpChecks.{SharpChecksSuffice}
 use Rattle.fr_sharp.specs.Lengths.{walked_after, CanWalk, WalkIsHeld}
 use Rattle.fr_sharp.specs.SharpStep.{KeySlotsActEarly, SharpChecksReach}
 use Rattle.fr_sharp.proofs.Signed.{one_more, signed_of}
@@ -75,50 +75,12 @@ alone_is_below p flutter =
 
 -- ---- the last action point
 
-last_le : (limit : ℕ) (slots : List ℕ) → All (λ slot. slot ≤ limit) slots → last_of slots ≤ limit
-unfolding last_of
-last_le limit [] all = omega arith
-last_le limit (slot ∷ slots) all =
-    max-le (All-head (λ n. n ≤ limit) slot slots all) (last_le limit slots (All-tail (λ n. n ≤ limit) slot slots all))
-
-le_along : (m n : ℕ) (slots : List ℕ) → m ≤ n → All (λ slot. slot ≤ m) slots → All (λ slot. slot ≤ n) slots
-le_along m n [] le all = All-nil (λ slot. slot ≤ n)
-le_along m n (slot ∷ slots) le all =
-    let first : slot ≤ m = All-head (λ k. k ≤ m) slot slots all in
-    All-cons (λ k. k ≤ n) slot slots (omega (arith, le, first)) (le_along m n slots le (All-tail (λ k. k ≤ m) slot slots all))
-
 all_to_last : (slots : List ℕ) → All (λ slot. slot ≤ last_of slots) slots
 unfolding last_of
 all_to_last [] = All-nil (λ slot. slot ≤ 0)
 all_to_last (slot ∷ slots) =
     All-cons (λ k. k ≤ max slot (last_of slots)) slot slots (le-max_left slot (last_of slots))
     (le_along (last_of slots) (max slot (last_of slots)) slots (le-max_right slot (last_of slots)) (all_to_last slots))
-
--- a later slot acts no earlier
-acts_later : (p : Values) (slot later : ℕ) → slot ≤ later → action_point_of p slot ≤ action_point_of p later
-acts_later p slot later le =
-    step ((slot - 1) * amount p name.gdStaticSlot) ((later - 1) * amount p name.gdStaticSlot) (amount p name.gdActionPointOffset)
-    (mul-le-mul_right (amount p name.gdStaticSlot) (before slot later le))
-  where
-    before : (a b : ℕ) → a ≤ b → a - 1 ≤ b - 1
-    before a b le = omega (arith, le)
-
-    step : (a b c : ℕ) → a ≤ b → a + c ≤ b + c
-    step a b c le = omega (arith, le)
-
-pub last_acts_early : (p : Values) → IsSane p → last_action p < amount p name.gOffsetCorrectionStart
-last_acts_early p sane =
-    let slots = sane.ranges name.gNumberOfStaticSlots in
-    let static = amount p name.gNumberOfStaticSlots in
-    let some : 1 ≤ static = omega (arith, ints, slots.0) in
-    let last = acts_later p (last_of (key_slots p.nodes)) static (last_le static (key_slots p.nodes) sane.constraints.own_slots.0) in
-    chain (last_action p) (action_point_of p static) (slot_end_of p static) (amount p name.gOffsetCorrectionStart) last (action_point_lt p static sane some) (slot_end_lt p static sane (itself static))
-  where
-    itself : (n : ℕ) → n ≤ n
-    itself n = omega arith
-
-    chain : (a b c d : ℕ) → a ≤ b → b < c → c < d → a < d
-    chain a b c d h k l = omega (arith, h, k, l)
 
 pub key_slots_act_early : KeySlotsActEarly
 key_slots_act_early p sane =

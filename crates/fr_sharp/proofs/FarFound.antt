@@ -25,7 +25,7 @@ use Rattle.fr_history.specs.Skew.{skew_at}
 use Rattle.fr_runs.specs.Stated.{all_cycles}
 use Rattle.fr_runs.proofs.Nodes.{correct_node}
 use Rattle.fr_sharp.specs.FarRun.{AllowsFar, ComesNear, Far, HasTwo, IsFar, SomeRunComesNear, SomeRunComesNearSharply, far_apart_run, far_skew, left_below}
-use Rattle.fr_sharp.specs.SharpBounds.{sharp_lambda, sharp_pi, sharp_precision}
+use Rattle.fr_bound.specs.SharpBounds.{sharp_lambda, sharp_pi, sharp_precision}
 use Rattle.fr_sharp.specs.SteadyRuns.{MayHaveArbitrary}
 use Rattle.fr_sharp.proofs.FarNumbers.{far_skews_are_near}
 use Rattle.fr_sharp.proofs.RunFar.{far_runs_reach_sharply}

@@ -7,7 +7,7 @@ use Rattle.fr_bound.specs.Bounds.{lambda_of, pi_of}
 use Rattle.fr_bound.specs.Checks.{AllChecksHold}
 use Rattle.fr_sharp.specs.DrivenRun.{driven_cluster}
 use Rattle.fr_sharp.specs.FarRun.{older_far, WorkedOlderFarRun, far_apart_run, worked_far, HasTwo, IsFar, WorkedFarRuns}
-use Rattle.fr_sharp.specs.SharpBounds.{sharp_lambda, sharp_pi}
+use Rattle.fr_bound.specs.SharpBounds.{sharp_lambda, sharp_pi}
 use Rattle.fr_sharp.specs.SteadyRuns.{MayHaveArbitrary}
 use Rattle.fr_sharp.specs.WorkedRun.{steady_cluster, OfBytes, Said}
 use Rattle.fr_sharp.proofs.RunDriven.{is_sane as driven_sane, on_channel}

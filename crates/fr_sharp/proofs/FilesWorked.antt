@@ -24,8 +24,8 @@ use Rattle.fr_script.specs.Events.{event_of}
 use Rattle.fr_script.specs.View.{deed_of, is_arbitrary, join_of}
 use Rattle.fr_sharp.specs.Lengths.{IsAboutCycle}
 use Rattle.fr_sharp.specs.SettlingHistories.{AreStatedNear}
-use Rattle.fr_sharp.specs.SharpBounds.{last_of, sharp_lambda, sharp_near, sharp_pi}
-use Rattle.fr_sharp.specs.SharpChecks.{sharp_holds_of, SharpChecksHold}
+use Rattle.fr_bound.specs.SharpBounds.{last_of, sharp_lambda, sharp_near, sharp_pi}
+use Rattle.fr_bound.specs.SharpChecks.{sharp_holds_of, SharpChecksHold}
 use Rattle.fr_sharp.specs.SharpHistories.{IsInSharpSyncAt, IsSteadyRun}
 use Rattle.fr_sharp.specs.SharpStatement.{has_arbitrary, IsSharplyCovered, KeepsSharply}
 use Rattle.fr_sharp.specs.WorkedFiles.{fluttering_drift, marking_script, FlutteringFilesAreCovered, FlutteringFilesKeepSharply}

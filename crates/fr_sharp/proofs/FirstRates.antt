@@ -8,7 +8,7 @@ use Rattle.std.proofs.Math.Nat.{div-mul-le_self, le-min, min-le_left, min-le_rig
 use Rattle.fr_bound.specs.Checks.{left_of, right_of}
 use Rattle.fr_precision.proofs.Figures.{natural, nat_le-true}
 use Rattle.fr_sharp.specs.JoinedHistories.{FirstRatesLastSo}
-use Rattle.fr_sharp.specs.SharpBounds.{rate_room, rate_walk}
+use Rattle.fr_bound.specs.SharpBounds.{rate_room, rate_walk}
 use Rattle.fr_sharp.specs.SharpJoining.{counted_error}
 
 -- ---- where lengths walk by so many ticks

@@ -47,7 +47,7 @@ use Rattle.fr_runs.proofs.Rows.{each_row, has_row as row_there}
 use Rattle.fr_runs.proofs.RowsHeard.{before_in, cycle_of}
 use Rattle.fr_runs.proofs.Standing.{has_stays, is_none as none_there, told_has}
 use Rattle.fr_sharp.specs.Hearing.{AreSteadyPairs}
-use Rattle.fr_sharp.specs.SharpBounds.{last_action}
+use Rattle.fr_bound.specs.SharpBounds.{last_action}
 use Rattle.fr_sharp.specs.SharpRound.{IsSteadilySupplied}
 use Rattle.fr_sharp.specs.SharpFollowing.{AreFollowersInReach, FollowersHearSteadily}
 use Rattle.fr_sharp.proofs.BoundLemmas.{key_slots_act_early}

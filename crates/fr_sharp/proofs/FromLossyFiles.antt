@@ -26,7 +26,7 @@ use Rattle.fr_runs.proofs.Nodes.{correct_node}
 use Rattle.fr_sharp.specs.Among.{lost_spread}
 use Rattle.fr_sharp.specs.Losses.{HearsSome, NoneIsDeaf}
 use Rattle.fr_sharp.specs.LossStatement.{hears_in, whole_in, without_losses, CoveredFilesKeepThroughLosses, FilesKeepThroughLosses, LaterIsNoFurther, LossyFilesGiveRuns}
-use Rattle.fr_sharp.specs.SharpSettling.{sharply_near_in}
+use Rattle.fr_bound.specs.SharpSpreads.{sharply_near_in}
 use Rattle.fr_sharp.specs.SteadyRuns.{IsTimedSetting, IsWhole, MayHaveArbitrary}
 use Rattle.fr_sharp.proofs.FromFiles.{arbitrary_is_told, files_are_steady}
 use Rattle.fr_sharp.proofs.JoinBounds.{near_grows}

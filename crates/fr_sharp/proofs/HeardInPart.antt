@@ -33,7 +33,7 @@ use Rattle.fr_precision.proofs.Values.{acts_before, change_from, other_of, other
 use Rattle.fr_sharp.specs.Among.{ComputesOwn}
 use Rattle.fr_sharp.specs.Hearing.{IsHeardInPart}
 use Rattle.fr_sharp.specs.Losses.{heard_at, heard_of, IsSuppliedInPart, RoundsInPartComputeOwn}
-use Rattle.fr_sharp.specs.SharpBounds.{last_action}
+use Rattle.fr_bound.specs.SharpBounds.{last_action}
 use Rattle.fr_sharp.specs.SharpRound.{as_member}
 use Rattle.fr_sharp.specs.Steady.{PlacesEven}
 use Rattle.fr_sharp.proofs.HearingLemmas.{acts_regularly, no_less}

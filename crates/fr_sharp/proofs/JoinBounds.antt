@@ -10,8 +10,8 @@ use Rattle.fr_cluster.specs.declared.names.ParamName.TheVariants as name
 use Rattle.fr_bound.specs.Bounds.{arrival_error, cycle_change, lambda_of, longest_micro, nominal, pi_of, reach_of, widest}
 use Rattle.fr_bound.specs.Checks.{back_need_of, front_need_of, left_of, right_of}
 use Rattle.fr_precision.proofs.Figures.{nat_le-true}
-use Rattle.fr_sharp.specs.SharpBounds.{last_action, near_by, odd_spread, precision_by, sharp_lambda, sharp_near, sharp_pi, steady_error, wide_change}
-use Rattle.fr_sharp.specs.SharpChecks.{SharpChecksHold}
+use Rattle.fr_bound.specs.SharpBounds.{last_action, near_by, odd_spread, precision_by, sharp_lambda, sharp_near, sharp_pi, steady_error, wide_change}
+use Rattle.fr_bound.specs.SharpChecks.{SharpChecksHold}
 use Rattle.fr_sharp.specs.SharpJoining.{counted_error, sharp_first_apart, sharp_first_lengths, sharp_join_right_of, sharp_reach, sharp_second_apart, FollowersComeNearer, OlderJoinChecksSuffice, SharpJoinChecksHold, SharpJoinChecksSuffice}
 use Rattle.fr_sharp.proofs.BoundLemmas.{near_is_below, sharp_checks_suffice_lem, sharp_is_below, wide_le}
 

@@ -2,7 +2,7 @@
 use Rattle.std.proofs.Common.{◌≡◌, ℕ, Bool, true, false, refl}
 use Rattle.fr_cluster.specs.Values.{Values}
 use Rattle.fr_bound.specs.Checks.{left_of}
-use Rattle.fr_sharp.specs.SharpBounds.{last_of}
+use Rattle.fr_bound.specs.SharpBounds.{last_of}
 use Rattle.fr_sharp.specs.SharpJoining.{sharp_first_apart, sharp_first_lengths, sharp_join_holds_of, sharp_join_right_of, sharp_reach, sharp_second_apart}
 use Rattle.fr_sharp.proofs.SharpRows.{set}
 

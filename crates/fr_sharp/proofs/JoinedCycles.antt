@@ -14,7 +14,7 @@ use Rattle.fr_history.specs.Terms.{status_in}
 use Rattle.fr_runs.specs.Rounds.{IsDoubleOf}
 use Rattle.fr_runs.proofs.Parts.{cycle_found, cycle_within, each_cycle}
 use Rattle.fr_sharp.specs.JoinedHistories.{CyclesKeepJoined, FirstRatesLastToEnd, JoinedHistoriesKeepSharpPrecision, KeepsJoined, StaysJoined}
-use Rattle.fr_sharp.specs.SharpBounds.{sharp_precision}
+use Rattle.fr_bound.specs.SharpBounds.{sharp_precision}
 use Rattle.fr_sharp.specs.SharpHistories.{BeginsActive}
 use Rattle.fr_sharp.specs.SharpJoined.{IsSteadyJoined}
 use Rattle.fr_sharp.specs.SharpTested.{IsUnfollowedSharpSyncAt}

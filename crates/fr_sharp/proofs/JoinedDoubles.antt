@@ -24,7 +24,7 @@ use Rattle.fr_runs.proofs.Standing.{how_follows, is_follower}
 use Rattle.fr_runs.proofs.Lawful.{lawful_cycles_run}
 use Rattle.fr_runs.proofs.Whole.{double_runs, fresh_at, none_follows}
 use Rattle.fr_sharp.specs.Lengths.{CanWalk}
-use Rattle.fr_sharp.specs.SharpBounds.{last_action, sharp_lambda, sharp_near, sharp_pi}
+use Rattle.fr_bound.specs.SharpBounds.{last_action, sharp_lambda, sharp_near, sharp_pi}
 use Rattle.fr_sharp.specs.SharpFollowing.{AreFollowersInReach}
 use Rattle.fr_sharp.specs.SharpGroup.{IsSharpRoundFollowed}
 use Rattle.fr_sharp.specs.SharpJoining.{sharp_first_apart, sharp_first_lengths, sharp_reach, sharp_second_apart}

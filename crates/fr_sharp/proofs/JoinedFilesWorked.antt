@@ -9,8 +9,8 @@ use Rattle.fr_drift.specs.Questions.{delay_of, doubles_of, length_of}
 use Rattle.fr_script.specs.Deeds.{deed_in}
 use Rattle.fr_script.specs.Events.{event_of}
 use Rattle.fr_script.specs.View.{deed_of, is_arbitrary, join_of}
-use Rattle.fr_sharp.specs.SharpBounds.{last_of}
-use Rattle.fr_sharp.specs.SharpChecks.{sharp_holds_of}
+use Rattle.fr_bound.specs.SharpBounds.{last_of}
+use Rattle.fr_bound.specs.SharpChecks.{sharp_holds_of}
 use Rattle.fr_sharp.specs.SharpJoining.{sharp_reach, SharpJoinChecksHold}
 use Rattle.fr_sharp.specs.SharpStatement.{has_arbitrary}
 use Rattle.fr_sharp.specs.WorkedFiles.{fluttering_drift, joining_script, JoiningFilesAreCovered}

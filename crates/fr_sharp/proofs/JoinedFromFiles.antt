@@ -29,7 +29,7 @@ use Rattle.fr_runs.proofs.Lawful.{lawful_cycles_run}
 use Rattle.fr_runs.proofs.Nodes.{correct_node, node_there}
 use Rattle.fr_runs.proofs.Rows.{each_row}
 use Rattle.fr_runs.proofs.Whole.{double_runs}
-use Rattle.fr_sharp.specs.SharpBounds.{rate_walk}
+use Rattle.fr_bound.specs.SharpBounds.{rate_walk}
 use Rattle.fr_sharp.specs.SharpHistories.{IsInSharpSyncAt}
 use Rattle.fr_sharp.specs.JoinedFiles.{CoveredFilesKeepSharplyJoined, IsSharplyCoveredToJoin, JoinedFilesKeepSharpPrecision}
 use Rattle.fr_sharp.specs.SharpJoined.{IsSteadyJoined}

@@ -20,7 +20,7 @@ use Rattle.fr_runs.proofs.Whole.{double_runs, prior_of}
 use Rattle.fr_runs.specs.Rounds.{IsDoubleOf}
 use Rattle.fr_sharp.specs.JoinedHistories.{FirstRatesLast, JoinedListenersJoin, JoinedListenersJoinUpTo}
 use Rattle.fr_sharp.specs.Lengths.{walked_after}
-use Rattle.fr_sharp.specs.SharpBounds.{rate_walk}
+use Rattle.fr_bound.specs.SharpBounds.{rate_walk}
 use Rattle.fr_sharp.specs.SharpJoined.{IsJoinedDouble, IsSteadyJoined, WalksJoined}
 use Rattle.fr_sharp.specs.SharpTested.{IsUnfollowedSharpSyncAt}
 use Rattle.fr_sharp.proofs.JoinedBeginning.{joined_listeners_begin}

@@ -31,7 +31,7 @@ use Rattle.fr_runs.proofs.Outcomes.{outcomes_none, told_counted}
 use Rattle.fr_runs.proofs.Receivers.{same_mapped}
 use Rattle.fr_runs.proofs.Rows.{contains_map, map_contains, row_runs_by, rows_are}
 use Rattle.fr_runs.proofs.Whole.{prior_of}
-use Rattle.fr_sharp.specs.SharpBounds.{sharp_lambda, sharp_pi}
+use Rattle.fr_bound.specs.SharpBounds.{sharp_lambda, sharp_pi}
 use Rattle.fr_sharp.specs.SharpGroup.{IsSharpPlacing, LastApart, StartApart}
 use Rattle.fr_sharp.specs.SharpJoining.{sharp_first_apart, sharp_first_lengths, sharp_second_apart}
 use Rattle.fr_sharp.specs.SharpJoined.{JoinedDoublesGoOn}

@@ -43,8 +43,8 @@ use Rattle.fr_runs.proofs.Spread.{macrotick_within, spread_within}
 use Rattle.fr_runs.proofs.Standing.{has_stays, is_none, told_has}
 use Rattle.fr_runs.proofs.Whole.{prior_of}
 use Rattle.fr_sharp.specs.Lengths.{walked_after}
-use Rattle.fr_sharp.specs.SharpBounds.{rate_walk, sharp_precision}
-use Rattle.fr_sharp.specs.SharpChecks.{RateSuffices}
+use Rattle.fr_bound.specs.SharpBounds.{rate_walk, sharp_precision}
+use Rattle.fr_bound.specs.SharpChecks.{RateSuffices}
 use Rattle.fr_sharp.specs.SharpGroup.{IsSharpGroupKept}
 use Rattle.fr_sharp.specs.SharpHistories.{IsInSharpSyncAt}
 use Rattle.fr_sharp.specs.SharpJoining.{sharp_reach}

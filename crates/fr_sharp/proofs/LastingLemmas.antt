@@ -20,10 +20,12 @@ use Rattle.fr_precision.specs.Instants.{gap_of, row_in}
 use Rattle.fr_precision.specs.Placement.{IsRegular}
 use Rattle.fr_precision.specs.Step.{IsFollowed, Member}
 use Rattle.fr_precision.proofs.Senders.{All-along}
-use Rattle.fr_sharp.specs.SharpBounds.{last_action, near_by, odd_spread, precision_by, rate_walk, sharp_lambda, sharp_near, sharp_pi, walk_lasts}
-use Rattle.fr_sharp.specs.SharpChecks.{SharpChecksHold}
+use Rattle.fr_bound.specs.SharpBounds.{last_action, near_by, odd_spread, precision_by, rate_walk, sharp_lambda, sharp_near, sharp_pi, walk_lasts}
+use Rattle.fr_bound.specs.SharpChecks.{SharpChecksHold}
 use Rattle.fr_sharp.specs.Lengths.{walked_after}
-use Rattle.fr_sharp.specs.SharpSettling.{sharp_spread_after, sharply_apart_in, IsSharplySettled}
+use Rattle.fr_bound.specs.SharpSpreads.{sharply_apart_in}
+use Rattle.fr_bound.specs.SharpSpreads.{IsSharplySettled}
+use Rattle.fr_sharp.specs.SharpSettling.{sharp_spread_after}
 use Rattle.fr_sharp.specs.SharpStep.{ActInReach, AreSharp, ComeSharply, ComputesSharply, DrawsTo, IsInSharpSync, IsSharpDouble, IsSharpReach, StaySharp}
 use Rattle.fr_sharp.specs.SharpRun.{lengths_from, starts_from, AllUncut, AreSharpDoubles, BeginSharp, BeginWithin, DrawInReach, IsNextDouble, KeepsSharp, KeepsToSpreads, SharpDoublesDraw, SharpSpreadsKeep, SharpSyncIsReached, SharpSyncLasts, StaysInSharpSync, WalkLastsAfter, WalkLastsUpTo}
 use Rattle.fr_sharp.specs.Among.{AreLossyDoubles, GoesTo, GoInReach, HeardSo, LossyDoublesKeep, LossyDoublesStayApart}

@@ -25,7 +25,7 @@ use Rattle.fr_precision.proofs.OffsetLaws.{micro_lasts}
 use Rattle.fr_precision.proofs.PlacementLaws.{steady_within}
 use Rattle.fr_precision.proofs.RateLaws.{limited_within, outcome_within}
 use Rattle.fr_precision.proofs.Senders.{heard_all, All-along}
-use Rattle.fr_sharp.specs.SharpBounds.{steady_error, wide_change}
+use Rattle.fr_bound.specs.SharpBounds.{steady_error, wide_change}
 use Rattle.fr_sharp.specs.Steady.{between_actions, placed_length, PlacesEven}
 use Rattle.fr_sharp.specs.Lengths.{next_length_error, NextLengthIsNear, CanWalk, EvensAreAbout, EvensWithin, IsAboutCycle, IsNextEven, IsSteadyRound, LengthsComeNear, RangeWalks}
 use Rattle.fr_sharp.specs.Among.{LengthsComeAmong}

@@ -36,8 +36,8 @@ use Rattle.fr_runs.proofs.Nodes.{correct_node}
 use Rattle.fr_runs.proofs.Rows.{all_rows, map_contains}
 use Rattle.fr_sharp.specs.Flutter.{FluttersWithin}
 use Rattle.fr_sharp.specs.LongRun.{long_cluster, long_run}
-use Rattle.fr_sharp.specs.SharpBounds.{last_action, last_of, sharp_near}
-use Rattle.fr_sharp.specs.SharpChecks.{SharpChecksHold}
+use Rattle.fr_bound.specs.SharpBounds.{last_action, last_of, sharp_near}
+use Rattle.fr_bound.specs.SharpChecks.{SharpChecksHold}
 use Rattle.fr_sharp.specs.SharpRound.{as_member}
 use Rattle.fr_sharp.specs.SharpStep.{ActInReach}
 use Rattle.fr_sharp.specs.SteadyRuns.{row_hearers, row_members, AreRowsInReach, IsSteadySetting}

@@ -40,7 +40,7 @@ use Rattle.fr_runs.proofs.Rows.{all_rows, has_row, row_runs_by, each_row}
 use Rattle.fr_runs.proofs.RowsHeard.{RowLink}
 use Rattle.fr_runs.proofs.Whole.{prior_of}
 use Rattle.fr_sharp.specs.LongRun.{long_cluster, long_run, LongRunIsCut, LongRunWalks, LongRunHalts, LongRunBegins}
-use Rattle.fr_sharp.specs.SharpBounds.{last_action, sharp_near, last_of, sharp_lambda, sharp_pi}
+use Rattle.fr_bound.specs.SharpBounds.{last_action, sharp_near, last_of, sharp_lambda, sharp_pi}
 use Rattle.fr_sharp.specs.SharpHistories.{IsSteadyRun}
 use Rattle.fr_sharp.specs.SharpRound.{as_member}
 use Rattle.fr_sharp.specs.SharpRun.{AllUncut}

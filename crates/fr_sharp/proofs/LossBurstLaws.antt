@@ -9,13 +9,14 @@ use Rattle.fr_bound.specs.Bounds.{longest_micro}
 use Rattle.fr_bound.specs.declared.settling.Spread.{Spread}
 use Rattle.fr_coverage.specs.Decided.{setting_of}
 use Rattle.fr_history.specs.Cycles.{Cycles}
-use Rattle.fr_sharp.specs.Among.{lost_spread, next_lost_spread}
+use Rattle.fr_bound.specs.SharpSpreads.{next_lost_spread}
+use Rattle.fr_sharp.specs.Among.{lost_spread}
 use Rattle.fr_sharp.specs.LossBursts.{BurstsCostNoMore, BurstsKeepThePeak, IsInBurst, LosesInBursts}
 use Rattle.fr_sharp.specs.LossCosts.{heard_behind}
 use Rattle.fr_sharp.specs.Losses.{lost_apart}
 use Rattle.fr_sharp.specs.LossStatement.{whole_in}
 use Rattle.fr_sharp.specs.SharpHistories.{KeepsApart}
-use Rattle.fr_sharp.specs.SharpSettling.{sharply_near_in}
+use Rattle.fr_bound.specs.SharpSpreads.{sharply_near_in}
 use Rattle.fr_sharp.proofs.AmongNumbers.{heard_again, next_is}
 use Rattle.fr_sharp.proofs.FromLossyFiles.{covered_files_keep_through_losses}
 use Rattle.fr_sharp.proofs.JoinBounds.{near_grows}

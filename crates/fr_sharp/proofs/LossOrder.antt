@@ -4,8 +4,9 @@ use Rattle.fr_cluster.specs.Values.{Values, amount}
 use Rattle.fr_cluster.specs.declared.names.ParamName.TheVariants as name
 use Rattle.fr_bound.specs.Bounds.{arrival_error, cycle_change, longest_micro}
 use Rattle.fr_bound.specs.declared.settling.Spread.{Spread}
-use Rattle.fr_sharp.specs.Among.{lost_spread, next_lost_spread}
-use Rattle.fr_sharp.specs.SharpBounds.{odd_spread, sharp_lambda, sharp_pi, steady_error}
+use Rattle.fr_bound.specs.SharpSpreads.{next_lost_spread}
+use Rattle.fr_sharp.specs.Among.{lost_spread}
+use Rattle.fr_bound.specs.SharpBounds.{odd_spread, sharp_lambda, sharp_pi, steady_error}
 
 pub record IsBelow (s t : Spread) : Type 0 where
   pub start : s.starts ≤ t.starts

@@ -21,14 +21,15 @@ use Rattle.fr_coverage.specs.Order.{FindsGapOfRun, HasNoGapOfRun, IsChangeGap, I
 use Rattle.fr_coverage.specs.declared.gap.Gap.{Gap}
 use Rattle.fr_coverage.specs.declared.gap.Gap.TheVariants as gap
 use Rattle.fr_bound.specs.declared.settling.Spread.{Spread}
-use Rattle.fr_sharp.specs.Among.{lost_spread, next_lost_spread}
+use Rattle.fr_bound.specs.SharpSpreads.{next_lost_spread}
+use Rattle.fr_sharp.specs.Among.{lost_spread}
 use Rattle.fr_sharp.specs.LossCosts.{limits_hold}
 use Rattle.fr_sharp.specs.Losses.{lost_apart}
 use Rattle.fr_sharp.specs.LossRuns.{all_hear, all_reach, is_link_at_most, is_through_losses, losses_by, losses_of, lost_before, next_losses, reaches, reaches_each, through_checks, through_nodes, AreLosses, IsLastLost, LossesAreTold, RunsKeepTheirBounds}
 use Rattle.fr_sharp.specs.LossSteps.{heard_apart}
 use Rattle.fr_sharp.specs.LossStatement.{whole_in, without_losses, IsCoveredThroughLosses}
-use Rattle.fr_sharp.specs.SharpChecks.{sharp_holds_of, SharpChecksHold}
-use Rattle.fr_sharp.specs.SharpSettling.{sharply_near_in}
+use Rattle.fr_bound.specs.SharpChecks.{sharp_holds_of, SharpChecksHold}
+use Rattle.fr_bound.specs.SharpSpreads.{sharply_near_in}
 use Rattle.fr_sharp.specs.SharpStatement.{has_arbitrary}
 use Rattle.fr_sharp.specs.declared.losses_of_runs.RunLosses.{RunLosses}
 use Rattle.fr_sharp.proofs.AmongNumbers.{next_is}

@@ -14,11 +14,11 @@ use Rattle.fr_history.specs.Cycles.{Cycles}
 use Rattle.fr_sharp.specs.Among.{lost_spread, AreLossyDoubles, ComputesOwn, GoInReach, HeardSo}
 use Rattle.fr_sharp.specs.Lengths.{walked_after}
 use Rattle.fr_sharp.specs.Losses.{lost_apart, HistoriesKeepThroughLosses, IsLossyRun, SharpAfterTwoWhole}
-use Rattle.fr_sharp.specs.SharpBounds.{last_action, odd_spread, precision_by, sharp_lambda, sharp_pi, sharp_precision}
-use Rattle.fr_sharp.specs.SharpChecks.{SharpChecksHold}
+use Rattle.fr_bound.specs.SharpBounds.{last_action, odd_spread, precision_by, sharp_lambda, sharp_pi, sharp_precision}
+use Rattle.fr_bound.specs.SharpChecks.{SharpChecksHold}
 use Rattle.fr_sharp.specs.SharpHistories.{members_at, senders_at, BeginsActive, IsInSharpSyncAt, KeepsApart}
 use Rattle.fr_sharp.specs.SharpRun.{BeginSharp, WalkLastsAfter}
-use Rattle.fr_sharp.specs.SharpSettling.{sharply_near_in}
+use Rattle.fr_bound.specs.SharpSpreads.{sharply_near_in}
 use Rattle.fr_sharp.specs.SharpStep.{ActInReach, AreSharp, IsInSharpSync}
 use Rattle.fr_sharp.specs.SteadyRuns.{AreRowsInReach}
 use Rattle.fr_sharp.proofs.AmongNumbers.{heard_again, lost_spread_goes}

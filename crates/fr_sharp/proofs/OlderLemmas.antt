@@ -15,7 +15,7 @@ use Rattle.fr_precision.specs.Step.{Member}
 use Rattle.fr_precision.proofs.InstantLaws.{actions_stay_near}
 use Rattle.fr_precision.proofs.OffsetLaws.{third_check_suffices}
 use Rattle.fr_precision.proofs.StepLaws.{nodes_near, reach_fits, sync_is_spread}
-use Rattle.fr_sharp.specs.SharpBounds.{last_action, rate_room, rate_walk, sharp_near, walk_lasts}
+use Rattle.fr_bound.specs.SharpBounds.{last_action, rate_room, rate_walk, sharp_near, walk_lasts}
 use Rattle.fr_sharp.specs.Lengths.{walked_after}
 use Rattle.fr_sharp.specs.SharpSettling.{sharp_spread_after, FitsOlder}
 use Rattle.fr_sharp.specs.SharpStep.{ActInReach}

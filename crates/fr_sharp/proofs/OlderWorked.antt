@@ -16,7 +16,7 @@ use Rattle.fr_precision.specs.Offsets.{IsOffsetRound}
 use Rattle.fr_precision.specs.Placement.{IsRegular}
 use Rattle.fr_precision.specs.Step.{IsAmong, Member}
 use Rattle.fr_precision.proofs.Worked.{cluster, first, is_sane, second, two}
-use Rattle.fr_sharp.specs.SharpBounds.{last_action, last_of}
+use Rattle.fr_bound.specs.SharpBounds.{last_action, last_of}
 use Rattle.fr_sharp.specs.Lengths.{IsSteadyRound}
 use Rattle.fr_sharp.specs.SharpStep.{AllKeepSenders, ComputesSharply, IsSharpDouble}
 use Rattle.fr_sharp.specs.SharpRun.{BeginInSync, KeepsFromSync}

@@ -3,7 +3,7 @@ use Rattle.std.proofs.Common.{◌≡◌, ◌∙◌, ℕ, ◌≤◌, inl, inr, Bo
 use Rattle.std.proofs.lemmas.Bool.{cases_order}
 use Rattle.fr_cluster.specs.Values.{Values}
 use Rattle.fr_sharp.specs.declared.way.SharpWay.{SharpWay}
-use Rattle.fr_sharp.specs.SharpChecks.{sharp_left_of, sharp_right_of}
+use Rattle.fr_bound.specs.SharpChecks.{sharp_left_of, sharp_right_of}
 use Rattle.fr_sharp.specs.SharpWay.{apart_after, near_after, way_holds_of, FailsOnTheWay, IsGreatestTo, IsWayVerdict, OneSharpWay, SettlesSharplyAt}
 
 one_double : (beside : Bool) (p : Values) (flutter start rate double other : ℕ) → SettlesSharplyAt beside p flutter start rate double → SettlesSharplyAt beside p flutter start rate other → double ≡ other

@@ -12,8 +12,8 @@ use Rattle.fr_bound.specs.Checks.{holds_of, left_of, right_of}
 use Rattle.fr_bound.specs.Sync.{cycle_length_of}
 use Rattle.fr_precision.specs.Rows.{longest_cycle, shortest_cycle, HasProperMicro}
 use Rattle.fr_precision.proofs.Figures.{longest_is, nat_le-true, shortest_is}
-use Rattle.fr_sharp.specs.SharpBounds.{rate_walk}
-use Rattle.fr_sharp.specs.SharpChecks.{RateSuffices}
+use Rattle.fr_bound.specs.SharpBounds.{rate_walk}
+use Rattle.fr_bound.specs.SharpChecks.{RateSuffices}
 use Rattle.fr_sharp.specs.Lengths.{walked_after, IsAboutCycle}
 use Rattle.fr_sharp.specs.SharpRun.{WalkLastsAfter}
 use Rattle.fr_sharp.proofs.BoundLemmas.{walk_is_held}

@@ -19,7 +19,7 @@ use Rattle.fr_precision.specs.Round.{offsets_of, rates_of, sender_at, sender_wit
 use Rattle.fr_precision.specs.Step.{IsAmong, Member}
 use Rattle.fr_precision.proofs.RoundSenders.{sender_is, IsFrom}
 use Rattle.fr_precision.proofs.Senders.{All-along}
-use Rattle.fr_sharp.specs.SharpBounds.{last_action}
+use Rattle.fr_bound.specs.SharpBounds.{last_action}
 use Rattle.fr_sharp.specs.Lengths.{KeepSenders}
 use Rattle.fr_sharp.specs.SharpStep.{AllKeepSenders, AreSharp, ComputesSharply}
 use Rattle.fr_sharp.specs.SharpRound.{as_member, IsRoundInReach, IsSharpRound, RoundsAreSharp, RoundsInReachAreSharp}

@@ -62,8 +62,8 @@ use Rattle.fr_runs.proofs.Succeeding.{followers_stay, rows_stay}
 use Rattle.fr_runs.proofs.Whole.{double_runs}
 use Rattle.fr_sharp.specs.Hearing.{AllowsArbitrary, AreSteadyPairs, IsHeardInPart}
 use Rattle.fr_sharp.specs.Lengths.{IsAboutCycle}
-use Rattle.fr_sharp.specs.SharpBounds.{last_action}
-use Rattle.fr_sharp.specs.SharpChecks.{RateSuffices}
+use Rattle.fr_bound.specs.SharpBounds.{last_action}
+use Rattle.fr_bound.specs.SharpChecks.{RateSuffices}
 use Rattle.fr_sharp.specs.SharpRound.{as_member, IsRoundInReach, IsSteadilySupplied}
 use Rattle.fr_sharp.specs.SharpStep.{IsSharpDouble}
 use Rattle.fr_sharp.specs.Steady.{IsSteadyPair}

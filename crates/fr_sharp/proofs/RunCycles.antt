@@ -15,8 +15,8 @@ use Rattle.fr_history.specs.Skew.{skew_at}
 use Rattle.fr_history.specs.Terms.{status_in}
 use Rattle.fr_runs.specs.Rounds.{IsDoubleOf}
 use Rattle.fr_runs.proofs.Parts.{cycle_found, cycle_within, each_cycle}
-use Rattle.fr_sharp.specs.SharpBounds.{rate_walk, sharp_near, sharp_precision}
-use Rattle.fr_sharp.specs.SharpChecks.{sharp_holds_of, SharpChecksHold}
+use Rattle.fr_bound.specs.SharpBounds.{rate_walk, sharp_near, sharp_precision}
+use Rattle.fr_bound.specs.SharpChecks.{sharp_holds_of, SharpChecksHold}
 use Rattle.fr_sharp.specs.SharpHistories.{BeginsActive, CyclesKeepApart, HistoriesKeepSharpPrecision, IsInSharpSyncAt, IsSteadyRun, KeepsApart, KeepsSharpPrecision, StatedRunsAreSteady, StaysInSharpSyncAt}
 use Rattle.fr_sharp.specs.SharpRun.{WalkLastsAfter}
 use Rattle.fr_sharp.proofs.BoundLemmas.{first_check_stops_walk}

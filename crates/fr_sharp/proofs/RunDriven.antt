@@ -29,8 +29,8 @@ use Rattle.fr_runs.proofs.Nodes.{correct_node}
 use Rattle.fr_sharp.specs.DrivenRun.{delay_to_1, delay_to_3, delay_to_4, driven_cluster, driven_delay, driven_micro, driven_rate, driven_run, driven_start, DrivenRunBegins, DrivenRunReaches}
 use Rattle.fr_sharp.specs.Lengths.{IsAboutCycle}
 use Rattle.fr_sharp.specs.SettlingHistories.{AreStatedNear}
-use Rattle.fr_sharp.specs.SharpBounds.{last_of, sharp_lambda, sharp_near, sharp_pi}
-use Rattle.fr_sharp.specs.SharpChecks.{sharp_holds_of}
+use Rattle.fr_bound.specs.SharpBounds.{last_of, sharp_lambda, sharp_near, sharp_pi}
+use Rattle.fr_bound.specs.SharpChecks.{sharp_holds_of}
 use Rattle.fr_sharp.specs.SharpHistories.{IsSteadyRun}
 use Rattle.fr_sharp.specs.SteadyRuns.{IsSteadySetting}
 use Rattle.fr_sharp.proofs.RunCycles.{stated_runs_are_steady}

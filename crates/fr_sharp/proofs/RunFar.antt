@@ -45,7 +45,7 @@ use Rattle.fr_runs.proofs.Rows.{contains_map, has_row, row_runs_by}
 use Rattle.fr_sharp.specs.FarRun.{correction_place, far_apart_run, far_skew, Far, FarRunsReachSharply, HasTwo, IsFar}
 use Rattle.fr_sharp.specs.Lengths.{IsAboutCycle}
 use Rattle.fr_sharp.specs.SettlingHistories.{AreStatedNear}
-use Rattle.fr_sharp.specs.SharpBounds.{sharp_lambda, sharp_pi}
+use Rattle.fr_bound.specs.SharpBounds.{sharp_lambda, sharp_pi}
 use Rattle.fr_sharp.specs.SharpHistories.{IsSteadyRun}
 use Rattle.fr_sharp.specs.SteadyRuns.{IsSteadySetting}
 use Rattle.fr_sharp.proofs.RunCycles.{stated_runs_are_steady}

@@ -30,10 +30,11 @@ use Rattle.fr_runs.proofs.Outcomes.{begun_active}
 use Rattle.fr_runs.proofs.Parts.{even_is, odd_is}
 use Rattle.fr_sharp.specs.Lengths.{walked_after}
 use Rattle.fr_sharp.specs.SettlingHistories.{BeginsSharply, HistoriesBeginActive, HistoriesKeepToSpreads, HistoriesReachSharpSync, IsOlderRun, KeepsToSpreadsAt, OlderHistoriesSettle, SettlesFromSync}
-use Rattle.fr_sharp.specs.SharpBounds.{last_action}
+use Rattle.fr_bound.specs.SharpBounds.{last_action}
 use Rattle.fr_sharp.specs.SharpHistories.{members_at, senders_at, BeginsActive, IsSteadyRun, IsStatedRun, KeepsApart}
 use Rattle.fr_sharp.specs.SharpRun.{lengths_from, starts_from, BeginInSync, BeginSharp, BeginWithin, KeepsFromSync, KeepsToSpreads, WalkLastsAfter}
-use Rattle.fr_sharp.specs.SharpSettling.{sharp_spread_after, sharply_apart_in}
+use Rattle.fr_bound.specs.SharpSpreads.{sharply_apart_in}
+use Rattle.fr_sharp.specs.SharpSettling.{sharp_spread_after}
 use Rattle.fr_sharp.specs.SharpStep.{ActInReach, AreSharp}
 use Rattle.fr_sharp.proofs.BoundLemmas.{key_slots_act_early, sharp_checks_suffice_lem}
 use Rattle.fr_sharp.proofs.LastingLemmas.{sharp_spreads_keep, stays_at_rest, up_to, AllActive}

@@ -24,8 +24,8 @@ use Rattle.fr_history.specs.Cycles.{Cycle, Cycles, cycle_at}
 use Rattle.fr_runs.specs.Rounds.{IsDoubleOf}
 use Rattle.fr_runs.proofs.Parts.{cycle_within, even_is, odd_is, DoubleAt}
 use Rattle.fr_sharp.specs.Lengths.{walked_after, CanWalk, IsAboutCycle}
-use Rattle.fr_sharp.specs.SharpBounds.{last_action, near_by, rate_walk, sharp_lambda, sharp_near, sharp_pi, sharp_precision}
-use Rattle.fr_sharp.specs.SharpChecks.{RateSuffices, SharpChecksHold}
+use Rattle.fr_bound.specs.SharpBounds.{last_action, near_by, rate_walk, sharp_lambda, sharp_near, sharp_pi, sharp_precision}
+use Rattle.fr_bound.specs.SharpChecks.{RateSuffices, SharpChecksHold}
 use Rattle.fr_sharp.specs.SharpHistories.{members_at, senders_at, BeginsActive, HistoriesAreSharpDoubles, HistoriesHaveMembers, HistoriesKeepSharpSync, HistoriesStepSharply, IsInSharpSyncAt, IsSteadyRun, IsStatedRun, KeepsApart, StaysInSharpSyncAt}
 use Rattle.fr_sharp.specs.SharpRun.{AllUncut, AreSharpDoubles, BeginSharp, IsNextDouble, StaysInSharpSync, WalkLastsAfter}
 use Rattle.fr_sharp.specs.SharpStep.{ActInReach, ComeSharply, IsInSharpSync, IsSharpDouble, StaySharp}

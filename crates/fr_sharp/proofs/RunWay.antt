@@ -11,7 +11,9 @@ use Rattle.fr_sharp.specs.declared.way.SharpWay.{SharpWay}
 use Rattle.fr_sharp.specs.SettlingHistories.{BeginsSharply, KeepsToSpreadsAt}
 use Rattle.fr_sharp.specs.SharpHistories.{KeepsApart, StaysInSharpSyncAt}
 use Rattle.fr_sharp.specs.SharpRun.{WalkLastsUpTo}
-use Rattle.fr_sharp.specs.SharpSettling.{sharp_spread_after, sharply_near_in, IsSharplySettled}
+use Rattle.fr_bound.specs.SharpSpreads.{sharply_near_in}
+use Rattle.fr_bound.specs.SharpSpreads.{IsSharplySettled}
+use Rattle.fr_sharp.specs.SharpSettling.{sharp_spread_after}
 use Rattle.fr_sharp.specs.SharpWay.{apart_after, near_after, AllWayChecksHold, IsSharpWay, IsWayVerdict, LeadsTo}
 use Rattle.fr_sharp.specs.WayHistories.{BeginsNear, ComesByTheWay, HistoriesSettleSharply, StatedRunsSettleSharply}
 use Rattle.fr_sharp.proofs.RunSettles.{histories_keep_to_spreads, histories_reach_sharp_sync}

@@ -25,8 +25,8 @@ use Rattle.fr_runs.proofs.Nodes.{correct_node}
 use Rattle.fr_sharp.specs.Flutter.{FluttersWithin}
 use Rattle.fr_sharp.specs.Lengths.{IsAboutCycle}
 use Rattle.fr_sharp.specs.SettlingHistories.{AreStatedNear}
-use Rattle.fr_sharp.specs.SharpBounds.{last_of, sharp_lambda, sharp_near, sharp_pi, sharp_precision}
-use Rattle.fr_sharp.specs.SharpChecks.{sharp_holds_of, SharpChecksHold}
+use Rattle.fr_bound.specs.SharpBounds.{last_of, sharp_lambda, sharp_near, sharp_pi, sharp_precision}
+use Rattle.fr_bound.specs.SharpChecks.{sharp_holds_of, SharpChecksHold}
 use Rattle.fr_sharp.specs.SharpHistories.{CyclesKeepApart, IsInSharpSyncAt, IsSteadyRun, StaysInSharpSyncAt}
 use Rattle.fr_sharp.specs.SteadyRuns.{IsSteadySetting, MayHaveArbitrary}
 use Rattle.fr_sharp.specs.WorkedRun.{delay_in_turn, micro_by, start_by, steady_cluster, steady_run, walking_run, OfBytes, OlderChecksFail, Said, SteadyPrecisions, SteadyRunKeepsPrecision, SteadyRunMeetsPremises, WalkingRunStaysInSharpSync}

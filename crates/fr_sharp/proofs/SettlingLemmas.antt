@@ -9,8 +9,10 @@ use Rattle.fr_cluster.specs.declared.names.ParamName.TheVariants as name
 use Rattle.fr_bound.specs.declared.settling.Spread.{Spread}
 use Rattle.fr_bound.specs.Bounds.{arrival_error, cycle_change, lambda_of, longest_micro, pi_of, precision_of}
 use Rattle.fr_bound.proofs.Halving.{halved, halved_no_more, halved_to_none}
-use Rattle.fr_sharp.specs.SharpBounds.{odd_spread, sharp_lambda, sharp_pi, steady_error, wide_change}
-use Rattle.fr_sharp.specs.SharpSettling.{first_sharp_spread, next_sharp_spread, sharp_spread_after, sharply_apart_in, sharply_near_in, AloneSettlesSoon, BesideSettlesSoon, FitsOlder, NextSpreadDraws, NextStartsFit, OlderWayFits, SettledStays}
+use Rattle.fr_bound.specs.SharpBounds.{odd_spread, sharp_lambda, sharp_pi, steady_error, wide_change}
+use Rattle.fr_bound.specs.SharpSpreads.{next_sharp_spread, sharply_apart_in, sharply_near_in}
+use Rattle.fr_bound.specs.SharpSpreads.{first_sharp_spread}
+use Rattle.fr_sharp.specs.SharpSettling.{sharp_spread_after, AloneSettlesSoon, BesideSettlesSoon, FitsOlder, NextSpreadDraws, NextStartsFit, OlderWayFits, SettledStays}
 use Rattle.fr_sharp.proofs.BoundLemmas.{near_is_below, sharp_is_below, wide_le}
 
 -- ---- what the step draws to

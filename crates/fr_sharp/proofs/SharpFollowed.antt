@@ -14,7 +14,7 @@ use Rattle.fr_precision.specs.Step.{Member}
 use Rattle.fr_runs.specs.Group.{IsOf}
 use Rattle.fr_runs.specs.Hearers.{group_of, member_from, Hearers, IsOneOf}
 use Rattle.fr_runs.proofs.Rows.{contains_map, map_contains}
-use Rattle.fr_sharp.specs.SharpBounds.{last_action, near_by, sharp_lambda, sharp_pi}
+use Rattle.fr_bound.specs.SharpBounds.{last_action, near_by, sharp_lambda, sharp_pi}
 use Rattle.fr_sharp.specs.Lengths.{KeepSenders}
 use Rattle.fr_sharp.specs.SharpRound.{IsRoundInReach}
 use Rattle.fr_sharp.specs.SharpStep.{ComputesSharply, IsSharpDouble}

@@ -21,7 +21,7 @@ use Rattle.fr_precision.proofs.InstantLaws.{wider}
 use Rattle.fr_precision.proofs.OffsetLaws.{offset_terms_are_uncut}
 use Rattle.fr_precision.proofs.Senders.{All-along}
 use Rattle.fr_runs.specs.Group.{Group, IsOf, WillHaveRow}
-use Rattle.fr_sharp.specs.SharpBounds.{last_action, near_by, odd_spread, sharp_lambda, sharp_pi, sharp_precision, steady_error, wide_change}
+use Rattle.fr_bound.specs.SharpBounds.{last_action, near_by, odd_spread, sharp_lambda, sharp_pi, sharp_precision, steady_error, wide_change}
 use Rattle.fr_sharp.specs.Lengths.{EvensAreAbout, LengthsCome, next_length_error}
 use Rattle.fr_sharp.specs.Ends.{EndsCome, SendApart, TakesOffsets}
 use Rattle.fr_sharp.specs.SharpStep.{ComeSharply, ComputesSharply, IsInSharpSync, IsSharpDouble, IsSharpLimit}

@@ -30,7 +30,7 @@ use Rattle.fr_precision.proofs.OffsetLaws.{micro_lasts}
 use Rattle.fr_precision.proofs.PlacementLaws.{limit_below}
 use Rattle.fr_precision.proofs.ReceptionLaws.{ends_before}
 use Rattle.fr_runs.proofs.Listened.{first_length_is, no_less}
-use Rattle.fr_sharp.specs.SharpBounds.{sharp_lambda, sharp_pi}
+use Rattle.fr_bound.specs.SharpBounds.{sharp_lambda, sharp_pi}
 use Rattle.fr_sharp.specs.SharpJoining.{counted_error, sharp_first_lengths, sharp_reach}
 use Rattle.fr_sharp.specs.SharpListening.{CountedLengthIsNear, IsCaughtSharply, SharpCatchesSuffice, SharpFirstLengthIsNear, SharpFirstRateIsWithin, SharpFirstStartIsNear}
 use Rattle.fr_sharp.proofs.RateRange.{rate_in_limit}

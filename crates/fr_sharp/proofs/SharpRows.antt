@@ -6,9 +6,10 @@ use Rattle.fr_cluster.specs.declared.nodes.NodeSpec.{NodeSpec}
 use Rattle.fr_bound.specs.Bounds.{lambda_of, pi_of, precision_of}
 use Rattle.fr_bound.specs.Checks.{holds_of}
 use Rattle.fr_precision.proofs.Worked.{cluster, node}
-use Rattle.fr_sharp.specs.SharpBounds.{last_action, last_of, rate_walk, sharp_lambda, sharp_near, sharp_pi, sharp_precision, walk_lasts}
-use Rattle.fr_sharp.specs.SharpSettling.{sharp_spread_after, sharply_apart_in, sharply_near_in}
-use Rattle.fr_sharp.specs.SharpChecks.{sharp_holds_of, sharp_left_of, sharp_right_of}
+use Rattle.fr_bound.specs.SharpBounds.{last_action, last_of, rate_walk, sharp_lambda, sharp_near, sharp_pi, sharp_precision, walk_lasts}
+use Rattle.fr_bound.specs.SharpSpreads.{sharply_apart_in, sharply_near_in}
+use Rattle.fr_sharp.specs.SharpSettling.{sharp_spread_after}
+use Rattle.fr_bound.specs.SharpChecks.{sharp_holds_of, sharp_left_of, sharp_right_of}
 
 -- such a cluster with these nodes, damping, compensation of the delay, drift and change bounds, and delay error
 abbrev pub set_of : List NodeSpec → ℕ → ℕ → ℕ → ℕ → ℕ → Values

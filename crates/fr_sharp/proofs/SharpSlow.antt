@@ -14,7 +14,7 @@ use Rattle.fr_precision.specs.Rows.{Sender}
 use Rattle.fr_precision.specs.Offsets.{IsOffsetRound}
 use Rattle.fr_precision.specs.Placement.{IsRegular}
 use Rattle.fr_precision.specs.Step.{IsAmong, Member}
-use Rattle.fr_sharp.specs.SharpBounds.{last_action, last_of}
+use Rattle.fr_bound.specs.SharpBounds.{last_action, last_of}
 use Rattle.fr_sharp.specs.Steady.{IsSteadyPair, PlacesEven}
 use Rattle.fr_sharp.specs.Lengths.{IsAboutCycle, IsSteadyRound}
 use Rattle.fr_sharp.specs.SharpSettling.{sharp_spread_after}

@@ -31,12 +31,14 @@ use Rattle.fr_precision.specs.Placement.{IsRegular}
 use Rattle.fr_precision.specs.Rates.{IsNext}
 use Rattle.fr_precision.specs.Step.{IsAmong, IsFollowed, Member}
 use Rattle.fr_precision.proofs.Worked.{node, row}
-use Rattle.fr_sharp.specs.SharpBounds.{last_action, last_of, rate_walk, sharp_lambda, sharp_near, sharp_pi}
-use Rattle.fr_sharp.specs.SharpChecks.{SharpChecksHold}
+use Rattle.fr_bound.specs.SharpBounds.{last_action, last_of, rate_walk, sharp_lambda, sharp_near, sharp_pi}
+use Rattle.fr_bound.specs.SharpChecks.{SharpChecksHold}
 use Rattle.fr_sharp.specs.Steady.{IsSteadyPair, PlacesEven}
 use Rattle.fr_sharp.specs.Lengths.{walked_after, CanWalk, IsAboutCycle, IsSteadyRound}
 use Rattle.fr_sharp.specs.SharpRun.{AreSharpDoubles, BeginWithin, IsNextDouble, KeepsToSpreads, StaysInSharpSync}
-use Rattle.fr_sharp.specs.SharpSettling.{sharp_spread_after, sharply_near_in, IsSharplySettled}
+use Rattle.fr_bound.specs.SharpSpreads.{sharply_near_in}
+use Rattle.fr_bound.specs.SharpSpreads.{IsSharplySettled}
+use Rattle.fr_sharp.specs.SharpSettling.{sharp_spread_after}
 use Rattle.fr_sharp.specs.SharpStep.{AllKeepSenders, AreSharp, ComputesSharply, IsSharpDouble, IsInSharpSync, StaySharp}
 use Rattle.fr_sharp.proofs.Arriving.{frames_are_steady}
 use Rattle.fr_sharp.proofs.BoundLemmas.{sharp_checks_suffice_lem, walk_is_held}

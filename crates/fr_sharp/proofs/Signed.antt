@@ -9,8 +9,8 @@ use Rattle.fr_cluster.specs.declared.names.ParamName.TheVariants as name
 use Rattle.fr_bound.specs.Bounds.{cycle_change, longest_micro, shortest_micro}
 use Rattle.fr_bound.proofs.Uncut.{uncut_lem}
 use Rattle.fr_precision.proofs.Figures.{change_is, drift_range, times_natural}
-use Rattle.fr_sharp.specs.SharpBounds.{wide_change}
-use Rattle.fr_sharp.specs.SharpChecks.{RateSuffices}
+use Rattle.fr_bound.specs.SharpBounds.{wide_change}
+use Rattle.fr_bound.specs.SharpChecks.{RateSuffices}
 
 -- microticks per cycle, damping, rate limit, offset limit, change bound, the shortest and the longest microtick, the change of
 -- a cycle and the wide one

@@ -24,7 +24,7 @@ use Rattle.fr_precision.proofs.DeviationLaws.{compensation_within}
 use Rattle.fr_precision.proofs.InstantLaws.{before_correction, odd_start_is}
 use Rattle.fr_precision.proofs.OffsetLaws.{micro_lasts}
 use Rattle.fr_precision.proofs.PlacementLaws.{product_within, share_from, steady_within}
-use Rattle.fr_sharp.specs.SharpBounds.{steady_error, wide_change}
+use Rattle.fr_bound.specs.SharpBounds.{steady_error, wide_change}
 use Rattle.fr_sharp.specs.Steady.{between_actions, even_arrival, left_of_pair, odd_arrival, placed_length, CountedAreSteady, DelaysFlutterLittle, DeviationsAreSteady, HalfPlacesEven, OwnValuePlacesEven, PlacesEven, SteadyValuesPlace}
 use Rattle.fr_sharp.proofs.Signed.{signed_of}
 

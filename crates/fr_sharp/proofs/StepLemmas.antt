@@ -20,7 +20,7 @@ use Rattle.fr_precision.proofs.InstantLaws.{wider}
 use Rattle.fr_precision.proofs.OffsetLaws.{micro_lasts, offset_terms_are_uncut}
 use Rattle.fr_precision.proofs.Senders.{All-along}
 use Rattle.fr_precision.proofs.StepLaws.{all_lie, any_two, mapped_twice, same_apart, unmapped}
-use Rattle.fr_sharp.specs.SharpBounds.{last_action, near_by, odd_spread, sharp_lambda, sharp_pi, sharp_precision}
+use Rattle.fr_bound.specs.SharpBounds.{last_action, near_by, odd_spread, sharp_lambda, sharp_pi, sharp_precision}
 use Rattle.fr_sharp.specs.Lengths.{EvensAreAbout, IsAboutCycle, IsNextEven, KeepSenders, LengthsCome}
 use Rattle.fr_sharp.specs.Ends.{EndsCome, SendApart}
 use Rattle.fr_sharp.specs.SharpStep.{ActInReach, ActionsLieInReach, AreSharp, ComputesSharply, DrawsTo, InSyncIsSharp, IsSharpDouble, IsSharpLimit, IsSharpReach, MacroticksStaySharp, NextIsInSharpSync, NextIsNear, NextIsSharp, ReceiversComeSharply, SharpIsWider, SharpSpreadsShrink, SharpSyncDraws, SharpSyncIsKept, SpreadsShrinkInReach, TakesSharply}

@@ -18,7 +18,7 @@ use Rattle.fr_skew.specs.Sync.{are_in_sync_by_even, are_synced, cycle_length_by,
 use Rattle.fr_skew.specs.declared.sync.SyncBounds.{SyncBounds}
 use Rattle.fr_skew.proofs.Differences.{spread_from, within_by_spread}
 use Rattle.fr_sharp.specs.Lengths.{IsAboutCycle}
-use Rattle.fr_sharp.specs.SharpBounds.{sharp_lambda, sharp_pi}
+use Rattle.fr_bound.specs.SharpBounds.{sharp_lambda, sharp_pi}
 use Rattle.fr_sharp.specs.SharpStep.{IsInSharpSync}
 use Rattle.fr_sharp.specs.SharpTested.{is_in_sharp_sync, sharp_sync_bounds_of}
 

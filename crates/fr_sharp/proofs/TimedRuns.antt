@@ -32,8 +32,8 @@ use Rattle.fr_runs.proofs.Receivers.{no_less}
 use Rattle.fr_runs.proofs.Spread.{macrotick_within, spread_within}
 use Rattle.fr_runs.proofs.Whole.{prior_of}
 use Rattle.fr_sharp.specs.Lengths.{walked_after, CanWalk, IsAboutCycle}
-use Rattle.fr_sharp.specs.SharpBounds.{last_action, near_by, rate_walk}
-use Rattle.fr_sharp.specs.SharpChecks.{RateSuffices}
+use Rattle.fr_bound.specs.SharpBounds.{last_action, near_by, rate_walk}
+use Rattle.fr_bound.specs.SharpChecks.{RateSuffices}
 use Rattle.fr_sharp.specs.SharpHistories.{members_at, senders_at, BeginsActive, IsInSharpSyncAt, IsStatedRun, KeepsApart}
 use Rattle.fr_sharp.specs.SharpRun.{AllUncut, BeginSharp, IsNextDouble, WalkLastsAfter}
 use Rattle.fr_sharp.specs.SharpStep.{ActInReach, AreSharp, IsInSharpSync, IsSharpDouble}

@@ -12,8 +12,8 @@ use Rattle.fr_trace.specs.Trace.{TraceView}
 use Rattle.fr_verdict.proofs.Checked.{of_part, there_is}
 use Rattle.fr_verdict.proofs.Doubles.{each_record}
 use Rattle.fr_verdict.proofs.Recorded.{IsDouble, odd_at}
-use Rattle.fr_sharp.specs.SharpBounds.{rate_walk, sharp_near, sharp_precision}
-use Rattle.fr_sharp.specs.SharpChecks.{sharp_holds_of}
+use Rattle.fr_bound.specs.SharpBounds.{rate_walk, sharp_near, sharp_precision}
+use Rattle.fr_bound.specs.SharpChecks.{sharp_holds_of}
 use Rattle.fr_sharp.specs.SharpRun.{WalkLastsAfter}
 use Rattle.fr_sharp.specs.SharpTraces.{recorded_flutter, IsRecordedInSharpSync, IsSteadyTrace, RecordsEndWell, RecordsKeepApart, StaysRecordedInSharpSync, TracedChecksHold, TracesKeepSharpPrecision}
 use Rattle.fr_sharp.proofs.BoundLemmas.{first_check_stops_walk}

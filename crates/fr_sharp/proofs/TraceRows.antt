@@ -31,7 +31,7 @@ use Rattle.fr_verdict.proofs.Recorded.{IsDouble, Passes, node_two, regular_in, r
 use Rattle.fr_verdict.proofs.Standing.{nodes_in}
 use Rattle.fr_verdict.proofs.Turning.{late_active, offset_applied}
 use Rattle.fr_sharp.specs.Hearing.{AllowsArbitrary, AreSteadyPairs}
-use Rattle.fr_sharp.specs.SharpBounds.{last_action}
+use Rattle.fr_bound.specs.SharpBounds.{last_action}
 use Rattle.fr_sharp.specs.SharpRound.{as_member, IsRoundInReach, IsSteadilySupplied}
 use Rattle.fr_sharp.specs.SharpStep.{ActInReach, IsSharpDouble}
 use Rattle.fr_sharp.specs.SharpTraces.{recorded_flutter, MayNameArbitrary}

@@ -25,10 +25,11 @@ use Rattle.fr_verdict.proofs.Doubles.{Part, part_at}
 use Rattle.fr_verdict.proofs.Heard.{double_within}
 use Rattle.fr_verdict.proofs.Recorded.{IsDouble, even_at, odd_at}
 use Rattle.fr_sharp.specs.Lengths.{walked_after}
-use Rattle.fr_sharp.specs.SharpBounds.{last_action, rate_walk, sharp_lambda, sharp_near, sharp_pi}
-use Rattle.fr_sharp.specs.SharpChecks.{sharp_holds_of}
+use Rattle.fr_bound.specs.SharpBounds.{last_action, rate_walk, sharp_lambda, sharp_near, sharp_pi}
+use Rattle.fr_bound.specs.SharpChecks.{sharp_holds_of}
 use Rattle.fr_sharp.specs.SharpRun.{lengths_from, starts_from, WalkLastsAfter}
-use Rattle.fr_sharp.specs.SharpSettling.{sharp_spread_after, IsSharplySettled}
+use Rattle.fr_bound.specs.SharpSpreads.{IsSharplySettled}
+use Rattle.fr_sharp.specs.SharpSettling.{sharp_spread_after}
 use Rattle.fr_sharp.specs.SharpStep.{ActInReach, AreSharp}
 use Rattle.fr_sharp.specs.SharpTraces.{recorded_flutter, IsRecordedInSharpSync, IsSteadyTrace, PassingTracesComeSharp}
 use Rattle.fr_sharp.proofs.BoundLemmas.{first_check_stops_walk, key_slots_act_early, older_checks_suffice, walk_is_held, walked_none}

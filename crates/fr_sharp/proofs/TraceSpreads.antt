@@ -12,9 +12,11 @@ use Rattle.fr_verdict.proofs.Checked.{of_part}
 use Rattle.fr_verdict.proofs.Doubles.{Part, part_at}
 use Rattle.fr_verdict.proofs.Recorded.{IsDouble, even_at, odd_at}
 use Rattle.fr_sharp.specs.Lengths.{walked_after}
-use Rattle.fr_sharp.specs.SharpBounds.{last_action, precision_by, rate_walk, sharp_pi}
+use Rattle.fr_bound.specs.SharpBounds.{last_action, precision_by, rate_walk, sharp_pi}
 use Rattle.fr_sharp.specs.SharpRun.{lengths_from, starts_from, WalkLastsAfter, WalkLastsUpTo}
-use Rattle.fr_sharp.specs.SharpSettling.{sharp_spread_after, sharply_apart_in, IsSharplySettled}
+use Rattle.fr_bound.specs.SharpSpreads.{sharply_apart_in}
+use Rattle.fr_bound.specs.SharpSpreads.{IsSharplySettled}
+use Rattle.fr_sharp.specs.SharpSettling.{sharp_spread_after}
 use Rattle.fr_sharp.specs.SharpStep.{AreSharp}
 use Rattle.fr_sharp.specs.SharpTraces.{recorded_flutter, IsRecordedNear, IsSteadyTrace, RecordsKeepApart, StaysRecordedInSharpSync, TracedWayHolds, TracesSettleSharply}
 use Rattle.fr_sharp.proofs.BoundLemmas.{key_slots_act_early, third_check_suffices, walk_is_held, walked_none}

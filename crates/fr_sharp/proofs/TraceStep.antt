@@ -37,7 +37,7 @@ use Rattle.fr_verdict.proofs.Recorded.{IsDouble, Passes, even_at, node_two, odd_
 use Rattle.fr_verdict.proofs.Standing.{AreTwo, all_stay, nodes_in, nodes_stay}
 use Rattle.fr_verdict.proofs.Turning.{behind_active, goes_on, late_active, offset_told, rate_told}
 use Rattle.fr_sharp.specs.Lengths.{CanWalk}
-use Rattle.fr_sharp.specs.SharpBounds.{last_action, precision_by, rate_walk}
+use Rattle.fr_bound.specs.SharpBounds.{last_action, precision_by, rate_walk}
 use Rattle.fr_sharp.specs.SharpRound.{as_member}
 use Rattle.fr_sharp.specs.SharpStep.{ActInReach, DrawsTo, AreSharp, ComeSharply, IsSharpDouble}
 use Rattle.fr_sharp.specs.SharpTraces.{recorded_flutter, IsSteadyTrace, RecordsEndWell}

@@ -10,8 +10,10 @@ use Rattle.fr_verdict.proofs.Heard.{pairs_heard}
 use Rattle.fr_verdict.proofs.Recorded.{IsDouble, even_at, odd_at}
 use Rattle.fr_sharp.specs.SharpStep.{IsInSharpSync}
 use Rattle.fr_sharp.specs.SharpTraces.{recorded_flutter, CheckedTracesAreSteady, IsRecordedInSharpSync, TracesKeepSharpSync}
-use Rattle.fr_sharp.specs.SharpBounds.{near_by, sharp_lambda, sharp_near, sharp_pi}
-use Rattle.fr_sharp.specs.SharpSettling.{sharp_spread_after, sharply_near_in, IsSharplySettled}
+use Rattle.fr_bound.specs.SharpBounds.{near_by, sharp_lambda, sharp_near, sharp_pi}
+use Rattle.fr_bound.specs.SharpSpreads.{sharply_near_in}
+use Rattle.fr_bound.specs.SharpSpreads.{IsSharplySettled}
+use Rattle.fr_sharp.specs.SharpSettling.{sharp_spread_after}
 use Rattle.fr_sharp.proofs.LastingLemmas.{settled_after}
 use Rattle.fr_sharp.proofs.TraceSpreads.{traces_settle_sharply_lem}
 

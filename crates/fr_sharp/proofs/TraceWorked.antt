@@ -25,8 +25,8 @@ use Rattle.fr_verdict.proofs.Gaps.{no_gap_found_is_covered}
 use Rattle.fr_verdict.proofs.Syncing.{first_synced_is}
 use Rattle.fr_verdict.proofs.Worked.{gaps_are_found, worked_is_lawful}
 use Rattle.fr_sharp.specs.Lengths.{IsAboutCycle}
-use Rattle.fr_sharp.specs.SharpBounds.{last_of, sharp_near}
-use Rattle.fr_sharp.specs.SharpChecks.{sharp_holds_of}
+use Rattle.fr_bound.specs.SharpBounds.{last_of, sharp_near}
+use Rattle.fr_bound.specs.SharpChecks.{sharp_holds_of}
 use Rattle.fr_sharp.specs.SharpTraces.{recorded_flutter, IsRecordedInSharpSync, IsSteadyTrace, TracedChecksHold}
 use Rattle.fr_sharp.specs.WorkedTrace.{WorkedTraceKeepsPrecision, WorkedTraceMeetsPremises}
 use Rattle.fr_sharp.proofs.TraceCycles.{traces_keep_sharp_precision}

@@ -6,10 +6,12 @@ use Rattle.std.proofs.lemmas.Bool.{cases_order}
 use Rattle.fr_cluster.specs.Values.{Values}
 use Rattle.fr_bound.specs.declared.settling.Spread.{Spread}
 use Rattle.fr_precision.proofs.Figures.{nat_le-true}
-use Rattle.fr_sharp.specs.SharpBounds.{walk_lasts}
-use Rattle.fr_sharp.specs.SharpChecks.{sharp_holds_of, SharpChecksHold}
+use Rattle.fr_bound.specs.SharpBounds.{walk_lasts}
+use Rattle.fr_bound.specs.SharpChecks.{sharp_holds_of, SharpChecksHold}
 use Rattle.fr_sharp.specs.SharpRun.{WalkLastsAfter, WalkLastsUpTo}
-use Rattle.fr_sharp.specs.SharpSettling.{first_sharp_spread, next_sharp_spread, sharp_spread_after, IsSharplySettled}
+use Rattle.fr_bound.specs.SharpSpreads.{next_sharp_spread}
+use Rattle.fr_bound.specs.SharpSpreads.{first_sharp_spread, IsSharplySettled}
+use Rattle.fr_sharp.specs.SharpSettling.{sharp_spread_after}
 use Rattle.fr_sharp.specs.SharpWay.{lasts_for, settled_by, way_holds_of, AllWayChecksHold, IsGreatestTo, SettlesSharplyAt}
 use Rattle.fr_sharp.proofs.SettlingLemmas.{alone_settles_soon, beside_settles_soon, settled_stays}
 

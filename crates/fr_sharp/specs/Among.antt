@@ -15,9 +15,10 @@ use Rattle.fr_precision.specs.Instants.{gap_of, row_in}
 use Rattle.fr_precision.specs.Offsets.{IsOffsetRound, IsSending, LimitSuffices, NearAll}
 use Rattle.fr_precision.specs.Placement.{IsRegular}
 use Rattle.fr_precision.specs.Step.{IsAmong, Member}
-use Rattle.fr_sharp.specs.SharpBounds.{odd_spread, precision_by, sharp_lambda, sharp_pi, sharp_precision, steady_error}
+use Rattle.fr_bound.specs.SharpBounds.{odd_spread, precision_by, sharp_lambda, sharp_pi, sharp_precision, steady_error}
+use Rattle.fr_bound.specs.SharpSpreads.{lost_lengths, lost_starts, next_lost_spread}
 use Rattle.fr_bound.specs.declared.settling.Spread.{Spread}
-use Rattle.fr_sharp.specs.SharpSettling.{next_sharp_spread, IsSharplySettled}
+use Rattle.fr_bound.specs.SharpSpreads.{IsSharplySettled}
 use Rattle.fr_sharp.specs.Lengths.{CanWalk, EvensAreAbout, IsNextEven, IsSteadyRound}
 use Rattle.fr_sharp.specs.Ends.{TakesOffsets}
 use Rattle.fr_sharp.specs.SharpRun.{AllUncut, BeginSharp, IsNextDouble, KeepsSharp, WalkLastsAfter}
@@ -60,14 +61,6 @@ EndsComeAmong =
     (corrected_end_of p row -ℤ corrected_end_of p other_row)
 
 -- ---- a double cycle in which anything may be lost
-
--- how far starts and even lengths may lie apart behind it
-abbrev pub lost_starts : Values → ℕ → ℕ → ℕ
-lost_starts p starts lengths = starts + lengths + odd_spread p lengths + 2 * arrival_error p + 3 * longest_micro p
-
-abbrev pub lost_lengths : Values → ℕ → ℕ → ℕ
-lost_lengths p flutter lengths =
-    lengths + (2 * steady_error p flutter + 2 * (amount p name.pClusterDriftDamping * longest_micro p) + 2 * cycle_change p)
 
 -- a node with regular rows has values of some of the nodes that send, offsets of some and rates of some, and of nobody else more than it
 -- discards; it computes its terms from them
@@ -159,10 +152,6 @@ LossyDoublesStayApart =
     → IsWithin (pos apart) (gap_of p is_odd macrotick (row_in is_odd one.even one.odd) (row_in is_odd other.even other.odd))
 
 -- ---- the numbers by what is heard, from sharp sync without arbitrary nodes on
-
-abbrev pub next_lost_spread : Bool → Values → ℕ → Spread → Spread
-next_lost_spread true p flutter s = next_sharp_spread false p flutter s
-next_lost_spread false p flutter s = record { starts = lost_starts p s.starts s.lengths; lengths = lost_lengths p flutter s.lengths }
 
 unfoldable pub lost_spread : Values → ℕ → (ℕ → Bool) → ℕ → Spread
 lost_spread p flutter whole zero = record { starts = sharp_pi false p flutter; lengths = sharp_lambda false p flutter }

@@ -10,8 +10,8 @@ use Rattle.fr_history.specs.Cycles.{told_of}
 use Rattle.fr_history.specs.Skew.{skew_at}
 use Rattle.fr_history.specs.Worked.{on_a}
 use Rattle.fr_runs.specs.Stated.{all_cycles}
-use Rattle.fr_sharp.specs.SharpBounds.{sharp_near, sharp_precision}
-use Rattle.fr_sharp.specs.SharpChecks.{sharp_holds_of}
+use Rattle.fr_bound.specs.SharpBounds.{sharp_near, sharp_precision}
+use Rattle.fr_bound.specs.SharpChecks.{sharp_holds_of}
 use Rattle.fr_sharp.specs.SharpHistories.{IsInSharpSyncAt, IsSteadyRun}
 
 -- a cluster of four nodes on channel A with key slots 1 to 4: a cycle of 5 ms at a microtick of 25 ns, damping 4, oscillators

@@ -22,7 +22,7 @@ use Rattle.fr_runs.specs.Links.{IsLinked, Share}
 use Rattle.fr_runs.specs.Stated.{all_cycles, IsCoveredRun}
 use Rattle.fr_runs.specs.Supplied.{stays_on}
 use Rattle.fr_sharp.specs.DrivenRun.{driven_cluster}
-use Rattle.fr_sharp.specs.SharpBounds.{sharp_lambda, sharp_pi, sharp_precision}
+use Rattle.fr_bound.specs.SharpBounds.{sharp_lambda, sharp_pi, sharp_precision}
 use Rattle.fr_sharp.specs.SharpHistories.{IsInSharpSyncAt, IsSteadyRun}
 use Rattle.fr_sharp.specs.SteadyRuns.{MayHaveArbitrary}
 use Rattle.fr_sharp.specs.WorkedRun.{steady_cluster, OfBytes, Said}

@@ -9,8 +9,8 @@ use Rattle.fr_history.specs.Cycles.{Cycles, told_of}
 use Rattle.fr_history.specs.Terms.{status_in}
 use Rattle.fr_history.specs.Worked.{on_a}
 use Rattle.fr_runs.specs.Stated.{all_cycles}
-use Rattle.fr_sharp.specs.SharpBounds.{sharp_near, sharp_precision, walk_lasts}
-use Rattle.fr_sharp.specs.SharpChecks.{sharp_holds_of, SharpChecksHold}
+use Rattle.fr_bound.specs.SharpBounds.{sharp_near, sharp_precision, walk_lasts}
+use Rattle.fr_bound.specs.SharpChecks.{sharp_holds_of, SharpChecksHold}
 use Rattle.fr_sharp.specs.SharpHistories.{CyclesKeepApart, IsInSharpSyncAt, IsSteadyRun}
 use Rattle.fr_sharp.specs.WorkedRun.{delay_in_turn, steady_cluster}
 

@@ -18,8 +18,8 @@ use Rattle.fr_history.specs.Cycles.{Cycles}
 use Rattle.fr_promise.specs.Statement.{IsRunOf}
 use Rattle.fr_runs.specs.Whole.{IsJoined}
 use Rattle.fr_sharp.specs.JoinedHistories.{CyclesKeepJoined, FirstRatesLast, FirstRatesLastToEnd, IsJoinedUpTo, KeepsJoined, StaysJoined}
-use Rattle.fr_sharp.specs.SharpBounds.{sharp_precision}
-use Rattle.fr_sharp.specs.SharpChecks.{sharp_holds_of}
+use Rattle.fr_bound.specs.SharpBounds.{sharp_precision}
+use Rattle.fr_bound.specs.SharpChecks.{sharp_holds_of}
 use Rattle.fr_sharp.specs.SharpHistories.{IsInSharpSyncAt}
 use Rattle.fr_sharp.specs.SharpJoining.{sharp_reach, SharpJoinChecksHold}
 use Rattle.fr_sharp.specs.SharpStatement.{has_arbitrary}

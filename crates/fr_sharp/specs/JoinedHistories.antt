@@ -17,8 +17,8 @@ use Rattle.fr_runs.specs.Links.{cycle_in}
 use Rattle.fr_runs.specs.Rounds.{IsDoubleOf}
 use Rattle.fr_runs.specs.Whole.{IsJoined}
 use Rattle.fr_sharp.specs.Lengths.{walked_after}
-use Rattle.fr_sharp.specs.SharpBounds.{rate_room, rate_walk, sharp_precision}
-use Rattle.fr_sharp.specs.SharpChecks.{sharp_holds_of}
+use Rattle.fr_bound.specs.SharpBounds.{rate_room, rate_walk, sharp_precision}
+use Rattle.fr_bound.specs.SharpChecks.{sharp_holds_of}
 use Rattle.fr_sharp.specs.SharpHistories.{IsInSharpSyncAt}
 use Rattle.fr_sharp.specs.SharpJoined.{IsJoinedDouble, IsSteadyJoined}
 use Rattle.fr_sharp.specs.SharpJoining.{counted_error, sharp_join_holds_of, SharpJoinChecksHold}

@@ -13,8 +13,8 @@ use Rattle.fr_bound.specs.Bounds.{cycle_change, longest_micro}
 use Rattle.fr_bound.specs.Checks.{holds_of}
 use Rattle.fr_bound.specs.Sync.{cycle_length_of}
 use Rattle.fr_precision.specs.Rows.{longest_cycle, shortest_cycle, AreNear, HasProperMicro, IsSteady, KeepOne, Sender}
-use Rattle.fr_sharp.specs.SharpBounds.{rate_walk, sharp_lambda, steady_error, walk_lasts}
-use Rattle.fr_sharp.specs.SharpChecks.{BoundsWalk, RateSuffices}
+use Rattle.fr_bound.specs.SharpBounds.{rate_walk, sharp_lambda, steady_error, walk_lasts}
+use Rattle.fr_bound.specs.SharpChecks.{BoundsWalk, RateSuffices}
 use Rattle.fr_sharp.specs.Steady.{PlacesEven}
 
 -- a length lies in the range of lengths at no rate correction, or at most so far beyond it

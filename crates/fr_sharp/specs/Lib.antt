@@ -19,7 +19,6 @@ pub mod LongRun
 pub mod Nearness
 pub mod ReachedRun
 pub mod SettlingHistories
-pub mod SharpBounds
 pub mod SharpChecks
 pub mod SharpFiles
 pub mod SharpFollowing

@@ -11,8 +11,8 @@ use Rattle.fr_runs.specs.Numbers.{rate_term_told}
 use Rattle.fr_runs.specs.Rounds.{IsDoubleOf}
 use Rattle.fr_runs.specs.Stated.{all_cycles}
 use Rattle.fr_sharp.specs.HaltingRun.{halting_cluster, halting_run}
-use Rattle.fr_sharp.specs.SharpBounds.{sharp_near, walk_lasts}
-use Rattle.fr_sharp.specs.SharpChecks.{sharp_holds_of, SharpChecksHold}
+use Rattle.fr_bound.specs.SharpBounds.{sharp_near, walk_lasts}
+use Rattle.fr_bound.specs.SharpChecks.{sharp_holds_of, SharpChecksHold}
 use Rattle.fr_sharp.specs.SharpHistories.{IsInSharpSyncAt, IsSteadyRun}
 
 -- the cluster and the run of the clocks that halt, but with a rate limit of 601, and longer

@@ -16,7 +16,7 @@ use Rattle.fr_sharp.specs.Losses.{lost_apart}
 use Rattle.fr_sharp.specs.LossStatement.{whole_in, IsCoveredThroughLosses}
 use Rattle.fr_sharp.specs.SharpHistories.{IsInSharpSyncAt, KeepsApart}
 use Rattle.fr_sharp.specs.SharpRun.{WalkLastsAfter}
-use Rattle.fr_sharp.specs.SharpSettling.{sharply_near_in}
+use Rattle.fr_bound.specs.SharpSpreads.{sharply_near_in}
 
 -- a double cycle is among so many from one on, and in the two before that one all is heard, as far as these are there
 pub record IsInBurst (whole : ℕ → Bool) (count double : ℕ) : Type 0 where

@@ -8,9 +8,9 @@ use Rattle.fr_sharp.specs.declared.loss_costs.LossCost.{LossCost}
 use Rattle.fr_sharp.specs.declared.loss_costs.SecondCost.{SecondCost}
 use Rattle.fr_sharp.specs.Among.{every_second, lost_spread}
 use Rattle.fr_sharp.specs.Losses.{lost_apart}
-use Rattle.fr_sharp.specs.SharpBounds.{sharp_precision}
-use Rattle.fr_sharp.specs.SharpChecks.{sharp_holds_of, sharp_left_of, sharp_right_of}
-use Rattle.fr_sharp.specs.SharpSettling.{sharply_near_in}
+use Rattle.fr_bound.specs.SharpBounds.{sharp_precision}
+use Rattle.fr_bound.specs.SharpChecks.{sharp_holds_of, sharp_left_of, sharp_right_of}
+use Rattle.fr_bound.specs.SharpSpreads.{sharply_near_in}
 
 -- ---- so many double cycles in a row
 

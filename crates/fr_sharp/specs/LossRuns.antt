@@ -22,10 +22,10 @@ use Rattle.fr_sharp.specs.Among.{lost_spread}
 use Rattle.fr_sharp.specs.LossCosts.{limits_hold}
 use Rattle.fr_sharp.specs.Losses.{lost_apart}
 use Rattle.fr_sharp.specs.LossStatement.{whole_in, IsCoveredThroughLosses}
-use Rattle.fr_sharp.specs.SharpChecks.{sharp_holds_of}
+use Rattle.fr_bound.specs.SharpChecks.{sharp_holds_of}
 use Rattle.fr_sharp.specs.SharpHistories.{IsInSharpSyncAt, KeepsApart}
 use Rattle.fr_sharp.specs.SharpRun.{WalkLastsAfter}
-use Rattle.fr_sharp.specs.SharpSettling.{sharply_near_in}
+use Rattle.fr_bound.specs.SharpSpreads.{sharply_near_in}
 use Rattle.fr_sharp.specs.SharpStatement.{has_arbitrary}
 use Rattle.fr_sharp.specs.declared.losses_of_runs.RunLosses.{RunLosses}
 

@@ -20,10 +20,10 @@ use Rattle.fr_history.specs.Cycles.{Cycles}
 use Rattle.fr_promise.specs.Statement.{IsRunOf}
 use Rattle.fr_sharp.specs.Among.{lost_spread}
 use Rattle.fr_sharp.specs.Losses.{lost_apart, IsLossyRun}
-use Rattle.fr_sharp.specs.SharpChecks.{SharpChecksHold}
+use Rattle.fr_bound.specs.SharpChecks.{SharpChecksHold}
 use Rattle.fr_sharp.specs.SharpHistories.{IsInSharpSyncAt, KeepsApart}
 use Rattle.fr_sharp.specs.SharpRun.{WalkLastsAfter}
-use Rattle.fr_sharp.specs.SharpSettling.{sharply_near_in}
+use Rattle.fr_bound.specs.SharpSpreads.{sharply_near_in}
 use Rattle.fr_sharp.specs.SharpStatement.{has_arbitrary}
 
 -- the script of the same run if no frame were lost, damaged or said by another node

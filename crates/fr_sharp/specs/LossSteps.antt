@@ -3,8 +3,8 @@ use Rattle.std.specs.Prelude.{ℕ, ◌+◌, ◌*◌, ◌≤◌, max, Bool}
 use Rattle.fr_cluster.specs.Values.{Values}
 use Rattle.fr_bound.specs.Bounds.{longest_micro}
 use Rattle.fr_bound.specs.declared.settling.Spread.{Spread}
-use Rattle.fr_sharp.specs.Among.{next_lost_spread}
-use Rattle.fr_sharp.specs.SharpBounds.{precision_by}
+use Rattle.fr_bound.specs.SharpSpreads.{next_lost_spread}
+use Rattle.fr_bound.specs.SharpBounds.{precision_by}
 
 -- how far starts and even lengths may lie apart
 abbrev pub spread_with : ℕ → ℕ → Spread

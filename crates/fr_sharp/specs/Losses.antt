@@ -16,12 +16,12 @@ use Rattle.fr_runs.specs.Links.{IsCarried, IsLinked}
 use Rattle.fr_runs.specs.Rounds.{IsDoubleOf}
 use Rattle.fr_sharp.specs.Among.{lost_spread, ComputesOwn}
 use Rattle.fr_sharp.specs.Hearing.{AllowsArbitrary, AreSteadyPairs, IsHeardInPart}
-use Rattle.fr_sharp.specs.SharpBounds.{last_action, precision_by, sharp_precision}
-use Rattle.fr_sharp.specs.SharpChecks.{SharpChecksHold}
+use Rattle.fr_bound.specs.SharpBounds.{last_action, precision_by, sharp_precision}
+use Rattle.fr_bound.specs.SharpChecks.{SharpChecksHold}
 use Rattle.fr_sharp.specs.SharpHistories.{IsInSharpSyncAt, IsStatedRun, KeepsApart}
 use Rattle.fr_sharp.specs.SharpRound.{as_member}
 use Rattle.fr_sharp.specs.SharpRun.{WalkLastsAfter}
-use Rattle.fr_sharp.specs.SharpSettling.{sharply_near_in}
+use Rattle.fr_bound.specs.SharpSpreads.{sharply_near_in}
 use Rattle.fr_sharp.specs.SteadyRuns.{row_members, AreRowsInReach, IsTimedPart, IsWhole, MayHaveArbitrary}
 
 -- ---- a round

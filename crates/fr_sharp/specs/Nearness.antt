@@ -11,7 +11,7 @@ use Rattle.fr_bound.specs.Sync.{cycle_length_of}
 use Rattle.fr_precision.specs.Rows.{corrected_end_of}
 use Rattle.fr_precision.specs.Instants.{gap_of, row_in, LieNear, Runs}
 use Rattle.fr_precision.specs.Placement.{IsRegular}
-use Rattle.fr_sharp.specs.SharpBounds.{odd_spread}
+use Rattle.fr_bound.specs.SharpBounds.{odd_spread}
 
 -- where even lengths lie so near, odd ones lie by two changes further apart at most, since both have the same rate
 abbrev pub OddLengthsFollow : Type 0

@@ -6,8 +6,8 @@ use Rattle.fr_cluster.specs.Setting.{Setting}
 use Rattle.fr_history.specs.Cycles.{told_of}
 use Rattle.fr_history.specs.Skew.{skew_at}
 use Rattle.fr_runs.specs.Stated.{all_cycles}
-use Rattle.fr_sharp.specs.SharpBounds.{sharp_near, sharp_precision}
-use Rattle.fr_sharp.specs.SharpChecks.{sharp_holds_of}
+use Rattle.fr_bound.specs.SharpBounds.{sharp_near, sharp_precision}
+use Rattle.fr_bound.specs.SharpChecks.{sharp_holds_of}
 use Rattle.fr_sharp.specs.SharpHistories.{IsInSharpSyncAt, IsSteadyRun}
 use Rattle.fr_sharp.specs.WorkedRun.{steady_cluster, OfBytes, Said}
 

@@ -10,11 +10,13 @@ use Rattle.fr_history.specs.Unfollowed.{RowsAreInSyncAt}
 use Rattle.fr_runs.specs.Supplied.{IsCoveredByFiles}
 use Rattle.fr_sharp.specs.Flutter.{FluttersWithin}
 use Rattle.fr_sharp.specs.Lengths.{walked_after, IsAboutCycle}
-use Rattle.fr_sharp.specs.SharpBounds.{sharp_lambda, sharp_pi, walk_lasts}
-use Rattle.fr_sharp.specs.SharpChecks.{SharpChecksHold}
+use Rattle.fr_bound.specs.SharpBounds.{sharp_lambda, sharp_pi, walk_lasts}
+use Rattle.fr_bound.specs.SharpChecks.{SharpChecksHold}
 use Rattle.fr_sharp.specs.SharpHistories.{BeginsActive, IsInSharpSyncAt, IsSteadyRun, IsStatedRun, KeepsApart, StaysInSharpSyncAt}
 use Rattle.fr_sharp.specs.SharpRun.{lengths_from, starts_from, WalkLastsAfter, WalkLastsUpTo}
-use Rattle.fr_sharp.specs.SharpSettling.{sharp_spread_after, sharply_apart_in, sharply_near_in, IsSharplySettled}
+use Rattle.fr_bound.specs.SharpSpreads.{sharply_apart_in, sharply_near_in}
+use Rattle.fr_bound.specs.SharpSpreads.{IsSharplySettled}
+use Rattle.fr_sharp.specs.SharpSettling.{sharp_spread_after}
 use Rattle.fr_sharp.specs.SharpStep.{AreSharp}
 use Rattle.fr_sharp.specs.SteadyRuns.{MayHaveArbitrary}
 

@@ -11,8 +11,8 @@ use Rattle.fr_coverage.specs.Order.{HasNoGapOfRun}
 use Rattle.fr_history.specs.Cycles.{Cycles, some_joins}
 use Rattle.fr_promise.specs.Statement.{IsRunOf}
 use Rattle.fr_sharp.specs.Flutter.{FluttersWithin}
-use Rattle.fr_sharp.specs.SharpBounds.{walk_lasts}
-use Rattle.fr_sharp.specs.SharpChecks.{sharp_holds_of}
+use Rattle.fr_bound.specs.SharpBounds.{walk_lasts}
+use Rattle.fr_bound.specs.SharpChecks.{sharp_holds_of}
 use Rattle.fr_sharp.specs.SettlingHistories.{AreStatedNear}
 use Rattle.fr_sharp.specs.SharpWay.{IsSharpWay}
 use Rattle.fr_sharp.specs.WayHistories.{ComesByTheWay}

@@ -20,7 +20,7 @@ use Rattle.fr_runs.specs.References.{AreReferenced}
 use Rattle.fr_runs.specs.Rounds.{IsDoubleOf}
 use Rattle.fr_sharp.specs.Lengths.{IsAboutCycle}
 use Rattle.fr_sharp.specs.SharpListening.{IsCaughtSharply}
-use Rattle.fr_sharp.specs.SharpBounds.{last_action}
+use Rattle.fr_bound.specs.SharpBounds.{last_action}
 use Rattle.fr_sharp.specs.SharpRound.{IsSteadilySupplied}
 use Rattle.fr_sharp.specs.SteadyRuns.{IsSteadyPart}
 

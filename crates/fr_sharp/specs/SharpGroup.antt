@@ -17,7 +17,7 @@ use Rattle.fr_precision.specs.Round.{senders_of, Hearer, IsRound, IsSender, Roun
 use Rattle.fr_runs.specs.Group.{Group, IsFollower, IsOf, WillHaveRow}
 use Rattle.fr_runs.specs.Hearers.{group_of, Hearers, IsOneOf}
 use Rattle.fr_runs.specs.Listening.{BeginsAt}
-use Rattle.fr_sharp.specs.SharpBounds.{last_action, sharp_lambda, sharp_near, sharp_pi, sharp_precision}
+use Rattle.fr_bound.specs.SharpBounds.{last_action, sharp_lambda, sharp_near, sharp_pi, sharp_precision}
 use Rattle.fr_sharp.specs.Lengths.{CanWalk, IsNextEven, KeepSenders, WalksOn}
 use Rattle.fr_sharp.specs.SharpStep.{AreSharp, ComputesSharply, IsInSharpSync}
 use Rattle.fr_sharp.specs.Hearing.{AllowsArbitrary}

@@ -24,8 +24,8 @@ use Rattle.fr_runs.specs.Numbers.{offset_term_told, rate_term_told}
 use Rattle.fr_runs.specs.Rounds.{IsDoubleOf}
 use Rattle.fr_runs.specs.Stated.{all_cycles}
 use Rattle.fr_sharp.specs.Lengths.{walked_after}
-use Rattle.fr_sharp.specs.SharpBounds.{last_action, near_by, rate_walk, sharp_near, sharp_precision}
-use Rattle.fr_sharp.specs.SharpChecks.{sharp_holds_of, RateSuffices, SharpChecksHold}
+use Rattle.fr_bound.specs.SharpBounds.{last_action, near_by, rate_walk, sharp_near, sharp_precision}
+use Rattle.fr_bound.specs.SharpChecks.{sharp_holds_of, RateSuffices, SharpChecksHold}
 use Rattle.fr_sharp.specs.SharpRun.{AreSharpDoubles, WalkLastsAfter, WalkLastsUpTo}
 use Rattle.fr_sharp.specs.SharpStep.{IsInSharpSync}
 use Rattle.fr_sharp.specs.SteadyRuns.{row_members, IsSteadySetting, IsTimedSetting, MayHaveArbitrary}

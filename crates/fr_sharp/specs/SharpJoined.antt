@@ -18,7 +18,7 @@ use Rattle.fr_runs.specs.Hearers.{group_of}
 use Rattle.fr_runs.specs.References.{AreReferenced}
 use Rattle.fr_runs.specs.Rounds.{IsDoubleOf}
 use Rattle.fr_sharp.specs.Lengths.{CanWalk}
-use Rattle.fr_sharp.specs.SharpChecks.{RateSuffices}
+use Rattle.fr_bound.specs.SharpChecks.{RateSuffices}
 use Rattle.fr_sharp.specs.SharpFollowing.{AreRowsAbout}
 use Rattle.fr_sharp.specs.SharpGroup.{IsSharpGroupKept, IsSharpPlacing}
 use Rattle.fr_sharp.specs.SharpJoining.{sharp_reach, SharpJoinChecksHold}

@@ -10,8 +10,8 @@ use Rattle.fr_bound.specs.Settling.{settle_holds_of, settle_right_of}
 use Rattle.fr_bound.specs.declared.checking.CheckSides.{CheckSides}
 use Rattle.fr_precision.specs.Offsets.{LimitSuffices}
 use Rattle.fr_precision.specs.Reception.{LeavesRoom}
-use Rattle.fr_sharp.specs.SharpBounds.{near_by, odd_spread, sharp_lambda, sharp_near, sharp_pi, steady_error}
-use Rattle.fr_sharp.specs.SharpChecks.{RateSuffices, SharpChecksHold}
+use Rattle.fr_bound.specs.SharpBounds.{near_by, odd_spread, sharp_lambda, sharp_near, sharp_pi, steady_error}
+use Rattle.fr_bound.specs.SharpChecks.{RateSuffices, SharpChecksHold}
 
 -- how far the length that a listener counts between two frames of its reference, in its own even microticks, may lie from
 -- that of the reference's even cycle: flutter, a change, and a microtick that it rounds by

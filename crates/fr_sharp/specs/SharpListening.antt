@@ -18,7 +18,7 @@ use Rattle.fr_precision.specs.Reception.{IsDelay}
 use Rattle.fr_precision.specs.Rows.{end_of}
 use Rattle.fr_runs.specs.Listening.{BeginsAt}
 use Rattle.fr_sharp.specs.Lengths.{IsAboutCycle}
-use Rattle.fr_sharp.specs.SharpChecks.{RateSuffices}
+use Rattle.fr_bound.specs.SharpChecks.{RateSuffices}
 use Rattle.fr_sharp.specs.SharpJoining.{counted_error, first_error, sharp_reach}
 
 -- the delay of the even frame, and that of the odd one

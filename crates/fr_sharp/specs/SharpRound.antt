@@ -8,7 +8,7 @@ use Rattle.fr_precision.specs.Offsets.{LimitSuffices}
 use Rattle.fr_precision.specs.Placement.{IsRegular}
 use Rattle.fr_precision.specs.Round.{offsets_of, rates_of, senders_of, Hearer, IsHeardAt, IsRound, IsSender, Round}
 use Rattle.fr_precision.specs.Step.{Member}
-use Rattle.fr_sharp.specs.SharpBounds.{last_action}
+use Rattle.fr_bound.specs.SharpBounds.{last_action}
 use Rattle.fr_sharp.specs.Hearing.{AllowsArbitrary, AreSteadyPairs}
 use Rattle.fr_sharp.specs.SharpStep.{ActInReach, AreSharp, IsSharpDouble, IsSharpReach}
 

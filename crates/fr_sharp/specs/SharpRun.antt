@@ -15,10 +15,12 @@ use Rattle.fr_precision.specs.Rows.{Sender}
 use Rattle.fr_precision.specs.Instants.{gap_of, row_in}
 use Rattle.fr_precision.specs.Offsets.{LimitSuffices}
 use Rattle.fr_precision.specs.Step.{IsFollowed, Member}
-use Rattle.fr_sharp.specs.SharpBounds.{last_action, odd_spread, sharp_lambda, sharp_near, sharp_pi, walk_lasts}
-use Rattle.fr_sharp.specs.SharpChecks.{SharpChecksHold}
+use Rattle.fr_bound.specs.SharpBounds.{last_action, odd_spread, sharp_lambda, sharp_near, sharp_pi, walk_lasts}
+use Rattle.fr_bound.specs.SharpChecks.{SharpChecksHold}
 use Rattle.fr_sharp.specs.Lengths.{walked_after}
-use Rattle.fr_sharp.specs.SharpSettling.{sharp_spread_after, sharply_apart_in, sharply_near_in, IsSharplySettled}
+use Rattle.fr_bound.specs.SharpSpreads.{sharply_apart_in, sharply_near_in}
+use Rattle.fr_bound.specs.SharpSpreads.{IsSharplySettled}
+use Rattle.fr_sharp.specs.SharpSettling.{sharp_spread_after}
 use Rattle.fr_sharp.specs.SharpStep.{AreSharp, ComeSharply, DrawsTo, IsInSharpSync, IsSharpDouble, StaySharp}
 
 -- no node cuts a term

@@ -1,47 +1,18 @@
 -- How long clocks that begin apart take until they are in sharp sync, and how far they may lie apart on the way, in ticks.
-use Rattle.std.specs.Prelude.{ℕ, zero, suc, ◌≡◌, ◌+◌, ◌*◌, ◌/◌, ◌≤◌, max, Bool, true, false}
+use Rattle.std.specs.Prelude.{ℕ, zero, suc, ◌+◌, ◌*◌, ◌≤◌, Bool, true, false}
 use Rattle.fr_cluster.specs.Values.{Values}
 use Rattle.fr_cluster.specs.Sane.{IsSane}
 use Rattle.fr_bound.specs.declared.settling.Spread.{Spread}
 use Rattle.fr_bound.specs.Bounds.{arrival_error, lambda_of, longest_micro, pi_of, precision_of}
-use Rattle.fr_sharp.specs.SharpBounds.{near_by, odd_spread, precision_by, sharp_lambda, sharp_pi}
+use Rattle.fr_bound.specs.SharpBounds.{odd_spread}
+use Rattle.fr_bound.specs.SharpSpreads.{first_sharp_spread, next_sharp_spread, sharply_apart_in, sharply_near_in, IsSharplySettled}
 use Rattle.fr_sharp.specs.SharpStep.{DrawsTo}
-
--- how far starts and even lengths may lie apart in the first double cycle: as is stated, and no less than in sharp sync
-abbrev pub first_sharp_spread : Bool → Values → ℕ → ℕ → ℕ → Spread
-first_sharp_spread beside p flutter start rate = record {
-  starts = max start (sharp_pi beside p flutter);
-  lengths = max rate (sharp_lambda beside p flutter);
-}
-
--- in the double cycle after one: half as far, and some, rounded down; without arbitrary nodes the lengths by lambda, and the
--- starts by the odd lengths alone
-abbrev pub next_sharp_spread : Bool → Values → ℕ → Spread → Spread
-next_sharp_spread false p flutter s = record {
-  starts = odd_spread p s.lengths + 2 * arrival_error p + 3 * longest_micro p;
-  lengths = sharp_lambda false p flutter;
-}
-next_sharp_spread true p flutter s = record {
-  starts = (s.starts + s.lengths + 2 * odd_spread p s.lengths + 4 * arrival_error p + 7 * longest_micro p) / 2;
-  lengths = (s.lengths + sharp_lambda true p flutter) / 2;
-}
 
 -- in a double cycle by its number
 unfoldable pub sharp_spread_after : Bool → Values → ℕ → ℕ → ℕ → ℕ → Spread
 sharp_spread_after beside p flutter start rate zero = first_sharp_spread beside p flutter start rate
 sharp_spread_after beside p flutter start rate (suc double) =
     next_sharp_spread beside p flutter (sharp_spread_after beside p flutter start rate double)
-
--- no further than in sharp sync
-abbrev pub IsSharplySettled : Bool → Values → ℕ → Spread → Type 0
-IsSharplySettled beside p flutter s = (s.lengths ≡ sharp_lambda beside p flutter) × (s.starts ≡ sharp_pi beside p flutter)
-
--- how far macroticks may lie apart, and how far action points
-abbrev pub sharply_apart_in : Values → Spread → ℕ
-sharply_apart_in p s = precision_by p s.starts s.lengths
-
-abbrev pub sharply_near_in : Values → Spread → ℕ
-sharply_near_in p s = near_by p s.starts s.lengths
 
 -- these are numbers that the step draws to
 abbrev pub NextSpreadDraws : Type 0

@@ -16,8 +16,8 @@ use Rattle.fr_precision.specs.Instants.{gap_of, row_in}
 use Rattle.fr_precision.specs.Offsets.{IsOffsetRound, LimitSuffices}
 use Rattle.fr_precision.specs.Placement.{IsRegular}
 use Rattle.fr_precision.specs.Step.{IsAmong, IsFollowed, Member}
-use Rattle.fr_sharp.specs.SharpBounds.{last_action, near_by, odd_spread, precision_by, sharp_lambda, sharp_near, sharp_pi, sharp_precision}
-use Rattle.fr_sharp.specs.SharpChecks.{SharpChecksHold}
+use Rattle.fr_bound.specs.SharpBounds.{last_action, near_by, odd_spread, precision_by, sharp_lambda, sharp_near, sharp_pi, sharp_precision}
+use Rattle.fr_bound.specs.SharpChecks.{SharpChecksHold}
 use Rattle.fr_sharp.specs.Lengths.{CanWalk, EvensAreAbout, IsAboutCycle, IsNextEven, IsSteadyRound, KeepSenders, WalksOn}
 use Rattle.fr_sharp.specs.Ends.{SendApart, TakesOffsets}
 

@@ -10,7 +10,7 @@ use Rattle.fr_skew.specs.Sync.{are_in_sync_by_even}
 use Rattle.fr_skew.specs.declared.sync.SyncBounds.{SyncBounds}
 use Rattle.fr_history.specs.Cycles.{Cycle, Cycles, cycle_at}
 use Rattle.fr_history.specs.Unfollowed.{is_none}
-use Rattle.fr_sharp.specs.SharpBounds.{sharp_lambda, sharp_pi}
+use Rattle.fr_bound.specs.SharpBounds.{sharp_lambda, sharp_pi}
 use Rattle.fr_sharp.specs.SharpHistories.{IsInSharpSyncAt}
 
 -- the bounds of a cluster, in ticks, with the sharper pi and lambda

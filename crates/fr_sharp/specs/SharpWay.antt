@@ -4,9 +4,11 @@ use Rattle.std.specs.Prelude.{ℕ, ℤ, zero, suc, pos, ◌≡◌, ◌<◌, ◌�
 use Rattle.fr_bound.specs.declared.checking.CheckSides.{CheckSides}
 use Rattle.fr_cluster.specs.Values.{Values}
 use Rattle.fr_sharp.specs.declared.way.SharpWay.{SharpWay}
-use Rattle.fr_sharp.specs.SharpBounds.{walk_lasts}
-use Rattle.fr_sharp.specs.SharpChecks.{sharp_holds_of, sharp_left_of, sharp_right_of}
-use Rattle.fr_sharp.specs.SharpSettling.{sharp_spread_after, sharply_apart_in, sharply_near_in, IsSharplySettled}
+use Rattle.fr_bound.specs.SharpBounds.{walk_lasts}
+use Rattle.fr_bound.specs.SharpChecks.{sharp_holds_of, sharp_left_of, sharp_right_of}
+use Rattle.fr_bound.specs.SharpSpreads.{sharply_apart_in, sharply_near_in}
+use Rattle.fr_bound.specs.SharpSpreads.{IsSharplySettled}
+use Rattle.fr_sharp.specs.SharpSettling.{sharp_spread_after}
 
 -- the first double cycle in which they are no further apart than in sharp sync
 pub record SettlesSharplyAt (beside : Bool) (p : Values) (flutter start rate double : ℕ) : Type 0 where

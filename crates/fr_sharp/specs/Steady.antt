@@ -19,7 +19,7 @@ use Rattle.fr_precision.specs.Offsets.{IsDeviation, LimitSuffices}
 use Rattle.fr_precision.specs.Reception.{IsDelay, LeavesRoom}
 use Rattle.fr_precision.specs.Deviations.{counted_of}
 use Rattle.fr_precision.specs.Placement.{IsRegular}
-use Rattle.fr_sharp.specs.SharpBounds.{steady_error, wide_change}
+use Rattle.fr_bound.specs.SharpBounds.{steady_error, wide_change}
 
 -- the ticks from a sender's even action point to its odd one
 abbrev pub between_actions : Values → Sender → ℤ

@@ -22,7 +22,7 @@ use Rattle.fr_runs.specs.Links.{IsCarried, IsLinked}
 use Rattle.fr_runs.specs.Rounds.{IsDoubleOf}
 use Rattle.fr_runs.specs.Supplied.{IsCoveredByFiles, stays_on}
 use Rattle.fr_sharp.specs.Flutter.{DelaysAreStated, FluttersWithin}
-use Rattle.fr_sharp.specs.SharpBounds.{last_action}
+use Rattle.fr_bound.specs.SharpBounds.{last_action}
 use Rattle.fr_sharp.specs.SharpRound.{as_member, IsRoundInReach, IsSteadilySupplied}
 use Rattle.fr_sharp.specs.SharpStep.{ActInReach, IsSharpDouble}
 

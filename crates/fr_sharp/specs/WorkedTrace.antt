@@ -3,8 +3,8 @@
 use Rattle.std.specs.Prelude.{◌≡◌, pos, true, false}
 use Rattle.fr_bound.specs.Bounds.{precision_of}
 use Rattle.fr_verdict.specs.Worked.{cluster, worked}
-use Rattle.fr_sharp.specs.SharpBounds.{sharp_near, sharp_precision}
-use Rattle.fr_sharp.specs.SharpChecks.{sharp_holds_of}
+use Rattle.fr_bound.specs.SharpBounds.{sharp_near, sharp_precision}
+use Rattle.fr_bound.specs.SharpChecks.{sharp_holds_of}
 use Rattle.fr_sharp.specs.SharpTraces.{recorded_flutter, IsRecordedInSharpSync, IsSteadyTrace, KeepsSharpClocks, TracedChecksHold}
 
 -- it meets the premises of the laws of recorded traces

@@ -1,6 +1,7 @@
-ghost use Rattle.fr_sharp.specs.SharpBounds.{AloneIsBelow, NearIsBelow, SharpIsBelow};
+ghost use Rattle.fr_bound.specs.SharpBounds.{AloneIsBelow, NearIsBelow, SharpIsBelow};
 ghost use Rattle.fr_sharp.specs.Lengths.{WalkIsHeld};
-ghost use Rattle.fr_sharp.specs.SharpChecks.{FirstCheckStopsWalk, OlderChecksSuffice, SharpChecksSuffice, WalkIsBounded};
+ghost use Rattle.fr_bound.specs.SharpChecks.{FirstCheckStopsWalk, OlderChecksSuffice, WalkIsBounded};
+ghost use Rattle.fr_sharp.specs.SharpChecks.{SharpChecksSuffice};
 ghost use Rattle.fr_sharp.specs.SharpStep.{KeySlotsActEarly, SharpChecksReach};
 
 /// A law: the sharper bounds, in ticks, are no greater than the older ones where delays flutter by no more than

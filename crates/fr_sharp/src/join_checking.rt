@@ -1,12 +1,12 @@
 ghost use Rattle.std.specs.Prelude.{Bool, ℕ, ◌≡◌, ◌≤◌, pos, OnOk, IfErr};
 ghost use Rattle.fr_sharp.specs.JoinedHistories.{first_rates_last, first_rates_of_walk};
-ghost use Rattle.fr_sharp.specs.SharpBounds.{most_flutter, rate_room, rate_walk};
+ghost use Rattle.fr_bound.specs.SharpBounds.{most_flutter, rate_room, rate_walk};
 ghost use Rattle.fr_sharp.specs.SharpJoining.{counted_error, sharp_first_apart, sharp_first_lengths, sharp_reach};
 ghost use Rattle.fr_sharp.specs.SharpJoining.{FirstSharpJoinFailing, IsSharpJoinCheckOf, SharpJoinChecksHold};
 
-use crate::bounding::{lambda, near, pi, room, steady_error, walk};
 use fr_bound::{
-    CheckSides, arrival_error, cycle_change, longest_microtick, shortest_microtick, side_within,
+    CheckSides, arrival_error, cycle_change, even_lambda, longest_microtick, near_by, rate_room,
+    rate_walk, sharp_pi, shortest_microtick, side_within, steady_error,
 };
 use fr_cluster::{ParamName, Params};
 
@@ -69,11 +69,11 @@ fn first_rates_of_walk(params: &Params, flutter: u64) -> Option<u64>
     ensures { result ≡
         first_rates_of_walk (rate_room params.now) (counted_error params.now flutter) (rate_walk params.now flutter) }
 {
-    let (gain, loss) = walk(params, flutter);
+    let (gain, loss) = rate_walk(params, flutter);
     if gain <= loss {
         None
     } else {
-        let room = room(params);
+        let room = rate_room(params);
         let rest = room.saturating_sub(counted_error(params, flutter));
         Some((room / (gain - loss)).min(rest / (gain - loss) + 1))
     }
@@ -109,7 +109,7 @@ fn ticks_of_reach(params: &Params, beside: bool, flutter: u64) -> u64
     ensures most { result ≤ 5_200_000_000_000 }
 {
     let lengths = first_lengths(params, beside, flutter);
-    near(params, first_apart(params, beside, flutter), lengths)
+    near_by(params, first_apart(params, beside, flutter), lengths)
 }
 
 // How far the length of its first even cycle may lie from those of the others.
@@ -120,7 +120,7 @@ fn first_lengths(params: &Params, beside: bool, flutter: u64) -> u64
 {
     let damped = params.natural(ParamName::pClusterDriftDamping) * longest_microtick(params);
     let error = steady_error(params, flutter);
-    lambda(params, beside, flutter) + 2 * error + damped + 4 * cycle_change(params)
+    even_lambda(params, beside, flutter) + 2 * error + damped + 4 * cycle_change(params)
 }
 
 // How far its first start may lie from those of the others.
@@ -129,7 +129,7 @@ fn first_apart(params: &Params, beside: bool, flutter: u64) -> u64
     ensures value { result ≡ sharp_first_apart beside params.now flutter }
     ensures most { result ≤ 100_000_000_000 }
 {
-    let near = pi(params, beside, flutter) + 2 * lambda(params, beside, flutter);
+    let near = sharp_pi(params, beside, flutter) + 2 * even_lambda(params, beside, flutter);
     let arrival = 2 * arrival_error(params) + flutter;
     near + 4 * cycle_change(params) + arrival + 4 * longest_microtick(params)
 }

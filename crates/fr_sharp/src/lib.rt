@@ -1,6 +1,6 @@
 //! Why clocks keep a sharper precision where delays change little from one cycle of a double cycle to the next, without
-//! arbitrary nodes and beside them. The bounds, the checks, how long these hold and when clocks come there are computed
-//! here, and what a run loses and whether it has an arbitrary node. Laws over rows and values, over the lawful histories of runs that no
+//! arbitrary nodes and beside them. The bounds and checks of nodes that join, when clocks come there and what losses cost are
+//! computed here, and what a run loses and whether it has an arbitrary node. Laws over rows and values, over the lawful histories of runs that no
 //! node joins and of runs that nodes join, over recorded traces that no node joins, and over what the files of a run
 //! promise. And worked runs and a worked trace that meet what these ask, runs that come near the precision, in closed
 //! form too, and runs that lose it where a check fails.
@@ -8,9 +8,7 @@
 
 mod among;
 mod arbitrary;
-mod bounding;
 mod bounds;
-mod checking;
 mod digits;
 mod driven_run;
 mod ends;
@@ -52,9 +50,7 @@ mod worked_run;
 
 pub use among::{losses_cost, losses_last, lost_numbers, nodes_come_among};
 pub use arbitrary::has_arbitrary;
-pub use bounding::{SharpValues, sharp_bounds, sharp_lasts};
 pub use bounds::{sharp_bounds_are_below, sharp_checks_suffice, walks_are_bounded};
-pub use checking::{sharp_checks, sharp_side};
 pub use digits::Digits;
 pub use driven_run::a_driven_run;
 pub use ends::ends_come_near;

@@ -2,11 +2,10 @@ ghost use Rattle.std.specs.Prelude.{ℕ, ◌≡◌, ◌≤◌, ◌+◌, ◌*◌,
 ghost use Rattle.fr_bound.specs.Settling.{IsSettleCheck};
 ghost use Rattle.fr_sharp.specs.LossCosts.{IsLossCheck, limits_hold};
 ghost use Rattle.fr_sharp.specs.LossSteps.{most_lost};
-ghost use Rattle.fr_sharp.specs.SharpBounds.{most_flutter};
-ghost use Rattle.fr_sharp.specs.SharpChecks.{sharp_right_of};
+ghost use Rattle.fr_bound.specs.SharpBounds.{most_flutter};
+ghost use Rattle.fr_bound.specs.SharpChecks.{sharp_right_of};
 
-use crate::checking::side_for;
-use fr_bound::CheckSides;
+use fr_bound::{CheckSides, sharp_side_within};
 use fr_cluster::{ParamName, Params};
 
 /// Both sides of a sharper check with the reach of losses, and whether it holds. The sides are ticks, but of the fourth
@@ -29,7 +28,7 @@ pub fn loss_side(params: &Params, flutter: u64, reach: u128, number: u8) -> Loss
     requires reach { reach ≤ most_lost }
     ensures { IsLossCheck number flutter reach params.now result }
 {
-    let CheckSides { left, right, .. } = side_for(params, flutter, 0, number);
+    let CheckSides { left, right, .. } = sharp_side_within(params, flutter, 0, number);
     let right = right as u128 + further(params, number, reach);
     LossSides {
         left: left as u64,

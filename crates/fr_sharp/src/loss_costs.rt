@@ -2,7 +2,7 @@ ghost use Rattle.std.specs.Prelude.{◌≡◌, ◌≤◌, ◌<◌, ◌+◌, ◌-
 ghost use Rattle.fr_sharp.specs.Among.{lost_spread};
 ghost use Rattle.fr_sharp.specs.LossCosts.{IsLongest, IsLossCost, IsSecondCost, heard_behind};
 ghost use Rattle.fr_sharp.specs.LossSteps.{most_lost};
-ghost use Rattle.fr_sharp.specs.SharpBounds.{most_flutter};
+ghost use Rattle.fr_bound.specs.SharpBounds.{most_flutter};
 
 use crate::loss_checks::limits_hold;
 use crate::loss_steps::LossSpread;

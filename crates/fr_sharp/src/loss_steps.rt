@@ -2,13 +2,16 @@ ghost use Rattle.std.specs.Prelude.{Bool, ℕ, ◌≡◌, ◌≤◌, ◌<◌, �
 ghost use Rattle.fr_bound.specs.Bounds.{cycle_change, longest_micro};
 ghost use Rattle.fr_cluster.specs.Values.{amount};
 ghost use Rattle.fr_cluster.specs.declared.names.ParamName.TheVariants as name;
-ghost use Rattle.fr_sharp.specs.Among.{lost_spread, next_lost_spread};
+ghost use Rattle.fr_bound.specs.SharpSpreads.{next_lost_spread};
+ghost use Rattle.fr_sharp.specs.Among.{lost_spread};
 ghost use Rattle.fr_sharp.specs.LossSteps.{LossDouble, IsReckoned, heard_apart, most_lost, most_passed, spread_with};
-ghost use Rattle.fr_sharp.specs.SharpBounds.{last_action, most_flutter, odd_spread, precision_by, steady_error};
-ghost use Rattle.fr_sharp.specs.SharpSettling.{sharply_near_in};
+ghost use Rattle.fr_bound.specs.SharpBounds.{last_action, most_flutter, odd_spread, precision_by, steady_error};
+ghost use Rattle.fr_bound.specs.SharpSpreads.{sharply_near_in};
 
-use crate::bounding::{lambda, last_action, pi, steady_error};
-use fr_bound::{arrival_error, cycle_change, longest_microtick};
+use fr_bound::{
+    arrival_error, cycle_change, even_lambda, last_action, longest_microtick, sharp_pi,
+    steady_error,
+};
 use fr_cluster::{ParamName, Params};
 use std::marker::Model;
 
@@ -37,8 +40,8 @@ impl LossSpread {
         ensures passed { result.passed ≡ 0 }
     {
         LossSpread {
-            starts: u128::from(pi(params, false, flutter)),
-            lengths: u128::from(lambda(params, false, flutter)),
+            starts: u128::from(sharp_pi(params, false, flutter)),
+            lengths: u128::from(even_lambda(params, false, flutter)),
             passed: 0,
         }
     }
@@ -92,7 +95,7 @@ fn next(params: &Params, flutter: u64, whole: bool, starts: u128, lengths: u128)
     let longest = u128::from(longest_microtick(params));
     let clean = odd(params, lengths) + 2 * error + 3 * longest;
     if whole {
-        (clean, u128::from(lambda(params, false, flutter)))
+        (clean, u128::from(even_lambda(params, false, flutter)))
     } else {
         (
             starts + lengths + clean,

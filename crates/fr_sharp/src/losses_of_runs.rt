@@ -2,7 +2,7 @@ ghost use Rattle.std.specs.Prelude.{◌≡◌, ◌≤◌, ◌<◌, ◌+◌, nat_
 ghost use Rattle.fr_sharp.specs.LossRuns.{all_hear, losses_of, next_losses, no_losses, LossesAreTold, RunsKeepTheirBounds, ThroughLossesIsTold};
 ghost use Rattle.fr_sharp.specs.LossStatement.{whole_in};
 ghost use Rattle.fr_sharp.specs.LossSteps.{most_lost};
-ghost use Rattle.fr_sharp.specs.SharpBounds.{most_flutter};
+ghost use Rattle.fr_bound.specs.SharpBounds.{most_flutter};
 
 use crate::heard::{all_hear, all_reach};
 use crate::loss_steps::LossSpread;

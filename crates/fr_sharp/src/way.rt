@@ -1,12 +1,14 @@
-ghost use Rattle.std.specs.Prelude.{Bool, Option, ℕ, ◌≡◌, ◌≤◌, true, false};
+ghost use Rattle.std.specs.Prelude.{Option, ◌≡◌, ◌≤◌, true, false};
 ghost use Rattle.fr_bound.specs.Settling.{most_stated, IsSettleCheck};
-ghost use Rattle.fr_sharp.specs.SharpBounds.{most_flutter};
-ghost use Rattle.fr_sharp.specs.SharpSettling.{first_sharp_spread, next_sharp_spread, IsSharplySettled};
+ghost use Rattle.fr_bound.specs.SharpBounds.{most_flutter};
+ghost use Rattle.fr_bound.specs.SharpSpreads.{next_sharp_spread};
+ghost use Rattle.fr_bound.specs.SharpSpreads.{first_sharp_spread, IsSharplySettled};
 ghost use Rattle.fr_sharp.specs.SharpWay.{IsSharpWay, IsWayCheckOf, IsWayVerdict, LeadsTo, lasts_for};
 
-use crate::bounding::{apart, lambda, near, odd, pi, sharp_lasts};
-use crate::checking::side_for;
-use fr_bound::{CheckSides, Spread, arrival_error, longest_microtick};
+use fr_bound::{
+    CheckSides, Spread, even_lambda, near_by, next_sharp_spread, precision_by, sharp_lasts,
+    sharp_pi, sharp_side_within,
+};
 use fr_cluster::Params;
 
 /// When clocks that begin apart are in sharp sync for certain, and what must hold on the way.
@@ -57,15 +59,15 @@ fn until_settled(
     ensures most { result.2 ≤ 5_200_000_000_000 }
 {
     let mut spread = first(params, beside, start, rate, flutter);
-    let mut peak = apart(params, spread.starts, spread.lengths);
-    let mut reach = near(params, spread.starts, spread.lengths);
+    let mut peak = precision_by(params, spread.starts, spread.lengths);
+    let mut reach = near_by(params, spread.starts, spread.lengths);
     for double in 0..82 {
         if is_settled(params, beside, flutter, spread) {
             return (double, peak, reach);
         }
-        spread = next(params, beside, flutter, spread);
-        peak = peak.max(apart(params, spread.starts, spread.lengths));
-        reach = reach.max(near(params, spread.starts, spread.lengths));
+        spread = next_sharp_spread(params, beside, flutter, spread);
+        peak = peak.max(precision_by(params, spread.starts, spread.lengths));
+        reach = reach.max(near_by(params, spread.starts, spread.lengths));
     }
     (82, peak, reach)
 }
@@ -79,33 +81,8 @@ fn first(params: &Params, beside: bool, start: u64, rate: u64, flutter: u64) -> 
     ensures lengths { result.lengths ≤ most_stated }
 {
     Spread {
-        starts: start.max(pi(params, beside, flutter)),
-        lengths: rate.max(lambda(params, beside, flutter)),
-    }
-}
-
-fn next(params: &Params, beside: bool, flutter: u64, spread: Spread) -> Spread
-    requires starts { spread.starts ≤ 3_100_000_000_000 }
-    requires lengths { spread.lengths ≤ most_stated }
-    requires flutter { flutter ≤ most_flutter }
-    ensures value { result ≡ next_sharp_spread beside params.now flutter spread }
-    ensures starts { result.starts ≤ 3_100_000_000_000 }
-    ensures lengths { result.lengths ≤ most_stated }
-{
-    let odd = odd(params, spread.lengths);
-    let error = arrival_error(params);
-    let longest = longest_microtick(params);
-    let lambda = lambda(params, beside, flutter);
-    if beside {
-        Spread {
-            starts: (spread.starts + spread.lengths + 2 * odd + 4 * error + 7 * longest) / 2,
-            lengths: (spread.lengths + lambda) / 2,
-        }
-    } else {
-        Spread {
-            starts: odd + 2 * error + 3 * longest,
-            lengths: lambda,
-        }
+        starts: start.max(sharp_pi(params, beside, flutter)),
+        lengths: rate.max(even_lambda(params, beside, flutter)),
     }
 }
 
@@ -114,8 +91,8 @@ fn is_settled(params: &Params, beside: bool, flutter: u64, spread: Spread) -> bo
     ensures yes { result ≡ true → IsSharplySettled beside params.now flutter spread }
     ensures no { result ≡ false → IsSharplySettled beside params.now flutter spread → ⊥ }
 {
-    spread.lengths == lambda(params, beside, flutter)
-        && spread.starts == pi(params, beside, flutter)
+    spread.lengths == even_lambda(params, beside, flutter)
+        && spread.starts == sharp_pi(params, beside, flutter)
 }
 
 // The first check for the way that fails, with both sides.
@@ -139,7 +116,7 @@ fn way_side(params: &Params, flutter: u64, doubles: u32, reach: u64, number: u8)
     requires reach { reach ≤ 5_200_000_000_000 }
     ensures { IsWayCheckOf number flutter doubles reach params.now result }
 {
-    let CheckSides { left, right, holds } = side_for(params, flutter, reach, number);
+    let CheckSides { left, right, holds } = sharp_side_within(params, flutter, reach, number);
     match number {
         1 => CheckSides {
             left,

@@ -44,8 +44,8 @@ use Rattle.fr_script.specs.Rows.{script_row_of}
 use Rattle.fr_script.specs.View.{AreDeeds, IsScript, deed_of, deeds_on, is_arbitrary, join_of}
 use Rattle.fr_script.specs.declared.deeds.Passage.{Passage}
 use Rattle.fr_sharp.specs.JoinedFiles.{IsSharplyCoveredToJoin, JoinedFilesKeepSharpPrecision, KeepsSharplyJoined}
-use Rattle.fr_sharp.specs.SharpBounds.{last_of}
-use Rattle.fr_sharp.specs.SharpChecks.{sharp_holds_of}
+use Rattle.fr_bound.specs.SharpBounds.{last_of}
+use Rattle.fr_bound.specs.SharpChecks.{sharp_holds_of}
 use Rattle.fr_sharp.specs.SharpJoining.{sharp_reach, SharpJoinChecksHold}
 use Rattle.fr_sharp.specs.SharpStatement.{has_arbitrary}
 use Rattle.fr_sharp.specs.SharpTested.{IsFirstSharpSync, IsUnfollowedSharpSyncAt, first_free_of, first_sharp_sync_of}

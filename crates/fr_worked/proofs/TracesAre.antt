@@ -29,9 +29,10 @@ use Rattle.fr_verdict.proofs.Gaps.{no_gap_found_is_covered}
 use Rattle.fr_verdict.proofs.Syncing.{first_synced_is}
 use Rattle.fr_verdict.proofs.Worked.{on_traces}
 use Rattle.fr_sharp.specs.Lengths.{IsAboutCycle}
-use Rattle.fr_sharp.specs.SharpBounds.{last_of, sharp_near}
-use Rattle.fr_sharp.specs.SharpChecks.{sharp_holds_of}
-use Rattle.fr_sharp.specs.SharpSettling.{sharp_spread_after, sharply_near_in}
+use Rattle.fr_bound.specs.SharpBounds.{last_of, sharp_near}
+use Rattle.fr_bound.specs.SharpChecks.{sharp_holds_of}
+use Rattle.fr_bound.specs.SharpSpreads.{sharply_near_in}
+use Rattle.fr_sharp.specs.SharpSettling.{sharp_spread_after}
 use Rattle.fr_sharp.specs.SharpTested.{is_in_sharp_sync}
 use Rattle.fr_sharp.specs.SharpTraces.{IsRecordedInSharpSync, IsRecordedNear, IsSteadyTrace, PassingTracesComeSharp, TracedChecksHold, TracedWayHolds, TracesKeepSharpPrecision, TracesSettleSharply, recorded_flutter}
 use Rattle.fr_sharp.proofs.TestedLemmas.{sharp_sync_from, to_sharp_sync}

@@ -15,9 +15,10 @@ use Rattle.fr_trace.specs.Lasting.{IsTrace}
 use Rattle.fr_trace.specs.Trace.{TraceView}
 use Rattle.fr_verdict.specs.Answer.{IsVerdict}
 use Rattle.fr_verdict.specs.declared.unlawful.Verdict.{Verdict}
-use Rattle.fr_sharp.specs.SharpBounds.{sharp_near}
-use Rattle.fr_sharp.specs.SharpChecks.{sharp_holds_of}
-use Rattle.fr_sharp.specs.SharpSettling.{IsSharplySettled, sharp_spread_after}
+use Rattle.fr_bound.specs.SharpBounds.{sharp_near}
+use Rattle.fr_bound.specs.SharpChecks.{sharp_holds_of}
+use Rattle.fr_bound.specs.SharpSpreads.{IsSharplySettled}
+use Rattle.fr_sharp.specs.SharpSettling.{sharp_spread_after}
 use Rattle.fr_sharp.specs.SharpTraces.{IsRecordedInSharpSync, IsRecordedNear, IsSteadyTrace, KeepsSharpClocks, SettlesRecorded, TracedChecksHold, TracedWayHolds, recorded_flutter}
 use Rattle.fr_worked.specs.Clusters.{cluster_of}
 use Rattle.fr_worked.specs.Entries.{row_with, steady_rows}

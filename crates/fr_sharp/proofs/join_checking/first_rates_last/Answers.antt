@@ -1,6 +1,6 @@
 use Rattle.std.proofs.Common.{◌≡◌, ◌∙◌, Bool, true, false, if◌then◌else◌, Some, ap, sym}
 use Rattle.fr_sharp.specs.JoinedHistories.{first_rates_of_walk}
-use Rattle.fr_sharp.specs.SharpBounds.{rate_room, rate_walk}
+use Rattle.fr_bound.specs.SharpBounds.{rate_room, rate_walk}
 use Rattle.fr_sharp.specs.SharpJoining.{counted_error, sharp_join_holds_of}
 use Rattle.fr_sharp.proofs.join_checking.first_rates_last.Goals as goal
 

@@ -1,7 +1,7 @@
 use Rattle.std.proofs.Common.{◌≡◌, ◌∙◌, ◌+◌, ◌*◌, ℕ, ap, sym, rules}
 use Rattle.fr_cluster.specs.Values.{amount}
 use Rattle.fr_cluster.specs.declared.names.ParamName.TheVariants as name
-use Rattle.fr_sharp.specs.SharpChecks.{sharp_right_of}
+use Rattle.fr_bound.specs.SharpChecks.{sharp_right_of}
 use Rattle.fr_sharp.proofs.LossNumbers.{needs_more}
 use Rattle.fr_sharp.proofs.loss_checks.further.Goals as goal
 

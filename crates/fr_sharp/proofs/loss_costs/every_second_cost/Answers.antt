@@ -1,7 +1,7 @@
 use Rattle.std.proofs.Common.{◌≡◌, ◌∙◌, true, false, ap}
-use Rattle.fr_sharp.specs.Among.{next_lost_spread}
+use Rattle.fr_bound.specs.SharpSpreads.{next_lost_spread}
 use Rattle.fr_sharp.specs.LossSteps.{heard_apart}
-use Rattle.fr_sharp.specs.SharpSettling.{sharply_near_in}
+use Rattle.fr_bound.specs.SharpSpreads.{sharply_near_in}
 use Rattle.fr_sharp.proofs.LossLemmas.{every_other, widest}
 use Rattle.fr_sharp.proofs.LossNumbers.{cost_of_widest, first_is}
 use Rattle.fr_sharp.proofs.loss_costs.every_second_cost.Goals as goal

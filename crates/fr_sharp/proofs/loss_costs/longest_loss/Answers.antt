@@ -1,7 +1,7 @@
 use Rattle.std.proofs.Common.{◌≡◌, ◌∙◌, ℕ, true, false, ap, sym, arith, rules}
-use Rattle.fr_sharp.specs.Among.{next_lost_spread}
+use Rattle.fr_bound.specs.SharpSpreads.{next_lost_spread}
 use Rattle.fr_sharp.specs.LossCosts.{limits_hold}
-use Rattle.fr_sharp.specs.SharpSettling.{sharply_near_in}
+use Rattle.fr_bound.specs.SharpSpreads.{sharply_near_in}
 use Rattle.fr_sharp.proofs.LossNumbers.{bears_further, bears_no_hundred, longest_by, never_more, reach_of_row}
 use Rattle.fr_sharp.proofs.loss_costs.longest_loss.Goals as goal
 

@@ -1,6 +1,6 @@
 use Rattle.std.proofs.Common.{◌∙◌, true, ap}
 use Rattle.fr_sharp.specs.LossSteps.{heard_apart}
-use Rattle.fr_sharp.specs.SharpSettling.{sharply_near_in}
+use Rattle.fr_bound.specs.SharpSpreads.{sharply_near_in}
 use Rattle.fr_sharp.proofs.LossNumbers.{cost_of_row}
 use Rattle.fr_sharp.proofs.loss_costs.loss_cost.Goals as goal
 

@@ -1,7 +1,9 @@
 use Rattle.std.proofs.Common.{◌≡◌, ◌∙◌, ℕ, suc, ◌+◌, ◌<◌, ◌≤◌, Bool, ap, subst, sym, rules, arith}
 use Rattle.std.specs.Prelude.{max}
 use Rattle.fr_cluster.specs.Values.{Values}
-use Rattle.fr_sharp.specs.SharpSettling.{sharp_spread_after, sharply_apart_in, sharply_near_in, IsSharplySettled}
+use Rattle.fr_bound.specs.SharpSpreads.{sharply_apart_in, sharply_near_in}
+use Rattle.fr_bound.specs.SharpSpreads.{IsSharplySettled}
+use Rattle.fr_sharp.specs.SharpSettling.{sharp_spread_after}
 use Rattle.fr_sharp.specs.SharpWay.{apart_after, near_after, LeadsTo, SettlesSharplyAt}
 use Rattle.fr_sharp.proofs.WayLemmas.{greatest_first, greatest_next, none_earlier, settled_at_last, settles_soon, spread_next, spread_none}
 use Rattle.fr_sharp.proofs.way.until_settled.Goals as goal
@@ -15,11 +17,11 @@ loop-double-init c =
     record {
       spread = is;
       earlier = λ n less settled. absurd (omega (arith, less));
-      peak = greatest_first (apart_after b p t c.args.start c.args.rate) c.apart-peak.result (c.apart-peak.ensures.value ∙ ap (sharply_apart_in p) is);
-      reach = greatest_first (near_after b p t c.args.start c.args.rate) c.near-reach.result (c.near-reach.ensures.value ∙ ap (sharply_near_in p) is);
+      peak = greatest_first (apart_after b p t c.args.start c.args.rate) c.precision_by-peak.result (c.precision_by-peak.ensures.value ∙ ap (sharply_apart_in p) is);
+      reach = greatest_first (near_after b p t c.args.start c.args.rate) c.near_by-reach.result (c.near_by-reach.ensures.value ∙ ap (sharply_near_in p) is);
       starts = c.first-spread.ensures.starts;
       lengths = c.first-spread.ensures.lengths;
-      most = c.near-reach.ensures.most;
+      most = c.near_by-reach.ensures.most;
     }
 
 pub loop-double-preserved : goal.loop-double-preserved
@@ -32,21 +34,21 @@ loop-double-preserved c =
     let n : ℕ = c.loop-double.double in
     let was = c.loop-double.invariant in
     let one : suc n ≡ n + 1 = omega arith in
-    let next : c.next-spread.result ≡ sharp_spread_after b p t start rate (suc n) = spread_next b p t start rate n c.loop-double.spread c.next-spread.result was.spread c.next-spread.ensures.value in
+    let next : c.next_sharp_spread-spread.result ≡ sharp_spread_after b p t start rate (suc n) = spread_next b p t start rate n c.loop-double.spread c.next_sharp_spread-spread.result was.spread c.next_sharp_spread-spread.ensures.value in
     record {
-      spread = subst (λ (m : ℕ). c.next-spread.result ≡ sharp_spread_after b p t start rate m) one next;
+      spread = subst (λ (m : ℕ). c.next_sharp_spread-spread.result ≡ sharp_spread_after b p t start rate m) one next;
       earlier =
           subst (λ (m : ℕ). (k : ℕ) → k < m → IsSharplySettled b p t (sharp_spread_after b p t start rate k) → ⊥) one
           (none_earlier b p t start rate n c.loop-double.spread was.earlier was.spread (c.is_settled.ensures.no c.if-is_settled.false));
       peak =
-          greatest_next (apart_after b p t start rate) n (n + 1) c.loop-double.peak c.apart.result c.max-peak.result (sym one) was.peak (c.apart.ensures.value ∙ ap (sharply_apart_in p) next)
+          greatest_next (apart_after b p t start rate) n (n + 1) c.loop-double.peak c.precision_by.result c.max-peak.result (sym one) was.peak (c.precision_by.ensures.value ∙ ap (sharply_apart_in p) next)
           c.max-peak.ensures;
       reach =
-          greatest_next (near_after b p t start rate) n (n + 1) c.loop-double.reach c.near.result c.max-reach.result (sym one) was.reach (c.near.ensures.value ∙ ap (sharply_near_in p) next)
+          greatest_next (near_after b p t start rate) n (n + 1) c.loop-double.reach c.near_by.result c.max-reach.result (sym one) was.reach (c.near_by.ensures.value ∙ ap (sharply_near_in p) next)
           c.max-reach.ensures;
-      starts = c.next-spread.ensures.starts;
-      lengths = c.next-spread.ensures.lengths;
-      most = no_more c.loop-double.reach c.near.result c.max-reach.result c.max-reach.ensures was.most c.near.ensures.most;
+      starts = c.next_sharp_spread-spread.ensures.starts;
+      lengths = c.next_sharp_spread-spread.ensures.lengths;
+      most = no_more c.loop-double.reach c.near_by.result c.max-reach.result c.max-reach.ensures was.most c.near_by.ensures.most;
     }
   where
     no_more : (a b m : ℕ) → m ≡ max a b → a ≤ 5_200_000_000_000 → b ≤ 5_200_000_000_000 → m ≤ 5_200_000_000_000

@@ -1,6 +1,7 @@
 use Rattle.std.proofs.Common.{◌≡◌, ℕ, ◌<◌, ◌≤◌}
 use Rattle.fr_bound.specs.Settling.{most_stated}
-use Rattle.fr_sharp.specs.SharpSettling.{sharp_spread_after, IsSharplySettled}
+use Rattle.fr_bound.specs.SharpSpreads.{IsSharplySettled}
+use Rattle.fr_sharp.specs.SharpSettling.{sharp_spread_after}
 use Rattle.fr_sharp.specs.SharpWay.{apart_after, near_after, IsGreatestTo}
 use Rattle.fr_sharp.proofs.way.until_settled.Given as goal
 

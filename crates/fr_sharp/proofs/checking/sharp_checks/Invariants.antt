@@ -1,8 +1,0 @@
-use Rattle.std.proofs.Common.{◌≡◌, ℕ, ◌<◌, ◌≤◌, true}
-use Rattle.fr_sharp.specs.SharpBounds.{sharp_near}
-use Rattle.fr_sharp.specs.SharpChecks.{sharp_holds_of}
-use Rattle.fr_sharp.proofs.checking.sharp_checks.Given as goal
-
--- those before it hold
-abbrev pub invariant-loop-number : goal.invariant-loop-number
-invariant-loop-number l = (k : ℕ) → 2 ≤ k → k < l.number → sharp_holds_of k l.flutter (sharp_near l.beside l.params l.flutter) l.params ≡ true
