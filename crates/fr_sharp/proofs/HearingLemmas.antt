@@ -75,7 +75,7 @@ rate_said r flutter reach n index sender false is hears steady from own =
     (of_channels (change_at n.look index) heard.0 (change_there (n.look index false heard.0) (n.look index true heard.0) heard.1 heard.2)) in
     (mean.0, other_value n.own index (mean_of (change_at n.look index A) (change_at n.look index B)) own ∙ mean.1, mean.2)
 
-steady_rates_told : (r : Round) (flutter : ℕ) (reach : ℤ) (n : Hearer) → IsRound r → IsHearer r reach n → AreSteadyPairs r flutter n
+pub steady_rates_told : (r : Round) (flutter : ℕ) (reach : ℤ) (n : Hearer) → IsRound r → IsHearer r reach n → AreSteadyPairs r flutter n
     → AreValues r (λ sender value. PlacesEven r.params flutter sender n.odd value) (rate_at n.look n.own)
 steady_rates_told r flutter reach n is hears steady = record {
   said = λ index sender some. rate_said r flutter reach n index sender (is_own n.own index) is hears steady (sender_is r index sender some) refl;

@@ -90,3 +90,5 @@ pub mod JoinedBeginning
 pub mod JoinedListeners
 pub mod JoinedStarts
 pub mod JoinedFilesWorked
+pub mod JudgedLaws
+pub mod JudgedWorked

@@ -98,7 +98,7 @@ module _ (beside : Bool) (r : Round) (flutter : ℕ) (reach : ℤ) (rows : List 
   among : All (IsAmong (map (as_member r.params) rows)) (senders_of r)
   among = all_senders r (IsAmong (map (as_member r.params) rows)) (sender_among r rows s.among)
 
-  hearer : (n : Hearer) → Contains rows n → IsHearer r reach n
+  pub hearer : (n : Hearer) → Contains rows n → IsHearer r reach n
   hearer n here =
       let p = r.params in
       let at = as_member p in

@@ -170,7 +170,7 @@ module _ (x : Setting) (flutter : ℕ) (h : Cycles) (even odd : Cycle) (double :
         some_rates = some.1;
       }
 
-  round_in_part : MayHaveArbitrary false x → NoneIsDeaf x double → IsRoundInPart (round_at x h even odd) flutter (row_hearers x h even odd)
+  pub round_in_part : MayHaveArbitrary false x → NoneIsDeaf x double → IsRoundInPart (round_at x h even odd) flutter (row_hearers x h even odd)
   round_in_part none hears =
       let at : NodeSpec → Hearer = λ n. row_hearer x even odd n.id in
       record {

@@ -106,7 +106,7 @@ none_joins said true = refl
 
 -- ---- its starts and its first lengths
 
-near_starts : (a b c d : Bool) → IsWithin (pos 18_000_000) (start_by a b -ℤ start_by c d)
+pub near_starts : (a b c d : Bool) → IsWithin (pos 18_000_000) (start_by a b -ℤ start_by c d)
 near_starts true b true d = record { low = record { le = tt }; high = record { le = tt } }
 near_starts true b false true = record { low = record { le = tt }; high = record { le = tt } }
 near_starts true b false false = record { low = record { le = tt }; high = record { le = tt } }
@@ -120,7 +120,7 @@ near_starts false false false false = record { low = record { le = tt }; high = 
 abbrev length_by : Bool → Bool → ℤ
 length_by a b = pos 200_000 *ℤ micro_by a b
 
-near_lengths : (a b c d : Bool) → IsWithin (pos 4_000_000) (length_by a b -ℤ length_by c d)
+pub near_lengths : (a b c d : Bool) → IsWithin (pos 4_000_000) (length_by a b -ℤ length_by c d)
 near_lengths true b true d = record { low = record { le = tt }; high = record { le = tt } }
 near_lengths true b false true = record { low = record { le = tt }; high = record { le = tt } }
 near_lengths true b false false = record { low = record { le = tt }; high = record { le = tt } }
@@ -131,7 +131,7 @@ near_lengths false false true d = record { low = record { le = tt }; high = reco
 near_lengths false false false true = record { low = record { le = tt }; high = record { le = tt } }
 near_lengths false false false false = record { low = record { le = tt }; high = record { le = tt } }
 
-in_its_range : (a b : Bool) → IsAboutCycle steady_cluster (pos 0) (length_by a b)
+pub in_its_range : (a b : Bool) → IsAboutCycle steady_cluster (pos 0) (length_by a b)
 in_its_range true b = record { low = record { le = tt }; high = record { le = tt } }
 in_its_range false true = record { low = record { le = tt }; high = record { le = tt } }
 in_its_range false false = record { low = record { le = tt }; high = record { le = tt } }

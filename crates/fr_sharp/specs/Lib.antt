@@ -8,6 +8,7 @@ pub mod HaltingRun
 pub mod Hearing
 pub mod JoinedFiles
 pub mod JoinedHistories
+pub mod JudgedSteps
 pub mod Lengths
 pub mod LossBursts
 pub mod LossCosts
@@ -39,6 +40,7 @@ pub mod Steady
 pub mod SteadyRuns
 pub mod WayHistories
 pub mod WorkedFiles
+pub mod WorkedJudged
 pub mod WorkedLosses
 pub mod WorkedRun
 pub mod WorkedTrace

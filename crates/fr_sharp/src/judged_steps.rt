@@ -1,0 +1,27 @@
+ghost use Rattle.fr_sharp.specs.JudgedSteps.{JudgedGoesOn, KnownIsMet, SharpSyncIsKnown, StatedRunsAreKnown};
+ghost use Rattle.fr_sharp.specs.WorkedJudged.{FarNumbersAreJudged, WorkedNumbersGoOn, WorkedRunGoesOn};
+
+use fr_history::one_lawful_run;
+
+/// The law of a double cycle that is judged by what is known of it: in a lawful history that no node joins, no macroticks
+/// of it lie further apart than these numbers say, in ticks, each node has a deviation of each sender that it hears, and a
+/// rate value that places its length, and applies their midpoints (sections 8.5 and 8.6); no term is cut or missing, and
+/// every node is active in the next one, of which so much is known. None of it asks for sync. What is known in two ways is
+/// known by the lesser numbers; something is known of a double cycle in sharp sync, and of the first one.
+pub fn judged_double_cycles_go_on()
+    ensures steps { JudgedGoesOn }
+    ensures met { KnownIsMet }
+    ensures synced { SharpSyncIsKnown }
+    ensures stated { StatedRunsAreKnown }
+{}
+
+/// A law: the first double cycle of the worked run is judged by its own numbers, 18,000,000 ticks of starts and 4,000,000 of
+/// lengths, and goes on so, without an arbitrary node and beside one, whatever that says. Numbers far from sharp sync are
+/// judged too; where the third check fails with them, or the rate limit cannot follow, they are not.
+pub fn a_judged_run()
+    ensures numbers { WorkedNumbersGoOn }
+    ensures far { FarNumbersAreJudged }
+    ensures goes { WorkedRunGoesOn }
+{
+    one_lawful_run();
+}
