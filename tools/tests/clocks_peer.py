@@ -20,8 +20,11 @@ VALUES = {
     "gdActionPointOffset": 7, "gdNIT": 200, "gPayloadLengthStatic": 0, "gOffsetCorrectionStart": 4900,
     "gMaxWithoutClockCorrectionPassive": 2, "gMaxWithoutClockCorrectionFatal": 4, "pAllowHaltDueToClock": 1,
     "pAllowPassiveToActive": 2, "pClusterDriftDamping": 3, "pOffsetCorrectionOut": 254, "pRateCorrectionOut": 81,
-    "pDelayCompensation": 0, "xRateBound": 200, "xChangeBound": 0, "xDelayError": 0,
+    "pDelayCompensation": 0, "xRateBound": 200, "xDelayError": 0,
 }
+# By how much a length changes from one cycle to the next, at most.
+CHANGE = "xChangeBound"
+VALUES[CHANGE] = 0
 
 
 class Network:

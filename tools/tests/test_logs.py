@@ -211,8 +211,8 @@ class Logs(Bench):
         self.assertIn("Left out 40 frames of static slots that are no key slots", page)
         self.assertIn("Cycles 0 to 19, by the cycle counts: 19 within the precision, 0 over it, 1 open", page)
         self.assertIn("Precision 7.902 us", page)
-        self.assertIn("In sync of no double cycle it is certain: node 5 has no key slot, so no frame shows its clock; "
-                      "in_sync_from_cycle of [observer] can state it Verdict open: nothing was held against the rules of sync, since "
+        self.assertIn("In sync of no double cycle it is certain: node 5 has no key slot, so no frame shows its clock; it moves no clock, "
+                      "so leave it out of the file; or in_sync_from_cycle of [observer] can state it Verdict open: nothing was held against the rules of sync, since "
                       "node 5 has no key slot, so no frame shows its clock; in 19 cycles the clocks of the nodes that sent lay within "
                       "the precision", page)
         self.assertNotIn("Not seen", page)

@@ -167,6 +167,14 @@ def why_unjudged(cluster: Cluster, told: Observation, why: Sequence[str]) -> str
             f"cycle {cycle}")
 
 
+def advice(cluster: Cluster, number: str) -> str:
+    """What makes sync certain, where some node is why it is not."""
+    state = "in_sync_from_cycle of [observer] can state it"
+    if number == "-" or cluster.nodes[int(number)].key_slot:
+        return state
+    return f"it moves no clock, so leave it out of the file; or {state}"
+
+
 def sync_lines(cluster: Cluster, told: Observation) -> list[str]:
     """From when on the cluster is in sync, and what of the log is held against the rules of sync."""
     sync = told.sync
@@ -175,7 +183,7 @@ def sync_lines(cluster: Cluster, told: Observation) -> list[str]:
         if sync[4] in UNPROMISED:
             text = f"of no double cycle it is certain; none would be held against the rules of sync, since {why}"
         else:
-            text = f"of no double cycle it is certain: {why}" + ("; in_sync_from_cycle of [observer] can state it" if told.cycles else "")
+            text = f"of no double cycle it is certain: {why}" + (f"; {advice(cluster, sync[6])}" if told.cycles else "")
         return lines_of("In sync", text)
     found = lines_of("In sync", f"double cycle {sync[0]} is, as " + ("its stamps show" if sync[1] == "seen" else "[observer] states")
                      + "; a covered cluster stays so")

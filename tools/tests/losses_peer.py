@@ -1,0 +1,279 @@
+"""Random runs in which frames are lost, and what docs/PRECISION.md, "Where frames are lost", says of each double cycle, reckoned by
+plain Python and whole numbers from the files alone: `bench/losses` and `test_losses` hold it against the skew of every cycle.
+
+A run is of production shape, but that macroticks may be longer: a cycle of 5 ms at a microtick of 25 ns, 2 to 8 nodes with a key slot
+that begin near each other, delays around the compensation, and frames that are lost or damaged in some double cycles.
+"""
+from clocks_peer import CHANGE, VALUES
+from flexlab.program.forms import FORMS
+
+# The row of a script by which a bit of a frame is inverted on its way.
+DAMAGED = next(word for word, fields in FORMS["script"].kinds.items() if any(field.name == "BIT" for field in fields))
+MILLION = 1_000_000
+# A cluster of production shape.
+PRODUCTION = {
+    **VALUES, "gMacroPerCycle": 3636, "gNumberOfStaticSlots": 91, "gdStaticSlot": 24, "gdActionPointOffset": 4, "gdNIT": 1452,
+    "gPayloadLengthStatic": 8, "gOffsetCorrectionStart": 3536, "gMaxWithoutClockCorrectionPassive": 4, "gMaxWithoutClockCorrectionFatal": 8,
+    "pOffsetCorrectionOut": 127, "pRateCorrectionOut": 601, "pClusterDriftDamping": 2, "pDelayCompensation": 7, "xRateBound": 100,
+    "xDelayError": 5 * MILLION}
+# What frames are lost in a double cycle with losses: of each frame on a channel the share, or all of them.
+KINDS = {"bursts": 1, "twentieths": 0.05, "halves": 0.5, "all": 1, "one": 0}
+
+
+class Numbers:
+    """Those of a cluster for a flutter, without arbitrary nodes: lambda, pi, the checks by a reach, and the walk."""
+
+    def __init__(self, values, last_slot, flutter):
+        self.values, self.flutter = values, flutter
+        v, bound = values, values["xRateBound"]
+        self.longest, self.shortest = MILLION + bound, MILLION - bound
+        self.arrival = v["xDelayError"] + v["pDelayCompensation"] * bound
+        change = v[CHANGE]
+        self.change = (v["pMicroPerCycle"] + v["pRateCorrectionOut"]) * change
+        later = (v["pMicroPerCycle"] + v["pRateCorrectionOut"] + v["pOffsetCorrectionOut"] + 1) * change
+        damping = v["pClusterDriftDamping"]
+        value = flutter + self.longest - 1 + later
+        self.lengths = 2 * value + self.longest + 2 * damping * self.longest + 2 * self.change
+        self.starts = self.lengths + 2 * self.change + 2 * self.arrival + 3 * self.longest
+        self.precision = self.starts + 2 * self.lengths + 2 * self.change + 2 * self.longest
+        self.action = (last_slot - 1) * v["gdStaticSlot"] + v["gdActionPointOffset"]
+        walk = flutter + self.change + later - 1 + (self.longest if damping == 0 else -(damping - 1) * self.shortest)
+        room = v["pRateCorrectionOut"] * self.shortest - 2 * v["pMicroPerCycle"] * bound
+        self.lasts = 0 if room < 0 else None if walk <= 0 else room // walk
+
+    def behind(self, heard, starts, lengths):
+        """Starts and lengths of the next double cycle."""
+        more = lengths + 2 * self.change + 2 * self.arrival + 3 * self.longest
+        return (more, self.lengths) if heard else (starts + lengths + more, lengths + self.lengths - self.longest)
+
+    def near(self, starts, lengths):
+        return starts + lengths + self.action * (lengths + 2 * self.change) // self.values["gMacroPerCycle"] + self.longest
+
+    def by(self, heard):
+        """The number of each double cycle by what is heard from the first one on, and the reach."""
+        spread, apart, reach = (self.starts, self.lengths), [], 0
+        for is_heard in heard:
+            later = self.behind(is_heard, *spread)
+            apart.append(max(spread[0] + 2 * spread[1] + 2 * self.change + 2 * self.longest, later[0] + self.longest))
+            reach, spread = max(reach, self.near(*spread)), later
+        return apart, reach
+
+    def hold(self, reach):
+        """Whether the checks 2 to 5 hold with a reach."""
+        v, macros, clear = self.values, self.values["gMacroPerCycle"], self.values["pMicroPerCycle"] - self.values["pRateCorrectionOut"]
+
+        def front(macroticks):
+            return (macroticks * clear - macros) * self.shortest
+
+        late = reach + v["xDelayError"]
+        return (v["pRateCorrectionOut"] * self.shortest >= 2 * v["pMicroPerCycle"] * v["xRateBound"]
+                and v["pOffsetCorrectionOut"] * self.shortest >= reach + self.arrival + self.longest
+                and front(v["gdActionPointOffset"]) >= macros * late
+                and front(v["gdStaticSlot"] - v["gdActionPointOffset"]) > macros * (late + v["pDelayCompensation"] * MILLION))
+
+
+class Run:
+    """A random run; `kind` says what is lost."""
+
+    def __init__(self, draw, kind, most_doubles=12):
+        self.draw, self.kind = draw, kind
+        compensation, error = draw.choice([(7, 5), (7, 5), (4, 2), (3, 1)])
+        bound, change = draw.choice([(100, 0), (100, 1), (300, 0), (50, 0)])
+        # Macroticks of 1.375 us, of 5, or of 25: the fewer a cycle has, the sooner its skew is found.
+        macros, slots, slot, action, more = draw.choice([(3636, 91, 24, 4, 3), *2 * [(1000, 60, 12, 2, 3)], *5 * [(200, 30, 4, 1, 1)]])
+        action += draw.choice([0, 0, 1, more])
+        self.values = {
+            **PRODUCTION, "gMacroPerCycle": macros, "gNumberOfStaticSlots": slots, "gdStaticSlot": slot, "gdActionPointOffset": action,
+            "gdNIT": macros - slots * slot, "gOffsetCorrectionStart": macros - macros // 36, CHANGE: change,
+            "pOffsetCorrectionOut": draw.choice([127, 127, 200, 300]), "pClusterDriftDamping": draw.choice([0, 1, 2, 2, 2, 4]),
+            "pDelayCompensation": compensation, "xRateBound": bound, "xDelayError": error * MILLION}
+        self.doubles, count = draw.randrange(6, most_doubles + 1), draw.randrange(2, 9)
+        channels = draw.choice(["A", "AB", "AB", "mixed"])
+        slots = sorted(draw.sample(range(1, 20), count))
+        # Of each node its key slot and its channels; all share channel A.
+        self.nodes = {node: (slots[node - 1] if node <= count else None, draw.choice(["A", "AB"]) if channels == "mixed" else channels)
+                      for node in range(1, count + 1 + (draw.random() < 0.3))}
+        self.links = [(one, two, channel) for one, (slot, _) in self.nodes.items() if slot for two in self.nodes if two != one
+                      for channel in "AB" if channel in self.nodes[one][1] and channel in self.nodes[two][1]]
+        self.flutter, self.lost = 0, set()
+        self.clocks(change)
+        self.losses()
+
+    def params(self):
+        return ("".join(f"param,{name},{value},,\n" for name, value in self.values.items())
+                + "".join(f"node,{node},{slot or ''},{channels},{int(bool(slot))}\n" for node, (slot, channels) in self.nodes.items()))
+
+    def clocks(self, change):
+        """The drift: oscillators, and delays that may differ in the cycles of a double cycle."""
+        draw, values, lines = self.draw, self.values, [f"doubles,{self.doubles},,,,\n"]
+        bound, micros = values["xRateBound"], values["pMicroPerCycle"]
+        apart, is_settled = draw.choice([1, 8, 40]) * MILLION, draw.random() < 0.7
+        for node in self.nodes:
+            length = MILLION + draw.choice([-bound, bound, draw.randint(-bound, bound)])
+            rate = -round(micros * (length - MILLION) / length) if is_settled else 0
+            lines.append(f"start,{node},{draw.randrange(apart)},{rate},,\n")
+            for cycle in range(2 * self.doubles if change else 1):
+                lines.append(f"length,{node},{cycle},{length},,\n")
+                length = max(MILLION - bound, min(MILLION + bound, length + draw.randint(-change, change)))
+        middle, error = values["pDelayCompensation"] * MILLION, values["xDelayError"]
+        most = draw.choice([0, 0, 0, 100_000, 900_000])
+        for one, two, channel in self.links:
+            delay = max(0, middle + draw.choice([-error, error, draw.randint(-error, error)]))
+            lines.append(f"delay,{one},{two},{channel},0,{delay}\n")
+            for double in range(self.doubles) if most and draw.random() < 0.3 else ():
+                other = max(0, middle - error, min(middle + error, delay + draw.randint(-most, most)))
+                self.flutter = max(self.flutter, abs(other - delay))
+                lines += [f"delay,{one},{two},{channel},{2 * double + 1},{other}\n"]
+                lines += [f"delay,{one},{two},{channel},{2 * double + 2},{delay}\n"] if double + 1 < self.doubles else []
+        self.drift = "".join(lines)
+
+    def losses(self):
+        """The script: which frames are lost, or come damaged."""
+        draw, share = self.draw, KINDS[self.kind]
+        for double in self.with_losses():
+            links = [draw.choice(self.links)[:2]] if self.kind == "one" else {link[:2] for link in self.links}
+            cycles = draw.choice([(0,), (1,), (0, 1), (0, 1)])
+            self.lost |= {(2 * double + odd, one, two, channel) for one, two, channel in self.links if (one, two) in links for odd in cycles
+                          if share in (0, 1) or draw.random() < share}
+        rows = sorted(self.lost)
+        damaged = {at for at in rows if draw.random() < 0.1}
+        self.script = "".join(
+            f"{DAMAGED},{cycle},{one},{two},{channel},{draw.randrange(64)},\n" if (cycle, one, two, channel) in damaged
+            else f"lose,{cycle},{one},{two},{channel},,\n" for cycle, one, two, channel in rows)
+
+    def with_losses(self):
+        """Double cycles in which some are."""
+        draw, found, double = self.draw, [], self.draw.randrange(4)
+        if draw.random() < 0.15:
+            return range(self.doubles)
+        while double < self.doubles:
+            found += range(double, min(self.doubles, double + draw.choice([1, 1, 1, 2, 2, 3])))
+            double = found[-1] + draw.choice([2, 3, 3, 4, 6])
+        return found
+
+    def is_carried(self, one, two, double):
+        return any((one, two, channel) in self.all_links and not {(2 * double + odd, one, two, channel) for odd in (0, 1)} & self.lost
+                   for channel in "AB")
+
+    def heard(self):
+        """Of each double cycle whether all is heard, and whether each node has a value."""
+        self.all_links, pairs, all_heard, is_deaf = set(self.links), {link[:2] for link in self.links}, [], []
+        for double in range(self.doubles):
+            carried = {pair for pair in pairs if self.is_carried(*pair, double)}
+            all_heard.append(carried == pairs)
+            is_deaf.append(any(slot is None and not any(two == node for _, two in carried) for node, (slot, _) in self.nodes.items()))
+        return all_heard, is_deaf
+
+
+def cliques(doubles=20):
+    """The files of four nodes of which two never hear the third and two never the first, with fast clocks here and slow ones there: each
+    midpoint is of three values, and the two camps go apart while all are active."""
+    nodes = "".join(f"node,{node},{node},A,{int(node < 3)}\n" for node in range(1, 5))
+    drift = f"doubles,{doubles},,,,\n" + "".join(
+        f"start,{node},{start},{rate},,\nlength,{node},0,{length},,\n"
+        for node, start, rate, length in ((1, 0, 17, 999_902), (2, 0, 16, 999_903), (3, 20_002_398, -16, 1_000_097),
+                                          (4, 20_002_398, -17, 1_000_098)))
+    drift += "".join(f"delay,{one},{two},A,0,{12 * MILLION if two > 2 and two != one else 2 * MILLION}\n"
+                     for one in range(1, 5) for two in range(1, 5) if one != two)
+    script = "".join(f"lose,{cycle},{one},{two},A,,\n" for cycle in range(2 * doubles) for one, two in ((1, 3), (1, 4), (3, 1), (3, 2)))
+    return "".join(f"param,{name},{value},,\n" for name, value in PRODUCTION.items()) + nodes, drift, script
+
+
+# ---- what a run shows
+
+
+class Series:
+    """The text of flexray-series PARAMS DRIFT SCRIPT sharp: the rows of cycles by their columns, and the lines behind them."""
+
+    def __init__(self, text):
+        head, *rows = [line.split(",") for line in text.splitlines()]
+        self.columns, self.cycles, self.lines = head, [], {}
+        for row in rows:
+            if row[0].isdigit():
+                self.cycles.append(dict(zip(head, row)))
+            else:
+                self.lines[row[0]] = row[1:]
+
+    def skew(self, double):
+        return max(int(self.cycles[2 * double + odd]["skew"]) for odd in (0, 1))
+
+    @property
+    def synced(self):
+        """The first double cycle in sharp sync, if there is one."""
+        found = self.lines["sharp synced"][0]
+        return None if found == "-" else int(found)
+
+
+def exact_skews(run, trace):
+    """The skew of each cycle over all its macroticks, by the rows of `flexray trace`, of the nodes that run; and whether every node is
+    always active."""
+    macros, turn, micros = (run.values[name] for name in ("gMacroPerCycle", "gOffsetCorrectionStart", "pMicroPerCycle"))
+    rows, is_active = {}, True
+    for line in trace.splitlines():
+        kind, *fields = line.split(",")
+        if kind == "cycle":
+            cycle, _, start, length, rate, offset = map(int, fields[:6])
+            is_active = is_active and fields[6] == "active"
+            rows.setdefault(cycle, [])
+            if fields[6] != "halt":
+                rows[cycle].append((start, length, rate, offset))
+    found = []
+    for cycle, nodes in sorted(rows.items()):
+        instants = []
+        for start, length, rate, offset in nodes:
+            long, last = micros + rate, turn if cycle % 2 else macros - 1
+            base = turn * long // macros
+            instants.append([start + length * (at * long // macros if at <= last else
+                                               base + (at - turn) * (long + offset - base) // (macros - turn)) for at in range(macros)])
+        found.append(max((max(at) - min(at) for at in zip(*instants)), default=0))
+    return found, is_active
+
+
+def hold(run, series, trace=None):
+    """Holds what the series of a run tells against what is reckoned here, and each double cycle's skew against its number. What does not
+    fit ends in AssertionError. Hands back whether the run is covered through losses, how many double cycles were held, in how many of
+    them frames are lost, and the greatest share of its number that a skew had."""
+    heard, is_deaf = run.heard()
+    numbers = Numbers(run.values, max(slot for slot, _ in run.nodes.values() if slot), run.flutter)
+    apart, reach = numbers.by(heard)
+    is_covered = not any(is_deaf) and numbers.hold(reach)
+    lost = [double for double, is_heard in enumerate(heard) if not is_heard]
+    told = series.lines["lost"]
+    assert int(series.lines["flutter"][0]) == run.flutter, (series.lines["flutter"], run.flutter)
+    assert int(series.lines["sharp"][0]) == numbers.precision, (series.lines["sharp"], numbers.precision)
+    wanted = [str(len(lost)), str(lost[-1]) if lost else "-", *([str(max(apart)), str(apart.index(max(apart)))] if is_covered else "--")]
+    assert told[:4] == wanted, (told, wanted)
+    if "bound" in series.columns:
+        hold_columns(series, heard, apart)
+    if trace is not None:
+        skews, is_active = exact_skews(run, trace)
+        assert skews == [int(row["skew"]) for row in series.cycles], "the skew of the trace is another one"
+    count = losing = 0
+    share = 0.0
+    if is_covered and series.synced is not None:
+        first = series.synced
+        assert series.lines["sharp synced"][1] == ("on" if numbers.lasts is None else str(numbers.lasts)), series.lines["sharp synced"]
+        end = run.doubles if numbers.lasts is None else min(run.doubles, first + numbers.lasts)
+        # By what is heard from the first double cycle in sync on, which is no more than from the first one of the run on.
+        since, _ = numbers.by(heard[first:])
+        assert all(one <= other for one, other in zip(since, apart[first:])), "less by what was heard before, too"
+        share = keep(series, first, since[:end - first])
+        count, losing = end - first, sum(not is_heard for is_heard in heard[first:end])
+        assert trace is None or end < run.doubles or is_active, "a node is not active"
+    return is_covered, count, losing, share
+
+
+def keep(series, first, bounds):
+    """Holds the skew of double cycles from the first one on against these numbers, and hands back the greatest share of one."""
+    share = 0.0
+    for double, bound in enumerate(bounds, first):
+        assert series.skew(double) <= bound, f"double cycle {double}: {series.skew(double)} is above {bound}"
+        share = max(share, series.skew(double) / bound)
+    return share
+
+
+def hold_columns(series, heard, apart):
+    """The columns of what is heard, and of the numbers."""
+    for at, row in enumerate(series.cycles):
+        assert (row["heard"] == "all") == heard[at // 2], (at, row["heard"])
+        assert row["bound"] in ("-", str(apart[at // 2])), (at, row["bound"], apart[at // 2])
