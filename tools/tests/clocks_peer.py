@@ -66,9 +66,9 @@ class Network:
         total = max(total - damping, 0) if total > 0 else min(total + damping, 0)
         return max(-limit, min(limit, total))
 
-    def rows(self, wrong=lambda double, node: 0):
-        """Of each cycle the rows (start, tick length, rate term, offset term) of all nodes; the offset term of a node is
-        so many microticks too great in a double cycle as `wrong` says."""
+    def rows(self, wrong=lambda double, node: 0, wrong_rate=lambda double, node: 0):
+        """Of each cycle the rows (start, tick length, rate term, offset term) of all nodes; the offset term of a node, or the rate term
+        that it computes, is so many microticks too great in a double cycle as `wrong` and `wrong_rate` say."""
         found, starts, rates, limit = [], list(self.starts), [0] * len(self.slots), self.values["pOffsetCorrectionOut"]
         for double in range(self.doubles):
             even = [(starts[node], self.lengths[node], rates[node], 0) for node in self.nodes]
@@ -79,7 +79,7 @@ class Network:
             found += [even, [(starts[node], self.lengths[node], rates[node], terms[node]) for node in self.nodes]]
             starts = [start + (self.micros + rate + term) * length for start, length, rate, term in found[-1]]
             rates = [self.rate_after(rates[node], [0] + [late - early for early, late in zip(before[node], behind[node])])
-                     for node in self.nodes]
+                     + wrong_rate(double, node) for node in self.nodes]
         return found
 
     def head(self, node, cycle, kept={}):

@@ -188,10 +188,10 @@ class Witness:
             ways.append(Interval(at - self.clock.most(high), at + text.unit + text.error - self.clock.least(low)))
         return Interval(max(way.low for way in ways), min(way.high for way in ways))
 
-    def distance(self, cycle: int, node: int, other: int) -> Interval:
-        """How much later another node's action point lies, in ticks."""
-        one, two = self.place(cycle, node), self.place(cycle, other)
-        return self.clock.ticks(two.low - one.high, two.high - one.low)
+    def distances(self, cycle: int, nodes: list[int]) -> Iterator[Interval]:
+        """How much later the action point of the second of each two nodes lies, in ticks."""
+        for one, two in combinations([self.place(cycle, node) for node in nodes], 2):
+            yield self.clock.ticks(two.low - one.high, two.high - one.low)
 
     def length(self, row: ObservedNode) -> Interval:
         return self.clock.ticks(row.length_low, row.length_high)
@@ -212,9 +212,10 @@ def numbers(one: Witness, two: Witness, shift: int) -> Iterator[Apart]:
     """All numbers of a history that both logs limit, by the cycles of the first; those of the second are so many less."""
     for cycle, shown in one.shown.items():
         there = two.shown.get(cycle - shift, ())
-        for node, other in combinations([node for node in shown if node in there], 2):
-            yield Apart(Subject("distance", node, other), cycle, one.distance(cycle, node, other),
-                        two.distance(cycle - shift, node, other))
+        nodes = [node for node in shown if node in there]
+        both = zip(one.distances(cycle, nodes), two.distances(cycle - shift, nodes))
+        for pair, limits in zip(combinations(nodes, 2), both):
+            yield Apart(Subject("distance", *pair), cycle, *limits)
     for (double, node), row in one.rows.items():
         if beside := two.rows.get((double - shift // 2, node)):
             yield Apart(Subject("length", node), 2 * double, one.length(row), two.length(beside))
