@@ -21,3 +21,4 @@ pub mod Telling
 pub mod Walking
 pub mod Baring
 pub mod TraceSound
+pub mod Spelt

@@ -3,6 +3,7 @@
 //! item of the trace.
 #![tactic(auto)]
 
+mod dev_line;
 mod draft;
 mod fault;
 mod kind;

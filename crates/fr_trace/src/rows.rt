@@ -1,5 +1,6 @@
 ghost use Rattle.std.specs.Prelude.{◌≡◌, ◌≤ℤ◌, ◌&&◌, false, true, codes, pos, negsuc, IfOk, IfSome};
 ghost use Rattle.std.specs.Str.{bytes_eq};
+ghost use Rattle.fr_base.specs.Channels.{channel_of};
 ghost use Rattle.fr_text.specs.Plain.{fields_of};
 ghost use Rattle.fr_text.specs.Fields.{is_blank};
 ghost use Rattle.fr_trace.specs.Rows.{IsProperHeard, IsProperTraceRow, heard_fields, heard_said, is_heard_record, traced_arbitrary_row, are_blank, traced_join_row, AreProperTerms, IsProperSpan, clock_in, clock_row, heard_row, offset_in, traced_rate_in, run_row, span_in, state_of, terms_in, trace_file_row, trace_row_of, value_in};
@@ -44,7 +45,14 @@ pub enum Row {
 pub fn is_heard(row: &Record<'_>) -> bool
     ensures { result ≡ is_heard_record (fields_of row.now) }
 {
-    row.len() == 8 && row.field(0) == b"dev".as_slice()
+    row.len() == 8 && is_dev(row.field(0))
+}
+
+// Whether a field is `dev`. Its bytes are asked one by one, since most records are deviations.
+fn is_dev(field: &[u8]) -> bool
+    ensures { result ≡ bytes_eq field.now (codes "dev") }
+{
+    field.len() == 3 && field[0] == b'd' && field[1] == b'e' && field[2] == b'v'
 }
 
 /// The deviation that a record of this form says, or the least of the reasons that it shows by itself: Shape,
@@ -318,8 +326,19 @@ fn heard_of(
             cycle: cycle as u32,
             receiver: NodeId(receiver as u8),
             slot: Slot(slot as u16),
-            channel: Channel::spelt(channel),
+            channel: channel_of(channel),
             value,
         }),
+    }
+}
+
+// The channel that a field names.
+fn channel_of(field: &[u8]) -> Option<Channel>
+    ensures { result ≡ channel_of field.now }
+{
+    match field {
+        [b'A'] => Some(Channel::A),
+        [b'B'] => Some(Channel::B),
+        _ => None,
     }
 }

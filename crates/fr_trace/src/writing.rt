@@ -1,4 +1,5 @@
-ghost use Rattle.std.specs.Prelude.{◌≡◌, ℕ, ◌<◌, ◌≤◌, ◌++◌, ◌==◌, [], drop, length, if◌then◌else◌};
+ghost use Rattle.std.specs.Prelude.{◌≡◌, ℕ, ◌<◌, ◌≤◌, ◌++◌, ◌∷◌, ◌==◌, [], drop, length, if◌then◌else◌};
+ghost use Rattle.fr_base.specs.Channels.{letter};
 ghost use Rattle.fr_base.specs.Device.{Puts};
 ghost use Rattle.fr_base.specs.Rows.{AreAscendingDevs, AreAscendingRows};
 ghost use Rattle.fr_coverage.specs.Decided.{setting_of};
@@ -9,13 +10,14 @@ ghost use Rattle.fr_script.specs.View.{is_arbitrary, join_of};
 ghost use Rattle.fr_text.specs.Pieces.{line};
 ghost use Rattle.fr_trace.specs.Text.{arbitrary_in, arbitrary_text, clock_text, cycle_text, dev_after, dev_front, devs_text, head_text, join_line, join_text, joining_in, joins_text, named_text, clock_rows_text, doubles_text};
 
+use crate::dev_line::DevLine;
 use crate::order::node_at;
-use fr_base::{CycleRow, Dev, NodeId, NodeRow, PutFault, Sink};
+use fr_base::{Channel, CycleRow, Dev, NodeId, NodeRow, PutFault, Sink};
 use fr_cluster::{Join, NodeList, Params};
 use fr_drift::Drift;
 use fr_script::Script;
 use fr_text::Piece::{Natural, Signed, Word};
-use fr_text::{Draft, Line, letter_of, put_line, state_of};
+use fr_text::{Draft, Line, put_line, put_text, state_of};
 
 // The greatest number of bytes in front of what is said of a deviation.
 const FRONT_ROOM: usize = 50;
@@ -178,7 +180,7 @@ fn put_row<O: Sink>(
         row.node,
         devs,
         dev_front(cycle, row.node).bytes(),
-        spelt,
+        &mut DevLine::new(),
         out,
     )
 }
@@ -188,7 +190,7 @@ fn put_devs<O: Sink>(
     node: NodeId,
     devs: &[Dev],
     front: &[u8],
-    spelt: &mut Line,
+    spelt: &mut DevLine,
     out: &mut O,
 ) -> Result<(), PutFault>
     requires { length front.now ≤ FRONT_ROOM }
@@ -211,7 +213,7 @@ fn put_dev<O: Sink>(
     node: NodeId,
     dev: &Dev,
     front: &[u8],
-    spelt: &mut Line,
+    spelt: &mut DevLine,
     out: &mut O,
 ) -> Result<(), PutFault>
     requires { length front.now ≤ FRONT_ROOM }
@@ -220,7 +222,7 @@ fn put_dev<O: Sink>(
 {
     if dev.receiver == node {
         spell_dev(front, dev, spelt);
-        put_line(spelt, out)
+        put_text(spelt.bytes(), out)
     } else {
         Ok(())
     }
@@ -291,19 +293,28 @@ fn spell_clock(cycle: u32, row: &NodeRow, spelt: &mut Line)
     );
 }
 
-fn spell_dev(front: &[u8], dev: &Dev, spelt: &mut Line)
+fn spell_dev(front: &[u8], dev: &Dev, spelt: &mut DevLine)
     requires { length front.now ≤ FRONT_ROOM }
     ensures { spelt.new ≡ line (dev_after front.now dev.now) }
 {
-    spelt.spell_row(
-        front,
-        &[
-            Natural(u64::from(dev.slot.0)),
-            letter_of(dev.channel),
-            Signed(i64::from(dev.value)),
-            Word(b","),
-        ],
-    );
+    spelt.clear();
+    spelt.word(b",,\n");
+    spelt.signed(i64::from(dev.value));
+    spelt.byte(b',');
+    spelt.byte(letter_byte(dev.channel));
+    spelt.byte(b',');
+    spelt.signed(i64::from(dev.slot.0));
+    spelt.byte(b',');
+    spelt.word(front);
+}
+
+fn letter_byte(channel: Channel) -> u8
+    ensures { letter channel ≡ result ∷ [] }
+{
+    match channel {
+        Channel::A => b'A',
+        Channel::B => b'B',
+    }
 }
 
 fn dev_front(cycle: u32, receiver: NodeId) -> Draft
