@@ -8,11 +8,11 @@ use Rattle.fr_bound.specs.SharpSpreads.{sharply_near_in}
 use Rattle.fr_history.specs.Lawful.{IsLawful}
 use Rattle.fr_history.specs.Next.{cycles_of}
 use Rattle.fr_runs.specs.Stated.{all_cycles}
-use Rattle.fr_sharp.specs.JudgedSteps.{GoesOnJudged, IsHeardIn, IsKnownAt}
+use Rattle.fr_sharp.specs.JudgedSteps.{IsHeardIn, IsKnownAt}
 use Rattle.fr_sharp.specs.SettlingHistories.{AreStatedNear}
 use Rattle.fr_sharp.specs.SharpHistories.{IsSteadyRun, IsStatedRun}
 use Rattle.fr_sharp.specs.WorkedJudged.{far_known, heard_beside, known_with, worked_known, FarNumbersAreJudged, WorkedNumbersGoOn, WorkedRunGoesOn}
-use Rattle.fr_sharp.specs.WorkedRun.{steady_cluster, steady_run, OfBytes, Said}
+use Rattle.fr_sharp.specs.WorkedRun.{steady_cluster, steady_run, Said}
 use Rattle.fr_sharp.proofs.JudgedLaws.{judged_goes_on_lem, stated_runs_are_known_lem}
 use Rattle.fr_sharp.proofs.RunSync.{timed}
 use Rattle.fr_sharp.proofs.RunWorked.{in_its_range, near_lengths, near_starts, steady_run_meets_premises}

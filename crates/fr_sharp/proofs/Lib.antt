@@ -92,3 +92,4 @@ pub mod JoinedStarts
 pub mod JoinedFilesWorked
 pub mod JudgedLaws
 pub mod JudgedWorked
+pub mod JudgedCarried

@@ -8,6 +8,7 @@ pub mod HaltingRun
 pub mod Hearing
 pub mod JoinedFiles
 pub mod JoinedHistories
+pub mod JudgedStates
 pub mod JudgedSteps
 pub mod Lengths
 pub mod LossBursts

@@ -1,4 +1,5 @@
 ghost use Rattle.fr_sharp.specs.JudgedSteps.{JudgedGoesOn, KnownIsMet, SharpSyncIsKnown, StatedRunsAreKnown};
+ghost use Rattle.fr_sharp.specs.JudgedStates.{CarriedIsKnown};
 ghost use Rattle.fr_sharp.specs.WorkedJudged.{FarNumbersAreJudged, WorkedNumbersGoOn, WorkedRunGoesOn};
 
 use fr_history::one_lawful_run;
@@ -13,6 +14,12 @@ pub fn judged_double_cycles_go_on()
     ensures met { KnownIsMet }
     ensures synced { SharpSyncIsKnown }
     ensures stated { StatedRunsAreKnown }
+{}
+
+/// The law of a state that is carried through the double cycles of such a history: met with what is seen of each, and stepped
+/// where what was met is judged, it is known of each; and a judged one goes on so.
+pub fn carried_states_are_known()
+    ensures { CarriedIsKnown }
 {}
 
 /// A law: the first double cycle of the worked run is judged by its own numbers, 18,000,000 ticks of starts and 4,000,000 of

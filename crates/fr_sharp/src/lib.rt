@@ -73,7 +73,7 @@ pub use joined::joined_doubles_go_on;
 pub use joined_files::{covered_files_keep_sharply_joined, joined_files_keep_sharp_precision};
 pub use joined_histories::joined_histories_keep_sharp_sync;
 pub use joining::{followers_come_nearer, sharp_join_checks_suffice};
-pub use judged_steps::{a_judged_run, judged_double_cycles_go_on};
+pub use judged_steps::{a_judged_run, carried_states_are_known, judged_double_cycles_go_on};
 pub use lasting::sharp_sync_lasts;
 pub use lengths::{lengths_come_near, ranges_walk};
 pub use listening::listeners_come_near;
