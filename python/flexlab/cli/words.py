@@ -239,10 +239,10 @@ def parser() -> argparse.ArgumentParser:
     study.add_argument("--from", dest="begin", metavar="CYCLE", type=whole,
                        help="take the later skew from this cycle on (else from where each run has settled)")
     study.add_argument("--cycles", metavar="RANGES", default="",
-                       help="columns of the skew of these cycles too, as 20-99,100-200,201-")
+                       help="columns of the skew of these cycles too, as 20-99,100-200,201-; with all figures alone")
     study.add_argument("--figures", choices=("all", "sharp", "report"), default="all",
-                       help="sharp: without the later skew, by one call of flexray run .. sharp a run, which is faster; report: only "
-                            "what flexray run tells (all)")
+                       help="sharp: without the later skew and that of --cycles, by one call of flexray run .. sharp a run, which is "
+                            "faster; report: only what flexray run tells (all)")
     study.add_argument("--keep", metavar="RUNS", default="worst:3",
                        help="runs that keep their files: all, none or worst:COUNT (worst:3)")
     study.add_argument("-o", "--out", metavar="FOLDER", help="where files go (FILE.study beside the TOML file)")
