@@ -1,5 +1,5 @@
 -- Lines on which the macroticks of cycles lie, and the instants of macroticks, which lie less than a microtick below them.
-use Rattle.std.proofs.Common.{◌≡◌, ◌⊎◌, inl, inr, ℕ, ◌+◌, ◌-◌, ◌*◌, ◌/◌, ◌<◌, ◌≤◌, ℤ, pos, ap, sym, ◌∙◌, arith}
+use Rattle.std.proofs.Common.{◌≡◌, ℕ, ◌+◌, ◌-◌, ◌*◌, ◌/◌, ◌<◌, ◌≤◌, ℤ, pos, ap, sym, ◌∙◌, subst, arith}
 use Rattle.std.specs.Prelude.{◌+ℤ◌, ◌≤ℤ◌, ◌<ℤ◌, ◌||◌, false, int_le, int_lt}
 use Rattle.std.proofs.lemmas.Int.{ints}
 use Rattle.std.proofs.Math.Nat.{mul-add, div-mul-le_self, le_of_mul-le-mul_right, lt-div-mul-add, lt_of_mul-lt-mul_right, mul-le-mul_right, mul-lt-mul_of_pos_right}
@@ -9,22 +9,11 @@ use Rattle.fr_cluster.specs.declared.names.ParamName.TheVariants as name
 use Rattle.fr_time.specs.Instant.{action_instant, early_instant, slot_begins, slot_ends}
 use Rattle.fr_time.specs.Slots.{slot_end_of, slot_start_of}
 use Rattle.fr_node.specs.Arrivals.{is_outside_slot}
-use Rattle.fr_air.specs.Lines.{ticks_at, IsLineOf, IsRoomOf, LiesInside}
+use Rattle.fr_air.specs.Lines.{ticks_at, ComesInside, IsLineOf, IsRoomOf, IsSight, IsWider, LiesIn, LiesInSight, LiesInside}
 use Rattle.fr_air.specs.declared.lines.Line.{Line}
 use Rattle.fr_air.specs.declared.lines.Room.{Room}
-
--- what lies at or below a line at both ends of a cycle does so all the way
-pub below : (x u y v most b : ℕ) → x ≤ y → x + most * u ≤ y + most * v → b ≤ most → x + b * u ≤ y + b * v
-below x u y v most b first last le = by_step (grind arith)
-  where
-    by_step : (u ≤ v) ⊎ (v ≤ u) → x + b * u ≤ y + b * v
-    by_step (inl more) = let longer : u * b ≤ v * b = mul-le-mul_right b more in omega (arith, first, longer)
-    by_step (inr less) =
-        let cut : v + (u - v) ≡ u = omega (arith, less) in
-        let all : most * u ≡ most * v + most * (u - v) = ap (λ (n : ℕ). most * n) (sym cut) ∙ mul-add most v (u - v) in
-        let some : b * u ≡ b * v + b * (u - v) = ap (λ (n : ℕ). b * n) (sym cut) ∙ mul-add b v (u - v) in
-        let fewer : b * (u - v) ≤ most * (u - v) = mul-le-mul_right (u - v) le in
-        omega (arith, last, all, some, fewer)
+use Rattle.fr_air.specs.declared.lines.Sight.{Sight}
+use Rattle.fr_air.specs.declared.lines.Spread.{Spread}
 
 -- a quotient lies at or below its line, and less than one below it
 whole : (n m l : ℕ) → n / m * l * m ≤ n * l
@@ -92,3 +81,73 @@ inside p room sender receiver base delay from to ticks slot is sends hears lasts
     let l = lies begin early in
     tests base delay (slot_begins p receiver slot) (action_instant p sender slot) (slot_ends p receiver slot)
     (ticks_at room to begin) (ticks_at room from (begin + room.offset)) ticks (ticks_at room to (begin + room.slot)) begins acts ends lasts l.begun l.not_ended
+
+-- ---- the lines of a spread
+
+-- two steps, the greater one more often
+crossed : (b last slow fast : ℕ) → b ≤ last → slow ≤ fast → b * fast + last * slow ≤ last * fast + b * slow
+crossed b last slow fast le less =
+    let cut : slow + (fast - slow) ≡ fast = omega (arith, less) in
+    let all : last * fast ≡ last * slow + last * (fast - slow) = ap (λ (n : ℕ). last * n) (sym cut) ∙ mul-add last slow (fast - slow) in
+    let some : b * fast ≡ b * slow + b * (fast - slow) = ap (λ (n : ℕ). b * n) (sym cut) ∙ mul-add b slow (fast - slow) in
+    let fewer : b * (fast - slow) ≤ last * (fast - slow) = mul-le-mul_right (fast - slow) le in
+    omega (arith, all, some, fewer)
+
+times : (m a b : ℕ) → a ≤ b → m * a ≤ m * b
+times m a b le = let right : a * m ≤ b * m = mul-le-mul_right m le in omega (arith, right)
+
+begins_early : (m b last off high low slow fast r k own s sent : ℕ) → b ≤ last → r ≤ high → k ≤ 1_500_000 → own ≤ fast → low ≤ s → slow ≤ sent → slow ≤ fast →
+    m * (high + 1_500_000) + last * fast ≤ m * low + (last + off) * slow → m * (r + k) + b * own ≤ m * s + (b + off) * sent
+begins_early m b last off high low slow fast r k own s sent le r_to k_to own_to from sent_from order all =
+    let first : m * (r + k) ≤ m * (high + 1_500_000) = times m (r + k) (high + 1_500_000) (omega (arith, r_to, k_to)) in
+    let steps : b * own ≤ b * fast = times b own fast own_to in
+    let cross : b * fast + last * slow ≤ last * fast + b * slow = crossed b last slow fast le order in
+    let start : m * low ≤ m * s = times m low s from in
+    let acts : (b + off) * slow ≤ (b + off) * sent = times (b + off) slow sent sent_from in
+    omega (arith, first, steps, cross, start, acts, all)
+
+ends_late : (m b last off slot high low slow fast slack d s k sent r own : ℕ) → b ≤ last → s ≤ high → k ≤ 1_500_000 → sent ≤ fast → low ≤ r → slow ≤ own → slow ≤ fast → m * d ≤ slack →
+    m * (high + 1_500_000) + (last + off) * fast + slack ≤ m * low + (last + slot) * slow → m * (s + d + k) + (b + off) * sent ≤ m * r + (b + slot) * own
+ends_late m b last off slot high low slow fast slack d s k sent r own le s_to k_to sent_to from own_from order short all =
+    let first : m * (s + k) ≤ m * (high + 1_500_000) = times m (s + k) (high + 1_500_000) (omega (arith, s_to, k_to)) in
+    let steps : (b + off) * sent ≤ (b + off) * fast = times (b + off) sent fast sent_to in
+    let cross : b * fast + last * slow ≤ last * fast + b * slow = crossed b last slow fast le order in
+    let start : m * low ≤ m * r = times m low r from in
+    let ends : (b + slot) * slow ≤ (b + slot) * own = times (b + slot) slow own own_from in
+    omega (arith, first, steps, cross, start, ends, short, all)
+
+-- what one of them sends comes to another inside of its slot
+pub comes : (p : Values) (sight : Sight) (sender receiver : NodeRow) (delay : ℤ) (ticks : ℕ) → IsSight p sight → LiesIn p sight.spread sender → LiesIn p sight.spread receiver → pos ticks ≡ delay →
+    sight.room.macros * ticks ≤ sight.slack → ComesInside p sender receiver delay
+comes p sight sender receiver delay ticks is sends hears lasts short slot some le =
+    let room : Room = sight.room in
+    let spread : Spread = sight.spread in
+    let s : Line = sends.line in
+    let r : Line = hears.line in
+    let order : spread.slow ≤ spread.fast = omega (arith, sends.slow, sends.fast) in
+    inside p room sender receiver spread.base delay s r ticks slot is.is_room sends.of_row hears.of_row lasts some le
+    (λ begin early.
+    let first : room.macros * (r.start + s.length) + begin * (r.micros * r.length) ≤ room.macros * (s.start + ticks) + (begin + room.offset) * (s.micros * s.length) =
+    begins_early room.macros begin room.last room.offset spread.high spread.low spread.slow spread.fast r.start s.length (r.micros * r.length) (s.start + ticks) (s.micros * s.length)
+    early hears.high sends.of_row.is_line.long hears.fast (omega (arith, sends.low)) sends.slow order is.leaves.begun in
+    let last : room.macros * (s.start + ticks + r.length) + (begin + room.offset) * (s.micros * s.length) ≤ room.macros * r.start + (begin + room.slot) * (r.micros * r.length) =
+    ends_late room.macros begin room.last room.offset room.slot spread.high spread.low spread.slow spread.fast sight.slack ticks s.start r.length (s.micros * s.length) r.start (r.micros * r.length)
+    early sends.high hears.of_row.is_line.long sends.fast hears.low hears.slow order short is.leaves.ended in
+    record {
+      begun = omega (arith, begun_by room.macros begin r.start r.micros r.length (begin + room.offset) (s.start + ticks) s.micros s.length is.is_room.is_room.some first);
+      not_ended = omega (arith, not_ended_by room.macros (begin + room.offset) (s.start + ticks) s.micros s.length (begin + room.slot) r.start r.micros r.length is.is_room.is_room.some hears.of_row.is_line.some last);
+    })
+
+-- a wider spread takes in what the narrow one does
+pub wider : (p : Values) (narrow wide : Spread) (row : NodeRow) → IsWider narrow wide → LiesInSight p narrow row → LiesInSight p wide row
+wider p narrow wide row is lies awake =
+    let l : LiesIn p narrow row = lies awake in
+    let P : ℤ → Type 0 = λ (base : ℤ). IsLineOf p row base l.line in
+    record {
+      line = l.line;
+      of_row = subst P (sym is.base) l.of_row;
+      low = omega (arith, is.low, l.low);
+      high = omega (arith, is.high, l.high);
+      slow = omega (arith, is.slow, l.slow);
+      fast = omega (arith, is.fast, l.fast);
+    }

@@ -1,5 +1,5 @@
 -- A plain frame that reaches all nodes: each that hears its sender counts it, and none changes.
-use Rattle.std.proofs.Common.{◌≡◌, ◌∙◌, ℕ, zero, suc, ◌+◌, ◌-◌, ◌<◌, ◌≤◌, ◌==◌, Bool, true, false, not, ◌&&◌, cond, List, [], ◌∷◌, Option, Some, None, get_or, length, map, refl, ap, sym, subst, arith, if◌then◌else◌}
+use Rattle.std.proofs.Common.{◌≡◌, ◌∙◌, ℕ, ◌+◌, ◌-◌, ◌<◌, ◌≤◌, ◌==◌, Bool, true, false, not, ◌&&◌, cond, List, [], ◌∷◌, Option, Some, None, get_or, length, map, refl, ap, sym, subst, arith, if◌then◌else◌}
 use Rattle.std.specs.Prelude.{All, AllPairs, Contains, IfSome, IsSome, count_by}
 use Rattle.std.specs.Option.{option_map}
 use Rattle.std.proofs.lemmas.Bool.{and_parts, cond_both, eqb-true, eq-eqb}
@@ -16,13 +16,10 @@ use Rattle.fr_base.specs.declared.state.State.TheVariants.{Active, Passive, Halt
 use Rattle.fr_cluster.proofs.Elements.{Contains-here, Contains-there}
 use Rattle.fr_cluster.proofs.KeyNodes.{AllPairs-first, AllPairs-rest}
 use Rattle.fr_cluster.specs.Setting.{Setting}
-use Rattle.fr_cluster.specs.Values.{Values, amount}
-use Rattle.fr_cluster.specs.declared.names.ParamName.TheVariants as name
 use Rattle.fr_frame.specs.Reading.{read_as}
 use Rattle.fr_history.specs.History.{row_of as row_in}
 use Rattle.fr_history.specs.Offers.{arrived_of, is_on}
 use Rattle.fr_node.proofs.Receptions.{answer_received}
-use Rattle.fr_node.specs.Arrivals.{is_outside_slot}
 use Rattle.fr_node.specs.Cycle.{after_hearing}
 use Rattle.fr_node.specs.Receptions.{answer_with, received_as}
 use Rattle.fr_node.specs.View.{NodeView, node_row_of}
@@ -40,7 +37,7 @@ use Rattle.fr_air.specs.Files.{setting_in}
 use Rattle.fr_air.specs.Hearing.{after_offer}
 use Rattle.fr_air.specs.Memory.{MemoryView, frame_on}
 use Rattle.fr_air.specs.Reaching.{can_send, how_many_listen, listening_on, listens, AreRowsApart, IsWholeReach, Reaches, ReachesAll, SendsAmong}
-use Rattle.fr_air.specs.Sending.{hears, offer_at, offer_from, offer_heard, sending_row_by, sent_instant, sent_with}
+use Rattle.fr_air.specs.Sending.{hears, offer_at, offer_from, sending_row_by, sent_instant}
 use Rattle.fr_air.specs.Turns.{offer_on, HaveHeard, IsOnAir}
 use Rattle.fr_air.specs.declared.files.RunInputs.{RunInputs}
 use Rattle.fr_air.specs.declared.reach.Reach.{Reach}
@@ -68,6 +65,15 @@ not_halted : (state : State) → is_active state ≡ true → not (is_halted sta
 not_halted Active is = refl
 not_halted Passive is = refl
 not_halted Halt is = absurd (cc)
+
+-- a node that sends is not halted
+pub awake : (x : Setting) (channel : Channel) (row : NodeRow) → can_send x channel row ≡ true → is_halted row.state ≡ false
+awake x channel row does = by row.state (and_parts _ _ does).0
+  where
+    by : (state : State) → is_active state ≡ true → is_halted state ≡ false
+    by Active is = refl
+    by Passive is = refl
+    by Halt is = absurd (cc)
 
 -- a node that sends can send by its own row, and listens
 sender_can : (x : Setting) (node : ℕ) (channel : Channel) (row : NodeRow) → row.node ≡ node → (is_active row.state && is_on x node channel) ≡ true → can_send x channel row ≡ true

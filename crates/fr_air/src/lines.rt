@@ -1,12 +1,13 @@
-ghost use Rattle.std.specs.Prelude.{◌≡◌, ℕ, ◌+◌, ◌*◌, ◌≤◌, ◌≤ℤ◌, ◌+ℤ◌, ◌-ℤ◌, pos, true};
-ghost use Rattle.fr_cluster.specs.Values.{amount};
+ghost use Rattle.std.specs.Prelude.{◌≡◌, ℕ, ◌+◌, ◌*◌, ◌≤◌, ◌≤ℤ◌, ◌+ℤ◌, ◌-ℤ◌, pos, true, All, IfSome};
+ghost use Rattle.fr_cluster.specs.Values.{amount, Values};
 ghost use Rattle.fr_cluster.specs.declared.names.ParamName.TheVariants as name;
 ghost use Rattle.fr_time.specs.Slots.{slot_start_of};
 ghost use Rattle.fr_base.specs.Within.{IsBetween, IsWithin};
-ghost use Rattle.fr_air.specs.Lines.{ComesInside, IsLine, IsLineOf, IsOnLine, IsRoom, IsRoomOf, LiesInside};
+ghost use Rattle.fr_base.specs.declared.node_row.NodeRow.{NodeRow};
+ghost use Rattle.fr_air.specs.Lines.{ComesInside, IsLine, IsLineOf, IsOnLine, IsRoom, IsRoomOf, IsSight, IsSpread, IsWider, LeavesSlack, LiesIn, LiesInSight};
 ghost use Rattle.fr_air.specs.Sending.{IsEarlyRow};
 
-use fr_base::{NodeRow, Slot};
+use fr_base::{NodeRow, Slot, State};
 use fr_cluster::{ParamName, Params};
 use fr_time::{grid_of, slot_bounds};
 
@@ -29,16 +30,23 @@ pub struct Line {
     pub length: u64,
 }
 
-// Whether a line lies at or below another up to a macrotick: it does so at both ends.
-fn stays_below(low: u64, low_step: u64, high: u64, high_step: u64, last: u64) -> bool
-    requires low { low ≤ 100_000_000_000_000_000 }
-    requires low_step { low_step ≤ 990_000_000_000 }
-    requires high { high ≤ 100_000_000_000_000_000 }
-    requires high_step { high_step ≤ 990_000_000_000 }
-    requires last { last ≤ 16_000 }
-    ensures { (at : ℕ) → result ≡ true → at ≤ last → low + at * low_step ≤ high + at * high_step }
-{
-    low <= high && low + last * low_step <= high + last * high_step
+// Where the cycles of nodes lie: each starts from `low` to `high` ticks behind an instant, and rises by `slow` to `fast`
+// ticks in its macroticks.
+#[derive(Clone, Copy)]
+pub struct Spread {
+    pub base: i64,
+    pub low: u64,
+    pub high: u64,
+    pub slow: u64,
+    pub fast: u64,
+}
+
+// The cycles of nodes beside the slots, and how far a frame may travel, in ticks by the macroticks of a cycle.
+#[derive(Clone, Copy)]
+pub struct Sight {
+    pub room: Room,
+    pub spread: Spread,
+    pub slack: u64,
 }
 
 // How far a line rises in so many macroticks as a cycle has, in ticks.
@@ -50,24 +58,43 @@ fn step_of(line: &Line) -> u64
     line.micros * line.length
 }
 
-// Whether what is sent at the action point of each slot comes inside of the slot, so many ticks later: it does so by
-// more than a microtick in the first and the last slot.
-fn lies_inside(room: &Room, sender: &Line, receiver: &Line, delay: u64) -> bool
-    requires room { IsRoom room.now }
-    requires sender { IsLine sender.now }
-    requires receiver { IsLine receiver.now }
-    requires delay { delay ≤ 1_000_000_000 }
-    ensures { (begin : ℕ) → result ≡ true → begin ≤ room.now.last →
-        LiesInside room.now sender.now receiver.now delay begin }
+// A spread that takes in one more line.
+fn widened(spread: &Spread, line: &Line) -> Spread
+    requires spread { IsSpread spread.now }
+    requires line { IsLine line.now }
+    ensures spread { IsSpread result }
+    ensures wider { IsWider spread.now result }
+    ensures low { result.low ≤ line.now.start }
+    ensures high { line.now.start ≤ result.high }
+    ensures slow { result.slow ≤ line.now.micros * line.now.length }
+    ensures fast { line.now.micros * line.now.length ≤ result.fast }
 {
-    let sent = step_of(sender);
-    let own = step_of(receiver);
-    let begins = room.macros * (receiver.start + sender.length);
-    let acts = room.macros * (sender.start + delay) + room.offset * sent;
-    let acts_late = acts + room.macros * receiver.length;
-    let ends = room.macros * receiver.start + room.slot * own;
-    stays_below(begins, own, acts, sent, room.last)
-        && stays_below(acts_late, sent, ends, own, room.last)
+    let step = step_of(line);
+    Spread {
+        base: spread.base,
+        low: spread.low.min(line.start),
+        high: spread.high.max(line.start),
+        slow: spread.slow.min(step),
+        fast: spread.fast.max(step),
+    }
+}
+
+// How far a frame may travel so that it comes inside of its slot, whichever the nodes and the slot; None where it can't.
+fn slack_of(room: &Room, spread: &Spread) -> Option<u64>
+    requires room { IsRoom room.now }
+    requires spread { IsSpread spread.now }
+    ensures { IfSome result (LeavesSlack room.now spread.now) }
+{
+    let late = room.macros * (spread.high + 1_500_000);
+    let early = room.macros * spread.low;
+    let acts = early + (room.last + room.offset) * spread.slow;
+    let acts_late = late + (room.last + room.offset) * spread.fast;
+    let ends = early + (room.last + room.slot) * spread.slow;
+    if late + room.last * spread.fast <= acts && acts_late <= ends {
+        Some(ends - acts_late)
+    } else {
+        None
+    }
 }
 
 // The macroticks of a cycle.
@@ -131,7 +158,7 @@ fn ticks(delay: i64) -> u64
     delay as u64
 }
 
-// Whether the start of one cycle lies behind that of another by no more than the longest cycle.
+// Whether the start of a cycle lies behind an instant by no more than the longest cycle that a line reaches.
 fn is_near(early: i64, late: i64) -> bool
     requires early { IsBetween (pos 0) (pos 1_110_000_000_000_000_000) early }
     requires late { IsBetween (pos 0) (pos 1_110_000_000_000_000_000) late }
@@ -140,47 +167,80 @@ fn is_near(early: i64, late: i64) -> bool
     early <= late && late - early <= 1_000_000_000_000
 }
 
-// Whether what a sender sends in each static slot comes to a receiver inside of the slot, so many ticks later, where both
-// start soon behind an instant.
-fn comes_from(
-    params: &Params,
-    room: &Room,
-    base: i64,
-    sender: &NodeRow,
-    receiver: &NodeRow,
-    delay: i64,
-) -> bool
-    requires room { IsRoomOf params.now room.now }
-    requires sender { IsOnLine params.now base sender.now }
-    requires receiver { IsOnLine params.now base receiver.now }
-    requires delay { IsBetween (pos 0) (pos 1_000_000_000) delay }
-    ensures { result ≡ true → ComesInside params.now sender.now receiver.now delay }
+// A spread that takes in the line of one more row, unless its node is halted.
+fn with_row(params: &Params, spread: &Spread, row: &NodeRow) -> Option<Spread>
+    requires spread { IsSpread spread.now }
+    requires base { IsBetween (pos 0) (pos 1_110_000_000_000_000_000) spread.now.base }
+    requires row { IsEarlyRow params.now row.now }
+    ensures spread { IfSome result IsSpread }
+    ensures wider { IfSome result (IsWider spread.now) }
+    ensures row { IfSome result (λ wider. LiesInSight params.now wider row.now) }
 {
-    let from = line_of(params, sender, base);
-    let to = line_of(params, receiver, base);
-    let later = ticks(delay);
-    lies_inside(room, &from, &to, later)
+    if matches!(row.state, State::Halt) {
+        return Some(*spread);
+    }
+    if !is_near(spread.base, row.start) {
+        return None;
+    }
+    Some(widened(spread, &line_of(params, row, spread.base)))
 }
 
-// Whether what a sender sends in each static slot comes to a receiver inside of the slot, so many ticks later.
-pub fn comes_inside(
-    params: &Params,
-    room: &Room,
-    sender: &NodeRow,
-    receiver: &NodeRow,
-    delay: i64,
-) -> bool
-    requires room { IsRoomOf params.now room.now }
-    requires sender { IsEarlyRow params.now sender.now }
-    requires receiver { IsEarlyRow params.now receiver.now }
-    requires delay { IsBetween (pos 0) (pos 1_000_000_000) delay }
-    ensures { result ≡ true → ComesInside params.now sender.now receiver.now delay }
+// An instant soon before the starts of rows, if they lie near one another.
+fn base_of(params: &Params, rows: &[NodeRow]) -> i64
+    requires { All (IsEarlyRow params.now) rows.now }
+    ensures { IsBetween (pos 0) (pos 1_110_000_000_000_000_000) result }
 {
-    if sender.start <= receiver.start {
-        is_near(sender.start, receiver.start)
-            && comes_from(params, room, sender.start, sender, receiver, delay)
-    } else {
-        is_near(receiver.start, sender.start)
-            && comes_from(params, room, receiver.start, sender, receiver, delay)
+    if rows.is_empty() || rows[0].start < 500_000_000_000 {
+        return 0;
     }
+    rows[0].start - 500_000_000_000
+}
+
+// The spread of the lines of rows from an instant on; None where one of them starts not soon behind it.
+fn spread_of(params: &Params, base: i64, rows: &[NodeRow]) -> Option<Spread>
+    requires rows { All (IsEarlyRow params.now) rows.now }
+    requires base { IsBetween (pos 0) (pos 1_110_000_000_000_000_000) base }
+    ensures spread { IfSome result IsSpread }
+    ensures rows { IfSome result (λ spread. All (LiesInSight params.now spread) rows.now) }
+{
+    let mut spread = Spread {
+        base,
+        low: 1_000_000_000_000,
+        high: 0,
+        slow: 990_000_000_000,
+        fast: 0,
+    };
+    for row in rows {
+        match with_row(params, &spread, row) {
+            None => return None,
+            Some(wider) => spread = wider,
+        }
+    }
+    Some(spread)
+}
+
+// The cycles of rows beside the slots; None where they lie too far apart for any frame to come inside of its slot.
+pub fn sight_of(params: &Params, rows: &[NodeRow]) -> Option<Sight>
+    requires { All (IsEarlyRow params.now) rows.now }
+    ensures sight { IfSome result (IsSight params.now) }
+    ensures rows { IfSome result (λ sight. All (LiesInSight params.now sight.spread) rows.now) }
+{
+    let room = room_of(params);
+    let spread = spread_of(params, base_of(params, rows), rows)?;
+    let slack = slack_of(&room, &spread)?;
+    Some(Sight {
+        room,
+        spread,
+        slack,
+    })
+}
+
+// Whether what one of these nodes sends in each static slot comes to another inside of the slot, so many ticks later.
+pub fn comes_inside(sight: &Sight, delay: i64) -> bool
+    requires sight { IsRoom sight.now.room }
+    requires delay { IsBetween (pos 0) (pos 1_000_000_000) delay }
+    ensures { (p : Values) (sender receiver : NodeRow) → result ≡ true → IsSight p sight.now →
+        LiesIn p sight.now.spread sender → LiesIn p sight.now.spread receiver → ComesInside p sender receiver delay }
+{
+    sight.room.macros * ticks(delay) <= sight.slack
 }

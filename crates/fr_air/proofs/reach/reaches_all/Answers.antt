@@ -5,9 +5,9 @@ use Rattle.fr_air.specs.Files.{setting_in}
 use Rattle.fr_air.specs.Reaching.{can_send, Reaches}
 use Rattle.fr_air.proofs.reach.reaches_all.Goals as goal
 
-pub returns-then-reaches_if_sent : goal.returns-then-reaches_if_sent
-returns-then-reaches_if_sent c is = by
+pub returns-then-reaches_each : goal.returns-then-reaches_each
+returns-then-reaches_each c is = by
   where
     by : (channel : Channel) → can_send (setting_in c.args.files.now) channel c.args.sender.now ≡ true → All (Reaches c.args.files.now c.args.cycle c.args.sender.now channel) c.args.rows.now
-    by A = c.reaches_if_sent.ensures c.if-reaches_if_sent.true
-    by B = c.reaches_if_sent-then-reaches_if_sent.ensures is
+    by A = c.reaches_each.ensures c.if-reaches_each.true
+    by B = c.reaches_each-then-reaches_each.ensures is

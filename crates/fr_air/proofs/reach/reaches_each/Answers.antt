@@ -12,7 +12,7 @@ loop-row-preserved c =
     (subst Has c.row-item.is (c.reaches.ensures c.if-not-reaches.false))
 
 pub returns : goal.returns
-returns c held =
+returns c held can =
     let rows = c.args.rows.now in
     let done : length rows ≤ c.loop-row.row-index = omega arith in
     let Has : List NodeRow → Type 0 = All (Reaches c.args.files.now c.args.cycle c.args.sender.now c.args.channel) in
