@@ -196,34 +196,41 @@ class SharpReport:
 
 class SeriesCycle(NamedTuple):
     """A cycle of a series: whether its double cycle is in sync, and its greatest skew, which is 0 at macrotick 0 where no node
-    runs. `sharp` is whether it is in sharp sync, None in a series that was not asked for it."""
+    runs. `sharp` is whether it is in sharp sync, `heard` whether no frames are lost in it, `bound` its number in ticks where the run is
+    covered through losses; None in a series that was not asked for them."""
 
     cycle: int
     in_sync: bool
     skew: int
     macrotick: int
     sharp: bool | None = None
+    heard: bool | None = None
+    bound: int | None = None
 
 
 class SeriesCycles(Sequence[SeriesCycle]):
-    """The cycles of a series, one by one; and by its columns, each a tuple with a value of each cycle. `sharp` is empty in a series
-    that was not asked for it."""
+    """The cycles of a series, one by one; and by its columns, each a tuple with a value of each cycle. `sharp`, `heard` and `bounds`
+    are empty in a series that was not asked for them."""
 
-    __slots__ = ("in_sync", "skews", "macroticks", "sharp")
+    __slots__ = ("in_sync", "skews", "macroticks", "sharp", "heard", "bounds")
 
     def __init__(self, in_sync: tuple[bool, ...], skews: tuple[int, ...], macroticks: tuple[int, ...],
-                 sharp: tuple[bool, ...] = ()) -> None:
-        self.in_sync, self.skews, self.macroticks, self.sharp = in_sync, skews, macroticks, sharp
+                 sharp: tuple[bool, ...] = (), heard: tuple[bool, ...] = (), bounds: tuple[int | None, ...] = ()) -> None:
+        self.in_sync, self.skews, self.macroticks = in_sync, skews, macroticks
+        self.sharp, self.heard, self.bounds = sharp, heard, bounds
 
     @property
-    def columns(self) -> tuple[tuple[bool, ...], tuple[int, ...], tuple[int, ...], tuple[bool, ...]]:
-        return self.in_sync, self.skews, self.macroticks, self.sharp
+    def columns(self) -> tuple[tuple[bool, ...], tuple[int, ...], tuple[int, ...], tuple[bool, ...], tuple[bool, ...],
+                               tuple[int | None, ...]]:
+        return self.in_sync, self.skews, self.macroticks, self.sharp, self.heard, self.bounds
 
     def __len__(self) -> int:
         return len(self.skews)
 
     def __iter__(self) -> Iterator[SeriesCycle]:
-        return map(SeriesCycle, range(len(self.skews)), self.in_sync, self.skews, self.macroticks, self.sharp or [None] * len(self.skews))
+        none = [None] * len(self.skews)
+        return map(SeriesCycle, range(len(self.skews)), self.in_sync, self.skews, self.macroticks, self.sharp or none, self.heard or none,
+                   self.bounds or none)
 
     @overload
     def __getitem__(self, at: int) -> SeriesCycle: ...
@@ -237,7 +244,8 @@ class SeriesCycles(Sequence[SeriesCycle]):
 
     def _of(self, cycle: int) -> SeriesCycle:
         return SeriesCycle(cycle, self.in_sync[cycle], self.skews[cycle], self.macroticks[cycle],
-                           self.sharp[cycle] if self.sharp else None)
+                           self.sharp[cycle] if self.sharp else None, self.heard[cycle] if self.heard else None,
+                           self.bounds[cycle] if self.bounds else None)
 
     def __eq__(self, other: object) -> bool:
         return isinstance(other, SeriesCycles) and self.columns == other.columns

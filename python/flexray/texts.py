@@ -182,7 +182,7 @@ def series(text: str) -> Series:
     return Series(text, cycles, *_ends(lines, ""))
 
 
-TRUTHS = frozenset(("yes", "no"))
+TRUTHS, HEARD = frozenset(("yes", "no")), frozenset(("all", "any"))
 
 
 def _cycles(text: str, head: str, width: int) -> tuple[SeriesCycles, _Lines]:
@@ -198,12 +198,16 @@ def _cycles(text: str, head: str, width: int) -> tuple[SeriesCycles, _Lines]:
     words = rows.replace("\n", ",\n,").split(",")
     columns = [words[at:-1:width + 1] for at in range(width + 1)]
     numbers, in_sync, skews, macroticks = columns[:4]
-    sharp, feeds = columns[4:width], columns[width]
-    if (words[-1] or len(words) != (width + 1) * len(numbers) + 1 or set(feeds) - {"\n"} or not TRUTHS.issuperset(sum(sharp, in_sync))
-            or numbers != _numbers_to(len(numbers)) or not (_are_digits(skews) and _are_digits(macroticks))):
+    (sharp, heard, bounds), feeds = columns[4:width] or ([], [], []), columns[width]
+    # A run that is not covered through losses has no number in any double cycle.
+    unbound = bounds == ["-"] * len(bounds)
+    if (words[-1] or len(words) != (width + 1) * len(numbers) + 1 or set(feeds) - {"\n"} or not TRUTHS.issuperset(in_sync + sharp)
+            or not HEARD.issuperset(heard) or numbers != _numbers_to(len(numbers))
+            or not (_are_digits(skews) and _are_digits(macroticks) and (unbound or _are_digits(bounds)))):
         raise Strange(_strange_row(rows, width))
     return (SeriesCycles(tuple([word == "yes" for word in in_sync]), tuple(map(int, skews)), tuple(map(int, macroticks)),
-                         tuple([word == "yes" for column in sharp for word in column])), _Lines(text[end:]))
+                         tuple([word == "yes" for word in sharp]), tuple([word == "all" for word in heard]),
+                         (None,) * len(bounds) if unbound else tuple(map(int, bounds))), _Lines(text[end:]))
 
 
 @functools.lru_cache(maxsize=1)
@@ -220,7 +224,7 @@ def _are_digits(column: list[str]) -> bool:
 
 def _strange_row(rows: str, width: int) -> str:
     """The first of these rows that has not its form."""
-    form = r"(\d+),(?:yes|no),\d+,\d+" + (",(?:yes|no)" if width > 4 else "")
+    form = r"(\d+),(?:yes|no),\d+,\d+" + (r",(?:yes|no),(?:all|any),(?:-|\d+)" if width > 4 else "")
     lines = rows.split("\n")
     matches = (re.fullmatch(form, line, re.ASCII) for line in lines)
     return next((line for at, (line, found) in enumerate(zip(lines, matches)) if not found or found[1] != str(at)), lines[-1])
@@ -234,7 +238,7 @@ def _ends(lines: _Lines, comma: str) -> tuple[Skew | None, bool, int | None, boo
 
 
 def sharp_series(text: str) -> SharpSeries:
-    cycles, lines = _cycles(text, "cycle,in_sync,skew,macrotick,sharp\n", 5)
+    cycles, lines = _cycles(text, "cycle,in_sync,skew,macrotick,sharp,heard,bound\n", 7)
     ends = _ends(lines, ",")
     flutter = lines.one(r"flutter,(\d+),,,")
     precision, kind = lines.take(r"sharp,(\d+),(alone|beside),,")

@@ -135,11 +135,11 @@ class Bench(unittest.TestCase):
     def series_of(self, skew, *last):
         """A flexray-series that answers of the example with this skew of each cycle in ticks, and these last lines. Sync and sharp
         sync are in step with the program's trace, and what else is told of sharp sync is so."""
-        rows = "".join(f"{cycle},{'no' if cycle < 2 else 'yes'},{ticks},9,{'no' if cycle < 4 else 'yes'}\n"
+        rows = "".join(f"{cycle},{'no' if cycle < 2 else 'yes'},{ticks},9,{'no' if cycle < 4 else 'yes'},all,-\n"
                        for cycle, ticks in enumerate(skew))
         sharp = ("flutter,0,,,", "sharp,150237926,beside,,", "sharp covered,yes,,,", "sharp synced,2,on,,",
                  f"sharp greatest,{max(skew[4:])},4,9,", "sharp within,yes,,,", "lost,0,-,-,-")
-        self.write("series.txt", "cycle,in_sync,skew,macrotick,sharp\n" + rows + "".join(f"{line}\n" for line in last + sharp))
+        self.write("series.txt", "cycle,in_sync,skew,macrotick,sharp,heard,bound\n" + rows + "".join(f"{line}\n" for line in last + sharp))
         path = self.write("series", f"#!/bin/sh\ncat {self.path('series.txt')}\n")
         os.chmod(path, 0o755)
         return {"FLEXRAY_SERIES": path}

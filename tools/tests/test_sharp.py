@@ -512,11 +512,13 @@ class Losses(Case):
             with self.subTest(lost=lost):
                 self.assertEqual(told.losses, (len(lost), max(lost, default=None), *bound))
                 self.assertEqual(told.sharp_covered, not lost)
+                self.assertEqual(told.cycles.heard[::2], tuple(double not in lost for double in range(doubles)))
+                self.assertEqual(told.cycles.bounds[1::2], tuple(apart) if bound[0] else (None,) * doubles)
 
 
 class Reading(unittest.TestCase):
     def test_what_is_not_understood(self):
-        for text in ("", "cycle,in_sync,skew,macrotick,sharp\n0,no,1,2\n", "flutter,-,,,\n"):
+        for text in ("", "cycle,in_sync,skew,macrotick,sharp,heard,bound\n0,no,1,2\n", "flutter,-,,,\n"):
             with self.subTest(text=text), self.assertRaises(Stop) as ended:
                 report.read_series(text)
             self.assertIn("flexray printed a series that is not understood: ", ended.exception.line)

@@ -45,9 +45,9 @@ pub(crate) const HELD_FILES: &[File] = &[
 ];
 
 pub(crate) const HELD_FOR_NONE: &str = "\
-cycle,in_sync,skew,macrotick,sharp\n\
-0,yes,0,0,yes\n\
-1,yes,0,0,yes\n\
+cycle,in_sync,skew,macrotick,sharp,heard,bound\n\
+0,yes,0,0,yes,all,-\n\
+1,yes,0,0,yes,all,-\n\
 greatest,0,0,0,\n\
 synced,yes,,,\n\
 within,yes,,,\n\
@@ -122,13 +122,13 @@ within,-,,\n\
             LATE_FILES,
             Done,
             "\
-cycle,in_sync,skew,macrotick,sharp\n\
-0,yes,0,0,yes\n\
-1,yes,0,0,yes\n\
-2,no,299940000,4999,no\n\
-3,no,594000000,4900,no\n\
-4,no,0,0,no\n\
-5,no,0,0,no\n\
+cycle,in_sync,skew,macrotick,sharp,heard,bound\n\
+0,yes,0,0,yes,all,-\n\
+1,yes,0,0,yes,all,-\n\
+2,no,299940000,4999,no,all,-\n\
+3,no,594000000,4900,no,all,-\n\
+4,no,0,0,no,all,-\n\
+5,no,0,0,no,all,-\n\
 greatest,594000000,3,4900,\n\
 synced,no,1,,\n\
 within,no,2,4201,\n\
@@ -150,11 +150,11 @@ lost,0,-,-,-\n\
             APART_FILES,
             WriteFault,
             "\
-cycle,in_sync,skew,macrotick,sharp\n\
-0,no,39992000,4999,no\n\
-1,no,79200000,4900,no\n\
-2,yes,48991900,4999,no\n\
-3,yes,56495900,4687,no\n\
+cycle,in_sync,skew,macrotick,sharp,heard,bound\n\
+0,no,39992000,4999,no,all,39007594\n\
+1,no,79200000,4900,no,all,39007594\n\
+2,yes,48991900,4999,no,all,39007594\n\
+3,yes,56495900,4687,no,all,39007594\n\
 greatest,56495900,3,4687,\n\
 synced,yes,,,\n\
 within,yes,,,\n\

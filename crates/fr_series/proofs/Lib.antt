@@ -14,7 +14,6 @@ pub mod SharpStaying
 pub mod SharpWorlds
 pub mod SharpFigures
 pub mod SharpPlaces
-pub mod SharpReports
 pub mod SeriesFigures
 pub mod Stops
 pub mod CyclePeaks

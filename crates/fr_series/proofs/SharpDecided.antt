@@ -11,5 +11,5 @@ use Rattle.fr_series.specs.SharpText.{sharp_series_by}
 pub same_sharp_series : OneRun → (p : Values) (d : DriftView) (s : ScriptView) (text again : List ℕ) → IsSharpSeriesText p d s text → IsSharpSeriesText p d s again → text ≡ again
 same_sharp_series one p d s text again found more =
     found.shown
-    ∙ ap (sharp_series_by p (basis_of p d s)) (one_whole one p d s found.cycles more.cycles found.lawful found.whole more.lawful more.whole)
+    ∙ ap (sharp_series_by p s (basis_of p d s)) (one_whole one p d s found.cycles more.cycles found.lawful found.whole more.lawful more.whole)
     ∙ sym more.shown

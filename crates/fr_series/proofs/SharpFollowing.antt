@@ -1,5 +1,5 @@
 -- The sharper figures and the sharper text of some cycles and of one more double cycle.
-use Rattle.std.proofs.Common.{◌≡◌, ◌∙◌, ℕ, ◌+◌, ◌*◌, Bool, true, false, not, ◌&&◌, ◌||◌, List, [], ◌∷◌, length, Option, Some, None, refl, ap, ap₂, sym, arith}
+use Rattle.std.proofs.Common.{◌≡◌, ◌∙◌, ℕ, ◌+◌, ◌*◌, ◌/◌, Bool, true, false, not, ◌&&◌, ◌||◌, List, [], ◌∷◌, length, Option, Some, None, refl, ap, ap₂, sym, arith}
 use Rattle.fr_base.specs.declared.node_row.NodeRow.{NodeRow}
 use Rattle.fr_cluster.specs.Setting.{Setting}
 use Rattle.fr_cluster.specs.Values.{Values}
@@ -17,6 +17,7 @@ use Rattle.fr_series.specs.Figures.{figures_by, lost_by}
 use Rattle.fr_series.specs.Scale.{next_synced}
 use Rattle.fr_series.specs.SharpText.{sharp_double_by, sharp_rows}
 use Rattle.fr_series.specs.declared.figures.Figures.{Figures}
+use Rattle.fr_series.specs.declared.kept.Kept.{Kept}
 use Rattle.fr_series.specs.declared.tally.Tally.{Tally}
 use Rattle.fr_series.proofs.Doubles.{GrowsBy, cycles-two, followed_at, rows_at}
 use Rattle.fr_series.proofs.Following.{IsNoLater, figures-none, figures_by-next}
@@ -79,10 +80,10 @@ tally-none beside p flutter tally older sharp =
 -- ---- the text
 
 -- what a double cycle adds
-abbrev pub sharp_double : Bool → Values → ℕ → ℕ → List NodeRow → List NodeRow → List ℕ
-sharp_double beside p flutter cycle even odd =
-    sharp_double_by (grid_for p) (are_in_sync (sync_bounds_of p) even odd) (is_in_sharp_sync beside p flutter even odd) cycle even odd
+abbrev pub sharp_double : (ℕ → Kept) → Bool → Values → ℕ → ℕ → List NodeRow → List NodeRow → List ℕ
+sharp_double kept beside p flutter cycle even odd =
+    sharp_double_by (grid_for p) (are_in_sync (sync_bounds_of p) even odd) (is_in_sharp_sync beside p flutter even odd) (kept (cycle / 2)) cycle even odd
 
-pub sharp_grows : (beside : Bool) (p : Values) (flutter : ℕ) → GrowsBy (sharp_rows beside p flutter) (sharp_double beside p flutter)
+pub sharp_grows : (kept : ℕ → Kept) (beside : Bool) (p : Values) (flutter : ℕ) → GrowsBy (sharp_rows kept beside p flutter) (sharp_double kept beside p flutter)
 unfolding sharp_rows
-sharp_grows beside p flutter = record { none = refl; two = λ h even odd. rw (in_sync_is p even.rows odd.rows) refl }
+sharp_grows kept beside p flutter = record { none = refl; two = λ h even odd. rw (in_sync_is p even.rows odd.rows) refl }

@@ -11,8 +11,6 @@ pub mod SharpAnswer
 pub mod SharpCovered
 pub mod SharpLosses
 pub mod SharpMeaning
-pub mod SharpReport
-pub mod SharpReportAnswer
 pub mod SharpText
 pub mod Stopping
 pub mod Statuses

@@ -49,7 +49,7 @@ pub record IsSharpSeriesText (params : Values) (drift : DriftView) (script : Scr
   pub cycles : Cycles
   pub lawful : IsLawful (setting_of params drift script) cycles
   pub whole : length cycles ≡ 2 * doubles_of drift
-  pub shown : text ≡ sharp_series_by params (basis_of params drift script) cycles
+  pub shown : text ≡ sharp_series_by params script (basis_of params drift script) cycles
   pub covered :
       (first_sharp_gap params drift script (flutter_of params drift script) ≡ None)
       ↔ IsCoveredSharply params drift script (flutter_of params drift script)

@@ -1,5 +1,5 @@
--- What a sharper series and a report tell of what a run loses, and what that means.
-use Rattle.std.specs.Prelude.{◌≡◌, ◌↔◌, ◌+◌, ◌<◌, ℕ, pos, Bool, true, false, List, ◌++◌, codes, Option, Some, None}
+-- What a sharper series tells of what a run loses, and what that means.
+use Rattle.std.specs.Prelude.{◌≡◌, ◌↔◌, ◌+◌, ◌<◌, ℕ, pos, Bool, true, false, List, ◌++◌, codes, Option, Some, None, if◌then◌else◌}
 use Rattle.std.specs.Fmt.{decimal}
 use Rattle.fr_cluster.specs.Values.{Values}
 use Rattle.fr_coverage.specs.Coverage.{gap_of_run}
@@ -15,8 +15,32 @@ use Rattle.fr_sharp.specs.LossStatement.{whole_in, IsCoveredThroughLosses}
 use Rattle.fr_sharp.specs.SharpHistories.{IsInSharpSyncAt, KeepsApart}
 use Rattle.fr_sharp.specs.SharpRun.{WalkLastsAfter}
 use Rattle.fr_series.specs.declared.basis.Basis.{Basis}
+use Rattle.fr_series.specs.declared.kept.Kept.{Kept}
+
+-- ---- what a double cycle keeps
+
+-- a number, where the run is covered through losses
+abbrev pub bound_of : Bool → ℕ → Option ℕ
+bound_of through apart = if through then Some apart else None
+
+-- whether all is heard in a double cycle, and its number by what was heard since the first
+abbrev pub kept_by : Values → ScriptView → Basis → ℕ → Kept
+kept_by p s basis double = record {
+  heard = whole_in p s double;
+  bound = bound_of basis.through (lost_apart p basis.flutter (whole_in p s) double);
+}
 
 -- ---- the texts
+
+-- whether all is heard in a double cycle
+abbrev pub all_or_any : Bool → List ℕ
+all_or_any true = codes "all"
+all_or_any false = codes "any"
+
+-- its number, in ticks; none where the run is not covered through losses
+abbrev pub bound_or_none : Option ℕ → List ℕ
+bound_or_none None = codes "-"
+bound_or_none (Some ticks) = decimal ticks
 
 -- the last double cycle that loses frames, if one does
 abbrev pub last_lost_text : Option ℕ → List ℕ
@@ -33,16 +57,6 @@ abbrev pub lost_text : Basis → List ℕ
 lost_text basis =
     codes "lost," ++ decimal basis.lost ++ codes "," ++ last_lost_text basis.last_lost ++ codes ","
     ++ lost_bound_text basis.through basis.peak basis.place
-
--- in a report
-abbrev pub lost_bound_told : Bool → ℕ → ℕ → List ℕ
-lost_bound_told false peak place = codes "-"
-lost_bound_told true peak place = decimal peak ++ codes " double " ++ decimal place
-
-abbrev pub lost_told : Basis → List ℕ
-lost_told basis =
-    codes "sharp lost " ++ decimal basis.lost ++ codes " last " ++ last_lost_text basis.last_lost ++ codes " bound "
-    ++ lost_bound_told basis.through basis.peak basis.place
 
 -- ---- what they mean
 

@@ -1,5 +1,5 @@
 -- The sharper series of a run as a text, line by line.
-use Rattle.std.specs.Prelude.{ℕ, ℤ, ◌+◌, ◌*◌, Bool, true, false, List, [], ◌∷◌, ◌++◌, codes, length, Option, Some, None}
+use Rattle.std.specs.Prelude.{ℕ, ℤ, ◌+◌, ◌*◌, ◌/◌, Bool, true, false, List, [], ◌∷◌, ◌++◌, codes, length, Option, Some, None}
 use Rattle.std.specs.Fmt.{decimal, signed_decimal}
 use Rattle.fr_base.specs.declared.node_row.NodeRow.{NodeRow}
 use Rattle.fr_bound.specs.Sync.{is_in_sync}
@@ -20,35 +20,39 @@ use Rattle.fr_text.specs.Pieces.{line}
 use Rattle.fr_sharp.specs.SharpTested.{is_in_sharp_sync}
 use Rattle.fr_series.specs.Basis.{basis_of, tally_of}
 use Rattle.fr_series.specs.Scale.{peak_by}
-use Rattle.fr_series.specs.SharpLosses.{lost_text}
+use Rattle.fr_series.specs.SharpLosses.{bound_or_none, all_or_any, kept_by, lost_text}
 use Rattle.fr_series.specs.SeriesText.{above_text, greatest_text, series_head, series_row, synced_text, within_text, yes_or_no}
 use Rattle.fr_series.specs.declared.basis.Basis.{Basis}
+use Rattle.fr_series.specs.declared.kept.Kept.{Kept}
 use Rattle.fr_series.specs.declared.tally.Tally.{Tally}
 
--- ---- the cycles: as in a series, with one column more
+-- ---- the cycles: as in a series, with three columns more
 
 abbrev pub sharp_head : List ℕ
-sharp_head = series_head ++ codes ",sharp"
+sharp_head = series_head ++ codes ",sharp,heard,bound"
 
--- whether the double cycle of a cycle is in sharp sync
-abbrev pub sharp_row : ℕ → Bool → Bool → Option Peak → List ℕ
-sharp_row cycle in_sync sharp peak = series_row cycle in_sync peak ++ codes "," ++ yes_or_no sharp
+-- whether the double cycle of a cycle is in sharp sync, whether all is heard in it, and how far macroticks may lie apart in it
+abbrev pub sharp_row : ℕ → Bool → Bool → Kept → Option Peak → List ℕ
+sharp_row cycle in_sync sharp kept peak =
+    series_row cycle in_sync peak ++ codes "," ++ yes_or_no sharp
+    ++ codes "," ++ all_or_any kept.heard ++ codes "," ++ bound_or_none kept.bound
 
-abbrev pub sharp_double_by : Grid → Bool → Bool → ℕ → List NodeRow → List NodeRow → List ℕ
-sharp_double_by grid in_sync sharp cycle even odd =
-    line (sharp_row cycle in_sync sharp (peak_by grid cycle even))
-    ++ line (sharp_row (cycle + 1) in_sync sharp (peak_by grid (cycle + 1) odd))
+abbrev pub sharp_double_by : Grid → Bool → Bool → Kept → ℕ → List NodeRow → List NodeRow → List ℕ
+sharp_double_by grid in_sync sharp kept cycle even odd =
+    line (sharp_row cycle in_sync sharp kept (peak_by grid cycle even))
+    ++ line (sharp_row (cycle + 1) in_sync sharp kept (peak_by grid (cycle + 1) odd))
 
-abbrev pub sharp_double_text : Bool → Values → ℕ → ℕ → Record → Record → List ℕ
-sharp_double_text beside p flutter cycle even odd =
-    sharp_double_by (grid_for p) (is_in_sync p even.rows odd.rows) (is_in_sharp_sync beside p flutter even.rows odd.rows) cycle even.rows odd.rows
+abbrev pub sharp_double_text : (ℕ → Kept) → Bool → Values → ℕ → ℕ → Record → Record → List ℕ
+sharp_double_text kept beside p flutter cycle even odd =
+    sharp_double_by (grid_for p) (is_in_sync p even.rows odd.rows) (is_in_sharp_sync beside p flutter even.rows odd.rows) (kept (cycle / 2))
+    cycle even.rows odd.rows
 
--- the cycles of a history of whole double cycles
-unfoldable pub sharp_rows : Bool → Values → ℕ → History → List ℕ
-sharp_rows beside p flutter [] = []
-sharp_rows beside p flutter (r ∷ []) = []
-sharp_rows beside p flutter (odd ∷ even ∷ h) =
-    sharp_rows beside p flutter h ++ sharp_double_text beside p flutter (length h) even odd
+-- the cycles of a history of whole double cycles, by what each of these hears and keeps
+unfoldable pub sharp_rows : (ℕ → Kept) → Bool → Values → ℕ → History → List ℕ
+sharp_rows kept beside p flutter [] = []
+sharp_rows kept beside p flutter (r ∷ []) = []
+sharp_rows kept beside p flutter (odd ∷ even ∷ h) =
+    sharp_rows kept beside p flutter h ++ sharp_double_text kept beside p flutter (length h) even odd
 
 -- ---- the lines at the end
 
@@ -106,13 +110,13 @@ sharp_end basis tally =
     ++ line (lost_text basis)
 
 -- the sharper series of some cycles
-unfoldable pub sharp_series_by : Values → Basis → Cycles → List ℕ
-sharp_series_by p basis h =
+unfoldable pub sharp_series_by : Values → ScriptView → Basis → Cycles → List ℕ
+sharp_series_by p s basis h =
     line sharp_head
-    ++ sharp_rows basis.beside p basis.flutter (told_of h)
+    ++ sharp_rows (kept_by p s basis) basis.beside p basis.flutter (told_of h)
     ++ older_end (tally_of basis.beside p basis.flutter h)
     ++ sharp_end basis (tally_of basis.beside p basis.flutter h)
 
 -- that of the run of some parameters, a drift and a script, over all its cycles
 abbrev pub sharp_series_text : Values → DriftView → ScriptView → List ℕ
-sharp_series_text p d s = sharp_series_by p (basis_of p d s) (cycles_of (setting_of p d s) (2 * doubles_of d))
+sharp_series_text p d s = sharp_series_by p s (basis_of p d s) (cycles_of (setting_of p d s) (2 * doubles_of d))

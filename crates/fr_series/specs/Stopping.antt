@@ -9,6 +9,7 @@ use Rattle.fr_text.specs.Pieces.{line}
 use Rattle.fr_world.specs.World.{WorldView, setting_after}
 use Rattle.fr_series.specs.Basis.{basis_of}
 use Rattle.fr_series.specs.SeriesText.{series_head, series_rows, series_text}
+use Rattle.fr_series.specs.SharpLosses.{kept_by}
 use Rattle.fr_series.specs.SharpText.{sharp_head, sharp_rows, sharp_series_text}
 use Rattle.fr_series.specs.declared.basis.Basis.{Basis}
 
@@ -62,7 +63,8 @@ SeriesEnds result w after before now = WritingEnds (line series_head) (rows_befo
 
 -- the same lines of a sharper series, and what became of the world whose sharper series is written
 abbrev pub sharp_rows_before : Basis → WorldView → ℕ → List ℕ
-sharp_rows_before basis w double = sharp_rows basis.beside w.params basis.flutter (told_of (cycles_of (setting_after w) (2 * double)))
+sharp_rows_before basis w double =
+    sharp_rows (kept_by w.params w.script basis) basis.beside w.params basis.flutter (told_of (cycles_of (setting_after w) (2 * double)))
 
 abbrev pub SharpSeriesEnds : Result (Unit {0}) PutFault → WorldView → WorldView → Sunk → Sunk → Type 0
 SharpSeriesEnds result w after before now =

@@ -9,6 +9,7 @@ use Rattle.fr_world.specs.World.{WorldView, setting_after}
 use Rattle.fr_series.specs.SeriesText.{double_by}
 use Rattle.fr_series.specs.SharpText.{sharp_double_by}
 use Rattle.fr_series.specs.declared.basis.Scales.{Scales}
+use Rattle.fr_series.specs.declared.kept.Kept.{Kept}
 use Rattle.fr_series.specs.declared.scale.Scale.{Scale}
 
 -- a world has run all cycles before a double cycle, and that one is still to be run; its number is small
@@ -33,7 +34,7 @@ abbrev pub text_of_double : Scale → ℕ → List NodeRow → List NodeRow → 
 text_of_double scale double even odd = double_by scale.grid (are_in_sync scale.bounds even odd) (2 * double) even odd
 
 -- that of a sharper series
-abbrev pub sharp_text_of_double : Scales → ℕ → List NodeRow → List NodeRow → List ℕ
-sharp_text_of_double scales double even odd =
+abbrev pub sharp_text_of_double : Scales → Kept → ℕ → List NodeRow → List NodeRow → List ℕ
+sharp_text_of_double scales kept double even odd =
     sharp_double_by scales.older.grid (are_in_sync scales.older.bounds even odd) (are_in_sync_by_even scales.sharp.bounds even odd)
-    (2 * double) even odd
+    kept (2 * double) even odd

@@ -56,6 +56,7 @@ impl Basis {
     pub fn of(params: &Params, drift: &Drift, script: &Script) -> Basis
         ensures value { result ≡ basis_of params.now drift.now script.now }
         ensures proper { AreScales (grid_for params.now) result.scales }
+        ensures flutter { result.flutter ≤ most_flutter }
     {
         let flutter = flutter(params, drift, script);
         let beside = has_arbitrary(params, script);

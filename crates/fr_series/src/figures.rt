@@ -32,8 +32,8 @@ impl Figures {
         }
     }
 
-    // The figures after one more double cycle, by whether it is in sync and whether a node follows in it.
-    pub(crate) fn followed(
+    /// The figures after one more double cycle, by whether it is in sync and whether a node follows in it.
+    pub fn followed(
         self,
         scale: &Scale,
         double: u32,

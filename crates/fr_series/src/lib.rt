@@ -1,21 +1,18 @@
-//! What is printed of a run cycle by cycle: its series, and the command `flexray-series`; and its report by sharper bounds.
+//! What is printed of a run cycle by cycle: its series, and the command `flexray-series`.
 #![tactic(auto)]
 
 mod basis;
 mod figure_laws;
 mod figures;
+mod kept;
 mod laws;
 mod lines;
-mod report_lines;
 mod request;
 mod scale;
 mod series;
 mod sharp_covered;
-mod sharp_gathering;
 mod sharp_laws;
 mod sharp_lines;
-mod sharp_report;
-mod sharp_report_laws;
 mod sharp_series;
 mod sharp_writing;
 mod spread;
@@ -29,19 +26,18 @@ pub use basis::{Basis, Scales};
 pub use figure_laws::the_peak_of_a_cycle_is_told;
 pub use figures::Figures;
 pub use fr_text::Status;
+pub use kept::Kept;
 pub use laws::{a_covered_run_stays_in_sync, a_series_is_lawful, files_decide_the_series};
 pub use request::{Request, request_of};
 pub use scale::Scale;
 pub use series::answer_series;
-pub use sharp_gathering::write_sharp_report;
 pub use sharp_laws::{
     a_covered_run_stays_in_sharp_sync, a_gap_is_told, a_sharp_series_is_lawful,
     files_decide_the_sharp_series,
 };
-pub use sharp_report::answer_sharp_report;
-pub use sharp_report_laws::{a_sharp_report_is_lawful, files_decide_the_sharp_report};
+pub use sharp_lines::{kind, last_piece, lasts_piece};
 pub use sharp_series::answer_sharp_series;
-pub use sharp_writing::write_sharp_series;
+pub use sharp_writing::{are_in_sharp_sync, write_sharp_series};
 pub use status_laws::{a_series_has_one_status, each_series_request_has_one_status};
 pub use tally::Tally;
 pub use top::flexray_series;

@@ -37,7 +37,7 @@ pub(crate) fn cycle_line(cycle: u32, in_sync: bool, peak: Option<Peak>) -> Line
     }
 }
 
-pub(crate) fn yes_or_no(is: bool) -> Piece<'static>
+pub(crate) fn yes_or_no<'a>(is: bool) -> Piece<'a>
     ensures { Spells result (yes_or_no is) 3 }
 {
     if is { Word(b"yes") } else { Word(b"no") }

@@ -1,5 +1,6 @@
-ghost use Rattle.std.specs.Prelude.{◌≡◌, ◌++◌, ◌≤◌, codes, length};
-ghost use Rattle.fr_series.specs.SharpLosses.{last_lost_text, lost_text};
+ghost use Rattle.std.specs.Prelude.{◌≡◌, ◌++◌, ◌≤◌, codes, length, IfSome};
+ghost use Rattle.std.specs.Fmt.{decimal};
+ghost use Rattle.fr_series.specs.SharpLosses.{bound_or_none, all_or_any, last_lost_text, lost_text};
 ghost use Rattle.fr_series.specs.SeriesText.{above_text, greatest_text, synced_text, within_text};
 ghost use Rattle.fr_series.specs.SharpText.{beside_or_alone, doubles_or_on, flutter_text, older_end, sharp_covered_text, sharp_end};
 ghost use Rattle.fr_series.specs.SharpText.{sharp_head, sharp_precision_text, sharp_row, sharp_synced_text};
@@ -7,6 +8,7 @@ ghost use Rattle.fr_text.specs.Lines.{joined_lines};
 ghost use Rattle.fr_text.specs.Pieces.{Spells, line};
 
 use crate::basis::Basis;
+use crate::kept::Kept;
 use crate::lines::yes_or_no;
 use crate::tally::Tally;
 use fr_coverage::{Gap, gap_line};
@@ -18,12 +20,21 @@ use fr_text::{Line, Piece, line_of};
 pub(crate) fn sharp_head_line() -> Line
     ensures { result ≡ line sharp_head }
 {
-    line_of(&[Word(b"cycle,in_sync,skew,macrotick,sharp")])
+    line_of(&[Word(b"cycle,in_sync,skew,macrotick,sharp,heard,bound")])
 }
 
-pub(crate) fn sharp_cycle_line(cycle: u32, in_sync: bool, sharp: bool, peak: Option<Peak>) -> Line
-    ensures { result ≡ line (sharp_row cycle in_sync sharp peak) }
+pub(crate) fn sharp_cycle_line(
+    cycle: u32,
+    in_sync: bool,
+    sharp: bool,
+    kept: Kept,
+    peak: Option<Peak>,
+) -> Line
+    ensures { result ≡ line (sharp_row cycle in_sync sharp kept peak) }
 {
+    let digits = digits_of(kept.bound);
+    let bound = bound_piece(kept.bound, &digits);
+    let heard = heard_piece(kept.heard);
     match peak {
         None => line_of(&[
             Natural(u64::from(cycle)),
@@ -31,6 +42,10 @@ pub(crate) fn sharp_cycle_line(cycle: u32, in_sync: bool, sharp: bool, peak: Opt
             yes_or_no(in_sync),
             Word(b",-,-,"),
             yes_or_no(sharp),
+            Word(b","),
+            heard,
+            Word(b","),
+            bound,
         ]),
         Some(peak) => line_of(&[
             Natural(u64::from(cycle)),
@@ -42,7 +57,36 @@ pub(crate) fn sharp_cycle_line(cycle: u32, in_sync: bool, sharp: bool, peak: Opt
             Natural(u64::from(peak.macrotick)),
             Word(b","),
             yes_or_no(sharp),
+            Word(b","),
+            heard,
+            Word(b","),
+            bound,
         ]),
+    }
+}
+
+fn heard_piece<'a>(heard: bool) -> Piece<'a>
+    ensures { Spells result (all_or_any heard) 3 }
+{
+    if heard { Word(b"all") } else { Word(b"any") }
+}
+
+fn digits_of(bound: Option<u128>) -> Digits
+    ensures { IfSome bound (λ ticks. result ≡ decimal ticks) }
+{
+    match bound {
+        None => Digits::of(0),
+        Some(ticks) => Digits::of(ticks),
+    }
+}
+
+fn bound_piece<'a>(bound: Option<u128>, digits: &'a Digits) -> Piece<'a>
+    requires { IfSome bound (λ ticks. digits.now ≡ decimal ticks) }
+    ensures { Spells result (bound_or_none bound) 40 }
+{
+    match bound {
+        None => Word(b"-"),
+        Some(_) => Word(digits.bytes()),
     }
 }
 
@@ -150,7 +194,8 @@ fn precision_line(precision: i64, beside: bool) -> Line
     ])
 }
 
-pub(crate) fn kind(beside: bool) -> Piece<'static>
+/// Whether the numbers are those beside arbitrary sync nodes.
+pub fn kind(beside: bool) -> Piece<'static>
     ensures { Spells result (beside_or_alone beside) 6 }
 {
     if beside {
@@ -184,7 +229,8 @@ fn sharp_synced_line(synced: Option<u32>, lasts: Option<u64>) -> Line
     }
 }
 
-pub(crate) fn lasts_piece(lasts: Option<u64>) -> Piece<'static>
+/// For how many double cycles, or `on`.
+pub fn lasts_piece(lasts: Option<u64>) -> Piece<'static>
     ensures { Spells result (doubles_or_on lasts) 20 }
 {
     match lasts {
@@ -216,7 +262,8 @@ fn lost_line(basis: &Basis) -> Line
     }
 }
 
-pub(crate) fn last_piece<'a>(last: Option<u32>) -> Piece<'a>
+/// The last double cycle that loses frames, or `-`.
+pub fn last_piece<'a>(last: Option<u32>) -> Piece<'a>
     ensures { Spells result (last_lost_text last) 20 }
 {
     match last {

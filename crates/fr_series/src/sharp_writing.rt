@@ -1,24 +1,28 @@
-ghost use Rattle.std.specs.Prelude.{◌≡◌, ◌+◌, ◌*◌, ◌<◌, All, [], IsOk};
+ghost use Rattle.std.specs.Prelude.{◌≡◌, ◌+◌, ◌*◌, ◌<◌, ◌≤◌, All, [], IsOk};
 ghost use Rattle.fr_base.specs.Device.{Puts};
 ghost use Rattle.fr_drift.specs.Questions.{doubles_of};
 ghost use Rattle.fr_history.specs.Cycles.{told_of};
 ghost use Rattle.fr_history.specs.Next.{cycles_of};
+ghost use Rattle.fr_bound.specs.SharpBounds.{most_flutter};
 ghost use Rattle.fr_skew.specs.Sync.{are_in_sync_by_even};
 ghost use Rattle.fr_time.specs.Placed.{IsPlacedRow};
 ghost use Rattle.fr_time.specs.Position.{grid_for};
 ghost use Rattle.fr_world.specs.World.{setting_after};
 ghost use Rattle.fr_series.specs.Basis.{scales_of, tallied, tally_of, AreScales};
 ghost use Rattle.fr_series.specs.Scale.{IsScale};
+ghost use Rattle.fr_series.specs.SharpLosses.{kept_by};
 ghost use Rattle.fr_series.specs.SharpText.{sharp_rows, sharp_series_text};
 ghost use Rattle.fr_series.specs.Stopping.{RowsEnd, SharpSeriesEnds, sharp_rows_before};
 ghost use Rattle.fr_series.specs.Writing.{IsAtDouble, is_double_followed, rows_of, sharp_text_of_double};
 
 use crate::basis::{Basis, Scales};
+use crate::kept::{Kept, next_kept};
 use crate::scale::Scale;
 use crate::sharp_lines::{older_lines, sharp_cycle_line, sharp_head_line, sharp_lines};
 use crate::tally::Tally;
 use crate::writing::{are_in_sync, next_rows};
 use fr_base::{NodeRow, PutFault, RowList, Sink};
+use fr_sharp::LossSpread;
 use fr_skew::in_sync_by_even;
 use fr_text::{put_line, put_lines};
 use fr_world::World;
@@ -51,11 +55,13 @@ fn write_sharp_rows<O: Sink>(
     requires fresh { world.old.cycles ≡ 0 }
     requires scales { basis.now.scales ≡ scales_of basis.now.beside world.old.params basis.now.flutter }
     requires proper { AreScales (grid_for world.old.params) basis.now.scales }
+    requires flutter { basis.now.flutter ≤ most_flutter }
     requires none { tally.old ≡ tally_of basis.now.beside world.old.params basis.now.flutter [] }
     ensures ran { RowsEnd (sharp_rows_before basis.now world.old) result world.old world.new
         (O.state out.old) (O.state out.new) }
     ensures text { Puts result (O.state out.old) (O.state out.new)
-        (sharp_rows basis.now.beside world.old.params basis.now.flutter
+        (sharp_rows (kept_by world.old.params world.old.script basis.now)
+        basis.now.beside world.old.params basis.now.flutter
         (told_of (cycles_of (setting_after world.old) (2 * doubles_of world.old.drift)))) }
     ensures tally { IsOk result →
         tally.new ≡ tally_of basis.now.beside world.old.params basis.now.flutter
@@ -63,8 +69,10 @@ fn write_sharp_rows<O: Sink>(
 {
     let scales = basis.scales;
     let doubles = world.drift().doubles();
+    let mut spread = LossSpread::first(world.params(), basis.flutter);
     for double in 0..doubles {
-        write_sharp_double(world, &scales, double, tally, out)?;
+        let kept = next_kept(world.params(), world.script(), basis, double, &mut spread);
+        write_sharp_double(world, &scales, kept, double, tally, out)?;
     }
     Ok(())
 }
@@ -73,6 +81,7 @@ fn write_sharp_rows<O: Sink>(
 fn write_sharp_double<O: Sink>(
     world: &mut World,
     scales: &Scales,
+    kept: Kept,
     double: u32,
     tally: &mut Tally,
     out: &mut O,
@@ -84,7 +93,7 @@ fn write_sharp_double<O: Sink>(
         (rows_of world.old world.old.cycles) (rows_of world.old (world.old.cycles + 1))
         (is_double_followed world.old world.old.cycles) tally.old }
     ensures text { Puts result (O.state out.old) (O.state out.new)
-        (sharp_text_of_double scales.now double
+        (sharp_text_of_double scales.now kept double
         (rows_of world.old world.old.cycles) (rows_of world.old (world.old.cycles + 1))) }
 {
     let mut even = RowList::new();
@@ -93,6 +102,7 @@ fn write_sharp_double<O: Sink>(
     let following = next_rows(world, &mut odd);
     put_sharp_double(
         scales,
+        kept,
         double,
         even.as_slice(),
         odd.as_slice(),
@@ -106,6 +116,7 @@ fn write_sharp_double<O: Sink>(
 // in it.
 fn put_sharp_double<O: Sink>(
     scales: &Scales,
+    kept: Kept,
     double: u32,
     even: &[NodeRow],
     odd: &[NodeRow],
@@ -119,7 +130,7 @@ fn put_sharp_double<O: Sink>(
     requires odd { All (IsPlacedRow scales.now.older.grid) odd.now }
     ensures tally { tally.new ≡ tallied scales.now double even.now odd.now following tally.old }
     ensures text { Puts result (O.state out.old) (O.state out.new)
-        (sharp_text_of_double scales.now double even.now odd.now) }
+        (sharp_text_of_double scales.now kept double even.now odd.now) }
 {
     let scale = &scales.older;
     let in_sync = are_in_sync(scale, even, odd);
@@ -134,17 +145,17 @@ fn put_sharp_double<O: Sink>(
     };
     let cycle = 2 * double;
     put_line(
-        &sharp_cycle_line(cycle, in_sync, sharp, scale.peak(cycle, even)),
+        &sharp_cycle_line(cycle, in_sync, sharp, kept, scale.peak(cycle, even)),
         out,
     )?;
     put_line(
-        &sharp_cycle_line(cycle + 1, in_sync, sharp, scale.peak(cycle + 1, odd)),
+        &sharp_cycle_line(cycle + 1, in_sync, sharp, kept, scale.peak(cycle + 1, odd)),
         out,
     )
 }
 
-// Whether the clocks are in sharp sync in a double cycle.
-pub(crate) fn are_in_sharp_sync(scale: &Scale, even: &[NodeRow], odd: &[NodeRow]) -> bool
+/// Whether the clocks are in sharp sync in a double cycle, by the numbers of sharp sync.
+pub fn are_in_sharp_sync(scale: &Scale, even: &[NodeRow], odd: &[NodeRow]) -> bool
     requires scale { IsScale scale.now }
     requires even { All (IsPlacedRow scale.now.grid) even.now }
     requires odd { All (IsPlacedRow scale.now.grid) odd.now }

@@ -1,4 +1,5 @@
 mod Words
 mod Wholes
 pub mod Observed
+pub mod GapsInOrder
 pub mod SharpReports

@@ -1,24 +1,69 @@
--- The report of a run by the sharper bounds says what a request for the report alone says of the same run.
-use Rattle.std.proofs.Common.{◌≡◌, ℕ, List, Ok, Err}
+-- The report of a run by the sharper bounds: what they say of the same run, and what a request for the report alone says of it.
+use Rattle.std.proofs.Common.{◌≡◌, ◌∙◌, ℕ, ◌*◌, List, ◌++◌, ap, ap₂, refl, subst, sym, Ok, Err}
+use Rattle.fr_base.specs.Device.{Shelved}
 use Rattle.fr_cluster.specs.Sane.{IsSane}
 use Rattle.fr_cluster.specs.Values.{Values}
-use Rattle.fr_base.specs.Device.{Shelved}
+use Rattle.fr_coverage.specs.Decided.{setting_of}
 use Rattle.fr_drift.specs.Files.{DriftFits}
+use Rattle.fr_drift.specs.Questions.{doubles_of}
 use Rattle.fr_drift.specs.View.{DriftView}
-use Rattle.fr_script.specs.Files.{ScriptFits}
-use Rattle.fr_script.specs.View.{ScriptView}
-use Rattle.fr_program.specs.declared.failure.Failure.TheVariants.{Usage, Stopped, WriteFault}
+use Rattle.fr_history.specs.Cycles.{Cycles}
+use Rattle.fr_history.specs.Next.{cycles_of}
 use Rattle.fr_program.specs.Around.{Around, Ending}
 use Rattle.fr_program.specs.Command.{CommandEnds, IsCommandText}
+use Rattle.fr_program.specs.declared.failure.Failure.TheVariants.{Usage, Stopped, WriteFault}
+use Rattle.fr_report.proofs.ReportDecided.{same_report}
+use Rattle.fr_report.proofs.RunDecided.{OneRun, one_whole}
 use Rattle.fr_report.specs.Files.{run_command}
 use Rattle.fr_report.specs.Names.{RunNames}
-use Rattle.fr_report.proofs.RunDecided.{OneRun}
+use Rattle.fr_report.specs.RunText.{IsRunText, run_text}
+use Rattle.fr_script.specs.Files.{ScriptFits}
+use Rattle.fr_script.specs.View.{ScriptView}
+use Rattle.fr_series.specs.Basis.{basis_of}
+use Rattle.fr_series.specs.SharpAnswer.{IsSharpSeriesText}
+use Rattle.fr_coverage.specs.Flutter.{flutter_of}
+use Rattle.fr_coverage.specs.Kinds.{gaps_by_kind, AreFirstGaps}
+use Rattle.fr_whole.specs.SharpGaps.{sharp_gaps_of}
+use Rattle.fr_whole.specs.declared.sharp_gaps.SharpGaps.{SharpGaps}
+use Rattle.fr_whole.proofs.GapsInOrder.{sharp_gaps_are}
+use Rattle.fr_whole.specs.SharpReport.{sharp_lines_by, sharp_report_text}
+use Rattle.fr_whole.specs.SharpReportAnswer.{IsSharpRunText, IsToldSharply}
 use Rattle.fr_sharp.specs.JoinedFiles.{CoveredFilesKeepSharplyJoined}
 use Rattle.fr_sharp.specs.LossStatement.{CoveredFilesKeepThroughLosses}
 use Rattle.fr_sharp.specs.SharpFiles.{CoveredFilesKeepSharply}
-use Rattle.fr_series.specs.SharpReportAnswer.{IsSharpRunText}
-use Rattle.fr_series.proofs.SharpReports.{same_sharp_report}
 use Rattle.fr_whole.specs.SharpReportAnswer.{IsSharpReportText, sharp_report_command}
+
+abbrev gaps_for : Values → DriftView → ScriptView → SharpGaps
+gaps_for p d s = sharp_gaps_of p d s (flutter_of p d s)
+
+-- what a sharper series says of its cycles holds of those of the report: they are the same
+told_sharply : OneRun → (p : Values) (d : DriftView) (s : ScriptView) (report series : List ℕ) (run : IsRunText p d s report) → AreFirstGaps p d s (gaps_by_kind p d s) → IsSharpSeriesText p d s series
+    → IsToldSharply p d s run.cycles (sharp_lines_by p (basis_of p d s) (gaps_for p d s) run.cycles)
+told_sharply one p d s report series run kinds told =
+    let same : told.cycles ≡ run.cycles = one_whole one p d s told.cycles run.cycles told.lawful told.whole run.run.lawful run.run.whole in
+    let P : Cycles → Type 0 = λ h. IsToldSharply p d s h (sharp_lines_by p (basis_of p d s) (gaps_for p d s) h) in
+    subst P same (record { shown = refl; gaps = sharp_gaps_are p d s (flutter_of p d s) kinds; covered = told.covered; keeps = told.keeps; figures = told.figures })
+
+pub sharp_report_of : OneRun → (p : Values) (d : DriftView) (s : ScriptView) (series : List ℕ) → IsRunText p d s (run_text p d s) → AreFirstGaps p d s (gaps_by_kind p d s) → IsSharpSeriesText p d s series
+    → IsSharpRunText p d s (sharp_report_text p d s)
+sharp_report_of one p d s series run kinds told =
+    let all : run.cycles ≡ cycles_of (setting_of p d s) (2 * doubles_of d) =
+    one p d s run.cycles run.run.lawful ∙ ap (cycles_of (setting_of p d s)) run.run.whole in
+    record {
+      sharp = sharp_lines_by p (basis_of p d s) (gaps_for p d s) run.cycles;
+      report = run_text p d s;
+      shown = ap (λ (h : Cycles). sharp_lines_by p (basis_of p d s) (gaps_for p d s) h ++ run_text p d s) (sym all);
+      run = run;
+      told = told_sharply one p d s (run_text p d s) series run kinds told;
+    }
+
+pub same_sharp_report : OneRun → (p : Values) (d : DriftView) (s : ScriptView) (text again : List ℕ) → IsSharpRunText p d s text → IsSharpRunText p d s again → text ≡ again
+same_sharp_report one p d s text again found more =
+    let cycles : found.run.cycles ≡ more.run.cycles =
+    one_whole one p d s found.run.cycles more.run.cycles found.run.run.lawful found.run.run.whole more.run.run.lawful more.run.run.whole in
+    let sharp : found.sharp ≡ more.sharp = found.told.shown ∙ ap (sharp_lines_by p (basis_of p d s) (gaps_for p d s)) cycles ∙ sym more.told.shown in
+    let report : found.report ≡ more.report = same_report one p d s found.report more.report found.run more.run in
+    found.shown ∙ ap₂ (λ (l m : List ℕ). l ++ m) sharp report ∙ sym more.shown
 
 -- ---- what is kept of the run
 

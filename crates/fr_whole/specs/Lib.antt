@@ -1,4 +1,6 @@
 -- what the public contract cites
 pub mod Whole
 pub mod ObserveAnswer
+pub mod SharpGaps
+pub mod SharpReport
 pub mod SharpReportAnswer

@@ -4,14 +4,21 @@
 #![tactic(auto)]
 
 mod observe;
+mod report_lines;
 mod request;
+mod sharp_gaps;
+mod sharp_gathering;
 mod sharp_report;
+mod sharp_report_laws;
 mod status_laws;
 mod top;
 
 pub use fr_text::Status;
 pub use observe::{ObserveFiles, answer_observe, files_decide_what_is_told};
-pub use sharp_report::{answer_sharp_run, files_decide_what_is_told_sharply};
+pub use sharp_gaps::SharpGaps;
+pub use sharp_gathering::write_sharp_report;
+pub use sharp_report::{answer_sharp_report, answer_sharp_run, files_decide_what_is_told_sharply};
+pub use sharp_report_laws::{a_sharp_report_is_lawful, files_decide_the_sharp_report};
 pub use status_laws::{
     a_sharp_report_has_one_status, an_observation_has_one_status, each_word_has_one_status,
 };

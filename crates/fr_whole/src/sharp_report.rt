@@ -2,22 +2,45 @@ ghost use Rattle.std.specs.Prelude.{◌≡◌};
 ghost use Rattle.fr_program.specs.Around.{around_of};
 ghost use Rattle.fr_program.specs.Command.{CommandEnds};
 ghost use Rattle.fr_program.specs.Failure.{EndingWritesNothing};
-ghost use Rattle.fr_report.specs.Files.{run_files};
+ghost use Rattle.fr_report.specs.Files.{run_command, run_files};
 ghost use Rattle.fr_report.specs.Names.{run_names_of};
 ghost use Rattle.fr_text.specs.Files.{IsDecided};
-ghost use Rattle.fr_whole.specs.SharpReportAnswer.{IsSharpReportText, sharp_report_command};
+ghost use Rattle.fr_whole.specs.SharpReportAnswer.{IsSharpReportText, IsSharpRunText, sharp_report_command};
 
+use crate::sharp_gathering::write_sharp_report;
+use crate::sharp_report_laws::a_sharp_report_is_lawful;
 use fr_base::{Shelf, Sink};
 use fr_program::Failure;
-use fr_report::RunFiles;
-use fr_series::answer_sharp_report;
+use fr_report::{RunFiles, world_of};
 use fr_sharp::{
     covered_files_keep_sharply, covered_files_keep_sharply_joined, lossy_files_give_runs,
 };
 use fr_world::files_decide_one_run;
 use std::alloc::Global;
 
-/// The report of a run by the sharper bounds, as `fr_series` answers it; of the same run it says what a request for the
+/// Reads the three files, one after the other, runs the cluster that they decide, and writes what the sharper bounds say
+/// of the run, and behind it its report. Each file is loaded once, and only where those before it are accepted. A failure
+/// comes where a file can't be loaded, is not accepted, or memory runs out, and tells the first such file; where memory
+/// runs out for the run (`Stopped`); or where the sink counted a fault (`WriteFault`).
+pub fn answer_sharp_report<S: Shelf, O: Sink>(
+    alloc: Global,
+    files: RunFiles<'_>,
+    shelf: &mut S,
+    out: &mut O,
+) -> Result<(), Failure>
+    ensures ends { CommandEnds (run_command IsSharpRunText (run_names_of files.entry))
+        (around_of (S.state shelf.old) (S.state shelf.new) (O.state out.old) (O.state out.new)) result }
+    ensures unwritten { EndingWritesNothing result → out.new ≡ out.old }
+{
+    a_sharp_report_is_lawful();
+    let mut world = world_of(alloc, files, shelf)?;
+    match write_sharp_report(&mut world, out) {
+        Ok(()) => Ok(()),
+        Err(_) => Err(Failure::WriteFault),
+    }
+}
+
+/// The report of a run by the sharper bounds; of the same run it says what a request for the
 /// report alone says. Each file is loaded once, and only where those before it are accepted. A failure comes where a file
 /// can't be loaded, is not accepted, or memory runs out (`Stopped`), or where the sink counted a fault (`WriteFault`).
 pub fn answer_sharp_run<S: Shelf, O: Sink>(

@@ -4,9 +4,9 @@ ghost use Rattle.fr_whole.specs.ObserveAnswer.{observe_files};
 ghost use Rattle.fr_whole.specs.SharpReportAnswer.{IsSharpReportText};
 ghost use Rattle.fr_whole.specs.Whole.{HasOneStatusOfAll};
 
+use crate::sharp_report_laws::a_sharp_report_is_lawful;
 use fr_answer::each_request_has_one_status;
 use fr_params::accepted_are_sane;
-use fr_series::a_sharp_report_is_lawful;
 use fr_sharp::{
     covered_files_keep_sharply, covered_files_keep_sharply_joined, lossy_files_give_runs,
 };

@@ -6,12 +6,13 @@ use Rattle.fr_skew.specs.declared.peak.Peak.{Peak}
 use Rattle.fr_text.specs.Pieces.{line}
 use Rattle.fr_series.specs.Scale.{peak_by}
 use Rattle.fr_series.specs.SharpText.{sharp_row}
+use Rattle.fr_series.specs.declared.kept.Kept.{Kept}
 use Rattle.fr_series.proofs.sharp_writing.put_sharp_double.Goals as goal
 
 -- the line of a cycle by what was found of it
-same_line : (cycle : ℕ) (in_sync found sharp found_sharp : Bool) (peak found_peak : Option Peak) → found ≡ in_sync → found_sharp ≡ sharp → found_peak ≡ peak
-    → line (sharp_row cycle found found_sharp found_peak) ≡ line (sharp_row cycle in_sync sharp peak)
-same_line cycle in_sync found sharp found_sharp peak found_peak one other third = rw (one, other, third) refl
+same_line : (cycle : ℕ) (kept : Kept) (in_sync found sharp found_sharp : Bool) (peak found_peak : Option Peak) → found ≡ in_sync → found_sharp ≡ sharp → found_peak ≡ peak
+    → line (sharp_row cycle found found_sharp kept found_peak) ≡ line (sharp_row cycle in_sync sharp kept peak)
+same_line cycle kept in_sync found sharp found_sharp peak found_peak one other third = rw (one, other, third) refl
 
 pub returns-in_err-put_line-clause-text : goal.returns-in_err-put_line-clause-text
 returns-in_err-put_line-clause-text g c =
@@ -20,10 +21,10 @@ returns-in_err-put_line-clause-text g c =
     let in_sync : Bool = are_in_sync scales.older.bounds c.args.even.now c.args.odd.now in
     let sharp : Bool = are_in_sync_by_even scales.sharp.bounds c.args.even.now c.args.odd.now in
     let cycle : ℕ = 2 * c.args.double in
-    let rest = line (sharp_row (cycle + 1) in_sync sharp (peak_by grid (cycle + 1) c.args.odd.now)) in
-    let first : c.sharp_cycle_line.result ≡ line (sharp_row cycle in_sync sharp (peak_by grid cycle c.args.even.now)) =
+    let rest = line (sharp_row (cycle + 1) in_sync sharp c.args.kept (peak_by grid (cycle + 1) c.args.odd.now)) in
+    let first : c.sharp_cycle_line.result ≡ line (sharp_row cycle in_sync sharp c.args.kept (peak_by grid cycle c.args.even.now)) =
     c.sharp_cycle_line.ensures
-    ∙ same_line cycle in_sync _ sharp _ (peak_by grid cycle c.args.even.now) _ c.are_in_sync-in_sync.ensures c.are_in_sharp_sync-sharp.ensures c.peak.ensures in
+    ∙ same_line cycle c.args.kept in_sync _ sharp _ (peak_by grid cycle c.args.even.now) _ c.are_in_sync-in_sync.ensures c.are_in_sharp_sync-sharp.ensures c.peak.ensures in
     let P : List ℕ → Type 0 = λ l. Puts c.from_residual.result (g.O.Sink.state c.args.out.now) (g.O.Sink.state c.put_line.new.out) (l ++ rest) in
     subst P first (cut c.from_residual.result rest c.in_err-put_line.ensures c.from_residual.ensures.0)
 
@@ -34,11 +35,11 @@ returns-clause-text g c =
     let in_sync : Bool = are_in_sync scales.older.bounds c.args.even.now c.args.odd.now in
     let sharp : Bool = are_in_sync_by_even scales.sharp.bounds c.args.even.now c.args.odd.now in
     let cycle : ℕ = 2 * c.args.double in
-    let first : c.sharp_cycle_line.result ≡ line (sharp_row cycle in_sync sharp (peak_by grid cycle c.args.even.now)) =
+    let first : c.sharp_cycle_line.result ≡ line (sharp_row cycle in_sync sharp c.args.kept (peak_by grid cycle c.args.even.now)) =
     c.sharp_cycle_line.ensures
-    ∙ same_line cycle in_sync _ sharp _ (peak_by grid cycle c.args.even.now) _ c.are_in_sync-in_sync.ensures c.are_in_sharp_sync-sharp.ensures c.peak.ensures in
-    let last : c.sharp_cycle_line-2.result ≡ line (sharp_row (cycle + 1) in_sync sharp (peak_by grid (cycle + 1) c.args.odd.now)) =
+    ∙ same_line cycle c.args.kept in_sync _ sharp _ (peak_by grid cycle c.args.even.now) _ c.are_in_sync-in_sync.ensures c.are_in_sharp_sync-sharp.ensures c.peak.ensures in
+    let last : c.sharp_cycle_line-2.result ≡ line (sharp_row (cycle + 1) in_sync sharp c.args.kept (peak_by grid (cycle + 1) c.args.odd.now)) =
     c.sharp_cycle_line-2.ensures
-    ∙ same_line (cycle + 1) in_sync _ sharp _ (peak_by grid (cycle + 1) c.args.odd.now) _ c.are_in_sync-in_sync.ensures c.are_in_sharp_sync-sharp.ensures c.peak-2.ensures in
+    ∙ same_line (cycle + 1) c.args.kept in_sync _ sharp _ (peak_by grid (cycle + 1) c.args.odd.now) _ c.are_in_sync-in_sync.ensures c.are_in_sharp_sync-sharp.ensures c.peak-2.ensures in
     let P : List ℕ → Type 0 = λ l. Puts c.put_line-2.result (g.O.Sink.state c.args.out.now) (g.O.Sink.state c.put_line-2.new.out) l in
     subst P (ap₂ (λ (l m : List ℕ). l ++ m) first last) (then c.put_line-2.result c.in_ok-put_line.ensures c.put_line-2.ensures)

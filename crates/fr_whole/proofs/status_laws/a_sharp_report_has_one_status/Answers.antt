@@ -1,5 +1,5 @@
 use Rattle.fr_report.proofs.RunStatus.{run_status}
-use Rattle.fr_series.specs.SharpReport.{sharp_report_text}
+use Rattle.fr_whole.specs.SharpReport.{sharp_report_text}
 use Rattle.fr_whole.specs.SharpReportAnswer.{IsSharpReportText}
 use Rattle.fr_whole.proofs.SharpReports.{kept_report}
 use Rattle.fr_whole.proofs.status_laws.a_sharp_report_has_one_status.Goals as goal

@@ -1,7 +1,7 @@
 use Rattle.std.proofs.lemmas.Result.{err_from_is_err_and}
 use Rattle.fr_world.specs.World.{WorldView}
 use Rattle.fr_report.proofs.Written.{cut_short, whole}
-use Rattle.fr_series.proofs.sharp_report.answer_sharp_report.Goals as goal
+use Rattle.fr_whole.proofs.sharp_report.answer_sharp_report.Goals as goal
 
 pub returns-in_err-world-clause-ends : goal.returns-in_err-world-clause-ends
 returns-in_err-world-clause-ends g c =

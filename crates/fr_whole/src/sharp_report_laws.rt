@@ -6,11 +6,12 @@ ghost use Rattle.fr_report.specs.Files.{run_files};
 ghost use Rattle.fr_script.specs.Files.{ScriptFits};
 ghost use Rattle.fr_script.specs.View.{IsScript, ScriptView};
 ghost use Rattle.fr_text.specs.Files.{IsDecided};
-ghost use Rattle.fr_series.specs.SharpReport.{sharp_report_text};
-ghost use Rattle.fr_series.specs.SharpReportAnswer.{IsSharpRunText};
+ghost use Rattle.fr_whole.specs.SharpReport.{sharp_report_text};
+ghost use Rattle.fr_whole.specs.SharpReportAnswer.{IsSharpRunText};
 
-use crate::sharp_laws::a_sharp_series_is_lawful;
+use fr_coverage::each_kind_is_found;
 use fr_report::a_run_is_lawful;
+use fr_series::a_sharp_series_is_lawful;
 use fr_world::files_decide_one_run;
 
 /// A law: the text of the report by the sharper bounds, of some parameters, and of a drift and a script that fit them, is
@@ -21,6 +22,7 @@ pub fn a_sharp_report_is_lawful()
         IsSane p → DriftFits p d → ScriptFits p s → IsScript s → IsSharpRunText p d s (sharp_report_text p d s) }
 {
     a_run_is_lawful();
+    each_kind_is_found();
     a_sharp_series_is_lawful();
     files_decide_one_run();
 }

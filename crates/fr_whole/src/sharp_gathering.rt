@@ -9,17 +9,15 @@ ghost use Rattle.fr_time.specs.Position.{grid_for};
 ghost use Rattle.fr_world.specs.World.{setting_after};
 ghost use Rattle.fr_series.specs.Basis.{scales_of, sharp_figures_of, sharply_followed, AreScales};
 ghost use Rattle.fr_series.specs.Scale.{IsScale};
-ghost use Rattle.fr_series.specs.SharpReport.{sharp_report_text};
+ghost use Rattle.fr_whole.specs.SharpReport.{sharp_report_text};
 ghost use Rattle.fr_series.specs.Writing.{IsAtDouble, is_double_followed, is_followed, rows_of};
 
-use crate::basis::{Basis, Scales};
-use crate::figures::Figures;
 use crate::report_lines::sharp_report_lines;
-use crate::scale::Scale;
-use crate::sharp_writing::are_in_sharp_sync;
+use crate::sharp_gaps::SharpGaps;
 use fr_base::{NodeRow, PutFault, RowList, Sink};
 use fr_coverage::covered;
 use fr_report::{Report, add_next, write_report};
+use fr_series::{Basis, Figures, Scale, Scales, are_in_sharp_sync};
 use fr_text::put_lines;
 use fr_world::World;
 
@@ -33,10 +31,11 @@ pub fn write_sharp_report<O: Sink>(world: &mut World, out: &mut O) -> Result<(),
         (sharp_report_text world.old.params world.old.drift world.old.script) }
 {
     let basis = Basis::of(world.params(), world.drift(), world.script());
+    let gaps = SharpGaps::of(world.params(), world.drift(), world.script(), basis.flutter);
     let mut report = Report::new(world.params());
     let mut figures = Figures::none();
     run_all(world, &basis, &mut report, &mut figures);
-    put_lines(&sharp_report_lines(&basis, &figures), out)?;
+    put_lines(&sharp_report_lines(&basis, &gaps, &figures), out)?;
     let gap = covered(world.params(), world.drift(), world.script());
     write_report(&report, world, gap, out)
 }

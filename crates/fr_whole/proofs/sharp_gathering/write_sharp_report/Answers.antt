@@ -1,4 +1,4 @@
-use Rattle.std.proofs.Common.{◌≡◌, ◌∙◌, ◌*◌, List, ◌++◌, ℕ, Result, Ok, Err, Option, None, Some, ap, ap₂, refl, subst}
+use Rattle.std.proofs.Common.{◌≡◌, ◌∙◌, ◌*◌, List, ◌++◌, ℕ, Result, Ok, Err, Option, None, Some, ap, ap₂, refl, subst, sym}
 use Rattle.std.specs.Prelude.{IfErr, OnOk}
 use Rattle.std.specs.Result.{result_err}
 use Rattle.fr_base.specs.Device.{Puts}
@@ -13,14 +13,19 @@ use Rattle.fr_report.specs.Worlds.{world_text}
 use Rattle.fr_text.specs.Lines.{joined_lines}
 use Rattle.fr_world.specs.World.{WorldView, setting_after}
 use Rattle.fr_series.specs.Basis.{basis_of}
-use Rattle.fr_series.specs.SharpReport.{sharp_lines_by, sharp_lines_of}
+use Rattle.fr_whole.specs.SharpGaps.{sharp_gaps_of}
+use Rattle.fr_whole.specs.declared.sharp_gaps.SharpGaps.{SharpGaps}
+use Rattle.fr_whole.specs.SharpReport.{sharp_lines_by, sharp_lines_of}
 use Rattle.fr_series.specs.declared.basis.Basis.{Basis}
 use Rattle.fr_series.proofs.SharpFollowing.{sharp_figures-none}
-use Rattle.std.proofs.Common.{sym}
-use Rattle.fr_series.proofs.sharp_gathering.write_sharp_report.Goals as goal
+use Rattle.fr_whole.proofs.sharp_gathering.write_sharp_report.Goals as goal
 
 abbrev run_of : WorldView → Cycles
 run_of w = cycles_of (setting_after w) (2 * doubles_of w.drift)
+
+-- what the sharper bounds say of a world's run
+abbrev told_by : WorldView → Basis → List ℕ
+told_by w b = sharp_lines_by w.params b (sharp_gaps_of w.params w.drift w.script b.flutter) (run_of w)
 
 -- what is answered is the first gap
 told_gap : (answer : Result (Unit {0}) Gap) (found : Option Gap) → OnOk answer (found ≡ None) → IfErr answer (λ gap. found ≡ Some gap) → result_err answer ≡ found
@@ -35,10 +40,14 @@ returns-in_err-put_lines-clause-text g c =
     let w : WorldView = c.args.world.now in
     let b : Basis = c.of-basis.result in
     let is : b ≡ basis_of w.params w.drift w.script = c.of-basis.ensures.value ∙ rw (c.params.ensures.value, c.drift.ensures.value, c.script.ensures.value) refl in
-    let lines : joined_lines c.sharp_report_lines.result ≡ sharp_lines_by w.params b (run_of w) = c.sharp_report_lines.ensures ∙ ap (sharp_lines_of b) c.run_all.ensures.figures in
+    let gaps : SharpGaps = c.of-gaps.result in
+    let found : gaps ≡ sharp_gaps_of w.params w.drift w.script b.flutter =
+    c.of-gaps.ensures ∙ rw (c.params-2.ensures.value, c.drift-2.ensures.value, c.script-2.ensures.value) refl in
+    let lines : joined_lines c.sharp_report_lines.result ≡ told_by w b =
+    c.sharp_report_lines.ensures ∙ ap (sharp_lines_of b gaps) c.run_all.ensures.figures ∙ ap (λ (x : SharpGaps). sharp_lines_by w.params b x (run_of w)) found in
     let rest : List ℕ = run_text w.params w.drift w.script in
     let P : List ℕ → Type 0 = λ l. Puts c.from_residual.result (g.O.Sink.state c.args.out.now) (g.O.Sink.state c.put_lines.new.out) (l ++ rest) in
-    subst P (lines ∙ ap (λ (x : Basis). sharp_lines_by w.params x (run_of w)) is) (cut c.from_residual.result rest c.in_err-put_lines.ensures c.from_residual.ensures.0)
+    subst P (lines ∙ ap (told_by w) is) (cut c.from_residual.result rest c.in_err-put_lines.ensures c.from_residual.ensures.0)
 
 pub returns-clause-text : goal.returns-clause-text
 returns-clause-text g c =
@@ -46,12 +55,16 @@ returns-clause-text g c =
     let v : WorldView = c.run_all.new.world in
     let b : Basis = c.of-basis.result in
     let is : b ≡ basis_of w.params w.drift w.script = c.of-basis.ensures.value ∙ rw (c.params.ensures.value, c.drift.ensures.value, c.script.ensures.value) refl in
-    let lines : joined_lines c.sharp_report_lines.result ≡ sharp_lines_by w.params b (run_of w) = c.sharp_report_lines.ensures ∙ ap (sharp_lines_of b) c.run_all.ensures.figures in
-    let same : first_gap c.params-3.result.now c.drift-2.result.now c.script-2.result.now ≡ first_gap v.params v.drift v.script =
-    rw (c.params-3.ensures.value, c.drift-2.ensures.value, c.script-2.ensures.value) refl in
+    let gaps : SharpGaps = c.of-gaps.result in
+    let found : gaps ≡ sharp_gaps_of w.params w.drift w.script b.flutter =
+    c.of-gaps.ensures ∙ rw (c.params-2.ensures.value, c.drift-2.ensures.value, c.script-2.ensures.value) refl in
+    let lines : joined_lines c.sharp_report_lines.result ≡ told_by w b =
+    c.sharp_report_lines.ensures ∙ ap (sharp_lines_of b gaps) c.run_all.ensures.figures ∙ ap (λ (x : SharpGaps). sharp_lines_by w.params b x (run_of w)) found in
+    let same : first_gap c.params-4.result.now c.drift-3.result.now c.script-3.result.now ≡ first_gap v.params v.drift v.script =
+    rw (c.params-4.ensures.value, c.drift-3.ensures.value, c.script-3.ensures.value) refl in
     let gap : result_err c.covered-gap.result ≡ first_gap v.params v.drift v.script =
-    told_gap c.covered-gap.result (first_gap c.params-3.result.now c.drift-2.result.now c.script-2.result.now) c.covered-gap.ensures.whole c.covered-gap.ensures.gap ∙ same in
+    told_gap c.covered-gap.result (first_gap c.params-4.result.now c.drift-3.result.now c.script-3.result.now) c.covered-gap.ensures.whole c.covered-gap.ensures.gap ∙ same in
     let report : world_text v ≡ run_text w.params w.drift w.script = ap world_text c.run_all.ensures.ran in
     let P : List ℕ → Type 0 = λ l. Puts c.write_report.result (g.O.Sink.state c.args.out.now) (g.O.Sink.state c.write_report.new.out) l in
-    subst P (ap₂ (λ (l m : List ℕ). l ++ m) (lines ∙ ap (λ (x : Basis). sharp_lines_by w.params x (run_of w)) is) report)
+    subst P (ap₂ (λ (l m : List ℕ). l ++ m) (lines ∙ ap (told_by w) is) report)
     (then {rest = world_text v} c.write_report.result c.in_ok-put_lines.ensures (c.write_report.ensures.first gap))

@@ -9,7 +9,7 @@ use Rattle.fr_series.specs.Basis.{sharp_figures_of, AreScales}
 use Rattle.fr_series.proofs.Doubles.{no_cycles}
 use Rattle.fr_series.proofs.SharpWorlds.{sharp_figures-more}
 use Rattle.fr_series.proofs.Worlds.{two-more}
-use Rattle.fr_series.proofs.sharp_gathering.run_all.Goals as goal
+use Rattle.fr_whole.proofs.sharp_gathering.run_all.Goals as goal
 
 pub loop-double-init : goal.loop-double-init
 loop-double-init c =

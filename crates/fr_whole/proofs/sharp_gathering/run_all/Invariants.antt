@@ -3,7 +3,7 @@ use Rattle.fr_history.specs.Next.{cycles_of}
 use Rattle.fr_report.specs.Worlds.{IsReportOf}
 use Rattle.fr_world.specs.World.{setting_after}
 use Rattle.fr_series.specs.Basis.{sharp_figures_of}
-use Rattle.fr_series.proofs.sharp_gathering.run_all.Given as goal
+use Rattle.fr_whole.proofs.sharp_gathering.run_all.Given as goal
 
 -- the double cycles so far are run, and the report and the figures are theirs
 abbrev pub invariant-loop-double : goal.invariant-loop-double

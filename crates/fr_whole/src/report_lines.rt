@@ -1,15 +1,13 @@
 ghost use Rattle.std.specs.Prelude.{◌≡◌, ◌++◌, ◌≤◌, codes, length};
 ghost use Rattle.std.specs.Fmt.{decimal, signed_decimal};
 ghost use Rattle.std.specs.Option.{option_map};
-ghost use Rattle.fr_series.specs.SharpLosses.{lost_told};
-ghost use Rattle.fr_series.specs.SharpReport.{above_told, covered_told, flutter_told, greatest_shown, precision_told, sharp_lines_of, synced_told, within_told};
+ghost use Rattle.fr_whole.specs.SharpReport.{above_told, covered_shown, flutter_told, gap_shown, greatest_shown, lost_told, precision_told, sharp_lines_of, synced_told, within_told};
 ghost use Rattle.fr_text.specs.Lines.{joined_lines};
 ghost use Rattle.fr_text.specs.Pieces.{line};
 
-use crate::basis::Basis;
-use crate::figures::Figures;
-use crate::sharp_lines::{kind, last_piece, lasts_piece};
+use crate::sharp_gaps::SharpGaps;
 use fr_coverage::{Gap, gap_line};
+use fr_series::{Basis, Figures, kind, last_piece, lasts_piece};
 use fr_sharp::Digits;
 use fr_skew::Peak;
 use fr_text::Piece::{Natural, Signed, Word};
@@ -17,13 +15,30 @@ use fr_text::{Line, line_of};
 
 // What the sharper bounds say of a run.
 #[tactic(auto, unfolding(crate::specs::SharpReport::sharp_lines_of))]
-pub(crate) fn sharp_report_lines(basis: &Basis, figures: &Figures) -> [Option<Line>; 7]
-    ensures { joined_lines result ≡ sharp_lines_of basis.now figures.now }
+pub(crate) fn sharp_report_lines(
+    basis: &Basis,
+    gaps: &SharpGaps,
+    figures: &Figures,
+) -> [Option<Line>; 20]
+    ensures { joined_lines result ≡ sharp_lines_of basis.now gaps.now figures.now }
 {
     [
         Some(flutter_line(basis.flutter)),
         Some(precision_line(basis.scales.sharp.precision, basis.beside)),
-        Some(covered_line(basis.gap)),
+        covered_line(basis.gap),
+        gap_shown(gaps.second),
+        gap_shown(gaps.third),
+        gap_shown(gaps.fourth),
+        gap_shown(gaps.fifth),
+        gap_shown(gaps.sixth),
+        gap_shown(gaps.seventh),
+        gap_shown(gaps.eighth),
+        gap_shown(gaps.ninth),
+        gap_shown(gaps.run.count),
+        gap_shown(gaps.run.lengths),
+        gap_shown(gaps.run.changes),
+        gap_shown(gaps.run.delays),
+        gap_shown(gaps.run.links),
         Some(synced_line(figures.synced, basis.lasts)),
         greatest_line(figures.greatest),
         Some(within_line(figures.synced, figures.above)),
@@ -48,12 +63,21 @@ fn precision_line(precision: i64, beside: bool) -> Line
     ])
 }
 
-fn covered_line(gap: Option<Gap>) -> Line
-    ensures { result ≡ line (covered_told gap) }
+fn covered_line(gap: Option<Gap>) -> Option<Line>
+    ensures { result ≡ covered_shown gap }
 {
     match gap {
-        None => line_of(&[Word(b"sharp covered yes")]),
-        Some(gap) => gap_line(b"sharp covered no ", gap),
+        None => Some(line_of(&[Word(b"sharp covered yes")])),
+        Some(_) => None,
+    }
+}
+
+fn gap_shown(gap: Option<Gap>) -> Option<Line>
+    ensures { result ≡ option_map gap_shown gap }
+{
+    match gap {
+        None => None,
+        Some(gap) => Some(gap_line(b"sharp covered no ", gap)),
     }
 }
 

@@ -6,7 +6,7 @@ use Rattle.fr_time.specs.Position.{grid_for}
 use Rattle.fr_world.specs.World.{WorldView}
 use Rattle.fr_report.proofs.Adding.{last_row}
 use Rattle.fr_series.proofs.Worlds.{followed-next}
-use Rattle.fr_series.proofs.sharp_gathering.add_rows.Goals as goal
+use Rattle.fr_whole.proofs.sharp_gathering.add_rows.Goals as goal
 
 pub returns-clause-placed : goal.returns-clause-placed
 returns-clause-placed c =

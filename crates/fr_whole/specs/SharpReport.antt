@@ -1,9 +1,10 @@
 -- The report of a run by the sharper bounds as a text, line by line: what they say of the run, and then its report.
-use Rattle.std.specs.Prelude.{ℕ, ℤ, ◌*◌, Bool, List, ◌++◌, codes, Option, Some, None}
+use Rattle.std.specs.Prelude.{ℕ, ℤ, ◌*◌, Bool, true, false, List, ◌++◌, codes, Option, Some, None}
 use Rattle.std.specs.Fmt.{decimal, signed_decimal}
 use Rattle.std.specs.Option.{option_map}
 use Rattle.fr_cluster.specs.Values.{Values}
 use Rattle.fr_coverage.specs.Decided.{setting_of}
+use Rattle.fr_coverage.specs.Flutter.{flutter_of}
 use Rattle.fr_coverage.specs.Phrases.{gap_text}
 use Rattle.fr_coverage.specs.declared.gap.Gap.{Gap}
 use Rattle.fr_drift.specs.Questions.{doubles_of}
@@ -16,10 +17,12 @@ use Rattle.fr_report.specs.RunText.{run_text}
 use Rattle.fr_text.specs.Lines.{shown}
 use Rattle.fr_text.specs.Pieces.{line}
 use Rattle.fr_series.specs.Basis.{basis_of, sharp_figures_of}
-use Rattle.fr_series.specs.SharpLosses.{lost_told}
+use Rattle.fr_series.specs.SharpLosses.{last_lost_text}
 use Rattle.fr_series.specs.SharpText.{beside_or_alone, doubles_or_on}
 use Rattle.fr_series.specs.declared.basis.Basis.{Basis}
 use Rattle.fr_series.specs.declared.figures.Figures.{Figures}
+use Rattle.fr_whole.specs.SharpGaps.{sharp_gaps_of}
+use Rattle.fr_whole.specs.declared.sharp_gaps.SharpGaps.{SharpGaps}
 
 -- ---- the lines
 
@@ -31,10 +34,17 @@ flutter_told flutter = codes "sharp flutter " ++ decimal flutter
 abbrev pub precision_told : ℤ → Bool → List ℕ
 precision_told precision beside = codes "sharp precision " ++ signed_decimal precision ++ codes " " ++ beside_or_alone beside
 
--- whether the run is sharply covered, or why it is not
-abbrev pub covered_told : Option Gap → List ℕ
-covered_told None = codes "sharp covered yes"
-covered_told (Some gap) = gap_text (codes "sharp covered no ") gap
+-- whether the run is sharply covered, by its first gap
+abbrev pub covered_shown : Option Gap → Option (List ℕ)
+covered_shown None = Some (line (codes "sharp covered yes"))
+covered_shown (Some gap) = None
+
+-- or why it is not: a gap of a kind
+abbrev pub gap_shown : Gap → List ℕ
+gap_shown gap = line (gap_text (codes "sharp covered no ") gap)
+
+abbrev pub gap_told : Option Gap → List ℕ
+gap_told gap = shown (option_map gap_shown gap)
 
 -- the first double cycle in sharp sync in which no node follows, and for how many since then it stays so
 abbrev pub synced_told : Option ℕ → Option ℕ → List ℕ
@@ -61,24 +71,49 @@ abbrev pub within_told : Option ℕ → Option Peak → List ℕ
 within_told None above = codes "sharp within -"
 within_told (Some double) above = above_told above
 
+-- how many double cycles lose frames, the last one, and the greatest bound with its double cycle; none where the run is not covered
+-- through losses
+abbrev pub lost_bound_told : Bool → ℕ → ℕ → List ℕ
+lost_bound_told false peak place = codes "-"
+lost_bound_told true peak place = decimal peak ++ codes " double " ++ decimal place
+
+abbrev pub lost_told : Basis → List ℕ
+lost_told basis =
+    codes "sharp lost " ++ decimal basis.lost ++ codes " last " ++ last_lost_text basis.last_lost ++ codes " bound "
+    ++ lost_bound_told basis.through basis.peak basis.place
+
 -- ---- the text
 
--- what the sharper bounds say, by what a run rests on and by the figures of sharp sync; where no double cycle is in sharp sync there
+-- what the sharper bounds say, by what a run rests on, its gaps and the figures of sharp sync; where no double cycle is in sharp sync there
 -- is no line of a greatest skew
-unfoldable pub sharp_lines_of : Basis → Figures → List ℕ
-sharp_lines_of basis figures =
+unfoldable pub sharp_lines_of : Basis → SharpGaps → Figures → List ℕ
+sharp_lines_of basis gaps figures =
     line (flutter_told basis.flutter)
     ++ line (precision_told basis.scales.sharp.precision basis.beside)
-    ++ line (covered_told basis.gap)
+    ++ shown (covered_shown basis.gap)
+    ++ gap_told gaps.second
+    ++ gap_told gaps.third
+    ++ gap_told gaps.fourth
+    ++ gap_told gaps.fifth
+    ++ gap_told gaps.sixth
+    ++ gap_told gaps.seventh
+    ++ gap_told gaps.eighth
+    ++ gap_told gaps.ninth
+    ++ gap_told gaps.run.count
+    ++ gap_told gaps.run.lengths
+    ++ gap_told gaps.run.changes
+    ++ gap_told gaps.run.delays
+    ++ gap_told gaps.run.links
     ++ line (synced_told figures.synced basis.lasts)
     ++ shown (option_map greatest_shown figures.greatest)
     ++ line (within_told figures.synced figures.above)
     ++ line (lost_told basis)
 
 -- what they say of some cycles
-abbrev pub sharp_lines_by : Values → Basis → Cycles → List ℕ
-sharp_lines_by p basis h = sharp_lines_of basis (sharp_figures_of basis.beside p basis.flutter h)
+abbrev pub sharp_lines_by : Values → Basis → SharpGaps → Cycles → List ℕ
+sharp_lines_by p basis gaps h = sharp_lines_of basis gaps (sharp_figures_of basis.beside p basis.flutter h)
 
 -- of the run of some parameters, a drift and a script, over all its cycles, with the report of that run
 abbrev pub sharp_report_text : Values → DriftView → ScriptView → List ℕ
-sharp_report_text p d s = sharp_lines_by p (basis_of p d s) (cycles_of (setting_of p d s) (2 * doubles_of d)) ++ run_text p d s
+sharp_report_text p d s =
+    sharp_lines_by p (basis_of p d s) (sharp_gaps_of p d s (flutter_of p d s)) (cycles_of (setting_of p d s) (2 * doubles_of d)) ++ run_text p d s
