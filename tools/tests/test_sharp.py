@@ -330,7 +330,7 @@ class Pages(Case):
                 path = self.write("series", f"#!/bin/sh\ncat {self.path('series.txt')}\n")
                 os.chmod(path, 0o755)
                 self.assertIn(told, self.flexlab("run", "a.toml", env={"FLEXRAY_SERIES": path}, status=6)[1])
-        rows = text.replace(",yes\n", ",no\n", 1)
+        rows = text.replace(",yes,all,", ",no,all,", 1)
         self.write("series.txt", rows)
         self.assertIn("that it is in sharp sync, and the trace does not",
                       self.flexlab("run", "a.toml", env={"FLEXRAY_SERIES": path}, status=6)[1])
