@@ -196,8 +196,9 @@ class SharpReport:
 
 class SeriesCycle(NamedTuple):
     """A cycle of a series: whether its double cycle is in sync, and its greatest skew, which is 0 at macrotick 0 where no node
-    runs. `sharp` is whether it is in sharp sync, `heard` whether no frames are lost in it, `bound` its number in ticks where the run is
-    covered through losses; None in a series that was not asked for them."""
+    runs. `sharp` is whether it is in sharp sync; `heard` whether from each sync node to each other node one channel carries those of
+    both cycles; `bound` its number in ticks where the run is covered through losses: in the double cycles that are promised no skew is
+    above it, before the first one in sharp sync it may be. None in a series that was not asked for them."""
 
     cycle: int
     in_sync: bool

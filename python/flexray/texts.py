@@ -198,16 +198,20 @@ def _cycles(text: str, head: str, width: int) -> tuple[SeriesCycles, _Lines]:
     words = rows.replace("\n", ",\n,").split(",")
     columns = [words[at:-1:width + 1] for at in range(width + 1)]
     numbers, in_sync, skews, macroticks = columns[:4]
-    (sharp, heard, bounds), feeds = columns[4:width] or ([], [], []), columns[width]
+    without: list[list[str]] = [[], [], []]
+    (sharp, heard, bounds), feeds = columns[4:width] or without, columns[width]
     # A run that is not covered through losses has no number in any double cycle.
     unbound = bounds == ["-"] * len(bounds)
     if (words[-1] or len(words) != (width + 1) * len(numbers) + 1 or set(feeds) - {"\n"} or not TRUTHS.issuperset(in_sync + sharp)
             or not HEARD.issuperset(heard) or numbers != _numbers_to(len(numbers))
             or not (_are_digits(skews) and _are_digits(macroticks) and (unbound or _are_digits(bounds)))):
         raise Strange(_strange_row(rows, width))
+    ticks: tuple[int | None, ...] = (None,) * len(bounds)
+    if not unbound:
+        ticks = tuple(map(int, bounds))
     return (SeriesCycles(tuple([word == "yes" for word in in_sync]), tuple(map(int, skews)), tuple(map(int, macroticks)),
                          tuple([word == "yes" for word in sharp]), tuple([word == "all" for word in heard]),
-                         (None,) * len(bounds) if unbound else tuple(map(int, bounds))), _Lines(text[end:]))
+                         ticks), _Lines(text[end:]))
 
 
 @functools.lru_cache(maxsize=1)

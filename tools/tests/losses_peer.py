@@ -244,7 +244,7 @@ def hold(run, series, trace=None):
     wanted = [str(len(lost)), str(lost[-1]) if lost else "-", *([str(max(apart)), str(apart.index(max(apart)))] if is_covered else "--")]
     assert told[:4] == wanted, (told, wanted)
     if "bound" in series.columns:
-        hold_columns(series, heard, apart)
+        hold_columns(series, heard, apart, is_covered)
     if trace is not None:
         skews, is_active = exact_skews(run, trace)
         assert skews == [int(row["skew"]) for row in series.cycles], "the skew of the trace is another one"
@@ -272,8 +272,8 @@ def keep(series, first, bounds):
     return share
 
 
-def hold_columns(series, heard, apart):
-    """The columns of what is heard, and of the numbers."""
+def hold_columns(series, heard, apart, is_covered):
+    """The columns of what is heard, and of the numbers, which are there where the run is covered through losses."""
     for at, row in enumerate(series.cycles):
         assert (row["heard"] == "all") == heard[at // 2], (at, row["heard"])
-        assert row["bound"] in ("-", str(apart[at // 2])), (at, row["bound"], apart[at // 2])
+        assert row["bound"] == (str(apart[at // 2]) if is_covered else "-"), (at, row["bound"], apart[at // 2], is_covered)

@@ -6,6 +6,7 @@ import random
 from fractions import Fraction
 
 from bench import Bench, edited
+from flexlab.base.files import parameter_lines
 from flexlab.captures import both, observed, packets
 from flexlab.program import report
 from flexlab.toml.cluster import read_cluster
@@ -198,6 +199,23 @@ class Both(Bench):
         told = self.observe(status=5)[1]
         self.assertIn("b.toml: it is another cluster than that of a.toml: param,gdActionPointOffset,11,, where that one has "
                       "param,gdActionPointOffset,10,,", told)
+
+    def test_a_microtick_of_another_length(self):
+        """The counts are the same, and ticks of the second log would be others."""
+        other = edited(("microtick_ns = 25", "microtick_ns = 50"), ("delay_error_us = 0.0125", "delay_error_us = 0.025"), text=SHORT)
+        self.states(stated(), "")
+        self.assertEqual(*([*parameter_lines(read_cluster(self.write("b.toml", text)))] for text in (SHORT, other + stated())))
+        for name in ("a.csv", "b.csv"):
+            self.write(name, "")
+        self.assertIn("b.toml: it is another cluster than that of a.toml: a microtick of 50 ns where that one has 25 ns",
+                      self.observe(status=5)[1])
+
+    def test_a_shift_of_no_second_log(self):
+        for name in ("a.toml", "a.csv"):
+            self.write(name, "")
+        for cycles in ("64", "0"):
+            told = self.flexlab("observe", "a.csv", "a.toml", *COLUMNS, "--shift", cycles, status=2)[1]
+            self.assertIn("--shift is of a second log, and no --second names one", told)
 
 
 if __name__ == "__main__":

@@ -21,7 +21,7 @@ from ..program import calls as programs
 from ..runs.runs import keep
 from ..toml.cluster import Cluster, read_cluster
 from .observed import MOST_FAULTS, Part, Seen, least_judged, lower, parts_object, seen_in, upper
-from .observer import End, is_damaged
+from .observer import End, is_damaged, plain
 
 # The second log's files, in the folder of the first.
 SECOND = "second"
@@ -338,7 +338,7 @@ def told_lines(cluster: Cluster, told: Told, shift: int) -> list[str]:
     began = any(course.before for course in apart)
     return found + lines_of(
         "Together", "NO: no history of this cluster gives both logs, if what is stated of both analyzers is so and their cycles are paired "
-        "as they are. A node may send each analyzer something else, or a limit of a delay, a drift or an error is wrong"
+        "as they are. A node may send each analyzer something else, or a limit of a delay, a drift, an error or the cluster itself is wrong"
         + ("; some of it met before, so it changed, unless it lies at the edge of its limits" if began else ""))
 
 
@@ -377,16 +377,19 @@ def hold_both(one: Seen, two: Seen, shift: int) -> list[Told]:
 
 
 def same_cluster(one: Cluster, two: Cluster) -> None:
-    """Ends flexlab where both files have other parameters or nodes."""
+    """Ends flexlab where both files have other parameters or nodes, or microticks of another length: ticks are parts of these."""
     for first, second in zip_longest(parameter_lines(one), parameter_lines(two), fillvalue="nothing"):
         if first != second:
             raise Stop(REFUSED, f"{two.path}: it is another cluster than that of {one.path}: {second.strip()} where that one has "
                                 f"{first.strip()}")
+    if one.microtick_ns != two.microtick_ns:
+        raise Stop(REFUSED, f"{two.path}: it is another cluster than that of {one.path}: a microtick of {plain(two.microtick_ns)} ns "
+                            f"where that one has {plain(one.microtick_ns)} ns")
 
 
 def observe_both(words: Namespace, folder: str) -> int:
     """Observes two files, and holds them against each other."""
-    wanted, shift, (capture, toml) = least_judged(words.require), words.shift, words.second
+    wanted, shift, (capture, toml) = least_judged(words.require), words.shift or 0, words.second
     program, one, two = programs.flexray(words.flexray, "observe"), read_cluster(words.cluster), read_cluster(toml)
     same_cluster(one, two)
     hold(folder)

@@ -276,7 +276,8 @@ def parser() -> argparse.ArgumentParser:
     observe = request("observe", "tell what a capture says for certain of the cluster's clocks",
                       "\nIt writes the log as `log` does, asks flexray observe, and prints a page in microseconds and ppm: limits of "
                       "the skew,\nof each node's rate and offset terms. It ends in status 0 where the verdict is within, and else in "
-                      "status 1.")
+                      "status 1;\nwith --second in status 0 where both verdicts are within, each part has numbers that both logs limit, "
+                      "and none of\nthem is apart.")
     for one in (log, observe):
         one.add_argument("file", metavar="CAPTURE")
         one.add_argument("cluster", metavar="CLUSTER.toml")
@@ -290,13 +291,15 @@ def parser() -> argparse.ArgumentParser:
 
     observe.add_argument("--second", nargs=2, metavar=("CAPTURE", "CLUSTER.toml"),
                          help="the log of another analyzer, and the same cluster with its [observer]: both logs are held against each "
-                              "other")
-    observe.add_argument("--shift", metavar="CYCLES", type=shift, default=0,
-                         help="how much later the second log begins than its cycle counts say, a multiple of 64 (0)")
+                              "other; --columns, --time-unit, --bus, --from and --to hold for both captures")
+    observe.add_argument("--shift", metavar="CYCLES", type=shift,
+                         help="with --second: how much later the second log begins than its cycle counts say, a multiple of 64 (0), "
+                              "of all parts")
     observe.add_argument("-o", "--out", metavar="FOLDER", help="where files go (CAPTURE.lab beside the capture)")
     observe.add_argument("-p", "--pictures", action="store_true", help="draw skew, rates and offset terms, by gnuplot")
     observe.add_argument("--require", metavar="judged=COUNT",
-                         help="status 0 where the verdict is partly, too, and status 7 where fewer double cycles are judged")
+                         help="status 0 where the verdict is partly, too, and status 7 where fewer double cycles are judged; where it "
+                              "is no or over the status stays 1")
     observe.add_argument("--flexray", metavar="PROGRAM", help=PROGRAM_HELP)
 
     for one in (capture, log, observe):
@@ -500,6 +503,8 @@ def do_log(words: argparse.Namespace) -> int:
 def do_observe(words: argparse.Namespace) -> int:
     from ..captures.both import observe_both
     from ..captures.observed import observe
+    if words.shift is not None and not words.second:
+        raise Stop(USAGE, "--shift is of a second log, and no --second names one")
     return (observe_both if words.second else observe)(words, folder_of(words))
 
 
