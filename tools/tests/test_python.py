@@ -546,7 +546,7 @@ class Alone(Bench):
         """Where no node runs a skew is told all the same."""
         files = list(map(str, example_call("sharp/walk").files))
         for parse, words, last in ((texts.series, [], flexray.SeriesCycle(179, False, 0, 0)),
-                                   (texts.sharp_series, ["sharp"], flexray.SeriesCycle(179, False, 0, 0, False, True))):
+                                   (texts.sharp_series, ["sharp"], flexray.SeriesCycle(179, False, 0, 0, False, True, 96003994))):
             text = subprocess.run([SERIES, *files, *words], capture_output=True, text=True, check=True).stdout
             told = parse(text)
             self.assertEqual((told.text, len(told.cycles), told.cycles[-1]), (text, 180, last))
