@@ -1,6 +1,6 @@
 -- What is known of the clocks of a cluster in a double cycle, in ticks; when such a double cycle is judged; and what is then known of
 -- the next one. None of it asks whether the numbers are those of sharp sync: smaller ones give smaller ones.
-use Rattle.std.specs.Prelude.{ℕ, ℤ, pos, ◌+◌, ◌≤◌, ◌+ℤ◌, int_le, nat_abs, max, min, nat_le, Bool, true, false, ◌&&◌, if◌then◌else◌}
+use Rattle.std.specs.Prelude.{ℕ, ℤ, pos, ◌+◌, ◌≤◌, ◌+ℤ◌, int_le, nat_abs, max, min, nat_le, Bool, true, false, ◌&&◌, Option, Some, None, if◌then◌else◌}
 use Rattle.fr_cluster.specs.Values.{Values}
 use Rattle.fr_bound.specs.declared.judging.Heard.{Heard}
 use Rattle.fr_bound.specs.declared.judging.Heard.TheVariants as heard
@@ -9,7 +9,7 @@ use Rattle.fr_bound.specs.declared.settling.Spread.{Spread}
 use Rattle.fr_bound.specs.Bounds.{longest_micro}
 use Rattle.fr_bound.specs.Checks.{left_of}
 use Rattle.fr_bound.specs.SharpBounds.{rate_room, rate_walk}
-use Rattle.fr_bound.specs.SharpChecks.{SharpChecksHold}
+use Rattle.fr_bound.specs.SharpChecks.{sharp_holds_of, SharpChecksHold}
 use Rattle.fr_bound.specs.SharpSpreads.{next_lost_spread, next_sharp_spread, sharply_apart_in, sharply_near_in}
 
 -- a number, or 0 for one below 0
@@ -43,6 +43,12 @@ met_of known other = record {
   beyond = min known.beyond other.beyond;
 }
 
+-- by the one before it, and by what is seen of it, where each of these is there
+abbrev pub met_with : Option Known → Option Known → Option Known
+met_with None seen = seen
+met_with (Some known) None = Some known
+met_with (Some known) (Some seen) = Some (met_of known seen)
+
 -- how far macroticks may lie apart in this one: as far as its starts and lengths say, or as the next starts do
 abbrev pub apart_through : Heard → Values → ℕ → Known → ℕ
 apart_through what p flutter known =
@@ -53,6 +59,15 @@ apart_through what p flutter known =
 pub record IsJudgedDouble (p : Values) (flutter : ℕ) (known : Known) : Type 0 where
   pub checks : SharpChecksHold flutter (sharply_near_in p known.spread) p
   pub room : known.beyond + from_none (rate_walk p flutter) ≤ rate_room p
+
+-- the same as a test
+abbrev pub all_but_first_hold : ℕ → ℕ → Values → Bool
+all_but_first_hold flutter reach p =
+    sharp_holds_of 2 flutter reach p && (sharp_holds_of 3 flutter reach p && (sharp_holds_of 4 flutter reach p && sharp_holds_of 5 flutter reach p))
+
+abbrev pub is_judged_double : Values → ℕ → Known → Bool
+is_judged_double p flutter known =
+    all_but_first_hold flutter (sharply_near_in p known.spread) p && nat_le (known.beyond + from_none (rate_walk p flutter)) (rate_room p)
 
 -- the limits can take in its numbers at all: else it is not judged
 abbrev pub is_taken_in : Values → Known → Bool

@@ -1,5 +1,5 @@
 ghost use Rattle.std.specs.Prelude.{ℕ, ◌≡◌, ◌≤◌, ◌+◌, nat_le, true, false};
-ghost use Rattle.fr_bound.specs.Judged.{IsJudgedDouble, IsSmall, apart_through, from_none, heard_spread, is_taken_in, known_after, met_of, walked_on};
+ghost use Rattle.fr_bound.specs.Judged.{IsJudgedDouble, IsSmall, apart_through, from_none, heard_spread, is_judged_double, is_taken_in, known_after, met_of, met_with, walked_on};
 ghost use Rattle.fr_bound.specs.SharpBounds.{most_flutter, rate_room, rate_walk};
 ghost use Rattle.fr_bound.specs.SharpChecks.{SharpChecksHold};
 ghost use Rattle.fr_bound.specs.SharpSpreads.{next_lost_spread};
@@ -17,9 +17,9 @@ use fr_cluster::{ParamName, Params};
 pub enum Heard {
     /// All of all, without arbitrary sync nodes.
     Clean,
-    /// Any two of them the values of a sender in common, whatever arbitrary sync nodes say.
+    /// All of all, beside arbitrary sync nodes too, whatever these say.
     Meeting,
-    /// Each of them values of some senders, and of arbitrary sync nodes no more than it discards.
+    /// Of some senders, without arbitrary sync nodes.
     Poor,
 }
 
@@ -37,6 +37,7 @@ pub struct Known {
 /// by the walk further. What is known may be any numbers; of a judged one they are small.
 pub fn is_judged(params: &Params, flutter: u64, known: Known) -> bool
     requires { flutter ≤ most_flutter }
+    ensures value { result ≡ is_judged_double params.now flutter known }
     ensures yes { result ≡ true → IsJudgedDouble params.now flutter known }
     ensures no { result ≡ false → IsJudgedDouble params.now flutter known → ⊥ }
     ensures small { result ≡ true → IsSmall known }
@@ -93,6 +94,19 @@ pub fn met(known: Known, other: Known) -> Known
     Known {
         spread: Spread { starts, lengths },
         beyond: known.beyond.min(other.beyond),
+    }
+}
+
+/// What is known of a double cycle by the one before it, and by what is seen of it, where each of these is there.
+pub fn met_with(known: Option<Known>, seen: Option<Known>) -> Option<Known>
+    ensures { result ≡ met_with known seen }
+{
+    match known {
+        None => seen,
+        Some(known) => match seen {
+            None => Some(known),
+            Some(seen) => Some(met(known, seen)),
+        },
     }
 }
 

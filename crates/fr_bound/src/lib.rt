@@ -14,7 +14,7 @@ pub use bounding::{
     BoundValues, arrival_error, bounds, cycle_change, longest_microtick, reach, shortest_microtick,
 };
 pub use checking::{CheckSides, checks, join_checks, side};
-pub use judging::{Heard, Known, apart_through, is_judged, known_after, met};
+pub use judging::{Heard, Known, apart_through, is_judged, known_after, met, met_with};
 pub use laws::{
     in_sync_is_tested, nothing_is_cut, one_first_failing, one_first_failing_to_join, one_settling,
 };

@@ -1,11 +1,11 @@
 -- A state of what is known that is carried through double cycles is so in each.
 use Rattle.std.proofs.Common.{◌≡◌, ℕ, zero, suc, ◌+◌, ◌<◌, Option, Some, None, refl, sym, subst, arith}
 use Rattle.fr_cluster.specs.Setting.{Setting}
-use Rattle.fr_bound.specs.Judged.{met_of, IsJudgedDouble}
+use Rattle.fr_bound.specs.Judged.{met_of, met_with, IsJudgedDouble}
 use Rattle.fr_bound.specs.declared.judging.Heard.{Heard}
 use Rattle.fr_bound.specs.declared.judging.Known.{Known}
 use Rattle.fr_history.specs.Cycles.{Cycles}
-use Rattle.fr_sharp.specs.JudgedStates.{met_with, AreKnownFrom, CarriedIsKnown, CarriesKnown}
+use Rattle.fr_sharp.specs.JudgedStates.{AreKnownFrom, CarriedIsKnown, CarriesKnown}
 use Rattle.fr_sharp.specs.JudgedSteps.{GoesOnJudged, IsKnownAt}
 use Rattle.fr_sharp.specs.SharpHistories.{IsStatedRun}
 use Rattle.fr_sharp.proofs.JudgedLaws.{judged_goes_on_lem, known_is_met_lem}

@@ -3,18 +3,12 @@
 use Rattle.std.specs.Prelude.{◌≡◌, ◌+◌, ◌<◌, ℕ, suc, Option, Some, None}
 use Rattle.fr_cluster.specs.Setting.{Setting}
 use Rattle.fr_cluster.specs.Values.{Values}
-use Rattle.fr_bound.specs.Judged.{known_after, met_of, IsJudgedDouble}
+use Rattle.fr_bound.specs.Judged.{known_after, met_with, IsJudgedDouble}
 use Rattle.fr_bound.specs.declared.judging.Heard.{Heard}
 use Rattle.fr_bound.specs.declared.judging.Known.{Known}
 use Rattle.fr_history.specs.Cycles.{Cycles}
 use Rattle.fr_sharp.specs.JudgedSteps.{GoesOnJudged, IsHeardIn, IsKnownAt}
 use Rattle.fr_sharp.specs.SharpHistories.{IsStatedRun}
-
--- what is known of a double cycle by the one before, and what is seen of it
-abbrev pub met_with : Option Known → Option Known → Option Known
-met_with None seen = seen
-met_with (Some known) None = Some known
-met_with (Some known) (Some seen) = Some (met_of known seen)
 
 -- what is known of one is the step of what was met before it, and that is judged
 pub record IsSteppedFrom (p : Values) (flutter : ℕ) (what : Heard) (before : Option Known) (next : Known) : Type 0 where
