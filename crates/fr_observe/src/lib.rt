@@ -3,6 +3,7 @@
 #![tactic(auto)]
 
 mod fault;
+mod knowing;
 mod missing;
 mod obstacle;
 mod own_faults;
@@ -15,6 +16,7 @@ mod synced;
 mod telling;
 
 pub use fault::{Fault, FaultKind, LogSpan, SyncFrom, known_node};
+pub use knowing::Standing;
 pub use obstacle::{Obstacle, ObstacleKind};
 pub use own_faults::put_own_faults;
 pub use rows::{cycle_row, node_row, precision_row};
