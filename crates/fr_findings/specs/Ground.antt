@@ -6,13 +6,15 @@ use Rattle.fr_observe.specs.Faults.{first_of_faults}
 use Rattle.fr_observe.specs.Obstacles.{farther}
 use Rattle.fr_observe.specs.Skews.{AreSkews}
 use Rattle.fr_findings.specs.Counting.{AreFewCycles, counted}
-use Rattle.fr_findings.specs.Verdict.{Basis, DoubleCycle, double_with, faults_told, judged_by, obstacle_told, reach_behind_both, sync_told}
+use Rattle.fr_bound.specs.declared.judging.Heard.{Heard}
+use Rattle.fr_findings.specs.Verdict.{Basis, DoubleCycle, by_heard, double_with, faults_told, judged_by, known_next_told, obstacle_told, reach_behind_both, reach_where, sync_told}
 use Rattle.fr_findings.specs.declared.ground.Around.{Around}
 use Rattle.fr_findings.specs.declared.ground.Double.{Double}
 use Rattle.fr_findings.specs.declared.ground.Ground.{Ground}
 use Rattle.fr_findings.specs.declared.ground.Offending.{Offending}
 use Rattle.fr_findings.specs.declared.progress.OverRow.{OverRow}
 use Rattle.fr_findings.specs.declared.progress.Progress.{Progress}
+use Rattle.fr_findings.specs.declared.progress.Reach.{Reach}
 use Rattle.fr_observe.specs.declared.says.Says.{Says}
 use Rattle.fr_sightings.specs.Ranges.{AreLogStamps, AreNumbered, AreSeenFrom, DoublesAscend, IsProperSender, IsScaleOf}
 use Rattle.fr_sightings.specs.Sightings.{OffendingFrames}
@@ -27,6 +29,7 @@ basis_in g =
       log = g.log.now;
       span = g.span;
       covered = g.covered;
+      heard = g.heard;
     }
 
 abbrev pub offending_given : Offending → OffendingFrames
@@ -91,16 +94,23 @@ abbrev pub with_faults : Basis → DoubleCycle → Progress → Progress
 with_faults b d progress =
     record progress {
       sync = sync_told b d progress.sync;
-      first = option_or progress.first (first_of_faults (faults_told b d (sync_told b d progress.sync)));
-      obstacle = farther progress.obstacle (obstacle_told b d (sync_told b d progress.sync));
+      known = known_next_told b d progress.known;
+      first = option_or progress.first (first_of_faults (faults_told b d (sync_told b d progress.sync) progress.known));
+      obstacle = farther progress.obstacle (obstacle_told b d (sync_told b d progress.sync) progress.known);
     }
 
-abbrev pub with_both : Progress → ℕ → Bool → Says → Says → Option OverRow → Progress
-with_both progress double is_judged even odd over =
+-- by sync, or by its own numbers
+abbrev pub reach_passed : Option Heard → Progress → ℕ → Bool → Says → Says → (Option Reach × Bool)
+reach_passed heard progress double is_judged even odd =
+    by_heard heard (reach_behind_both progress.sync double even odd (progress.reach, progress.is_ended))
+    (reach_where is_judged progress.judged.span double even odd (progress.reach, progress.is_ended))
+
+abbrev pub with_both : Option Heard → Progress → ℕ → Bool → Says → Says → Option OverRow → Progress
+with_both heard progress double is_judged even odd over =
     record progress {
       counts = counted progress.counts (even ∷ odd ∷ []);
-      reach = (reach_behind_both progress.sync double even odd (progress.reach, progress.is_ended)).0;
-      is_ended = (reach_behind_both progress.sync double even odd (progress.reach, progress.is_ended)).1;
+      reach = (reach_passed heard progress double is_judged even odd).0;
+      is_ended = (reach_passed heard progress double is_judged even odd).1;
       over = option_or progress.over over;
       doubles = progress.doubles + 1;
       judged = judged_by is_judged progress.judged double (even ∷ odd ∷ []);

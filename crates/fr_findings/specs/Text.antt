@@ -1,7 +1,8 @@
 -- What a log tells of a cluster's clocks, as a text: for each double cycle its rows and its faults, then what holds of the
 -- whole log.
-use Rattle.std.specs.Prelude.{◌≡◌, ℕ, Bool, true, false, All, List, [], ◌∷◌, ◌++◌, codes, Option, Some, None, if◌then◌else◌}
+use Rattle.std.specs.Prelude.{◌≡◌, ℕ, ◌/◌, Bool, true, false, All, List, [], ◌∷◌, ◌++◌, codes, Option, Some, None, if◌then◌else◌}
 use Rattle.std.specs.Fmt.{decimal, signed_decimal}
+use Rattle.std.specs.Option.{option_or}
 use Rattle.fr_cluster.specs.Values.{Values}
 use Rattle.fr_log.specs.View.{LogView}
 use Rattle.fr_findings.specs.Census.{census_text}
@@ -16,6 +17,7 @@ use Rattle.fr_findings.specs.Verdict.{Basis, basis_with, coverable_of, log_progr
 use Rattle.fr_findings.specs.declared.coverable.Coverable.{Coverable}
 use Rattle.fr_findings.specs.declared.coverable.Coverable.TheVariants as coverable
 use Rattle.fr_findings.specs.declared.progress.Progress.{Progress}
+use Rattle.fr_findings.specs.declared.progress.Reach.{Reach}
 use Rattle.fr_sightings.specs.declared.sighting.Sighting.{Sighting}
 use Rattle.fr_sightings.specs.declared.sighting.Tally.{Tally}
 use Rattle.fr_observe.specs.declared.fault.SyncFrom.{SyncFrom}
@@ -75,9 +77,17 @@ sync_fields sync judged doubles why =
     ∷ known_count (why_cycle why) ∷ known_count (why_node why) ∷ []
     )
 
+-- where double cycles are judged by their own numbers, that is the first of these
+abbrev pub first_judged : Option Reach → Option SyncFrom
+first_judged None = None
+first_judged (Some span) = Some (record { double = span.from / 2; is_stated = false })
+
+abbrev pub sync_of : Progress → Option SyncFrom
+sync_of progress = option_or progress.sync (first_judged progress.judged.span)
+
 abbrev pub sync_row : Progress → List ℕ
 sync_row progress =
-    sync_fields progress.sync progress.judged.doubles progress.doubles (why_unjudged progress.sync progress.obstacle)
+    sync_fields (sync_of progress) progress.judged.doubles progress.doubles (why_unjudged (sync_of progress) progress.obstacle)
 
 abbrev pub verdict_row : Verdict → List ℕ
 verdict_row (verdict.No fault) =

@@ -5,11 +5,15 @@ use Rattle.std.specs.List.{count_by, flat_map}
 use Rattle.std.specs.Option.{option_or}
 use Rattle.fr_bound.specs.Bounds.{precision_of}
 use Rattle.fr_bound.specs.Checks.{holds_of, left_of, right_of}
+use Rattle.fr_bound.specs.declared.judging.Heard.{Heard}
+use Rattle.fr_bound.specs.declared.judging.Heard.TheVariants.{Clean, Meeting}
+use Rattle.fr_bound.specs.declared.judging.Known.{Known}
 use Rattle.fr_cluster.specs.Values.{Values}
 use Rattle.fr_log.specs.View.{LogView}
 use Rattle.fr_course.specs.Readings.{reading_scale}
 use Rattle.fr_course.specs.declared.scales.Scale.{Scale}
-use Rattle.fr_observe.specs.Faults.{before_in_sync, fault_row, faults_in_sync, first_of_faults, is_sync_seen, own_faults, slot_faults, sync_behind, sync_faults}
+use Rattle.fr_observe.specs.Faults.{before_in_sync, fault_row, faults_in_sync, first_of_faults, is_nil, is_sync_seen, own_faults, slot_faults, sync_behind, sync_faults}
+use Rattle.fr_observe.specs.Knowing.{known_next, known_obstacle, spread_told, standing_faults, standing_of}
 use Rattle.fr_findings.specs.Counting.{counted, no_cycles_told}
 use Rattle.fr_observe.specs.Observing.{both_say, double_rows, even_high, even_low, odd_high, odd_low, says_of, seen_doubles}
 use Rattle.fr_observe.specs.Obstacles.{farther, sync_obstacle}
@@ -20,6 +24,7 @@ use Rattle.fr_findings.specs.declared.coverable.Coverable.{Coverable}
 use Rattle.fr_findings.specs.declared.coverable.Coverable.TheVariants as coverable
 use Rattle.fr_observe.specs.declared.fault.Fault.{Fault}
 use Rattle.fr_observe.specs.declared.fault.LogSpan.{LogSpan}
+use Rattle.fr_observe.specs.declared.knowing.Standing.{Standing}
 use Rattle.fr_observe.specs.declared.obstacle.Obstacle.{Obstacle}
 use Rattle.fr_observe.specs.declared.obstacle.ObstacleKind.{ObstacleKind}
 use Rattle.fr_observe.specs.declared.obstacle.ObstacleKind.TheVariants as obstacle
@@ -65,7 +70,22 @@ is_coverable coverable.Open = true
 is_coverable (coverable.Check number left right) = false
 is_coverable (coverable.Count correct arbitrary) = false
 
--- then none of its double cycles is judged
+-- where a check fails, double cycles are judged by their own numbers: what their nodes hear of each other, where so many correct sync
+-- nodes suffice for so many arbitrary ones
+abbrev pub heard_with : ℕ → ℕ → Option Heard
+heard_with correct arbitrary =
+    if are_enough correct arbitrary then (if arbitrary == 0 then Some Clean else Some Meeting) else None
+
+abbrev pub heard_by : Values → LogView → Coverable → Option Heard
+heard_by p l coverable.Open = None
+heard_by p l (coverable.Check number left right) =
+    heard_with (count_by (is_sync_as l false) p.nodes) (count_by (is_sync_as l true) p.nodes)
+heard_by p l (coverable.Count correct arbitrary) = None
+
+abbrev pub heard_of : Values → LogView → Option Heard
+heard_of p l = heard_by p l (coverable_of p l)
+
+-- else none of its double cycles is judged
 abbrev pub whole_obstacle : ObstacleKind → Option Obstacle
 whole_obstacle why = Some (record { kind = why; cycle = None; node = None })
 
@@ -83,6 +103,7 @@ pub record Basis : Type 0 where
   pub log : LogView
   pub span : LogSpan
   pub covered : Coverable
+  pub heard : Option Heard
 
 -- the numbers of the first and the last sighting
 abbrev pub number_or_none : Option Sighting → ℕ
@@ -105,6 +126,7 @@ basis_with p l seen covered =
       log = l;
       span = log_span seen;
       covered = covered;
+      heard = heard_by p l covered;
     }
 
 abbrev pub log_basis : Values → LogView → Basis
@@ -166,26 +188,49 @@ abbrev pub in_sync_told : Basis → DoubleCycle → SyncFrom → List Fault
 in_sync_told b d from =
     sync_faults b.precision b.params b.scale b.log b.span (before_in_sync from d.number d.before) d.here d.number d.senders
 
--- all faults of it, where the cluster is in sync from there on
-unfoldable pub faults_told : Basis → DoubleCycle → Option SyncFrom → List Fault
-faults_told b d sync = own_told b d ++ faults_in_sync (is_coverable b.covered) sync (in_sync_told b d)
+-- how it stands by its own numbers, with what is known of it from the one before, and what contradicts these
+unfoldable pub standing_told : Basis → DoubleCycle → Option Known → Standing
+standing_told b d known =
+    standing_of b.params b.scale b.log d.here d.number d.senders b.heard known (first_of_faults (own_told b d))
 
--- it is judged where these are told: where the cluster is in sync, and a run can be covered
-abbrev pub is_judged : Basis → Option SyncFrom → Bool
-is_judged b sync = is_coverable b.covered && is_some sync
+unfoldable pub known_told : Basis → DoubleCycle → Option Known → List Fault
+known_told b d known =
+    standing_faults b.params b.scale b.log b.span d.before d.here d.number d.senders (standing_told b d known)
+
+-- what is known of the next one
+abbrev pub known_next_told : Basis → DoubleCycle → Option Known → Option Known
+known_next_told b d known = known_next b.params (standing_told b d known) (is_nil (known_told b d known))
+
+-- all faults of it, where the cluster is in sync from there on, and so much is known of it
+unfoldable pub faults_told : Basis → DoubleCycle → Option SyncFrom → Option Known → List Fault
+faults_told b d sync known =
+    own_told b d ++ (faults_in_sync (is_coverable b.covered) sync (in_sync_told b d) ++ known_told b d known)
+
+-- it is judged where a run can be covered and the cluster is in sync, or by its own numbers
+abbrev pub is_judged : Basis → DoubleCycle → Option SyncFrom → Option Known → Bool
+is_judged b d sync known = (is_coverable b.covered && is_some sync) || (standing_told b d known).is_judged
 
 -- what keeps it from that else
 abbrev pub unless_synced : Option SyncFrom → Option Obstacle → Option Obstacle
 unless_synced None why = why
 unless_synced (Some from) why = None
 
-unfoldable pub obstacle_told : Basis → DoubleCycle → Option SyncFrom → Option Obstacle
-obstacle_told b d sync =
+abbrev pub unsynced_told : Basis → DoubleCycle → Option SyncFrom → Option Obstacle
+unsynced_told b d sync =
     option_or (uncoverable b.covered)
     (
     unless_synced sync
     (sync_obstacle b.params b.scale b.log d.here d.number d.senders (first_of_faults (own_told b d)))
     )
+
+abbrev pub by_heard : {X : Type 0} → Option Heard → X → X → X
+by_heard None by_sync by_numbers = by_sync
+by_heard (Some what) by_sync by_numbers = by_numbers
+
+unfoldable pub obstacle_told : Basis → DoubleCycle → Option SyncFrom → Option Known → Option Obstacle
+obstacle_told b d sync known =
+    by_heard b.heard (unsynced_told b d sync)
+    (known_obstacle b.params b.log d.here d.number (standing_told b d known) (first_of_faults (own_told b d)))
 
 -- ---- what is known behind it
 
@@ -196,6 +241,7 @@ abbrev pub no_progress : Progress
 no_progress =
     record {
       sync = None;
+      known = None;
       first = None;
       counts = no_cycles_told;
       reach = None;
@@ -224,6 +270,12 @@ abbrev pub reach_behind_both : Option SyncFrom → ℕ → Says → Says → (Op
 reach_behind_both None double even odd reach = reach
 reach_behind_both (Some from) double even odd reach = reach_behind (reach_behind reach (2 * double) even) (2 * double + 1) odd
 
+-- the same where double cycles are judged by their own numbers: one that is not, behind one that is, is a gap
+abbrev pub reach_where : Bool → Option Reach → ℕ → Says → Says → (Option Reach × Bool) → (Option Reach × Bool)
+reach_where true span double even odd reach = reach_behind (reach_behind reach (2 * double) even) (2 * double + 1) odd
+reach_where false None double even odd reach = reach
+reach_where false (Some span) double even odd reach = (None, true)
+
 abbrev pub even_says : Basis → DoubleCycle → Says
 even_says b d = says_of b.precision (even_low b.scale d.senders) (even_high b.scale d.senders)
 
@@ -232,7 +284,11 @@ odd_says b d = says_of b.precision (odd_low b.scale d.senders) (odd_high b.scale
 
 abbrev pub reach_told : Basis → DoubleCycle → Option SyncFrom → Progress → (Option Reach × Bool)
 reach_told b d sync progress =
-    reach_behind_both sync d.number (even_says b d) (odd_says b d) (progress.reach, progress.is_ended)
+    by_heard b.heard (reach_behind_both sync d.number (even_says b d) (odd_says b d) (progress.reach, progress.is_ended))
+    (
+    reach_where (standing_told b d progress.known).is_judged progress.judged.span d.number (even_says b d) (odd_says b d)
+    (progress.reach, progress.is_ended)
+    )
 
 -- the first row that says over
 abbrev pub over_row : ℕ → ℤ → Says → Option OverRow
@@ -263,29 +319,31 @@ unfoldable pub progress_told : Basis → DoubleCycle → Progress → Progress
 progress_told b d progress =
     record {
       sync = sync_told b d progress.sync;
-      first = option_or progress.first (first_of_faults (faults_told b d (sync_told b d progress.sync)));
+      known = known_next_told b d progress.known;
+      first = option_or progress.first (first_of_faults (faults_told b d (sync_told b d progress.sync) progress.known));
       counts = counted progress.counts (both_say b.precision b.scale d.senders);
       reach = (reach_told b d (sync_told b d progress.sync) progress).0;
       is_ended = (reach_told b d (sync_told b d progress.sync) progress).1;
       over = option_or progress.over (over_told b d);
       doubles = progress.doubles + 1;
       judged =
-          judged_by (is_judged b (sync_told b d progress.sync)) progress.judged d.number
+          judged_by (is_judged b d (sync_told b d progress.sync) progress.known) progress.judged d.number
           (both_say b.precision b.scale d.senders);
-      obstacle = farther progress.obstacle (obstacle_told b d (sync_told b d progress.sync));
+      obstacle = farther progress.obstacle (obstacle_told b d (sync_told b d progress.sync) progress.known);
     }
 
--- its rows, and behind them those of its faults
+-- its rows, behind them those of its faults, and then its own numbers, where it is judged by them
 unfoldable pub double_told : Basis → DoubleCycle → Progress → List ℕ
 double_told b d progress =
     double_rows b.precision b.scale d.number d.senders
-    ++ flat_map fault_row (faults_told b d (sync_told b d progress.sync))
+    ++ (flat_map fault_row (faults_told b d (sync_told b d progress.sync) progress.known)
+    ++ spread_told b.params d.number (standing_told b d progress.known))
 
 -- ---- a log
 
--- the faults of a double cycle, where the cluster is in sync from there on
-abbrev pub double_faults : Basis → List Sighting → OffendingFrames → ℕ → Option SyncFrom → List Fault
-double_faults b seen offending double sync = faults_told b (double_at b seen offending double) sync
+-- the faults of a double cycle, where the cluster is in sync from there on, and so much is known of it
+abbrev pub double_faults : Basis → List Sighting → OffendingFrames → ℕ → Option SyncFrom → Option Known → List Fault
+double_faults b seen offending double sync known = faults_told b (double_at b seen offending double) sync known
 
 abbrev pub progress_behind : Basis → List Sighting → OffendingFrames → ℕ → Progress → Progress
 progress_behind b seen offending double progress = progress_told b (double_at b seen offending double) progress

@@ -1,9 +1,9 @@
 ghost use Rattle.std.specs.Prelude.{◌≡◌, ◌≤◌, count_by, length, pos};
 ghost use Rattle.fr_bound.specs.Checks.{FirstFailing, left_of, right_of};
 ghost use Rattle.fr_sightings.specs.Sure.{is_sync_as};
-ghost use Rattle.fr_findings.specs.Verdict.{are_enough, coverable_of, coverable_with, is_coverable, uncoverable, whole_obstacle};
+ghost use Rattle.fr_findings.specs.Verdict.{are_enough, coverable_of, coverable_with, heard_by, heard_with, is_coverable, uncoverable, whole_obstacle};
 
-use fr_bound::{checks, side};
+use fr_bound::{Heard, checks, side};
 use fr_cluster::{NodeList, Params};
 use fr_log::Log;
 use fr_observe::{Obstacle, ObstacleKind};
@@ -42,6 +42,19 @@ impl Coverable {
         match self {
             Coverable::Open => true,
             Coverable::Check { .. } | Coverable::Count { .. } => false,
+        }
+    }
+
+    // What the nodes hear of each other in the double cycles of a log that are judged by their own numbers.
+    pub(crate) fn heard(self, params: &Params, log: &Log) -> Option<Heard>
+        ensures { result ≡ heard_by params.now log.now self }
+    {
+        match self {
+            Coverable::Check { .. } => heard_with(
+                sync_nodes(params, log, false),
+                sync_nodes(params, log, true),
+            ),
+            Coverable::Open | Coverable::Count { .. } => None,
         }
     }
 
@@ -89,6 +102,18 @@ fn are_enough(correct: u64, arbitrary: u64) -> bool
         1 => correct >= 3,
         2 => correct >= 6,
         _ => false,
+    }
+}
+
+fn heard_with(correct: u64, arbitrary: u64) -> Option<Heard>
+    ensures { result ≡ heard_with correct arbitrary }
+{
+    if !are_enough(correct, arbitrary) {
+        None
+    } else if arbitrary == 0 {
+        Some(Heard::Clean)
+    } else {
+        Some(Heard::Meeting)
     }
 }
 

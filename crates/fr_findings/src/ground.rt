@@ -1,4 +1,5 @@
 use crate::coverable::Coverable;
+use fr_bound::Heard;
 use fr_cluster::Params;
 use fr_course::Scale;
 use fr_log::Log;
@@ -6,7 +7,8 @@ use fr_observe::{LogSpan, Skews};
 use fr_sightings::{Sender, Sighting};
 
 // What stays the same over a log: the precision of its cluster in ticks, the cluster's numbers as readings, both files,
-// the cycles from the first sighting to the last, and whether a run can be covered.
+// the cycles from the first sighting to the last, whether a run can be covered, and, where double cycles are judged by their own
+// numbers, what their nodes hear of each other.
 #[derive(Clone, Copy)]
 pub(crate) struct Ground<'a> {
     pub(crate) precision: i64,
@@ -15,6 +17,7 @@ pub(crate) struct Ground<'a> {
     pub(crate) log: &'a Log,
     pub(crate) span: LogSpan,
     pub(crate) covered: Coverable,
+    pub(crate) heard: Option<Heard>,
 }
 
 // The offending frames of a log, or of a double cycle: those that do not come in time, and irregular ones.

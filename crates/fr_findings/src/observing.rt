@@ -196,6 +196,7 @@ fn put_told<O: Sink>(
         log,
         span: log_span(seen),
         covered,
+        heard: covered.heard(params, log),
     };
     put_whole(&ground, seen, offending, tally, covered, out)
 }

@@ -4,6 +4,7 @@ ghost use Rattle.fr_findings.specs.Counting.{AreFewCycles, counted};
 ghost use Rattle.fr_findings.specs.Verdict.{further_within, judged_by, no_progress, none_judged, reach_behind, reach_behind_both, reach_by, span_to};
 
 use crate::counts::Counts;
+use fr_bound::Known;
 use fr_observe::{Fault, Obstacle, Says, SyncFrom};
 
 /// Cycles all of whose rows say that the skew is within the precision.
@@ -40,6 +41,8 @@ pub struct Judged {
 pub struct Progress {
     /// From when on the cluster is in sync, if that is known.
     pub sync: Option<SyncFrom>,
+    /// What is known of the clocks in the next double cycle, in ticks, where this one is judged by its own numbers.
+    pub known: Option<Known>,
     /// The first contradiction.
     pub first: Option<Fault>,
     /// How many cycles say what.
@@ -90,6 +93,7 @@ impl Progress {
     {
         Progress {
             sync: None,
+            known: None,
             first: None,
             counts: Counts::new(),
             reach: None,

@@ -22,7 +22,7 @@ use Rattle.fr_seen_runs.specs.Contradictions.{IsAsStated, IsObservedRun}
 unfoldable pub faults_from : Basis → List Sighting → OffendingFrames → Progress → List ℕ → List Fault
 faults_from b seen offending progress [] = []
 faults_from b seen offending progress (double ∷ doubles) =
-    double_faults b seen offending double (sync_told b (double_at b seen offending double) progress.sync)
+    double_faults b seen offending double (sync_told b (double_at b seen offending double) progress.sync) progress.known
     ++ faults_from b seen offending (progress_behind b seen offending double progress) doubles
 
 -- of all of a log
