@@ -4,6 +4,7 @@ use Rattle.std.specs.Prelude.{Contains, slice_get}
 use Rattle.std.specs.List.{range_with_len}
 use Rattle.std.specs.Option.{option_or}
 use Rattle.fr_base.specs.declared.channel.Channel.{Channel}
+use Rattle.fr_bound.specs.declared.judging.Known.{Known}
 use Rattle.fr_cluster.specs.Setting.{Setting}
 use Rattle.fr_cluster.proofs.Elements.{Contains-here, Contains-there}
 use Rattle.fr_history.specs.Cycles.{Cycles}
@@ -18,7 +19,7 @@ use Rattle.fr_seen_runs.specs.Contradictions.{IsObservedRun}
 use Rattle.fr_observe.specs.declared.fault.SyncFrom.{SyncFrom}
 use Rattle.fr_observe.specs.declared.fault.Fault.{Fault}
 use Rattle.fr_observe.specs.Faults.{faults_in_sync, first_of_faults, slot_faults}
-use Rattle.fr_findings.specs.Verdict.{Basis, DoubleCycle, double_at, double_faults, faults_told, in_sync_told, is_coverable, log_basis, own_told, progress_behind, progress_of, progress_told, sync_told}
+use Rattle.fr_findings.specs.Verdict.{Basis, DoubleCycle, double_at, double_faults, faults_told, in_sync_told, is_coverable, known_told, log_basis, own_told, progress_behind, progress_of, progress_told, sync_told}
 use Rattle.fr_findings.specs.declared.progress.Progress.{Progress}
 use Rattle.fr_sightings.specs.Sightings.{OffendingFrames, irregular_of, offending_frames_of}
 use Rattle.fr_seen_runs.specs.ToldFaults.{faults_from}
@@ -89,7 +90,7 @@ module _ (b : Basis) (seen : List Sighting) (offending : OffendingFrames) where
   first_is [] progress = or_none progress.first
   first_is (double ∷ doubles) progress =
       first_is doubles (progress_behind b seen offending double progress)
-      ∙ or_both progress.first (double_faults b seen offending double (sync_told b (double_at b seen offending double) progress.sync))
+      ∙ or_both progress.first (double_faults b seen offending double (sync_told b (double_at b seen offending double) progress.sync) progress.known)
       (faults_from b seen offending (progress_behind b seen offending double progress) doubles)
 
   -- what holds of none of them, and of some with others, and of those of each double cycle, holds of all
@@ -97,14 +98,14 @@ module _ (b : Basis) (seen : List Sighting) (offending : OffendingFrames) where
     abbrev Steps : List ℕ → Type 0
     Steps doubles =
         (double : ℕ) (before : Progress) → Contains doubles double → P double before
-        → Q (double_faults b seen offending double (sync_told b (double_at b seen offending double) before.sync)) × P (suc double) (progress_behind b seen offending double before)
+        → Q (double_faults b seen offending double (sync_told b (double_at b seen offending double) before.sync) before.known) × P (suc double) (progress_behind b seen offending double before)
 
     told_each : (count first : ℕ) (progress : Progress) → Steps (range_with_len first count) → P first progress → Q (faults_from b seen offending progress (range_with_len first count))
     unfolding faults_from
     told_each zero first progress step holds = none
     told_each (suc count) first progress step holds =
         let one = step first progress (Contains-here first (range_with_len (first + 1) count)) holds in
-        both (double_faults b seen offending first (sync_told b (double_at b seen offending first) progress.sync))
+        both (double_faults b seen offending first (sync_told b (double_at b seen offending first) progress.sync) progress.known)
         (faults_from b seen offending (progress_behind b seen offending first progress) (range_with_len (first + 1) count)) one.0
         (told_each count (first + 1) (progress_behind b seen offending first progress)
         (λ double before among. step double before (Contains-there first (range_with_len (first + 1) count) double among))
@@ -140,9 +141,13 @@ module _ (x : Setting) (h : Cycles) (base : ℕ) (delays : ℕ → Channel → D
   own_left double among =
       ap (λ own. own ++ slot_faults x.params (Irregular double)) (own_faults_are_none x h base delays clock l double run among)
 
-  pub faults_left : (double : ℕ) (sync : Option SyncFrom) → Contains (seen_doubles Seen) double
-      → faults_told (log_basis x.params l) (At double) sync
-      ≡ slot_faults x.params (Irregular double) ++ faults_in_sync (is_coverable (log_basis x.params l).covered) sync (in_sync_told (log_basis x.params l) (At double))
+  -- and those of sync, or of what is known
+  abbrev pub rest_told : ℕ → Option SyncFrom → Option Known → List Fault
+  rest_told double sync known =
+      faults_in_sync (is_coverable (log_basis x.params l).covered) sync (in_sync_told (log_basis x.params l) (At double)) ++ known_told (log_basis x.params l) (At double) known
+
+  pub faults_left : (double : ℕ) (sync : Option SyncFrom) (known : Option Known) → Contains (seen_doubles Seen) double
+      → faults_told (log_basis x.params l) (At double) sync known ≡ slot_faults x.params (Irregular double) ++ rest_told double sync known
   unfolding faults_told
-  faults_left double sync among =
-      ap (λ own. own ++ faults_in_sync (is_coverable (log_basis x.params l).covered) sync (in_sync_told (log_basis x.params l) (At double))) (own_left double among)
+  faults_left double sync known among =
+      ap (λ own. own ++ rest_told double sync known) (own_left double among)

@@ -11,6 +11,10 @@ use Rattle.fr_history.specs.Offers.{is_on}
 use Rattle.fr_history.specs.Unfollowed.{IsUnfollowedSyncAt}
 use Rattle.fr_runs.specs.Supplied.{IsCovered, StartsBegin}
 use Rattle.fr_log.specs.View.{IsLog, LogView, is_arbitrary_in}
+use Rattle.fr_bound.specs.declared.judging.Heard.{Heard}
+use Rattle.fr_observe.specs.Knowing.{stated_flutter}
+use Rattle.fr_findings.specs.Verdict.{coverable_of, heard_of, is_coverable}
+use Rattle.fr_sharp.specs.SteadyRuns.{IsSteadySetting}
 use Rattle.fr_course.specs.declared.stamps.Delays.{Delays}
 use Rattle.fr_sightings.specs.Senders.{first_stamp}
 use Rattle.fr_sightings.specs.Sightings.{sightings_of}
@@ -56,4 +60,13 @@ pub record IsAsStated (x : Setting) (h : Cycles) (base : ℕ) (l : LogView) : Ty
   pub covered : IsCovered x
   pub starts : some_joins x ≡ true → StartsBegin x
   pub since : IfSome l.since (λ cycle. IsUnfollowedSyncAt x.params h (run_double base (cycle / 2)))
+  pub unmissed : l.whole ≡ true → MissesNone x h base l
+
+-- what faults ask of the run and of what the log states: where the classical checks hold, as faults of sync do; where one fails, and
+-- double cycles are judged by their own numbers, that oscillators, their changes and delays keep within what is stated, and of
+-- any two correct nodes one channel carries the frames of both cycles of each double cycle
+pub record IsAsLogStates (x : Setting) (h : Cycles) (base : ℕ) (l : LogView) : Type 0 where
+  pub named : NamesArbitrary x l
+  pub synced : is_coverable (coverable_of x.params l) ≡ true → IsAsStated x h base l
+  pub steady : (what : Heard) → heard_of x.params l ≡ Some what → IsSteadySetting x (stated_flutter x.params)
   pub unmissed : l.whole ≡ true → MissesNone x h base l

@@ -2,6 +2,7 @@
 pub mod Contradictions
 pub mod Completeness
 pub mod KeptInSync
+pub mod Standings
 pub mod SyncFaults
 pub mod ComputedValues
 pub mod ComputedTerms
