@@ -37,16 +37,16 @@ use Rattle.fr_runs.specs.Gathered.{round_at}
 use Rattle.fr_runs.specs.Rounds.{IsDoubleOf}
 use Rattle.fr_runs.proofs.Parts.{even_is, odd_is}
 use Rattle.fr_sharp.specs.Among.{ComputesOwn}
-use Rattle.fr_sharp.specs.JudgedSteps.{AppliesMidpoints, ComputeBy, GoesOnJudged, IsHeardIn, IsKnownAt, IsRoundBy, JudgedGoesOn, KnownIsMet, SharpSyncIsKnown, StatedRunsAreKnown}
+use Rattle.fr_sharp.specs.JudgedSteps.{AppliesMidpoints, ComputeBy, EachHasRow, GoesOnJudged, IsHeardIn, IsKnownAt, IsLawfulStatedRun, IsRoundBy, JudgedGoesOn, KnownIsMet, SharpSyncIsKnown, StatedRunsAreKnown, UnfollowedGoesOn}
 use Rattle.fr_sharp.specs.Lengths.{CanWalk, IsAboutCycle}
 use Rattle.fr_sharp.specs.Losses.{NoneIsDeaf}
-use Rattle.fr_sharp.specs.SharpHistories.{members_at, senders_at, BeginsActive, IsStatedRun, KeepsApart}
+use Rattle.fr_sharp.specs.SharpHistories.{members_at, senders_at, BeginsActive, KeepsApart}
 use Rattle.fr_sharp.specs.SharpRun.{AllUncut}
 use Rattle.fr_sharp.specs.SharpStep.{ActInReach, AreSharp, ComeSharply, ComputesSharply, IsSharpDouble, IsSharpLimit}
 use Rattle.fr_sharp.specs.SteadyRuns.{row_hearers, AreRowsInReach, IsWhole, MayHaveArbitrary}
 use Rattle.fr_sharp.proofs.AmongSteps.{lost_spreads_grow}
 use Rattle.fr_sharp.proofs.BoundLemmas.{key_slots_act_early, sharp_checks_suffice_lem, walk_is_bounded}
-use Rattle.fr_sharp.proofs.RowsInPart.{round_in_part, rows_compute_own}
+use Rattle.fr_sharp.proofs.RowsInPart.{computes_own, round_in_part}
 use Rattle.fr_sharp.proofs.RowsSupplied.{round_in_reach}
 use Rattle.fr_sharp.proofs.RunDoubles.{members_found}
 use Rattle.fr_sharp.proofs.RunSettles.{timed_begin_active}
@@ -54,7 +54,7 @@ use Rattle.fr_sharp.proofs.RunStated.{first_sharp}
 use Rattle.fr_sharp.proofs.RunSync.{none_cuts}
 use Rattle.fr_sharp.proofs.SettlingLemmas.{next_spread_draws}
 use Rattle.fr_sharp.proofs.StepLemmas.{macroticks_stay_sharp, next_is_near, spreads_shrink_in_reach}
-use Rattle.fr_sharp.proofs.TimedRuns.{acting_with, evens_of, found_of, heard_of, keeps_apart_of, next_of, odds_of, part, rates_of_double, rows_of}
+use Rattle.fr_sharp.proofs.TimedRuns.{acting_with, each_alone, each_later, evens_of, found_of, have_rows, heard_of, keeps_apart_of, lawful_run, next_of, odds_of, rates_of_double, rows_of}
 
 -- ---- the numbers
 
@@ -134,7 +134,7 @@ rate_middle old damping limit values term from (inr some) uncut =
 
 -- ---- a double cycle that is judged
 
-module _ (x : Setting) (flutter : ℕ) (h : Cycles) (double : ℕ) (known : Known) (w : IsStatedRun x flutter h) (short : double < x.doubles) (at : IsKnownAt x h double known) (judged : IsJudgedDouble x.params flutter known) where
+module _ (x : Setting) (flutter : ℕ) (h : Cycles) (double : ℕ) (known : Known) (w : IsLawfulStatedRun x flutter h) (short : double < x.doubles) (each : EachHasRow x h double) (at : IsKnownAt x h double known) (judged : IsJudgedDouble x.params flutter known) where
   abbrev p : Values
   p = x.params
 
@@ -238,8 +238,8 @@ module _ (x : Setting) (flutter : ℕ) (h : Cycles) (double : ℕ) (known : Know
       let Own : List Member → Type 0 = λ some. ComputesOwn x.params flutter some last node in
       subst Own (sym same)
       (
-      rows_compute_own x flutter h f.earlier f.even f.odd double (pos reach) node none w.none_joins (part x flutter h w) f.is hears (in_reach f.earlier f.even f.odd f.is)
-      (subst Has same here)
+      computes_own x flutter f.earlier f.even f.odd double (pos reach) (rows_of x flutter h w double f.earlier f.even f.odd f.is) (in_reach f.earlier f.even f.odd f.is) node
+      (have_rows x flutter h w double each f.earlier f.even f.odd f.is) none hears (subst Has same here)
       )
 
   round_by : (what : Heard) → IsHeardIn what x double → (earlier : Cycles) (even odd : Cycle) → IsDoubleOf h double earlier even odd
@@ -249,7 +249,8 @@ module _ (x : Setting) (flutter : ℕ) (h : Cycles) (double : ℕ) (known : Know
   round_by Meeting is earlier even odd d =
       round_in_reach x flutter earlier even odd double (pos reach) (rows_of x flutter h w double earlier even odd d) (in_reach earlier even odd d) is true tt
   round_by Poor is earlier even odd d =
-      round_in_part x flutter earlier even odd double (pos reach) (rows_of x flutter h w double earlier even odd d) (in_reach earlier even odd d) w.none_joins is.0 is.1
+      round_in_part x flutter earlier even odd double (pos reach) (rows_of x flutter h w double earlier even odd d) (in_reach earlier even odd d)
+      (have_rows x flutter h w double each earlier even odd d) is.0 is.1
 
   computes_by : (what : Heard) → IsHeardIn what x double → ComputeBy what x.params flutter senders nodes last
   computes_by Clean is = heard_all false is.0 is.1
@@ -308,7 +309,7 @@ module _ (x : Setting) (flutter : ℕ) (h : Cycles) (double : ℕ) (known : Know
 
     keeps : KeepsApart x h double (apart_through what x.params flutter known)
     keeps =
-        keeps_apart_of x flutter h w double (apart_through what x.params flutter known) short active uncut
+        keeps_apart_of x flutter h w double (apart_through what x.params flutter known) short each active uncut
         (λ one other macrotick is_odd here there from to.
         let fits = both (sharply_apart_in x.params known.spread) (next_starts + longest_micro x.params) in
         macroticks_stay_sharp x.params starts lengths next_starts next_lengths beyond next nodes one other (apart_through what x.params flutter known) macrotick is_odd sane sharp all_regular here there
@@ -349,7 +350,7 @@ module _ (x : Setting) (flutter : ℕ) (h : Cycles) (double : ℕ) (known : Know
     next_known : suc double < x.doubles → IsKnownAt x h (suc double) (known_after what x.params flutter known)
     next_known later =
         let f = found_of x flutter h w (suc double) later in
-        let goes = next_of x flutter h w double active uncut f.earlier f.even f.odd f.is in
+        let goes = next_of x flutter h w double each active uncut f.earlier f.even f.odd f.is in
         let late : odd_cycle (suc double) ≡ suc (2 * suc double) = omega arith in
         let Followed : Member → Type 0 = λ node. IsFollowed x.params node (goes.next_even node) (goes.next_odd node) in
         let evens : map goes.next_even nodes ≡ f.even.told.rows = sym goes.evens ∙ evens_of x flutter h w (suc double) f.earlier f.even f.odd f.is in
@@ -380,8 +381,14 @@ module _ (x : Setting) (flutter : ℕ) (h : Cycles) (double : ℕ) (known : Know
         next = next_known what computes;
       }
 
+pub unfollowed_goes_on_lem : UnfollowedGoesOn
+unfollowed_goes_on_lem what x flutter h double known w short is each at judged =
+    (judged_by x flutter h double known w short each at judged what is, λ later. each_later x flutter h w double each)
+
 pub judged_goes_on_lem : JudgedGoesOn
-judged_goes_on_lem what x flutter h double known w short is at judged = judged_by x flutter h double known w short at judged what is
+judged_goes_on_lem what x flutter h double known w short is at judged =
+    let run = lawful_run x flutter h w in
+    judged_by x flutter h double known run short (each_alone x flutter h run w.none_joins double) at judged what is
 
 -- ---- what is known in two ways
 
@@ -431,7 +438,7 @@ sharp_sync_is_known_lem beside x flutter past h double s = record {
 
 pub stated_runs_are_known_lem : StatedRunsAreKnown
 stated_runs_are_known_lem x flutter start rate h w near some =
-    let f = found_of x flutter h w 0 some in
+    let f = found_of x flutter h (lawful_run x flutter h w) 0 some in
     let active = timed_begin_active x flutter h w f.earlier f.even f.odd f.is in
     record {
       even = f.even;

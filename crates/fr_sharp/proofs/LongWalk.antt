@@ -48,7 +48,7 @@ use Rattle.fr_sharp.specs.SteadyRuns.{row_members}
 use Rattle.fr_sharp.proofs.LongRows.{covered, early_at, even_long, from_none, from_some, is_sane, last_acts, late_at, late_start, odd_long, odd_rates, odd_starts, on_channel, reach, setting, there_1, there_2, there_3, whole_12, whole_2, AlikeAt, other_checks}
 use Rattle.fr_sharp.proofs.RowsSupplied.{acts_early, counted_in, frames_stored, supplied_at, LawfulRows}
 use Rattle.fr_sharp.proofs.RunCycles.{stated_runs_are_steady}
-use Rattle.fr_sharp.proofs.RunDoubles.{goes_on}
+use Rattle.fr_sharp.proofs.RunDoubles.{all_have, goes_on}
 use Rattle.fr_sharp.proofs.RunSettles.{histories_begin_active}
 use Rattle.fr_sharp.proofs.RunSync.{found_at, rows_at}
 use Rattle.fr_sharp.proofs.SharpWorked.{three}
@@ -244,7 +244,7 @@ module _ (double : ℕ) (start : ℤ) (earlier : Cycles) (even odd : Cycle) (s :
 
   next_alike : 8 * suc double ≤ 601 → (even2 odd2 : Cycle) → LawfulRows long_run 10_000_000 (odd ∷ even ∷ earlier) even2 odd2 (suc double) → AlikeAt (suc double) next_start (odd ∷ even ∷ earlier) even2 odd2
   next_alike more even2 odd2 t =
-      let follows = λ (n : NodeSpec) (among : Contains (row_nodes long_run earlier) n). goes_on long_run 10_000_000 earlier even odd double s a.active_even a.active_odd (uncut more) even2 odd2 t refl n among in
+      let follows = λ (n : NodeSpec) (among : Contains (row_nodes long_run earlier) n). goes_on long_run 10_000_000 earlier even odd double s a.active_even a.active_odd (uncut more) even2 odd2 t (all_have long_run earlier refl) n among in
       record {
         starts = λ n among. (follows n among).start ∙ ends n among;
         rates = λ n among. (follows n among).next.even_rate ∙ ap (λ (r : Term). r.value) (rate_term_is n among) ∙ (uncut_term (suc double) more).1;

@@ -12,6 +12,7 @@ use Rattle.fr_precision.specs.Rows.{Sender}
 use Rattle.fr_precision.specs.Step.{Member}
 use Rattle.fr_history.specs.Cycles.{Cycles}
 use Rattle.fr_sharp.specs.Among.{lost_spread, AreLossyDoubles, ComputesOwn, GoInReach, HeardSo}
+use Rattle.fr_sharp.specs.JudgedSteps.{IsLawfulStatedRun}
 use Rattle.fr_sharp.specs.Lengths.{walked_after}
 use Rattle.fr_sharp.specs.Losses.{lost_apart, HistoriesKeepThroughLosses, IsLossyRun, SharpAfterTwoWhole}
 use Rattle.fr_bound.specs.SharpBounds.{last_action, odd_spread, precision_by, sharp_lambda, sharp_pi, sharp_precision}
@@ -28,7 +29,7 @@ use Rattle.fr_sharp.proofs.RateRange.{walked_suffices}
 use Rattle.fr_sharp.proofs.RowsInPart.{rows_compute_own}
 use Rattle.fr_sharp.proofs.RunDoubles.{members_found}
 use Rattle.fr_sharp.proofs.RunSync.{none_cuts}
-use Rattle.fr_sharp.proofs.TimedRuns.{acting_of, active_in_sync, active_of, follows_of, found_of, heard_of, keeps_apart_of, members_in_sync, part, rates_of_double}
+use Rattle.fr_sharp.proofs.TimedRuns.{acting_of, active_in_sync, active_of, each_alone, follows_of, found_of, heard_of, keeps_apart_of, lawful_run, members_in_sync, part, rates_of_double}
 
 module _ (x : Setting) (flutter : ℕ) (whole : ℕ → Bool) (h : Cycles) (double reach : ℕ) (w : IsLossyRun x flutter whole h) (checks : SharpChecksHold flutter reach x.params)
     (fits : (k : ℕ) → double + k < x.doubles → sharply_near_in x.params (lost_spread x.params flutter (λ m. whole (double + m)) k) ≤ reach)
@@ -51,6 +52,9 @@ module _ (x : Setting) (flutter : ℕ) (whole : ℕ → Bool) (h : Cycles) (doub
   abbrev last : ℤ
   last = pos (last_action x.params)
 
+  run : IsLawfulStatedRun x flutter h
+  run = lawful_run x flutter h w.run
+
   sane : IsSane x.params
   sane = w.run.covered.sane
 
@@ -64,22 +68,22 @@ module _ (x : Setting) (flutter : ℕ) (whole : ℕ → Bool) (h : Cycles) (doub
   room = (sharp_checks_suffice_lem x.params flutter reach sane checks).1
 
   own_sync : IsInSharpSync false x.params flutter (pos 0) (map (λ (node : Member). node.even) (members_at x h double)) (map (λ (node : Member). node.odd) (members_at x h double))
-  own_sync = members_in_sync x flutter h w.run false double (pos 0) short sync
+  own_sync = members_in_sync x flutter h run false double (pos 0) short sync
 
   active : BeginsActive h double
-  active = active_in_sync x flutter h w.run false double (pos 0) own_sync
+  active = active_in_sync x flutter h run false double (pos 0) own_sync
 
   active_at : (k : ℕ) → BeginSharp x.params flutter starts lengths nodes k → BeginsActive h (double + k)
-  active_at k begin = active_of x flutter h w.run double starts lengths active k begin
+  active_at k begin = active_of x flutter h run double starts lengths active k begin
 
   acting : (k : ℕ) → double + k < x.doubles → WalkLastsAfter x.params flutter k → BeginSharp x.params flutter starts lengths nodes k → ActInReach x.params (pos reach) last (nodes k)
-  acting k within before begin = acting_of x flutter h w.run double starts lengths reach k second limit (fits k within) within before begin
+  acting k within before begin = acting_of x flutter h run double starts lengths reach k second limit (fits k within) within before begin
 
   own_at : (k : ℕ) → double + k < x.doubles → WalkLastsAfter x.params flutter k → BeginSharp x.params flutter starts lengths nodes k → (node : Member) → Contains (nodes k) node
       → ComputesOwn x.params flutter (nodes k) last node
   own_at k within before begin node here =
       let p : Values = x.params in
-      let f = found_of x flutter h w.run (double + k) within in
+      let f = found_of x flutter h run (double + k) within in
       let both = active_at k begin f.earlier f.even f.odd f.is in
       let same = members_found x h (double + k) f.earlier f.even f.odd f.is in
       let Acts : List Member → Type 0 = λ some. ActInReach p (pos reach) last some in
@@ -87,7 +91,7 @@ module _ (x : Setting) (flutter : ℕ) (whole : ℕ → Bool) (h : Cycles) (doub
         active_even = both.0;
         active_odd = both.1;
         rates =
-            rates_of_double x flutter h w.run (double + k) (walked_after p flutter k) (walked_suffices p flutter k sane second before) begin.sharp.about f.earlier f.even f.odd f.is;
+            rates_of_double x flutter h run (double + k) (walked_after p flutter k) (walked_suffices p flutter k sane second before) begin.sharp.about f.earlier f.even f.odd f.is;
         limit = limit;
         room = room;
         acts = subst Acts same (acting k within before begin);
@@ -96,14 +100,14 @@ module _ (x : Setting) (flutter : ℕ) (whole : ℕ → Bool) (h : Cycles) (doub
       let Own : List Member → Type 0 = λ some. ComputesOwn p flutter some last node in
       subst Own (sym same)
       (
-      rows_compute_own x flutter h f.earlier f.even f.odd (double + k) (pos reach) node w.none_arbitrary w.run.none_joins (part x flutter h w.run) f.is (w.hears (double + k) within) r
+      rows_compute_own x flutter h f.earlier f.even f.odd (double + k) (pos reach) node w.none_arbitrary w.run.none_joins (part x flutter h run) f.is (w.hears (double + k) within) r
       (subst Has same here)
       )
 
   heard_by : (k : ℕ) (heard : Bool) → on k ≡ heard → double + k < x.doubles → WalkLastsAfter x.params flutter k → BeginSharp x.params flutter starts lengths nodes k
       → HeardSo heard x.params flutter (senders k) (nodes k) last
   heard_by k true is within before begin =
-      heard_of x flutter h w.run false (double + k) (walked_after x.params flutter k) (pos reach) w.none_arbitrary within (w.wholes (double + k) within is) limit room
+      heard_of x flutter h run false (double + k) (walked_after x.params flutter k) (pos reach) w.none_arbitrary within (w.wholes (double + k) within is) limit room
       (walked_suffices x.params flutter k sane second before) (active_at k begin) begin.sharp.about (acting k within before begin)
   heard_by k false is within before begin = λ node here. own_at k within before begin node here
 
@@ -115,7 +119,7 @@ module _ (x : Setting) (flutter : ℕ) (whole : ℕ → Bool) (h : Cycles) (doub
     sane = sane;
     second = second;
     heard = λ k less before begin. heard_by k (on k) refl (within_run k less) before begin;
-    follows = λ k less before begin uncut. follows_of x flutter h w.run double starts lengths active k less begin uncut;
+    follows = λ k less before begin uncut. follows_of x flutter h run (each_alone x flutter h run w.run.none_joins) double starts lengths active k less begin uncut;
   }
 
   go : GoInReach x.params flutter (x.doubles - double) on starts lengths (pos reach) last
@@ -141,7 +145,7 @@ module _ (x : Setting) (flutter : ℕ) (whole : ℕ → Bool) (h : Cycles) (doub
       let begin = keeps.begins (up_to p flutter passed before) in
       let apart = lost_apart p flutter on passed in
       let one = most (precision_by p (starts passed) (lengths passed)) (starts (suc passed) + longest_micro p) in
-      keeps_apart_of x flutter h w.run (double + passed) apart within (active_at passed begin)
+      keeps_apart_of x flutter h run (double + passed) apart within (each_alone x flutter h run w.run.none_joins (double + passed)) (active_at passed begin)
       (none_cuts p (starts (suc passed)) (lengths (suc passed)) (walked_after p flutter (suc passed)) (nodes passed) (keeps.come before))
       (λ one_node other macrotick is_odd here there from to.
       lossy_doubles_stay_apart p flutter (x.doubles - double) on starts lengths senders nodes (pos reach) last are go first passed apart one_node other macrotick is_odd less before one.0 one.1 here there from to)

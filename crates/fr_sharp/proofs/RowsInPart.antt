@@ -1,6 +1,6 @@
 -- The nodes with rows of a double cycle in which frames may be lost: each computes its terms from the values that it has, and has at
 -- least one of each kind where it is not deaf.
-use Rattle.std.proofs.Common.{◌≡◌, ℕ, ◌≤◌, ◌<◌, Bool, true, false, ℤ, Option, Some, None, List, [], ◌∷◌, length, refl, ap, ◌∙◌, subst, inl, inr, arith}
+use Rattle.std.proofs.Common.{◌≡◌, ℕ, ◌≤◌, ◌<◌, Bool, true, false, ℤ, pos, Option, Some, None, List, [], ◌∷◌, length, refl, ap, ◌∙◌, subst, inl, inr, arith}
 use Rattle.std.specs.Prelude.{Contains, IsSome, is_some}
 use Rattle.std.specs.List.{cons_option, filter_map, range_with_len}
 use Rattle.fr_base.specs.declared.channel.Channel.{Channel}
@@ -16,6 +16,7 @@ use Rattle.fr_cluster.proofs.KeyNodes.{key_among, Contains-cons_cases}
 use Rattle.fr_time.proofs.Keys.{key_index_is, key_slot_has, rank_of, slot_of_index}
 use Rattle.fr_measure.specs.Values.{change_at, change_of, is_own, least_of, mean_of, offset_at, own_value_or, rate_at, values_of}
 use Rattle.fr_precision.specs.Round.{offsets_of, rates_of, Hearer}
+use Rattle.fr_precision.specs.Step.{Member}
 use Rattle.fr_precision.proofs.Counting.{range_contains}
 use Rattle.fr_precision.proofs.Values.{other_value, own_value}
 use Rattle.fr_history.specs.Cycles.{Cycle, Cycles, some_joins}
@@ -30,10 +31,12 @@ use Rattle.fr_runs.proofs.Nodes.{correct_node, node_there}
 use Rattle.fr_runs.proofs.Rows.{contains_map, map_contains}
 use Rattle.fr_runs.proofs.RowsHeard.{RowLink}
 use Rattle.fr_sharp.specs.Losses.{HearsSome, IsRoundInPart, IsSuppliedInPart, NoneIsDeaf, RowsComputeOwn}
-use Rattle.fr_sharp.specs.SteadyRuns.{row_hearers, AreRowsInReach, MayHaveArbitrary}
+use Rattle.fr_bound.specs.SharpBounds.{last_action}
+use Rattle.fr_sharp.specs.Among.{ComputesOwn}
+use Rattle.fr_sharp.specs.SteadyRuns.{row_hearers, row_members, AreRowsInReach, MayHaveArbitrary}
 use Rattle.fr_sharp.proofs.HeardInPart.{rounds_in_part_compute_own}
 use Rattle.fr_sharp.proofs.RowsSupplied.{few_in, frames_stored, looked_up, odd_active, pairs_steady, row_regular, rows_heard_in_part, timed_rows, LawfulRows}
-use Rattle.fr_sharp.proofs.RunDoubles.{all_among}
+use Rattle.fr_sharp.proofs.RunDoubles.{all_among, all_have, AllHave}
 
 -- ---- a list of values is not empty
 
@@ -108,7 +111,7 @@ own_of p node sane there = ap (λ o. index_in p (key_in o)) (node_there p node s
 
 -- ---- a node of a double cycle
 
-module _ (x : Setting) (flutter : ℕ) (h : Cycles) (even odd : Cycle) (double : ℕ) (reach : ℤ) (s : LawfulRows x flutter h even odd double) (r : AreRowsInReach x h even odd reach) (none_joins : some_joins x ≡ false) where
+module _ (x : Setting) (flutter : ℕ) (h : Cycles) (even odd : Cycle) (double : ℕ) (reach : ℤ) (s : LawfulRows x flutter h even odd double) (r : AreRowsInReach x h even odd reach) (all : AllHave x h) where
   sane : IsSane x.params
   sane = s.covered.sane
 
@@ -130,7 +133,7 @@ module _ (x : Setting) (flutter : ℕ) (h : Cycles) (even odd : Cycle) (double :
   carried_values node sender slot among linked carried =
       let p = x.params in
       let n = row_hearer x even odd node.id in
-      let link : RowLink x h sender node slot = record { sends = all_among x h sender none_joins linked.sends; hears = among; key = linked.key; other = linked.other } in
+      let link : RowLink x h sender node slot = record { sends = all_among x h sender all linked.sends; hears = among; key = linked.key; other = linked.other } in
       let key = key_among p.nodes sender slot (correct_node x sender linked.sends).there linked.key in
       let index = rank_of p slot in
       let indexed = key_index_is p slot key in
@@ -187,8 +190,14 @@ module _ (x : Setting) (flutter : ℕ) (h : Cycles) (even odd : Cycle) (double :
             (at node, contains_map at (row_nodes x h) node (is_row_node x h node sender.there sender.rows), refl, refl);
       }
 
+-- each of the nodes with rows computes its terms from some of theirs
+pub computes_own : (x : Setting) (flutter : ℕ) (earlier : Cycles) (even odd : Cycle) (double : ℕ) (reach : ℤ) (s : LawfulRows x flutter earlier even odd double) (r : AreRowsInReach x earlier even odd reach) (node : Member)
+    → AllHave x earlier → MayHaveArbitrary false x → NoneIsDeaf x double → Contains (row_members x earlier even odd) node
+    → ComputesOwn x.params flutter (row_members x earlier even odd) (pos (last_action x.params)) node
+computes_own x flutter earlier even odd double reach s r node all none hears here =
+    rounds_in_part_compute_own (round_at x earlier even odd) flutter (row_hearers x earlier even odd) node
+    (round_in_part x flutter earlier even odd double reach s r all none hears) here
+
 pub rows_compute_own : RowsComputeOwn
 rows_compute_own x flutter h earlier even odd double reach node none none_joins w d hears r here =
-    let s = timed_rows x flutter h w double earlier even odd d in
-    rounds_in_part_compute_own (round_at x earlier even odd) flutter (row_hearers x earlier even odd) node
-    (round_in_part x flutter earlier even odd double reach s r none_joins none hears) here
+    computes_own x flutter earlier even odd double reach (timed_rows x flutter h w double earlier even odd d) r node (all_have x earlier none_joins) none hears here

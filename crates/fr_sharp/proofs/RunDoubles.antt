@@ -1,5 +1,5 @@
--- The double cycles of a lawful history of a run that no node joins: what its nodes do behind each of them, and how they are
--- found by their number.
+-- The double cycles of a lawful history in which each correct node has a row, as in a run that no node joins: what its nodes do
+-- behind each of them, and how they are found by their number.
 use Rattle.std.proofs.Common.{◌≡◌, ℕ, suc, ◌+◌, ◌*◌, ◌<◌, Bool, true, false, ℤ, pos, Option, Some, None, List, All, [], ◌∷◌, ◌++◌, length, map, refl, ap, sym, ◌∙◌, subst, arith, if◌then◌else◌}
 use Rattle.std.specs.Prelude.{Contains, nat_le}
 use Rattle.std.proofs.lemmas.List.{length-append}
@@ -24,11 +24,13 @@ use Rattle.fr_measure.specs.Deviations.{rate_values_by}
 use Rattle.fr_cluster.specs.Questions.{own_index}
 use Rattle.fr_history.specs.Cycles.{Cycle, Cycles, some_joins, told_of}
 use Rattle.fr_history.specs.History.{AreRowsOf, row_for}
+use Rattle.fr_history.specs.Lawful.{Obeys}
 use Rattle.fr_history.specs.Laws.{row_laws}
 use Rattle.fr_history.specs.Rows.{cut_after, offset_after}
 use Rattle.fr_history.specs.Standing.{has_row, has_row_by, row_nodes}
 use Rattle.fr_history.specs.Terms.{cuts_in, offset_term_in, rate_term_in, status_in}
 use Rattle.fr_history.proofs.Lists.{map-map}
+use Rattle.fr_history.proofs.Standing.{rows_stay}
 use Rattle.fr_runs.specs.Gathered.{round_at, row_hearer}
 use Rattle.fr_runs.specs.Numbers.{rate_term_told}
 use Rattle.fr_runs.specs.Rounds.{IsDoubleOf}
@@ -83,22 +85,30 @@ pub senders_found : (x : Setting) (h : Cycles) (double : ℕ) (earlier : Cycles)
     → senders_at x h double ≡ senders_of (round_at x earlier even odd)
 senders_found x h double earlier even odd d = ap (last_senders x) (double_found h double earlier even odd d)
 
--- ---- where none joins each correct node has a row
+-- ---- each correct node has a row in the cycle behind some cycles
 
-pub all_have : (x : Setting) (h : Cycles) (node : NodeSpec) → some_joins x ≡ false → Contains (correct_nodes x) node → has_row x h node.id ≡ true
-all_have x h node none there = by_join (x.join node.id) refl
+abbrev pub AllHave : Setting → Cycles → Type 0
+AllHave x h = (node : NodeSpec) → Contains (correct_nodes x) node → has_row x h node.id ≡ true
+
+-- where none joins they have
+pub all_have : (x : Setting) (h : Cycles) → some_joins x ≡ false → AllHave x h
+all_have x h none node there = by_join (x.join node.id) refl
   where
     by_join : (join : Option Join) → x.join node.id ≡ join → has_row x h node.id ≡ true
     by_join None at = ap (has_row_by x h node.id) at
     by_join (Some join) at = let e : true ≡ false = sym (some_joins_by x node join there at) ∙ none in absurd (cc)
 
-pub all_among : (x : Setting) (h : Cycles) (node : NodeSpec) → some_joins x ≡ false → Contains (correct_nodes x) node → Contains (row_nodes x h) node
-all_among x h node none there = kept_filtered (λ (n : NodeSpec). has_row x h n.id) (correct_nodes x) node there (all_have x h node none there)
+pub all_among : (x : Setting) (h : Cycles) (node : NodeSpec) → AllHave x h → Contains (correct_nodes x) node → Contains (row_nodes x h) node
+all_among x h node all there = kept_filtered (λ (n : NodeSpec). has_row x h n.id) (correct_nodes x) node there (all node there)
 
-pub same_rows : (x : Setting) (h other : Cycles) → some_joins x ≡ false → row_nodes x h ≡ row_nodes x other
-same_rows x h other none =
+pub same_rows : (x : Setting) (h other : Cycles) → AllHave x h → AllHave x other → row_nodes x h ≡ row_nodes x other
+same_rows x h other all also =
     filter_same (λ (n : NodeSpec). has_row x h n.id) (λ (n : NodeSpec). has_row x other n.id) (correct_nodes x)
-    (λ node there. all_have x h node none there ∙ sym (all_have x other node none there))
+    (λ node there. all node there ∙ sym (also node there))
+
+-- and they have one still behind a double cycle
+pub all_stay : (x : Setting) (h : Cycles) (even odd : Cycle) → Obeys x h even → Obeys x (even ∷ h) odd → AllHave x h → AllHave x (odd ∷ even ∷ h)
+all_stay x h even odd early late all node there = rows_stay x (even ∷ h) odd node late there (rows_stay x h even node early there (all node there))
 
 -- ---- the rows of a double cycle
 
@@ -212,20 +222,23 @@ module _ (x : Setting) (flutter : ℕ) (h : Cycles) (even odd : Cycle) (double :
       none_late : All (λ row. row.cut ≡ 0) odd.told.rows
       none_late = all_rows (row_nodes x h) odd.told.rows (λ row. row.cut ≡ 0) (rows_ascend x h s.covered.sane) s.two.odd_rows.nodes none_late_at
 
-      pub ends_well : some_joins x ≡ false → EndsWell x h even odd
-      ends_well none = record {
-        offset_within = λ node there. (uncut_at node (all_among x h node none there)).0;
-        rate_within = λ node there. rate_of_told node (all_among x h node none there);
+      pub ends_well : AllHave x h → EndsWell x h even odd
+      ends_well all = record {
+        offset_within = λ node there. (uncut_at node (all_among x h node all there)).0;
+        rate_within = λ node there. rate_of_told node (all_among x h node all there);
         uncut_even = none_early;
         uncut_odd = none_late;
-        active = λ node there. stays_active node (all_among x h node none there);
+        active = λ node there. stays_active node (all_among x h node all there);
       }
 
       -- ---- the next double cycle
 
-      module _ (even2 odd2 : Cycle) (t : LawfulRows x flutter (odd ∷ even ∷ h) even2 odd2 (suc double)) (none : some_joins x ≡ false) where
+      module _ (even2 odd2 : Cycle) (t : LawfulRows x flutter (odd ∷ even ∷ h) even2 odd2 (suc double)) (all : AllHave x h) where
+        all_later : AllHave x (odd ∷ even ∷ h)
+        all_later = all_stay x h even odd s.even_obeys s.odd_obeys all
+
         stay : (node : NodeSpec) → Contains (row_nodes x h) node → Contains (row_nodes x (odd ∷ even ∷ h)) node
-        stay node among = all_among x (odd ∷ even ∷ h) node none (is_correct_row x h node among)
+        stay node among = all_among x (odd ∷ even ∷ h) node all_later (is_correct_row x h node among)
 
         pub goes_on : (node : NodeSpec) → Contains (row_nodes x h) node
             → IsFollowed x.params (as_member x.params (row_hearer x even odd node.id)) (row_for even2.told.rows node.id) (row_for odd2.told.rows node.id)
@@ -278,7 +291,7 @@ module _ (x : Setting) (flutter : ℕ) (h : Cycles) (even odd : Cycle) (double :
         next_rows_are c are =
             let after = odd ∷ even ∷ h in
             let Are : List NodeSpec → Type 0 = λ some. AreRowsOf some c.told.rows in
-            let own : AreRowsOf (row_nodes x h) c.told.rows = subst Are (same_rows x after h none) are in
+            let own : AreRowsOf (row_nodes x h) c.told.rows = subst Are (same_rows x after h all_later all) are in
             map-map (λ (node : Member). row_for c.told.rows node.even.node) (as_member x.params) (row_hearers x h even odd)
             ∙ map-map (λ (n : Hearer). row_for c.told.rows n.even.node) (λ (node : NodeSpec). row_hearer x even odd node.id) (row_nodes x h)
             ∙ same_mapped (λ (node : NodeSpec). row_for c.told.rows (row_for even.told.rows node.id).node) (λ (node : NodeSpec). row_for c.told.rows node.id) (row_nodes x h)
@@ -298,19 +311,19 @@ module _ (x : Setting) (flutter : ℕ) (h : Cycles) (even odd : Cycle) (double :
 
   -- ---- together
 
-  pub next_double : (even2 odd2 : Cycle) → LawfulRows x flutter (odd ∷ even ∷ h) even2 odd2 (suc double) → some_joins x ≡ false → All (λ row. row.state ≡ Active) even.told.rows
+  pub next_double : (even2 odd2 : Cycle) → LawfulRows x flutter (odd ∷ even ∷ h) even2 odd2 (suc double) → AllHave x h → All (λ row. row.state ≡ Active) even.told.rows
       → All (λ row. row.state ≡ Active) odd.told.rows → AllUncut (row_members x h even odd)
       → map (λ (node : Member). node.even) (row_members x (odd ∷ even ∷ h) even2 odd2) ≡ even2.told.rows
       → map (λ (node : Member). node.odd) (row_members x (odd ∷ even ∷ h) even2 odd2) ≡ odd2.told.rows
       → IsNextDouble x.params (row_members x h even odd) (row_members x (odd ∷ even ∷ h) even2 odd2)
-  next_double even2 odd2 t none active_even active_odd uncut evens odds = record {
-    next_even = next_row active_even active_odd uncut even2 odd2 t none even2;
-    next_odd = next_row active_even active_odd uncut even2 odd2 t none odd2;
+  next_double even2 odd2 t all active_even active_odd uncut evens odds = record {
+    next_even = next_row active_even active_odd uncut even2 odd2 t all even2;
+    next_odd = next_row active_even active_odd uncut even2 odd2 t all odd2;
     followed =
         All-along (Contains (row_members x h even odd))
         (λ (node : Member).
-        IsFollowed x.params node (next_row active_even active_odd uncut even2 odd2 t none even2 node) (next_row active_even active_odd uncut even2 odd2 t none odd2 node))
-        (row_members x h even odd) (followed_at active_even active_odd uncut even2 odd2 t none) (All-contains_itself (row_members x h even odd));
-    evens = evens ∙ sym (next_rows_are active_even active_odd uncut even2 odd2 t none even2 t.two.even_rows.nodes);
-    odds = odds ∙ sym (next_rows_are active_even active_odd uncut even2 odd2 t none odd2 t.two.odd_rows.nodes);
+        IsFollowed x.params node (next_row active_even active_odd uncut even2 odd2 t all even2 node) (next_row active_even active_odd uncut even2 odd2 t all odd2 node))
+        (row_members x h even odd) (followed_at active_even active_odd uncut even2 odd2 t all) (All-contains_itself (row_members x h even odd));
+    evens = evens ∙ sym (next_rows_are active_even active_odd uncut even2 odd2 t all even2 t.two.even_rows.nodes);
+    odds = odds ∙ sym (next_rows_are active_even active_odd uncut even2 odd2 t all odd2 t.two.odd_rows.nodes);
   }

@@ -41,7 +41,7 @@ use Rattle.fr_sharp.proofs.LastingLemmas.{sharp_spreads_keep, stays_at_rest, up_
 use Rattle.fr_sharp.proofs.OlderLemmas.{lasts_on, older_sync_settles}
 use Rattle.fr_sharp.proofs.RowsSupplied.{covered_runs_are_steady}
 use Rattle.fr_sharp.proofs.RunSync.{acting_by, active_by, are_doubles, doubles_in_reach, evens_at, found_at, keeps_apart, none_cuts, odds_at, regular_at, stays_at, timed}
-use Rattle.fr_sharp.proofs.TimedRuns.{rows_of}
+use Rattle.fr_sharp.proofs.TimedRuns.{lawful_run, rows_of}
 use Rattle.fr_sharp.proofs.SettlingLemmas.{older_way_fits}
 use Rattle.fr_sharp.proofs.StepLemmas.{runs_of}
 
@@ -56,7 +56,7 @@ first_active x node = begun_active x [] node (no_outcomes x node)
 
 pub timed_begin_active : (x : Setting) (flutter : ℕ) (h : Cycles) → IsStatedRun x flutter h → BeginsActive h 0
 timed_begin_active x flutter h w [] even odd d =
-    let s = rows_of x flutter h w 0 [] even odd d in (
+    let s = rows_of x flutter h (lawful_run x flutter h w) 0 [] even odd d in (
       All-along (λ row. row.state ≡ (row_laws x []).state row.node) (λ row. row.state ≡ Active) even.told.rows (λ row is. is ∙ first_active x row.node) s.two.even_rows.states,
       All-along (λ row. row.state ≡ (row_laws x (even ∷ [])).state row.node) (λ row. row.state ≡ Active) odd.told.rows
           (λ row is. is ∙ status_even x (told_of []) even.told row.node (even_length 0 0 refl) ∙ first_active x row.node) s.two.odd_rows.states,

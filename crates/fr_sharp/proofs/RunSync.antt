@@ -23,6 +23,7 @@ use Rattle.fr_precision.proofs.Senders.{All-along}
 use Rattle.fr_history.specs.Cycles.{Cycle, Cycles, cycle_at}
 use Rattle.fr_runs.specs.Rounds.{IsDoubleOf}
 use Rattle.fr_runs.proofs.Parts.{cycle_within, even_is, odd_is, DoubleAt}
+use Rattle.fr_sharp.specs.JudgedSteps.{EachHasRow, IsLawfulStatedRun}
 use Rattle.fr_sharp.specs.Lengths.{walked_after, CanWalk, IsAboutCycle}
 use Rattle.fr_bound.specs.SharpBounds.{last_action, near_by, rate_walk, sharp_lambda, sharp_near, sharp_pi, sharp_precision}
 use Rattle.fr_bound.specs.SharpChecks.{RateSuffices, SharpChecksHold}
@@ -33,7 +34,7 @@ use Rattle.fr_sharp.proofs.BoundLemmas.{sharp_checks_suffice_lem, walk_is_bounde
 use Rattle.fr_sharp.proofs.LastingLemmas.{sharp_sync_lasts_lem, up_to}
 use Rattle.fr_sharp.proofs.RateRange.{walked_suffices}
 use Rattle.fr_sharp.proofs.RowsSupplied.{LawfulRows}
-use Rattle.fr_sharp.proofs.TimedRuns.{acting_of, acting_with, active_in_sync, active_of, evens_of, follows_of, found_of, heard_of, keeps_apart_of, members_in_sync, next_of, odds_of, regular_of, rows_of, sync_in_of}
+use Rattle.fr_sharp.proofs.TimedRuns.{acting_of, acting_with, active_in_sync, active_of, each_alone, evens_of, follows_of, found_of, heard_of, keeps_apart_of, lawful_run, members_in_sync, next_of, odds_of, regular_of, rows_of, sync_in_of}
 use Rattle.fr_sharp.proofs.RunDoubles.{senders_found}
 use Rattle.fr_sharp.proofs.StepLemmas.{next_is_in_sharp_sync, sharp_sync_is_kept_lem}
 
@@ -51,18 +52,25 @@ module _ (beside : Bool) (x : Setting) (flutter : ℕ) (h : Cycles) (w : IsStead
   pub timed : IsStatedRun x flutter h
   timed = record { covered = w.covered.timed; none_joins = w.none_joins; lawful = w.lawful; whole = w.whole }
 
+  pub run : IsLawfulStatedRun x flutter h
+  run = lawful_run x flutter h timed
+
+  -- each correct node has a row
+  pub each_at : (double : ℕ) → EachHasRow x h double
+  each_at = each_alone x flutter h run w.none_joins
+
   -- a double cycle of the run, and its rows
   pub found_at : (double : ℕ) → double < x.doubles → DoubleAt h double
-  found_at = found_of x flutter h timed
+  found_at = found_of x flutter h run
 
   pub rows_at : (double : ℕ) (earlier : Cycles) (even odd : Cycle) → IsDoubleOf h double earlier even odd → LawfulRows x flutter earlier even odd double
-  rows_at = rows_of x flutter h timed
+  rows_at = rows_of x flutter h run
 
   pub evens_at : (double : ℕ) (earlier : Cycles) (even odd : Cycle) → IsDoubleOf h double earlier even odd → map (λ (node : Member). node.even) (members_at x h double) ≡ even.told.rows
-  evens_at = evens_of x flutter h timed
+  evens_at = evens_of x flutter h run
 
   pub odds_at : (double : ℕ) (earlier : Cycles) (even odd : Cycle) → IsDoubleOf h double earlier even odd → map (λ (node : Member). node.odd) (members_at x h double) ≡ odd.told.rows
-  odds_at = odds_of x flutter h timed
+  odds_at = odds_of x flutter h run
 
   -- lengths lie no further beyond their range than so
   abbrev About : ℤ → List NodeRow → Type 0
@@ -72,25 +80,25 @@ module _ (beside : Bool) (x : Setting) (flutter : ℕ) (h : Cycles) (w : IsStead
   pub regular_at : (double passed : ℕ) → double < x.doubles → holds_of 2 x.params ≡ true → WalkLastsAfter x.params flutter passed
       → All (λ row. IsAboutCycle x.params (walked_after x.params flutter passed) (cycle_length_of x.params row)) (map (λ (node : Member). node.even) (members_at x h double))
       → (node : Member) → Contains (members_at x h double) node → IsRegular x.params node.even node.odd
-  regular_at = regular_of x flutter h timed
+  regular_at = regular_of x flutter h run
 
   -- what a double cycle comes to in the history
   pub keeps_apart : (double apart : ℕ) → double < x.doubles → BeginsActive h double → AllUncut (members_at x h double)
       → ((one other : Member) (macrotick : ℤ) (is_odd : Bool) → Contains (members_at x h double) one → Contains (members_at x h double) other → pos 0 ≤ℤ macrotick → macrotick ≤ℤ x.params.macros
       → IsWithin (pos apart) (gap_of x.params is_odd macrotick (row_in is_odd one.even one.odd) (row_in is_odd other.even other.odd)))
       → KeepsApart x h double apart
-  keeps_apart = keeps_apart_of x flutter h timed
+  keeps_apart double apart within = keeps_apart_of x flutter h run double apart within (each_at double)
 
   -- ---- one of them, and the next
 
   heard_with : (double : ℕ) (beyond reach : ℤ) → double < x.doubles → LimitSuffices x.params reach → LeavesRoom x.params reach → RateSuffices x.params beyond → BeginsActive h double
       → About beyond (map (λ (node : Member). node.even) (members_at x h double)) → ActInReach x.params reach (pos (last_action x.params)) (members_at x h double)
       → IsSharpDouble beside x.params flutter (senders_at x h double) (members_at x h double) (pos (last_action x.params))
-  heard_with double beyond reach short = heard_of x flutter h timed beside double beyond reach w.arbitrary short (w.covered.links double short)
+  heard_with double beyond reach short = heard_of x flutter h run beside double beyond reach w.arbitrary short (w.covered.links double short)
 
   next_at : (double : ℕ) → BeginsActive h double → AllUncut (members_at x h double) → (earlier : Cycles) (even odd : Cycle) → IsDoubleOf h (suc double) earlier even odd
       → IsNextDouble x.params (members_at x h double) (members_at x h (suc double))
-  next_at = next_of x flutter h timed
+  next_at double = next_of x flutter h run double (each_at double)
 
   -- ---- they are as the law of many double cycles asks for
 
@@ -106,7 +114,7 @@ module _ (beside : Bool) (x : Setting) (flutter : ℕ) (h : Cycles) (w : IsStead
 
     -- those of a later one are active as it begins
     pub active_by : (k : ℕ) → BeginSharp x.params flutter starts lengths nodes k → BeginsActive h (double + k)
-    active_by = active_of x flutter h timed double starts lengths active
+    active_by = active_of x flutter h run double starts lengths active
 
     module _ (acting : (k : ℕ) → double + k < x.doubles → WalkLastsAfter x.params flutter k → BeginSharp x.params flutter starts lengths nodes k → ActInReach x.params reach (pos (last_action x.params)) (nodes k)) where
       heard_at : (k : ℕ) → double + k < x.doubles → WalkLastsAfter x.params flutter k → BeginSharp x.params flutter starts lengths nodes k
@@ -120,7 +128,7 @@ module _ (beside : Bool) (x : Setting) (flutter : ℕ) (h : Cycles) (w : IsStead
         sane = w.covered.timed.sane;
         second = second;
         heard = λ k short before begin. heard_at k (shorter k short) before begin;
-        follows = λ k short before begin uncut. follows_of x flutter h timed double starts lengths active k short begin uncut;
+        follows = λ k short before begin uncut. follows_of x flutter h run each_at double starts lengths active k short begin uncut;
       }
 
   -- ---- where a reach takes in the numbers
@@ -128,7 +136,7 @@ module _ (beside : Bool) (x : Setting) (flutter : ℕ) (h : Cycles) (w : IsStead
   pub acting_by : (double : ℕ) (starts lengths : ℕ → ℕ) (reach k : ℕ) → holds_of 2 x.params ≡ true → LimitSuffices x.params (pos reach) → near_by x.params (starts k) (lengths k) ≤ reach → double + k < x.doubles
       → WalkLastsAfter x.params flutter k → BeginSharp x.params flutter starts lengths (λ k. members_at x h (double + k)) k
       → ActInReach x.params (pos reach) (pos (last_action x.params)) (members_at x h (double + k))
-  acting_by = acting_of x flutter h timed
+  acting_by = acting_of x flutter h run
 
   pub doubles_in_reach : (double : ℕ) (starts lengths : ℕ → ℕ) (reach : ℕ) → holds_of 2 x.params ≡ true → LimitSuffices x.params (pos reach) → LeavesRoom x.params (pos reach)
       → ((k : ℕ) → double + k < x.doubles → near_by x.params (starts k) (lengths k) ≤ reach) → BeginsActive h double
@@ -141,7 +149,7 @@ module _ (beside : Bool) (x : Setting) (flutter : ℕ) (h : Cycles) (w : IsStead
   -- the cycles of a double cycle are those that are found
   pub sync_in : (double : ℕ) (beyond : ℤ) → IsInSharpSyncAt beside x.params flutter beyond h double → (earlier : Cycles) (even odd : Cycle) → IsDoubleOf h double earlier even odd
       → IsInSharpSync beside x.params flutter beyond even.told.rows odd.told.rows
-  sync_in = sync_in_of x flutter h timed beside
+  sync_in = sync_in_of x flutter h run beside
 
   pub sync_at : (double : ℕ) (beyond : ℤ) → double < x.doubles
       → IsInSharpSync beside x.params flutter beyond (map (λ (node : Member). node.even) (members_at x h double)) (map (λ (node : Member). node.odd) (members_at x h double))
@@ -161,11 +169,11 @@ module _ (beside : Bool) (x : Setting) (flutter : ℕ) (h : Cycles) (w : IsStead
 
   sync_of_members : (double : ℕ) (beyond : ℤ) → double < x.doubles → IsInSharpSyncAt beside x.params flutter beyond h double
       → IsInSharpSync beside x.params flutter beyond (map (λ (node : Member). node.even) (members_at x h double)) (map (λ (node : Member). node.odd) (members_at x h double))
-  sync_of_members = members_in_sync x flutter h timed beside
+  sync_of_members = members_in_sync x flutter h run beside
 
   sync_active : (double : ℕ) (beyond : ℤ)
       → IsInSharpSync beside x.params flutter beyond (map (λ (node : Member). node.even) (members_at x h double)) (map (λ (node : Member). node.odd) (members_at x h double)) → BeginsActive h double
-  sync_active = active_in_sync x flutter h timed beside
+  sync_active = active_in_sync x flutter h run beside
 
   -- what the law of many double cycles says of one, in the history
   pub stays_at : (double passed : ℕ) → double + passed < x.doubles → StaysInSharpSync beside x.params flutter (λ k. members_at x h (double + k)) passed
@@ -233,7 +241,7 @@ module _ (beside : Bool) (x : Setting) (flutter : ℕ) (h : Cycles) (w : IsStead
   heard =
       let suffice = sharp_checks_suffice_lem x.params flutter near w.covered.timed.sane checks in
       heard_with beside x flutter h w double beyond (pos near) within suffice.0 suffice.1 suffices active own_sync.rows.about
-      (acting_with x flutter h (timed beside x flutter h w) double (sharp_pi beside x.params flutter) (sharp_lambda beside x.params flutter) beyond near within can_walk suffices suffice.0 (le_itself near) own_sync.rows)
+      (acting_with x flutter h (run beside x flutter h w) double (sharp_pi beside x.params flutter) (sharp_lambda beside x.params flutter) beyond near within can_walk suffices suffice.0 (le_itself near) own_sync.rows)
     where
       le_itself : (n : ℕ) → n ≤ n
       le_itself n = omega arith

@@ -1,15 +1,16 @@
--- The double cycles of a lawful history that no node joins, whatever frames are lost in it: their rows, what follows them, and that
--- action points lie within a reach that takes in the numbers.
+-- The double cycles of a lawful history, whatever frames are lost in it: their rows, what follows them where each correct node has
+-- one, as in a run that no node joins, and that action points lie within a reach that takes in the numbers.
 use Rattle.std.proofs.Common.{◌≡◌, ℕ, zero, suc, ◌+◌, ◌-◌, ◌*◌, ◌<◌, ◌≤◌, Bool, true, false, ℤ, pos, Option, Some, List, All, [], ◌∷◌, map, refl, ap, sym, ◌∙◌, subst, arith}
-use Rattle.std.specs.Prelude.{◌≤ℤ◌, Contains}
+use Rattle.std.specs.Prelude.{◌≤ℤ◌, Contains, IsSome}
 use Rattle.std.specs.Option.{option_map, option_map_or}
 use Rattle.fr_base.specs.Within.{IsWithin}
 use Rattle.fr_base.specs.declared.node_row.NodeRow.{NodeRow}
 use Rattle.fr_base.specs.declared.state.State.TheVariants.{Active}
 use Rattle.fr_cluster.specs.Sane.{IsSane}
-use Rattle.fr_cluster.specs.Setting.{Setting}
+use Rattle.fr_cluster.specs.Setting.{Setting, correct_nodes}
 use Rattle.fr_cluster.specs.Values.{Values, amount}
 use Rattle.fr_cluster.specs.declared.names.ParamName.TheVariants as name
+use Rattle.fr_cluster.specs.declared.nodes.NodeSpec.{NodeSpec}
 use Rattle.fr_time.specs.Cycles.{odd_cycle}
 use Rattle.fr_time.specs.Position.{grid_for}
 use Rattle.fr_bound.specs.Checks.{holds_of}
@@ -21,8 +22,8 @@ use Rattle.fr_precision.specs.Reception.{LeavesRoom}
 use Rattle.fr_precision.specs.Rows.{Sender}
 use Rattle.fr_precision.specs.Step.{Member}
 use Rattle.fr_skew.specs.Spreads.{spread_at}
-use Rattle.fr_history.specs.Cycles.{Cycle, Cycles, cycle_at, told_of}
-use Rattle.fr_history.specs.History.{Record, record_at}
+use Rattle.fr_history.specs.Cycles.{Cycle, Cycles, cycle_at, some_joins, told_of}
+use Rattle.fr_history.specs.History.{Record, record_at, row_of}
 use Rattle.fr_history.specs.Skew.{skew_at}
 use Rattle.fr_runs.specs.Links.{cycle_in}
 use Rattle.fr_runs.specs.Rounds.{IsDoubleOf}
@@ -30,7 +31,9 @@ use Rattle.fr_runs.proofs.Doubles.{even_length, odd_length}
 use Rattle.fr_runs.proofs.Parts.{double_at, even_is, odd_is, told_at, DoubleAt}
 use Rattle.fr_runs.proofs.Receivers.{no_less}
 use Rattle.fr_runs.proofs.Spread.{macrotick_within, spread_within}
+use Rattle.fr_runs.proofs.Standing.{told_has}
 use Rattle.fr_runs.proofs.Whole.{prior_of}
+use Rattle.fr_sharp.specs.JudgedSteps.{EachHasRow, IsLawfulStatedRun}
 use Rattle.fr_sharp.specs.Lengths.{walked_after, CanWalk, IsAboutCycle}
 use Rattle.fr_bound.specs.SharpBounds.{last_action, near_by, rate_walk}
 use Rattle.fr_bound.specs.SharpChecks.{RateSuffices}
@@ -42,10 +45,14 @@ use Rattle.fr_sharp.proofs.BoundLemmas.{key_slots_act_early, walk_is_held}
 use Rattle.fr_sharp.proofs.LastingLemmas.{near_fits}
 use Rattle.fr_sharp.proofs.RateRange.{walked_suffices}
 use Rattle.fr_sharp.proofs.RowsSupplied.{double_is_sharp, timed_rows, members_regular, rates_in_limit, LawfulRows}
-use Rattle.fr_sharp.proofs.RunDoubles.{ends_well, evens_are, members_found, next_double, odds_are, rows_lie, senders_found}
+use Rattle.fr_sharp.proofs.RunDoubles.{all_have, all_stay, ends_well, evens_are, members_found, next_double, odds_are, rows_lie, senders_found, AllHave}
 use Rattle.fr_sharp.proofs.StepLemmas.{nodes_near, reached_by}
 
-module _ (x : Setting) (flutter : ℕ) (h : Cycles) (w : IsStatedRun x flutter h) where
+-- a run that no node joins is a lawful one
+pub lawful_run : (x : Setting) (flutter : ℕ) (h : Cycles) → IsStatedRun x flutter h → IsLawfulStatedRun x flutter h
+lawful_run x flutter h w = record { covered = w.covered; lawful = w.lawful; whole = w.whole }
+
+module _ (x : Setting) (flutter : ℕ) (h : Cycles) (w : IsLawfulStatedRun x flutter h) where
   pub part : IsTimedPart x flutter h
   part = record { covered = w.covered; lawful = w.lawful; within = (let whole = w.whole in omega (arith, whole)) }
 
@@ -63,6 +70,28 @@ module _ (x : Setting) (flutter : ℕ) (h : Cycles) (w : IsStatedRun x flutter h
   pub odds_of : (double : ℕ) (earlier : Cycles) (even odd : Cycle) → IsDoubleOf h double earlier even odd → map (λ (node : Member). node.odd) (members_at x h double) ≡ odd.told.rows
   odds_of double earlier even odd d =
       ap (map (λ (node : Member). node.odd)) (members_found x h double earlier even odd d) ∙ odds_are x flutter earlier even odd double (rows_of double earlier even odd d)
+
+  -- ---- where each correct node has a row in a double cycle
+
+  pub have_rows : (double : ℕ) → EachHasRow x h double → (earlier : Cycles) (even odd : Cycle) → IsDoubleOf h double earlier even odd → AllHave x earlier
+  have_rows double each earlier even odd d node there = sym (told_has x earlier even node (rows_of double earlier even odd d).even_runs there) ∙ each node there earlier even odd d
+
+  rows_there : (double : ℕ) (earlier : Cycles) (even odd : Cycle) → IsDoubleOf h double earlier even odd → AllHave x earlier → (node : NodeSpec) → Contains (correct_nodes x) node
+      → IsSome (row_of even.told.rows node.id)
+  rows_there double earlier even odd d all node there = told_has x earlier even node (rows_of double earlier even odd d).even_runs there ∙ all node there
+
+  -- as they have where none joins
+  pub each_alone : some_joins x ≡ false → (double : ℕ) → EachHasRow x h double
+  each_alone none double node there earlier even odd d = rows_there double earlier even odd d (all_have x earlier none) node there
+
+  -- each has one in the next double cycle
+  pub each_later : (double : ℕ) → EachHasRow x h double → EachHasRow x h (suc double)
+  each_later double each node there [] even odd d = let counted : 0 ≡ 2 * suc double = d.counted in absurd (omega (arith, counted))
+  each_later double each node there (o ∷ []) even odd d = let counted : 1 ≡ 2 * suc double = d.counted in absurd (omega (arith, counted))
+  each_later double each node there (o ∷ e ∷ earlier) even odd d =
+      let before = prior_of h double earlier e o even odd d in
+      let s = rows_of double earlier e o before in
+      rows_there (suc double) (o ∷ e ∷ earlier) even odd d (all_stay x earlier e o s.even_obeys s.odd_obeys (have_rows double each earlier e o before)) node there
 
   -- lengths lie no further beyond their range than so
   abbrev About : ℤ → List NodeRow → Type 0
@@ -119,18 +148,18 @@ module _ (x : Setting) (flutter : ℕ) (h : Cycles) (w : IsStatedRun x flutter h
           let told : record_at (told_of h) (suc (2 * double)) ≡ Some odd.told = told_at h (suc (2 * double)) ∙ ap (option_map (λ (c : Cycle). c.told)) (odd_is h double earlier even odd d) in
           subst (Most (suc (2 * double))) (sym told) (spread_within x.params (suc (2 * double)) (pos apart) odd.told.rows macrotick true (odd_length (2 * double) double refl) (no_less apart) late)
 
-  pub keeps_apart_of : (double apart : ℕ) → double < x.doubles → BeginsActive h double → AllUncut (members_at x h double)
+  pub keeps_apart_of : (double apart : ℕ) → double < x.doubles → EachHasRow x h double → BeginsActive h double → AllUncut (members_at x h double)
       → ((one other : Member) (macrotick : ℤ) (is_odd : Bool) → Contains (members_at x h double) one → Contains (members_at x h double) other → pos 0 ≤ℤ macrotick → macrotick ≤ℤ x.params.macros
       → IsWithin (pos apart) (gap_of x.params is_odd macrotick (row_in is_odd one.even one.odd) (row_in is_odd other.even other.odd)))
       → KeepsApart x h double apart
-  keeps_apart_of double apart within active uncut near =
+  keeps_apart_of double apart within each active uncut near =
       let f = found_of double within in
       record {
         skew = spread_in double apart f.earlier f.even f.odd f.is near;
         ends = λ earlier even odd d.
             let both = active earlier even odd d in
             ends_well x flutter earlier even odd double (rows_of double earlier even odd d) both.0 both.1
-            (subst AllUncut (members_found x h double earlier even odd d) uncut) w.none_joins;
+            (subst AllUncut (members_found x h double earlier even odd d) uncut) (have_rows double each earlier even odd d);
       }
 
   -- where all is heard it is a double cycle as the sharper step asks for
@@ -158,17 +187,17 @@ module _ (x : Setting) (flutter : ℕ) (h : Cycles) (w : IsStatedRun x flutter h
       subst Nodes (sym same) (subst Senders (sym (senders_found x h double f.earlier f.even f.odd f.is)) own)
 
   -- and the next one
-  pub next_of : (double : ℕ) → BeginsActive h double → AllUncut (members_at x h double) → (earlier : Cycles) (even odd : Cycle) → IsDoubleOf h (suc double) earlier even odd
+  pub next_of : (double : ℕ) → EachHasRow x h double → BeginsActive h double → AllUncut (members_at x h double) → (earlier : Cycles) (even odd : Cycle) → IsDoubleOf h (suc double) earlier even odd
       → IsNextDouble x.params (members_at x h double) (members_at x h (suc double))
-  next_of double active uncut [] even odd d = let counted : 0 ≡ 2 * suc double = d.counted in absurd (omega (arith, counted))
-  next_of double active uncut (o ∷ []) even odd d = let counted : 1 ≡ 2 * suc double = d.counted in absurd (omega (arith, counted))
-  next_of double active uncut (o ∷ e ∷ earlier) even odd d =
+  next_of double each active uncut [] even odd d = let counted : 0 ≡ 2 * suc double = d.counted in absurd (omega (arith, counted))
+  next_of double each active uncut (o ∷ []) even odd d = let counted : 1 ≡ 2 * suc double = d.counted in absurd (omega (arith, counted))
+  next_of double each active uncut (o ∷ e ∷ earlier) even odd d =
       let before = prior_of h double earlier e o even odd d in
       let both = active earlier e o before in
       let same = members_found x h double earlier e o before in
       let next = members_found x h (suc double) (o ∷ e ∷ earlier) even odd d in
       let t = rows_of (suc double) (o ∷ e ∷ earlier) even odd d in
-      let own = next_double x flutter earlier e o double (rows_of double earlier e o before) even odd t w.none_joins both.0 both.1 (subst AllUncut same uncut) (evens_are x flutter (o ∷ e ∷ earlier) even odd (suc double) t) (odds_are x flutter (o ∷ e ∷ earlier) even odd (suc double) t) in
+      let own = next_double x flutter earlier e o double (rows_of double earlier e o before) even odd t (have_rows double each earlier e o before) both.0 both.1 (subst AllUncut same uncut) (evens_are x flutter (o ∷ e ∷ earlier) even odd (suc double) t) (odds_are x flutter (o ∷ e ∷ earlier) even odd (suc double) t) in
       let First : List Member → Type 0 = λ some. IsNextDouble x.params some (members_at x h (suc double)) in
       let Second : List Member → Type 0 = λ some. IsNextDouble x.params (row_members x earlier e o) some in
       subst First (sym same) (subst Second (sym next) own)
@@ -184,14 +213,14 @@ module _ (x : Setting) (flutter : ℕ) (h : Cycles) (w : IsStatedRun x flutter h
       (subst Are (evens_of (double + suc k) earlier even odd d) begin.active.0, subst Are (odds_of (double + suc k) earlier even odd d) begin.active.1)
 
   -- and the next one follows
-  pub follows_of : (double : ℕ) (starts lengths : ℕ → ℕ) → BeginsActive h double → (k : ℕ) → suc k < x.doubles - double → BeginSharp x.params flutter starts lengths (λ k. members_at x h (double + k)) k
+  pub follows_of : ((double : ℕ) → EachHasRow x h double) → (double : ℕ) (starts lengths : ℕ → ℕ) → BeginsActive h double → (k : ℕ) → suc k < x.doubles - double → BeginSharp x.params flutter starts lengths (λ k. members_at x h (double + k)) k
       → AllUncut (members_at x h (double + k)) → IsNextDouble x.params (members_at x h (double + k)) (members_at x h (double + suc k))
-  follows_of double starts lengths active k short begin uncut =
+  follows_of each double starts lengths active k short begin uncut =
       let one : suc (double + k) ≡ double + suc k = omega arith in
       let later : suc (double + k) < x.doubles = omega (arith, short) in
       let f = found_of (suc (double + k)) later in
       let At : ℕ → Type 0 = λ m. IsNextDouble x.params (members_at x h (double + k)) (members_at x h m) in
-      subst At one (next_of (double + k) (active_of double starts lengths active k begin) uncut f.earlier f.even f.odd f.is)
+      subst At one (next_of (double + k) (each (double + k)) (active_of double starts lengths active k begin) uncut f.earlier f.even f.odd f.is)
 
   -- ---- where a reach takes in the numbers
 

@@ -1,10 +1,11 @@
 -- What holds in a double cycle that is judged, by what is known of it: its own numbers, which need not be those of sharp sync. Nothing
 -- is asked of other double cycles.
-use Rattle.std.specs.Prelude.{◌≡◌, ◌<◌, ◌≤◌, ◌-ℤ◌, ℕ, suc, ℤ, pos, Bool, false, true, List, All, Contains, Some}
+use Rattle.std.specs.Prelude.{◌≡◌, ◌<◌, ◌≤◌, ◌*◌, ◌-ℤ◌, ℕ, suc, ℤ, pos, Bool, false, true, List, length, All, Contains, IsSome, Some}
 use Rattle.fr_base.specs.Within.{IsWithin}
 use Rattle.fr_base.specs.declared.state.State.TheVariants.{Active}
-use Rattle.fr_cluster.specs.Setting.{Setting}
+use Rattle.fr_cluster.specs.Setting.{Setting, correct_nodes}
 use Rattle.fr_cluster.specs.Values.{Values}
+use Rattle.fr_cluster.specs.declared.nodes.NodeSpec.{NodeSpec}
 use Rattle.fr_midpoint.specs.Midpoint.{IsMidpoint}
 use Rattle.fr_time.specs.Cycles.{even_cycle, odd_cycle}
 use Rattle.fr_bound.specs.Judged.{apart_through, known_after, met_of, IsJudgedDouble}
@@ -17,6 +18,8 @@ use Rattle.fr_precision.specs.Round.{Hearer, Round}
 use Rattle.fr_precision.specs.Rows.{Sender}
 use Rattle.fr_precision.specs.Step.{Member}
 use Rattle.fr_history.specs.Cycles.{Cycle, Cycles, cycle_at}
+use Rattle.fr_history.specs.History.{row_of}
+use Rattle.fr_history.specs.Lawful.{IsLawful}
 use Rattle.fr_runs.specs.Gathered.{round_at}
 use Rattle.fr_runs.specs.Rounds.{IsDoubleOf}
 use Rattle.fr_sharp.specs.Among.{ComputesOwn}
@@ -25,7 +28,7 @@ use Rattle.fr_sharp.specs.SettlingHistories.{AreStatedNear}
 use Rattle.fr_sharp.specs.SharpHistories.{members_at, senders_at, IsInSharpSyncAt, IsStatedRun, KeepsApart}
 use Rattle.fr_sharp.specs.SharpRound.{IsRoundInReach}
 use Rattle.fr_sharp.specs.SharpStep.{AreSharp, IsSharpDouble}
-use Rattle.fr_sharp.specs.SteadyRuns.{row_hearers, AreRowsInReach, IsWhole, MayHaveArbitrary}
+use Rattle.fr_sharp.specs.SteadyRuns.{row_hearers, AreRowsInReach, IsTimedSetting, IsWhole, MayHaveArbitrary}
 
 -- what is heard in a double cycle of a run: of any two nodes one channel carries the frames of both cycles, without arbitrary sync
 -- nodes or beside them; or, without them, no node is left without any value
@@ -87,6 +90,30 @@ JudgedGoesOn =
     (what : Heard) (x : Setting) (flutter : ℕ) (h : Cycles) (double : ℕ) (known : Known)
     → IsStatedRun x flutter h → double < x.doubles → IsHeardIn what x double
     → IsKnownAt x h double known → IsJudgedDouble x.params flutter known → GoesOnJudged what x flutter h double known
+
+-- ---- whoever joins
+
+-- a whole lawful history of a run that nodes may join, in which frames may be lost, and what is stated of the run besides its checks
+pub record IsLawfulStatedRun (x : Setting) (flutter : ℕ) (h : Cycles) : Type 0 where
+  pub covered : IsTimedSetting x flutter
+  pub lawful : IsLawful x h
+  pub whole : length h ≡ 2 * x.doubles
+
+-- each correct node has a row in a double cycle: in its even cycle, and so in both
+abbrev pub EachHasRow : Setting → Cycles → ℕ → Type 0
+EachHasRow x h double =
+    (node : NodeSpec) → Contains (correct_nodes x) node → (earlier : Cycles) (even odd : Cycle)
+    → IsDoubleOf h double earlier even odd → IsSome (row_of even.told.rows node.id)
+
+-- where that is so, a double cycle that is judged goes on in the same way, whoever has joined, and each has a row in the next one
+abbrev pub UnfollowedGoesOn : Type 0
+UnfollowedGoesOn =
+    (what : Heard) (x : Setting) (flutter : ℕ) (h : Cycles) (double : ℕ) (known : Known)
+    → IsLawfulStatedRun x flutter h → double < x.doubles → IsHeardIn what x double → EachHasRow x h double
+    → IsKnownAt x h double known → IsJudgedDouble x.params flutter known
+    → GoesOnJudged what x flutter h double known × (suc double < x.doubles → EachHasRow x h (suc double))
+
+-- ---- what is known
 
 -- what is known of a double cycle in two ways is known with the lesser of each two numbers
 abbrev pub KnownIsMet : Type 0

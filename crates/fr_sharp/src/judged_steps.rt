@@ -1,4 +1,4 @@
-ghost use Rattle.fr_sharp.specs.JudgedSteps.{JudgedGoesOn, KnownIsMet, SharpSyncIsKnown, StatedRunsAreKnown};
+ghost use Rattle.fr_sharp.specs.JudgedSteps.{JudgedGoesOn, KnownIsMet, SharpSyncIsKnown, StatedRunsAreKnown, UnfollowedGoesOn};
 ghost use Rattle.fr_sharp.specs.JudgedStates.{CarriedIsKnown};
 ghost use Rattle.fr_sharp.specs.WorkedJudged.{FarNumbersAreJudged, WorkedNumbersGoOn, WorkedRunGoesOn};
 
@@ -7,10 +7,12 @@ use fr_history::one_lawful_run;
 /// The law of a double cycle that is judged by what is known of it: in a lawful history that no node joins, no macroticks
 /// of it lie further apart than these numbers say, in ticks, each node has a deviation of each sender that it hears, and a
 /// rate value that places its length, and applies their midpoints (sections 8.5 and 8.6); no term is cut or missing, and
-/// every node is active in the next one, of which so much is known. None of it asks for sync. What is known in two ways is
-/// known by the lesser numbers; something is known of a double cycle in sharp sync, and of the first one.
+/// every node is active in the next one, of which so much is known. None of it asks for sync. The same holds in a history
+/// that nodes join, of a double cycle in which each correct node has a row; each has one in the next one too. What is known
+/// in two ways is known by the lesser numbers; something is known of a double cycle in sharp sync, and of the first one.
 pub fn judged_double_cycles_go_on()
     ensures steps { JudgedGoesOn }
+    ensures unfollowed { UnfollowedGoesOn }
     ensures met { KnownIsMet }
     ensures synced { SharpSyncIsKnown }
     ensures stated { StatedRunsAreKnown }
