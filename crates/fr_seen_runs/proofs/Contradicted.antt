@@ -6,6 +6,8 @@ use Rattle.std.specs.Option.{option_or, option_to_list}
 use Rattle.std.proofs.lemmas.List.Elements.{All-append, All-head, All-nil, All-weaker}
 use Rattle.fr_base.specs.declared.channel.Channel.{Channel}
 use Rattle.fr_bound.specs.Bounds.{lambda_of, pi_of, precision_of}
+use Rattle.fr_bound.specs.declared.judging.Heard.{Heard}
+use Rattle.fr_bound.specs.declared.judging.Known.{Known}
 use Rattle.fr_cluster.specs.Setting.{Setting}
 use Rattle.fr_cluster.specs.Values.{Values}
 use Rattle.fr_history.specs.Cycles.{Cycles}
@@ -22,20 +24,23 @@ use Rattle.fr_sightings.specs.declared.sighting.Sighting.{Sighting}
 use Rattle.fr_seen.specs.Clocks.{StraightClock}
 use Rattle.fr_seen.specs.LogSeen.{log_senders, run_double}
 use Rattle.fr_seen.specs.OwnSlots.{SlotsAreOwn}
-use Rattle.fr_seen_runs.specs.Contradictions.{IsAsStated, IsObservedRun}
+use Rattle.fr_seen_runs.specs.Contradictions.{IsAsLogStates, IsAsStated, IsObservedRun}
+use Rattle.fr_seen_runs.specs.Standings.{IsKnownOfLog, StandingsAreSo}
 use Rattle.fr_seen_runs.specs.SyncFaults.{FromSyncOn, HasNoLengthFault, HasNoLengthsFault, HasNoMissingFault, HasNoOffsetFault, HasNoRateFault, HasNoSkewFault, HasNoStartFault}
 use Rattle.fr_seen_runs.specs.ToldFaults.{NoFaultIsTold, ToldFaultsAskEither, ToldFaultsAskOwnSlots, ToldFaultsAskSync, VerdictTellsFirst, log_faults}
 use Rattle.fr_seen_runs.specs.NotContradicted.{NoRunHasOwnFaults, NoRunIsContradicted}
 use Rattle.fr_observe.specs.declared.fault.Fault.{Fault}
+use Rattle.fr_observe.specs.Knowing.{known_next, standing_faults, standing_of}
 use Rattle.fr_observe.specs.declared.fault.SyncFrom.{SyncFrom}
-use Rattle.fr_observe.specs.Faults.{asks_own_slots, asks_sync, before_in_sync, beyond_fault, faults_in_sync, first_of_faults, is_sync_seen, length_fault, missing_frames, offset_fault, rate_fault, seen_sync, skew_fault, slot_faults, stated_sync, sync_faults}
+use Rattle.fr_observe.specs.declared.knowing.Standing.{Standing}
+use Rattle.fr_observe.specs.Faults.{asks_own_slots, asks_sync, before_in_sync, beyond_fault, faults_in_sync, first_of_faults, is_nil, is_sync_seen, length_fault, missing_frames, offset_fault, rate_fault, seen_sync, skew_fault, slot_faults, stated_sync, sync_faults}
 use Rattle.fr_course.specs.Spread.{lengths_apart, starts_apart}
 use Rattle.fr_observe.specs.declared.fault.FaultKind.TheVariants.{Lengths, Start}
-use Rattle.fr_findings.specs.Verdict.{Basis, DoubleCycle, double_at, faults_told, in_sync_told, is_coverable, log_basis, log_progress, log_span, no_progress, own_told, progress_behind, progress_told, sightings_before, sync_told, verdict_by, verdict_of, verdict_with}
+use Rattle.fr_findings.specs.Verdict.{Basis, DoubleCycle, double_at, faults_told, heard_of, in_sync_told, is_coverable, known_next_told, known_told, log_basis, log_progress, log_span, no_progress, own_told, progress_behind, progress_told, sightings_before, standing_told, sync_told, verdict_by, verdict_of, verdict_with}
 use Rattle.fr_findings.specs.declared.progress.Progress.{Progress}
 use Rattle.fr_sightings.specs.Sightings.{OffendingFrames, irregular_of, offending_frames_of}
 use Rattle.fr_findings.specs.declared.verdict.Verdict.TheVariants as verdict
-use Rattle.fr_seen_runs.proofs.SyncKinds.{AsksOwnSlots, AsksSync, slot_faults_ask, sync_faults_ask}
+use Rattle.fr_seen_runs.proofs.SyncKinds.{AsksOwnSlots, AsksSync, slot_faults_ask, standing_faults_ask, sync_faults_ask}
 use Rattle.fr_seen_runs.proofs.OwnFaults.{slot_faults_are_none, sync_is_seen}
 use Rattle.fr_seen_runs.proofs.Progressing.{faults_left, first_is, seen_in_turn, told_all}
 use Rattle.fr_seen_runs.proofs.ToldVerdicts.{fault_is_first}
@@ -78,19 +83,22 @@ module _ (x : Setting) (h : Cycles) (base : ℕ) (delays : ℕ → Channel → D
   abbrev InSync : Option SyncFrom → ℕ → List Fault
   InSync sync double = faults_in_sync (is_coverable Log.covered) sync (in_sync_told Log (At double))
 
+  abbrev Rest : ℕ → Progress → List Fault
+  Rest double progress = InSync (sync_told Log (At double) progress.sync) double ++ known_told Log (At double) progress.known
+
   module _ (Q : Fault → Type 0) (slots : (double : ℕ) → All Q (slot_faults x.params (Irregular double))) (P : ℕ → Progress → Type 0) where
     abbrev SyncSteps : Type 0
     SyncSteps =
         (double : ℕ) (progress : Progress) → Contains (seen_doubles Seen) double → P double progress
-        → All Q (InSync (sync_told Log (At double) progress.sync) double) × P (suc double) (progress_behind Log Seen Offending double progress)
+        → All Q (Rest double progress) × P (suc double) (progress_behind Log Seen Offending double progress)
 
     told_step : SyncSteps → (double : ℕ) (progress : Progress) → Contains (seen_doubles Seen) double → P double progress
-        → All Q (faults_told Log (At double) (sync_told Log (At double) progress.sync)) × P (suc double) (progress_behind Log Seen Offending double progress)
+        → All Q (faults_told Log (At double) (sync_told Log (At double) progress.sync) progress.known) × P (suc double) (progress_behind Log Seen Offending double progress)
     told_step step double progress among known =
         let sync = sync_told Log (At double) progress.sync in
         let is = step double progress among known in (
-          subst (All Q) (sym (faults_left x h base delays clock l run double sync among))
-              (All-append Q (slot_faults x.params (Irregular double)) (InSync sync double) (slots double) is.0),
+          subst (All Q) (sym (faults_left x h base delays clock l run double sync progress.known among))
+              (All-append Q (slot_faults x.params (Irregular double)) (Rest double progress) (slots double) is.0),
           is.1,
         )
 
@@ -114,6 +122,13 @@ module _ (x : Setting) (h : Cycles) (base : ℕ) (delays : ℕ → Channel → D
   in_sync_asks true (Some from) double =
       sync_faults_ask Log.precision x.params Log.scale l Log.span (before_in_sync from (At double).number (At double).before) (At double).here (At double).number (At double).senders
 
+  rest_asks : (double : ℕ) (progress : Progress) → All AsksSync (Rest double progress)
+  unfolding known_told
+  rest_asks double progress =
+      let sync = sync_told Log (At double) progress.sync in
+      All-append AsksSync (InSync sync double) (known_told Log (At double) progress.known) (in_sync_asks (is_coverable Log.covered) sync double)
+      (standing_faults_ask Log.params Log.scale Log.log Log.span (At double).before (At double).here (At double).number (At double).senders (standing_told Log (At double) progress.known))
+
   AsksEither : Fault → Type 0
   AsksEither fault = (asks_sync fault.kind || asks_own_slots fault.kind) ≡ true
 
@@ -133,15 +148,12 @@ module _ (x : Setting) (h : Cycles) (base : ℕ) (delays : ℕ → Channel → D
   unfolding AsksEither
   either_asks =
       told_are AsksEither (λ double. All-weaker AsksOwnSlots AsksEither slots_either (slot_faults x.params (Irregular double)) (slots_ask double)) (λ double progress. Unit {0})
-      (λ double progress among known.
-      let sync = sync_told Log (At double) progress.sync in
-      (All-weaker AsksSync AsksEither sync_either (InSync sync double) (in_sync_asks (is_coverable Log.covered) sync double), tt))
-      (λ first. tt)
+      (λ double progress among known. (All-weaker AsksSync AsksEither sync_either (Rest double progress) (rest_asks double progress), tt)) (λ first. tt)
 
   pub all_ask : SlotsAreOwn x h l → All AsksSync (log_faults x.params l)
   all_ask own =
       told_are AsksSync (no_slots AsksSync own) (λ double progress. Unit {0})
-      (λ double progress among known. (in_sync_asks (is_coverable Log.covered) (sync_told Log (At double) progress.sync) double, tt)) (λ first. tt)
+      (λ double progress among known. (rest_asks double progress, tt)) (λ first. tt)
 
   -- ---- no fault at all
 
@@ -245,27 +257,86 @@ module _ (x : Setting) (h : Cycles) (base : ℕ) (delays : ℕ → Channel → D
         more : (a b : ℕ) → a ≤ b → a ≤ suc b
         more a b le = omega (arith, le)
 
-    -- behind each double cycle sync is known of one before
-    abbrev IsKnown : ℕ → Progress → Type 0
-    IsKnown double progress = IfSome progress.sync (IsSyncFrom double)
-
-    in_sync_step : (Q : Fault → Type 0) (double : ℕ) (progress : Progress) → Contains (seen_doubles Seen) double → IsKnown double progress
-        → All Q (InSync (sync_told Log (At double) progress.sync) double) × IsKnown (suc double) (progress_behind Log Seen Offending double progress)
-    unfolding progress_told
-    in_sync_step Q double progress among known =
+    sync_behind_is : (double : ℕ) (progress : Progress) → Contains (seen_doubles Seen) double → IfSome progress.sync (IsSyncFrom double)
+        → (faults_in_sync true (sync_told Log (At double) progress.sync) (in_sync_told Log (At double)) ≡ []) × IfSome (sync_told Log (At double) progress.sync) (IsSyncFrom (suc double))
+    sync_behind_is double progress among before =
         let sync = sync_told Log (At double) progress.sync in
-        let is = sync_there double progress.sync among known in
-        (subst (All Q) (sym (told_none (is_coverable Log.covered) double sync among is)) (All-nil Q), later double sync is)
+        let is = sync_there double progress.sync among before in
+        (told_none true double sync among is, later double sync is)
+
+  -- ---- by sync where the checks hold, and by its own numbers where one fails
+
+  module _ (states : IsAsLogStates x h base l) (kept : SyncIsKept) (judged : StandingsAreSo) where
+    abbrev SyncWhere : ℕ → Option SyncFrom → Type 0
+    SyncWhere double sync = (covers : is_coverable Log.covered ≡ true) → IfSome sync (IsSyncFrom (states.synced covers) kept double)
+
+    -- behind each double cycle sync is known of one before, and what is known of the next one is so
+    abbrev IsKnown : ℕ → Progress → Type 0
+    IsKnown double progress = SyncWhere double progress.sync × IsKnownOfLog x h base double progress.known
+
+    in_sync_none_where : (double : ℕ) (progress : Progress) (covered : Bool) → is_coverable Log.covered ≡ covered → Contains (seen_doubles Seen) double → SyncWhere double progress.sync
+        → faults_in_sync covered (sync_told Log (At double) progress.sync) (in_sync_told Log (At double)) ≡ []
+    in_sync_none_where double progress true covers among before = (sync_behind_is (states.synced covers) kept double progress among (before covers)).0
+    in_sync_none_where double progress false covers among before = uncovered (sync_told Log (At double) progress.sync)
+      where
+        uncovered : (sync : Option SyncFrom) → faults_in_sync false sync (in_sync_told Log (At double)) ≡ []
+        uncovered None = refl
+        uncovered (Some from) = refl
+
+    sync_where : (double : ℕ) (progress : Progress) → Contains (seen_doubles Seen) double → SyncWhere double progress.sync → SyncWhere (suc double) (sync_told Log (At double) progress.sync)
+    sync_where double progress among before covers = (sync_behind_is (states.synced covers) kept double progress among (before covers)).1
+
+    -- what is known, by what its nodes hear
+    standing_by : (double : ℕ) (heard : Option Heard) (known : Option Known) → Standing
+    standing_by double heard known =
+        standing_of x.params Log.scale l (At double).here (At double).number (At double).senders heard known (first_of_faults (own_told Log (At double)))
+
+    faults_by : ℕ → Standing → List Fault
+    faults_by double st = standing_faults x.params Log.scale l Log.span (At double).before (At double).here (At double).number (At double).senders st
+
+    KnownSo : ℕ → Option Heard → Option Known → Type 0
+    KnownSo double heard known =
+        (faults_by double (standing_by double heard known) ≡ []) × IsKnownOfLog x h base (suc double) (known_next x.params (standing_by double heard known) true)
+
+    known_so : (double : ℕ) (heard : Option Heard) (known : Option Known) → heard_of x.params l ≡ heard → Contains (seen_doubles Seen) double → IsKnownOfLog x h base double known → KnownSo double heard known
+    unfolding KnownSo faults_by standing_by standing_of standing_faults known_next double_at senders_of
+    known_so double None known is among before = (refl, tt)
+    known_so double (Some what) known is among before =
+        judged x h base delays clock l what double known (first_of_faults (own_told Log (At double))) run states is among before
+
+    known_where : (double : ℕ) (progress : Progress) → Contains (seen_doubles Seen) double → IsKnownOfLog x h base double progress.known
+        → (known_told Log (At double) progress.known ≡ []) × IsKnownOfLog x h base (suc double) (known_next_told Log (At double) progress.known)
+    unfolding known_told standing_told KnownSo faults_by standing_by
+    known_where double progress among before =
+        let is = known_so double Log.heard progress.known refl among before in
+        let clear : is_nil (known_told Log (At double) progress.known) ≡ true = ap is_nil is.0 in
+        (is.0, subst (λ b. IsKnownOfLog x h base (suc double) (known_next x.params (standing_told Log (At double) progress.known) b)) (sym clear) is.1)
+
+    rest_none : (double : ℕ) (progress : Progress) → Contains (seen_doubles Seen) double → IsKnown double progress → Rest double progress ≡ []
+    rest_none double progress among before =
+        ap (λ faults. faults ++ known_told Log (At double) progress.known) (in_sync_none_where double progress (is_coverable Log.covered) refl among before.0)
+        ∙ (known_where double progress among before.1).0
+
+    rest_step : (Q : Fault → Type 0) (double : ℕ) (progress : Progress) → Contains (seen_doubles Seen) double → IsKnown double progress
+        → All Q (Rest double progress) × IsKnown (suc double) (progress_behind Log Seen Offending double progress)
+    unfolding progress_told
+    rest_step Q double progress among before = (
+      subst (All Q) (sym (rest_none double progress among before)) (All-nil Q),
+      (sync_where double progress among before.0, (known_where double progress among before.1).1),
+    )
+
+    first_known : (first : ℕ) → IsKnown first no_progress
+    first_known first = (λ covers. tt, tt)
 
     pub slots_told : All AsksOwnSlots (log_faults x.params l)
-    slots_told = told_are AsksOwnSlots slots_ask IsKnown (in_sync_step AsksOwnSlots) (λ first. tt)
+    slots_told = told_are AsksOwnSlots slots_ask IsKnown (rest_step AsksOwnSlots) first_known
 
     none_of : (faults : List Fault) → All (λ fault. ⊥) faults → faults ≡ []
     none_of [] all = refl
     none_of (fault ∷ faults) all = absurd (All-head (λ fault. ⊥) fault faults all)
 
     pub none_told : SlotsAreOwn x h l → log_faults x.params l ≡ []
-    none_told own = none_of (log_faults x.params l) (told_are (λ fault. ⊥) (no_slots (λ fault. ⊥) own) IsKnown (in_sync_step (λ fault. ⊥)) (λ first. tt))
+    none_told own = none_of (log_faults x.params l) (told_are (λ fault. ⊥) (no_slots (λ fault. ⊥) own) IsKnown (rest_step (λ fault. ⊥)) first_known)
 
 pub told_faults_ask_either : ToldFaultsAskEither
 told_faults_ask_either = either_asks
@@ -274,11 +345,11 @@ pub told_faults_ask_sync : ToldFaultsAskSync
 told_faults_ask_sync = all_ask
 
 -- where the laws of sync hold
-pub told_faults_ask_own_slots : SyncIsKept → ToldFaultsAskOwnSlots
-told_faults_ask_own_slots kept x h base delays clock l run stated = slots_told x h base delays clock l run stated kept
+pub told_faults_ask_own_slots : SyncIsKept → StandingsAreSo → ToldFaultsAskOwnSlots
+told_faults_ask_own_slots kept judged x h base delays clock l run states = slots_told x h base delays clock l run states kept judged
 
-pub no_fault_is_told : SyncIsKept → NoFaultIsTold
-no_fault_is_told kept x h base delays clock l run stated own = none_told x h base delays clock l run stated kept own
+pub no_fault_is_told : SyncIsKept → StandingsAreSo → NoFaultIsTold
+no_fault_is_told kept judged x h base delays clock l run states own = none_told x h base delays clock l run states kept judged own
 
 -- ---- the verdict
 
@@ -309,10 +380,10 @@ no_run_has_own_faults x h base delays clock l fault run own is =
     by false asks true of_sync told = of_sync
     by false asks false of_sync told = absurd (cc told)
 
-pub none_is_contradicted : SyncIsKept → NoRunIsContradicted
-none_is_contradicted kept x h base delays clock l fault run stated own is =
-    let asks = told_is AsksOwnSlots x.params l fault is (slots_told x h base delays clock l run stated kept) in
-    never fault (sym (ap first_of_faults (none_told x h base delays clock l run stated kept (own asks))) ∙ (verdict_tells_first x.params l fault).0 is)
+pub none_is_contradicted : SyncIsKept → StandingsAreSo → NoRunIsContradicted
+none_is_contradicted kept judged x h base delays clock l fault run states own is =
+    let asks = told_is AsksOwnSlots x.params l fault is (slots_told x h base delays clock l run states kept judged) in
+    never fault (sym (ap first_of_faults (none_told x h base delays clock l run states kept judged (own asks))) ∙ (verdict_tells_first x.params l fault).0 is)
   where
     never : (fault : Fault) → None ≡ Some fault → ⊥
     never fault is = cc is

@@ -24,6 +24,7 @@ pub mod Contradicted
 pub mod Reaching
 pub mod ReachesEnd
 pub mod OverLaws
+pub mod Standings
 pub mod SyncKept
 pub mod RowsTold
 pub mod WorkedCycles

@@ -1,10 +1,11 @@
 -- Where the verdict of a log is within, the skew stays within the precision in each of its cycles, in each run that the log is seen of.
-use Rattle.std.proofs.Common.{◌≡◌, ◌⊎◌, ℕ, suc, ◌+◌, ◌*◌, ◌/◌, ◌%◌, ◌==◌, ◌≤◌, Bool, true, false, Option, Some, None, ℤ, pos, List, [], ◌∷◌, All, map, refl, ap, sym, ◌∙◌, subst, inl, inr, arith}
-use Rattle.std.specs.Prelude.{Contains, IfSome, int_lt, if◌then◌else◌}
+use Rattle.std.proofs.Common.{◌≡◌, ◌⊎◌, ℕ, suc, ◌+◌, ◌*◌, ◌/◌, ◌%◌, ◌==◌, ◌≤◌, ◌&&◌, ◌||◌, Bool, true, false, Option, Some, None, ℤ, pos, List, [], ◌∷◌, All, map, refl, ap, sym, ◌∙◌, subst, inl, inr, arith}
+use Rattle.std.specs.Prelude.{Contains, IfSome, int_lt, is_some, if◌then◌else◌}
 use Rattle.std.specs.Option.{option_map, option_or}
 use Rattle.std.proofs.lemmas.List.Elements.{All-head}
 use Rattle.fr_base.specs.declared.channel.Channel.{Channel}
 use Rattle.fr_bound.specs.Bounds.{precision_of}
+use Rattle.fr_bound.specs.declared.judging.Heard.{Heard}
 use Rattle.fr_cluster.specs.Setting.{Setting}
 use Rattle.fr_history.specs.Cycles.{Cycles}
 use Rattle.fr_history.specs.Unfollowed.{IsUnfollowedSyncAt}
@@ -14,7 +15,7 @@ use Rattle.fr_course.specs.Spread.{most_odd_skew}
 use Rattle.fr_course.specs.declared.courses.Course.{Course}
 use Rattle.fr_course.specs.declared.scales.Scale.{Scale}
 use Rattle.fr_course.specs.declared.stamps.Delays.{Delays}
-use Rattle.fr_observe.specs.Observing.{all_there, courses_of, even_high, even_low, odd_high, odd_low, says_of, seen_doubles, senders_of}
+use Rattle.fr_observe.specs.Observing.{all_there, both_say, courses_of, even_high, even_low, odd_high, odd_low, says_of, seen_doubles, senders_of}
 use Rattle.fr_sightings.specs.Sightings.{sightings_of}
 use Rattle.fr_observe.specs.declared.says.Says.{Says}
 use Rattle.fr_observe.specs.declared.says.Says.TheVariants.{Over, Within, Open}
@@ -28,7 +29,10 @@ use Rattle.fr_seen_runs.specs.KeptInSync.{IsDoubleThere}
 use Rattle.fr_seen_runs.specs.NotContradicted.{WithinIsInSync, WithinIsSo, WithinIsThere}
 use Rattle.fr_observe.specs.declared.fault.SyncFrom.{SyncFrom}
 use Rattle.fr_observe.specs.Faults.{is_sync_seen, seen_sync, stated_sync, sync_behind}
-use Rattle.fr_findings.specs.Verdict.{Basis, DoubleCycle, double_at, even_says, further_within, log_basis, log_progress, no_progress, odd_says, own_told, progress_behind, progress_told, reach_behind, reach_behind_both, reach_by, sync_told, verdict_of}
+use Rattle.fr_findings.specs.Verdict.{Basis, DoubleCycle, by_heard, coverable_of, double_at, even_says, further_within, heard_by, is_coverable, is_judged, judged_by, log_basis, log_progress, no_progress, odd_says, own_told, progress_behind, progress_told, reach_behind, reach_behind_both, reach_by, reach_where, standing_told, sync_told, verdict_of}
+use Rattle.fr_findings.specs.declared.coverable.Coverable.{Coverable}
+use Rattle.fr_findings.specs.declared.coverable.Coverable.TheVariants as coverable
+use Rattle.fr_findings.specs.declared.progress.Judged.{Judged}
 use Rattle.fr_findings.specs.declared.progress.Progress.{Progress}
 use Rattle.fr_findings.specs.declared.progress.Reach.{Reach}
 use Rattle.fr_sightings.specs.Sightings.{OffendingFrames, offending_frames_of}
@@ -158,9 +162,13 @@ module _ (x : Setting) (h : Cycles) (base : ℕ) (delays : ℕ → Channel → D
       odd : (d : ℕ) → ((2 * d + 1) % 2 == 0) ≡ false
       odd d = grind arith
 
-  -- behind each double cycle
+  -- behind each double cycle; before the first that is judged nothing is reached
+  abbrev Before : Option Heard → Option SyncFrom → Option Reach → Type 0
+  Before None sync span = sync ≡ None
+  Before (Some what) sync span = span ≡ None
+
   pub record Reaches (double : ℕ) (progress : Progress) : Type 0 where
-    pub none : progress.sync ≡ None → progress.reach ≡ None
+    pub none : Before Log.heard progress.sync progress.judged.span → progress.reach ≡ None
     pub is : IsReached cycle_says (2 * double) progress.reach progress.is_ended
 
   unsynced : (double : ℕ) (sync : Option SyncFrom) → sync_told Log (At double) sync ≡ None → sync ≡ None
@@ -173,17 +181,54 @@ module _ (x : Setting) (h : Cycles) (base : ℕ) (delays : ℕ → Channel → D
   none_behind None double even odd reach is_ended is none = none
   none_behind (Some from) double even odd reach is_ended is none = absurd (cc is)
 
+  -- by sync, or by its own numbers
+  abbrev Passed : Option Heard → Option SyncFrom → Bool → Option Reach → ℕ → Says → Says → (Option Reach × Bool) → (Option Reach × Bool)
+  Passed heard sync now span double even odd reach = by_heard heard (reach_behind_both sync double even odd reach) (reach_where now span double even odd reach)
+
+  any_from : SyncFrom
+  any_from = record { double = 0; is_stated = false }
+
+  reached_passed : (heard : Option Heard) (after sync : Option SyncFrom) (now : Bool) (span : Option Reach) (double : ℕ) (reach : Option Reach) (is_ended : Bool) → (after ≡ None → sync ≡ None)
+      → (Before heard sync span → reach ≡ None) → IsReached cycle_says (2 * double) reach is_ended
+      → IsReached cycle_says (2 * suc double) (Passed heard after now span double (cycle_says (2 * double)) (cycle_says (2 * double + 1)) (reach, is_ended)).0
+      (Passed heard after now span double (cycle_says (2 * double)) (cycle_says (2 * double + 1)) (reach, is_ended)).1
+  reached_passed None after sync now span double reach is_ended stays none is = reached_both cycle_says after double reach is_ended (λ gone. none (stays gone)) is
+  reached_passed (Some what) after sync true span double reach is_ended stays none is =
+      reached_both cycle_says (Some any_from) double reach is_ended (λ gone. absurd (cc gone)) is
+  reached_passed (Some what) after sync false None double reach is_ended stays none is = reached_both cycle_says None double reach is_ended (λ gone. none refl) is
+  reached_passed (Some what) after sync false (Some s) double reach is_ended stays none is = none_reached cycle_says (2 * suc double) true
+
+  none_passed : (heard : Option Heard) (after sync : Option SyncFrom) (all now : Bool) (judged : Judged) (said : List Says) (double : ℕ) (even odd : Says) (reach : Option Reach) (is_ended : Bool)
+      → (now ≡ true → all ≡ true) → (after ≡ None → sync ≡ None) → (Before heard sync judged.span → reach ≡ None) → Before heard after (judged_by all judged double said).span
+      → (Passed heard after now judged.span double even odd (reach, is_ended)).0 ≡ None
+  none_passed None after sync all now judged said double even odd reach is_ended fits stays none gone = none_behind after double even odd reach is_ended gone (none (stays gone))
+  none_passed (Some what) after sync true now judged said double even odd reach is_ended fits stays none gone = absurd (cc gone)
+  none_passed (Some what) after sync false true judged said double even odd reach is_ended fits stays none gone = absurd (let e = fits refl in cc e)
+  none_passed (Some what) after sync false false judged said double even odd reach is_ended fits stays none gone = by judged.span gone (none gone)
+    where
+      by : (span : Option Reach) → span ≡ None → reach ≡ None → (reach_where false span double even odd (reach, is_ended)).0 ≡ None
+      by None gone is = is
+      by (Some s) gone is = absurd (cc gone)
+
+  or_right : (a b : Bool) → b ≡ true → (a || b) ≡ true
+  or_right true b is = refl
+  or_right false b is = is
+
   reaches_behind : (double : ℕ) (progress : Progress) → Contains (seen_doubles Seen) double → Reaches double progress → Reaches (suc double) (progress_behind Log Seen Offending double progress)
   unfolding progress_told double_at
   reaches_behind double progress among before =
-      let sync = sync_told Log (At double) progress.sync in
-      let none_before : sync ≡ None → progress.reach ≡ None = λ is. before.none (unsynced double progress.sync is) in
-      let both = reached_both cycle_says sync double progress.reach progress.is_ended none_before before.is in
+      let d = At double in
+      let sync = sync_told Log d progress.sync in
+      let now = (standing_told Log d progress.known).is_judged in
+      let span = progress.judged.span in
+      let both = reached_passed Log.heard sync progress.sync now span double progress.reach progress.is_ended (unsynced double progress.sync) before.none before.is in
       let Behind : Says → Says → Type 0 = λ even odd. IsReached cycle_says (2 * suc double)
-      (reach_behind_both sync double even odd (progress.reach, progress.is_ended)).0 (reach_behind_both sync double even odd (progress.reach, progress.is_ended)).1 in
+      (Passed Log.heard sync now span double even odd (progress.reach, progress.is_ended)).0 (Passed Log.heard sync now span double even odd (progress.reach, progress.is_ended)).1 in
       record {
-        none = λ is. none_behind sync double (even_says Log (At double)) (odd_says Log (At double)) progress.reach progress.is_ended is (none_before is);
-        is = subst (Behind (even_says Log (At double))) (odd_cycle_says double) (subst (λ even. Behind even (cycle_says (2 * double + 1))) (even_cycle_says double) both);
+        none = λ gone.
+            none_passed Log.heard sync progress.sync (is_judged Log d sync progress.known) now progress.judged (both_say Log.precision Log.scale d.senders) double (even_says Log d) (odd_says Log d)
+            progress.reach progress.is_ended (or_right (is_coverable Log.covered && is_some sync) now) (unsynced double progress.sync) before.none gone;
+        is = subst (Behind (even_says Log d)) (odd_cycle_says double) (subst (λ even. Behind even (cycle_says (2 * double + 1))) (even_cycle_says double) both);
       }
 
   pub reached : (r : Reach) → (log_progress Log Seen Offending).reach ≡ Some r → (cycle : ℕ) → r.from ≤ cycle → cycle ≤ r.to → cycle_says cycle ≡ Within
@@ -236,7 +281,13 @@ module _ (x : Setting) (h : Cycles) (base : ℕ) (delays : ℕ → Channel → D
 
   -- ---- from the first cycle on
 
-  module _ (named : NamesArbitrary x l) (unstated : l.since ≡ None) where
+  module _ (named : NamesArbitrary x l) (unstated : l.since ≡ None) (covers : is_coverable (coverable_of x.params l) ≡ true) where
+    -- by sync alone
+    unheard : (c : Coverable) → is_coverable c ≡ true → heard_by x.params l c ≡ None
+    unheard coverable.Open is = refl
+    unheard (coverable.Check number left right) is = absurd (cc is)
+    unheard (coverable.Count correct arbitrary) is = absurd (cc is)
+
     -- the reach begins with the first cycle in sync
     pub record IsFromFirst (first : ℕ) (reach : Option Reach) (is_ended : Bool) : Type 0 where
       pub begins : IfSome reach (λ r. r.from ≡ first)
@@ -332,7 +383,13 @@ module _ (x : Setting) (h : Cycles) (base : ℕ) (delays : ℕ → Channel → D
     begins_behind : (double : ℕ) (progress : Progress) → Contains (seen_doubles Seen) double → BeginsAt double progress → BeginsAt (suc double) (progress_behind Log Seen Offending double progress)
     unfolding progress_told sync_told double_at
     begins_behind double progress among before =
-        begins_step progress.sync double (IsSeen double) (even_says Log (At double)) (odd_says Log (At double)) progress.reach progress.is_ended (is_seen double among) before
+        let sync = sync_told Log (At double) progress.sync in
+        let reach = (progress.reach, progress.is_ended) in
+        let now = (standing_told Log (At double) progress.known).is_judged in
+        let Is : Option Heard → Type 0 = λ heard. Begins sync (Passed heard sync now progress.judged.span double (even_says Log (At double)) (odd_says Log (At double)) reach).0
+        (Passed heard sync now progress.judged.span double (even_says Log (At double)) (odd_says Log (At double)) reach).1 in
+        subst Is (sym (unheard (coverable_of x.params l) covers))
+        (begins_step progress.sync double (IsSeen double) (even_says Log (At double)) (odd_says Log (At double)) progress.reach progress.is_ended (is_seen double among) before)
 
     pub begun : Begins (log_progress Log Seen Offending).sync (log_progress Log Seen Offending).reach (log_progress Log Seen Offending).is_ended
     begun = (behind_all Log Seen Offending BeginsAt (seen_doubles Seen) no_progress (seen_in_turn Seen) begins_behind (λ first. record { none = λ is. (refl, refl); some = tt })).holds
@@ -386,6 +443,6 @@ within_is_there x h base delays clock l r cycle run is from to =
 
 pub within_is_in_sync : WithinIsInSync
 unfolding verdict_of
-within_is_in_sync x h base delays clock l r run named unstated is =
+within_is_in_sync x h base delays clock l r run named unstated covers is =
     let progress = log_progress (log_basis x.params l) (sightings_of x.params l) (offending_frames_of x.params l) in
-    in_sync_from x h base delays clock l run named unstated r (within_told progress r is)
+    in_sync_from x h base delays clock l run named unstated covers r (within_told progress r is)

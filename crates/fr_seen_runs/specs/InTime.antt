@@ -26,7 +26,7 @@ use Rattle.fr_seen.specs.LogSeen.{BeginsAsCounted, IsToldOf, judged_of}
 use Rattle.fr_seen.specs.Observed.{IsInWindow, IsSentIn, SentFrame, stamped_apart}
 use Rattle.fr_seen.specs.OwnSlots.{SlotsAreOwn}
 use Rattle.fr_seen.specs.RunRows.{IsTimedRun}
-use Rattle.fr_seen_runs.specs.Contradictions.{IsAsStated, IsObservedRun}
+use Rattle.fr_seen_runs.specs.Contradictions.{IsAsLogStates, IsObservedRun}
 
 -- ---- a log that is read
 
@@ -114,5 +114,5 @@ abbrev pub NoRunInSyncIsContradicted : Type 0
 NoRunInSyncIsContradicted =
     (x : Setting) (h : Cycles) (base : ℕ) (delays : ℕ → Channel → Delays) (clock : ℕ → StraightClock) (l : LogView)
     (from : ℕ) (fault : Fault)
-    → IsReadInSync x h base delays clock l from → IsAsStated x h base l → are_numbers_sure x.params l ≡ true
+    → IsReadInSync x h base delays clock l from → IsAsLogStates x h base l → are_numbers_sure x.params l ≡ true
     → (asks_own_slots fault.kind ≡ true → SlotsAreOwn x h l) → verdict_of x.params l ≡ verdict.No fault → ⊥

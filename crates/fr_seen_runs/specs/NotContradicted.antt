@@ -17,14 +17,14 @@ use Rattle.fr_seen.specs.Clocks.{StraightClock}
 use Rattle.fr_seen.specs.LogSeen.{log_senders, run_double, sender_rows}
 use Rattle.fr_seen.specs.OwnSlots.{SlotsAreOwn}
 use Rattle.fr_seen.specs.Skews.{StaysWithin}
-use Rattle.fr_seen_runs.specs.Contradictions.{IsAsStated, IsObservedRun, NamesArbitrary}
+use Rattle.fr_seen_runs.specs.Contradictions.{IsAsLogStates, IsObservedRun, NamesArbitrary}
 use Rattle.fr_seen_runs.specs.KeptInSync.{IsDoubleThere}
 use Rattle.fr_observe.specs.declared.fault.Fault.{Fault}
 use Rattle.fr_observe.specs.Faults.{asks_own_slots, asks_sync, is_sync_seen, own_faults, slot_faults}
 use Rattle.fr_findings.specs.Counting.{last_row_cycle}
 use Rattle.fr_findings.specs.declared.progress.Reach.{Reach}
 use Rattle.fr_sightings.specs.Sightings.{irregular_of, untimely_of}
-use Rattle.fr_findings.specs.Verdict.{verdict_of}
+use Rattle.fr_findings.specs.Verdict.{coverable_of, is_coverable, verdict_of}
 use Rattle.fr_findings.specs.declared.verdict.Verdict.TheVariants as verdict
 
 -- ---- a double cycle
@@ -65,7 +65,7 @@ abbrev pub NoRunIsContradicted : Type 0
 NoRunIsContradicted =
     (x : Setting) (h : Cycles) (base : ℕ) (delays : ℕ → Channel → Delays) (clock : ℕ → StraightClock) (l : LogView)
     (fault : Fault)
-    → IsObservedRun x h base delays clock l → IsAsStated x h base l
+    → IsObservedRun x h base delays clock l → IsAsLogStates x h base l
     → (asks_own_slots fault.kind ≡ true → SlotsAreOwn x h l) → verdict_of x.params l ≡ verdict.No fault → ⊥
 
 abbrev pub NoRunHasOwnFaults : Type 0
@@ -105,8 +105,8 @@ abbrev pub WithinIsInSync : Type 0
 WithinIsInSync =
     (x : Setting) (h : Cycles) (base : ℕ) (delays : ℕ → Channel → Delays) (clock : ℕ → StraightClock) (l : LogView)
     (reach : Reach)
-    → IsObservedRun x h base delays clock l → NamesArbitrary x l → l.since ≡ None → verdict_of x.params l ≡ verdict.Within reach
-    → IsUnfollowedSyncAt x.params h (run_double base (reach.from / 2))
+    → IsObservedRun x h base delays clock l → NamesArbitrary x l → l.since ≡ None → is_coverable (coverable_of x.params l) ≡ true
+    → verdict_of x.params l ≡ verdict.Within reach → IsUnfollowedSyncAt x.params h (run_double base (reach.from / 2))
 
 -- and the last of its cycles is the last but one of those that have rows
 abbrev pub WithinReachesEnd : Type 0

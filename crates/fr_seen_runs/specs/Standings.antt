@@ -1,5 +1,5 @@
 -- Double cycles of a log that are judged by their own numbers: what is known of them is so, and nothing contradicts it.
-use Rattle.std.specs.Prelude.{◌≡◌, ◌<◌, ◌×◌, ℕ, suc, true, List, [], Contains, Option, Some, IfSome}
+use Rattle.std.specs.Prelude.{◌≡◌, ◌<◌, ℕ, suc, true, List, [], Contains, Option, Some, IfSome}
 use Rattle.fr_base.specs.declared.channel.Channel.{Channel}
 use Rattle.fr_bound.specs.declared.judging.Heard.{Heard}
 use Rattle.fr_bound.specs.declared.judging.Known.{Known}

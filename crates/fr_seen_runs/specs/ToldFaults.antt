@@ -16,7 +16,7 @@ use Rattle.fr_findings.specs.declared.progress.Progress.{Progress}
 use Rattle.fr_findings.specs.declared.verdict.Verdict.TheVariants as verdict
 use Rattle.fr_seen.specs.Clocks.{StraightClock}
 use Rattle.fr_seen.specs.OwnSlots.{SlotsAreOwn}
-use Rattle.fr_seen_runs.specs.Contradictions.{IsAsStated, IsObservedRun}
+use Rattle.fr_seen_runs.specs.Contradictions.{IsAsLogStates, IsObservedRun}
 
 -- those of some double cycles, one after the other: each by what is known behind it
 unfoldable pub faults_from : Basis → List Sighting → OffendingFrames → Progress → List ℕ → List Fault
@@ -35,12 +35,12 @@ log_faults p l =
 abbrev pub NoFaultIsTold : Type 0
 NoFaultIsTold =
     (x : Setting) (h : Cycles) (base : ℕ) (delays : ℕ → Channel → Delays) (clock : ℕ → StraightClock) (l : LogView)
-    → IsObservedRun x h base delays clock l → IsAsStated x h base l → SlotsAreOwn x h l → log_faults x.params l ≡ []
+    → IsObservedRun x h base delays clock l → IsAsLogStates x h base l → SlotsAreOwn x h l → log_faults x.params l ≡ []
 
 abbrev pub ToldFaultsAskOwnSlots : Type 0
 ToldFaultsAskOwnSlots =
     (x : Setting) (h : Cycles) (base : ℕ) (delays : ℕ → Channel → Delays) (clock : ℕ → StraightClock) (l : LogView)
-    → IsObservedRun x h base delays clock l → IsAsStated x h base l
+    → IsObservedRun x h base delays clock l → IsAsLogStates x h base l
     → All (λ fault. asks_own_slots fault.kind ≡ true) (log_faults x.params l)
 
 -- one that is seen of any run has only such as ask for sync, where its slots are own; and wherever it is seen of one, only such

@@ -1,4 +1,5 @@
 use Rattle.fr_seen_runs.proofs.Contradicted.{no_fault_is_told, told_faults_ask_either, told_faults_ask_own_slots, told_faults_ask_sync}
+use Rattle.fr_seen_runs.proofs.Standings.{standings_are_so}
 use Rattle.fr_seen_runs.proofs.SyncKept.{sync_is_kept}
 use Rattle.fr_seen_runs.proofs.told.no_fault_is_told.Goals as goal
 
@@ -9,7 +10,7 @@ pub returns-clause-run_with_own_slots : goal.returns-clause-run_with_own_slots
 returns-clause-run_with_own_slots c = told_faults_ask_sync
 
 pub returns-clause-stated : goal.returns-clause-stated
-returns-clause-stated c = told_faults_ask_own_slots sync_is_kept
+returns-clause-stated c = told_faults_ask_own_slots sync_is_kept standings_are_so
 
 pub returns-clause-stated_with_own_slots : goal.returns-clause-stated_with_own_slots
-returns-clause-stated_with_own_slots c = no_fault_is_told sync_is_kept
+returns-clause-stated_with_own_slots c = no_fault_is_told sync_is_kept standings_are_so
