@@ -1,11 +1,11 @@
 -- What a log tells of how far the clocks of a cluster lie apart in a double cycle, in ticks: by what is seen of it, and by what is known
 -- of it from the one before. No bound of the cluster is asked for. Which double cycles are judged by such numbers, and what
 -- contradicts them.
-use Rattle.std.specs.Prelude.{ℕ, ◌+◌, ◌*◌, ℤ, pos, ◌+ℤ◌, ◌-ℤ◌, max, ◌&&◌, Bool, true, false, List, [], ◌∷◌, ◌++◌, codes, filter_map, Option, Some, None, is_none, if◌then◌else◌}
+use Rattle.std.specs.Prelude.{ℕ, ◌+◌, ◌*◌, ℤ, pos, ◌+ℤ◌, ◌-ℤ◌, max, ◌&&◌, Bool, false, List, [], ◌∷◌, ◌++◌, codes, filter_map, Option, Some, None, IfSome, is_none, if◌then◌else◌}
 use Rattle.std.specs.Fmt.{decimal}
 use Rattle.std.specs.Int.{int_max}
 use Rattle.std.specs.Option.{option_map, option_or, option_to_list}
-use Rattle.fr_bound.specs.Judged.{all_but_first_hold, apart_through, from_none, is_judged_double, known_after, met_with}
+use Rattle.fr_bound.specs.Judged.{all_but_first_hold, apart_through, from_none, is_judged_double, known_after, met_with, IsSmall}
 use Rattle.fr_bound.specs.SharpSpreads.{sharply_near_in}
 use Rattle.fr_bound.specs.declared.judging.Heard.{Heard}
 use Rattle.fr_bound.specs.declared.judging.Known.{Known}
@@ -78,8 +78,12 @@ standing_of p scale l here double senders (Some what) known told =
     standing_with p (Some what) known (met_with known (known_seen p scale l here double senders told))
 
 -- the numbers that it is judged by
-abbrev pub judged_by : Standing → Option Known
-judged_by st = if st.is_judged then st.met else None
+abbrev pub judged_met : Standing → Option Known
+judged_met st = if st.is_judged then st.met else None
+
+-- these are small
+abbrev pub JudgedBySmall : Standing → Type 0
+JudgedBySmall st = IfSome (judged_met st) IsSmall
 
 -- what is known of the next one, where nothing known contradicts this one
 abbrev pub known_next_by : Values → Option Heard → Option Known → Option Known
@@ -87,7 +91,7 @@ known_next_by p None judged = None
 known_next_by p (Some what) judged = option_map (known_after what p (stated_flutter p)) judged
 
 unfoldable pub known_next : Values → Standing → Bool → Option Known
-known_next p st is_clear = if is_clear then known_next_by p st.heard (judged_by st) else None
+known_next p st is_clear = if is_clear then known_next_by p st.heard (judged_met st) else None
 
 -- what keeps it from being judged
 abbrev pub unfit : Values → ℕ → Option Known → Option Obstacle
@@ -138,7 +142,7 @@ judged_faults p scale double senders what (Some met) =
 abbrev pub faults_heard : Values → Scale → LogView → LogSpan → List Sighting → List Sighting → ℕ → List Sender → Standing → Option Heard → List Fault
 faults_heard p scale l span before here double senders st None = []
 faults_heard p scale l span before here double senders st (Some what) =
-    judged_faults p scale double senders what (judged_by st) ++ known_faults p scale l span before here double senders st.known
+    judged_faults p scale double senders what (judged_met st) ++ known_faults p scale l span before here double senders st.known
 
 unfoldable pub standing_faults : Values → Scale → LogView → LogSpan → List Sighting → List Sighting → ℕ → List Sender → Standing → List Fault
 standing_faults p scale l span before here double senders st = faults_heard p scale l span before here double senders st st.heard
@@ -161,4 +165,4 @@ spread_heard p double (Some what) None = []
 spread_heard p double (Some what) (Some known) = spread_row p what double known
 
 unfoldable pub spread_told : Values → ℕ → Standing → List ℕ
-spread_told p double st = spread_heard p double st.heard (judged_by st)
+spread_told p double st = spread_heard p double st.heard (judged_met st)

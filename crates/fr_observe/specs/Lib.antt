@@ -5,3 +5,4 @@ pub mod Obstacles
 pub mod Telling
 pub mod Skews
 pub mod Knowing
+pub mod Scenes

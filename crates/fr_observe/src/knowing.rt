@@ -1,3 +1,6 @@
+ghost use Rattle.std.specs.Prelude.{◌≡◌};
+ghost use Rattle.fr_observe.specs.Knowing.{judged_met};
+
 use fr_bound::{Heard, Known};
 
 /// How a double cycle of a log stands that is judged by its own numbers.
@@ -11,4 +14,15 @@ pub struct Standing {
     pub met: Option<Known>,
     /// Whether it is judged by this.
     pub is_judged: bool,
+}
+
+// The numbers that it is judged by.
+pub(crate) fn judged_met(standing: &Standing) -> Option<Known>
+    ensures { result ≡ judged_met standing.now }
+{
+    if standing.is_judged {
+        standing.met
+    } else {
+        None
+    }
 }

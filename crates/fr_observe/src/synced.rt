@@ -79,7 +79,12 @@ fn or_unseen(
 
 // The first node that was not seen in both cycles of a double cycle.
 #[tactic(auto, unfolding(crate::specs::Obstacles::first_unseen))]
-fn first_unseen(params: &Params, log: &Log, here: &[Sighting], double: u32) -> Option<Obstacle>
+pub(crate) fn first_unseen(
+    params: &Params,
+    log: &Log,
+    here: &[Sighting],
+    double: u32,
+) -> Option<Obstacle>
     requires here { AreLogStamps log.now here.now }
     requires double { double < 1_000_000 }
     ensures { result ≡ first_unseen log.now here.now double params.now.nodes }
@@ -151,7 +156,7 @@ fn lie_close(params: &Params, scale: &Scale, senders: &[Sender]) -> bool
         && lengths_close(params, scale, courses.as_slice())
 }
 
-fn of_several(kind: ObstacleKind, double: u32) -> Option<Obstacle>
+pub(crate) fn of_several(kind: ObstacleKind, double: u32) -> Option<Obstacle>
     requires { double < 1_000_000 }
     ensures { result ≡ of_several kind double }
 {
@@ -181,7 +186,7 @@ fn unlike_sync(params: &Params, scale: &Scale, double: u32, senders: &[Sender]) 
     }
 }
 
-fn faulty(told: Option<Fault>) -> Option<Obstacle>
+pub(crate) fn faulty(told: Option<Fault>) -> Option<Obstacle>
     ensures { result ≡ faulty told }
 {
     match told {

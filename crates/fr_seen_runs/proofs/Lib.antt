@@ -17,6 +17,7 @@ pub mod OwnClocks
 pub mod OwnSightings
 pub mod SyncedNodes
 pub mod OwnFaults
+pub mod KnownDoubles
 pub mod SyncKinds
 pub mod Progressing
 pub mod ToldVerdicts

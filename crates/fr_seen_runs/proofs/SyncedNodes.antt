@@ -1,26 +1,23 @@
--- A double cycle of a log that is seen in sync is in sync in each run that the log is seen of, and no node follows in it.
+-- A double cycle of a log in both of whose cycles all nodes that are not arbitrary were seen: its rows in each run that the log is seen
+-- of are active ones, of senders, and no node follows in it. So one that is seen in sync is in sync in the run.
 use Rattle.std.proofs.Common.{◌≡◌, ℕ, suc, ◌+◌, ◌*◌, Bool, true, false, Option, Some, None, ℤ, pos, List, [], ◌∷◌, All, map, refl, ap, sym, ◌∙◌, subst, inl, inr, arith}
-use Rattle.std.specs.Prelude.{◌≤ℤ◌, ◌-ℤ◌, ◌*ℤ◌, ◌&&◌, ◌||◌, not, Contains, filter_map, int_le, is_some}
+use Rattle.std.specs.Prelude.{◌≤ℤ◌, ◌-ℤ◌, ◌&&◌, ◌||◌, not, Contains, filter_map, int_le, is_some}
 use Rattle.std.specs.List.{cons_option, list_all}
 use Rattle.std.specs.Option.{option_and_then, option_map}
 use Rattle.std.proofs.lemmas.Int.{ints}
-use Rattle.std.proofs.lemmas.List.Elements.{All-contains, All-head, All-map, All-weaker}
+use Rattle.std.proofs.lemmas.List.Elements.{All-contains, All-head, All-map, All-weaker, All-contains_itself}
 use Rattle.std.proofs.lemmas.List.Sums.{AllPass-from_list_all}
-use Rattle.std.proofs.lemmas.Simd.{map-map}
-use Rattle.fr_base.specs.Within.{LieWithin}
+use Rattle.fr_base.specs.Within.{LieWithin, IsBetween}
 use Rattle.fr_base.specs.declared.channel.Channel.{Channel}
 use Rattle.fr_base.specs.declared.node_row.NodeRow.{NodeRow}
 use Rattle.fr_base.specs.declared.state.State.TheVariants.{Active}
 use Rattle.fr_cluster.specs.Questions.{own_key}
 use Rattle.fr_cluster.specs.Setting.{Setting, correct_nodes}
-use Rattle.fr_cluster.specs.Values.{amount}
-use Rattle.fr_cluster.specs.declared.names.ParamName.TheVariants as name
 use Rattle.fr_cluster.specs.declared.nodes.NodeSpec.{NodeSpec}
 use Rattle.fr_cluster.proofs.Elements.{Contains-here, Contains-there}
 use Rattle.fr_cluster.proofs.KeyNodes.{Contains-cons_cases}
-use Rattle.fr_midpoint.proofs.Products.{mulz-subz}
 use Rattle.fr_time.specs.Slots.{action_point_of}
-use Rattle.fr_bound.specs.Bounds.{lambda_of, longest_micro, pi_of, shortest_micro}
+use Rattle.fr_bound.specs.Bounds.{lambda_of, pi_of}
 use Rattle.fr_bound.specs.Sync.{IsCycleLength, cycle_length_of}
 use Rattle.fr_history.specs.Cycles.{Cycle, Cycles, cycle_at}
 use Rattle.fr_history.specs.History.{AreRowsOf, row_for, row_of}
@@ -30,11 +27,10 @@ use Rattle.fr_runs.specs.Gathered.{CycleRuns}
 use Rattle.fr_runs.proofs.Courses.{is_correct_follower, is_correct_row, no_row}
 use Rattle.fr_runs.proofs.Going.{rows_ascend}
 use Rattle.fr_runs.proofs.Nodes.{correct_node}
-use Rattle.fr_runs.proofs.Rows.{Ascend, all_rows}
+use Rattle.fr_runs.proofs.Rows.{Ascend, all_rows, contains_map}
 use Rattle.fr_log.specs.View.{LogView, is_arbitrary_in}
-use Rattle.fr_course.specs.Readings.{least_ticks, meet_all, most_ticks, reading_scale}
-use Rattle.fr_course.specs.Course.{course_from, even_start}
-use Rattle.fr_course.specs.Spread.{most_at, most_spread}
+use Rattle.fr_course.specs.Readings.{meet_all, reading_scale}
+use Rattle.fr_course.specs.Course.{course_from}
 use Rattle.fr_course.specs.declared.courses.Course.{Course}
 use Rattle.fr_course.specs.declared.intervals.Interval.{Interval}
 use Rattle.fr_course.specs.declared.scales.Scale.{Scale}
@@ -45,23 +41,21 @@ use Rattle.fr_sightings.specs.Sightings.{sightings_of}
 use Rattle.fr_sightings.specs.declared.sender.Sender.{Sender}
 use Rattle.fr_sightings.specs.declared.sighting.Sighting.{Sighting}
 use Rattle.fr_sightings.proofs.Proper.{both}
-use Rattle.fr_seen.specs.Clocks.{IsWithinDrift, LastsIn, ReadsIn, StraightClock, reading_of}
+use Rattle.fr_seen.specs.Clocks.{StraightClock}
 use Rattle.fr_seen.specs.Courses.{IsCourseThere}
 use Rattle.fr_seen.specs.Observed.{IsSentBy, SentFrame, box_of}
-use Rattle.fr_seen.specs.LogSeen.{IsSenderOn, log_senders, run_double, seen_in}
-use Rattle.fr_seen.proofs.CornerLaws.{corners_lie_lem}
-use Rattle.fr_seen.proofs.Pairs.{pair_within}
-use Rattle.fr_seen.proofs.Readings.{most_ticks_lem, readings_have_ticks}
+use Rattle.fr_seen.specs.LogSeen.{log_senders, run_double, sender_rows}
 use Rattle.fr_seen.proofs.RunLaws.{cut_at, two_at}
 use Rattle.fr_seen.proofs.SenderLaws.{box_meets, even_at, odd_at, own_is, senders_are_on_course}
-use Rattle.fr_seen.proofs.SkewLaws.{corner_pair, no_less, ticks_apart}
 use Rattle.fr_seen_runs.specs.Contradictions.{IsObservedRun, NamesArbitrary}
-use Rattle.fr_seen_runs.specs.KeptInSync.{IsDoubleThere}
+use Rattle.fr_seen_runs.specs.KeptInSync.{IsDoubleThere, LieAsSeen, IsAsLong}
 use Rattle.fr_observe.specs.declared.fault.Fault.{Fault}
-use Rattle.fr_observe.specs.Faults.{has_proper_length, is_nil, is_seen_whole, is_sync_seen}
-use Rattle.fr_course.specs.Spread.{course_length, lengths_apart, starts_apart}
+use Rattle.fr_observe.specs.Faults.{has_proper_length, is_nil, is_seen_whole, is_sync_seen, shortest_cycle_of, longest_cycle_of}
+use Rattle.fr_course.specs.Spread.{lengths_apart, starts_apart}
 use Rattle.fr_seen_runs.proofs.SeenDoubles.{frame_sent}
 use Rattle.fr_seen_runs.proofs.SeenCourses.{course_there}
+use Rattle.fr_course.specs.Computed.{length_ticks}
+use Rattle.fr_seen_runs.proofs.SendersApart.{all_within, two_within, lie_as_seen}
 
 -- ---- lists
 
@@ -83,8 +77,11 @@ none_among : {X : Type 0} (xs : List X) → ((x : X) → Contains xs x → ⊥) 
 none_among [] none = refl
 none_among (x ∷ xs) none = absurd (none x (Contains-here x xs))
 
-le_from : (a b : ℤ) → int_le a b ≡ true → a ≤ℤ b
+pub le_from : (a b : ℤ) → int_le a b ≡ true → a ≤ℤ b
 le_from a b is = grind (arith, ints)
+
+trans : (a b c : ℤ) → a ≤ℤ b → b ≤ℤ c → a ≤ℤ c
+trans a b c h k = omega (arith, ints)
 
 -- ---- a node that was seen in a cycle
 
@@ -97,6 +94,64 @@ pub record IsActiveIn (c : Cycle) (node : ℕ) : Type 0 where
 row_active : (c : Cycle) (node : ℕ) → IsActiveIn c node → (row_for c.told.rows node).state ≡ Active
 unfolding row_for
 row_active c node is = rw is.has_row is.active
+
+-- ---- rows of nodes that were all seen
+
+-- the rows of both cycles are active and those of senders, which lie as their courses tell; and no node follows
+pub record AreRowsSeen (x : Setting) (drift : ℕ) (even odd : Cycle) (senders : List Sender) : Type 0 where
+  pub each_active : (node : NodeSpec) → Contains (correct_nodes x) node → IsActiveIn even node.id × IsActiveIn odd node.id
+  pub active_even : All (λ (row : NodeRow). row.state ≡ Active) even.told.rows
+  pub active_odd : All (λ (row : NodeRow). row.state ≡ Active) odd.told.rows
+  pub even_among : All (Contains (sender_rows even senders)) even.told.rows
+  pub odd_among : All (Contains (sender_rows odd senders)) odd.told.rows
+  pub lie : LieAsSeen x drift even odd senders
+  pub none_early : even.followers ≡ []
+  pub none_late : odd.followers ≡ []
+
+-- what any two of some numbers keep, any two of those among them do, and within what is no less
+near_by : (f : NodeRow → ℤ) (most bound : ℤ) (rows some : List NodeRow) → LieWithin most (map f some) → most ≤ℤ bound → All (Contains some) rows → LieWithin bound (map f rows)
+near_by f most bound rows some near le among =
+    all_within bound f rows
+    (λ a b here there.
+    trans (f a -ℤ f b) most bound (two_within most f some a b near (All-contains (Contains some) rows a among here) (All-contains (Contains some) rows b among there)) le)
+
+module _ (x : Setting) (drift : ℕ) (even odd : Cycle) (senders : List Sender) (seen : AreRowsSeen x drift even odd senders) where
+  abbrev Long : Sender → Interval
+  Long s = length_ticks (reading_scale drift x.params) s.course
+
+  pub starts_near : (bound : ℤ) → (starts_apart (reading_scale drift x.params) (courses_of senders)).high ≤ℤ bound → LieWithin bound (map (λ (row : NodeRow). row.start) even.told.rows)
+  starts_near bound le =
+      near_by (λ (row : NodeRow). row.start) (starts_apart (reading_scale drift x.params) (courses_of senders)).high bound even.told.rows (sender_rows even senders) seen.lie.starts_to le
+      seen.even_among
+
+  pub lengths_near : (bound : ℤ) → (lengths_apart (reading_scale drift x.params) (courses_of senders)).high ≤ℤ bound
+      → LieWithin bound (map (cycle_length_of x.params) even.told.rows) × LieWithin bound (map (cycle_length_of x.params) odd.told.rows)
+  lengths_near bound le =
+      let most = (lengths_apart (reading_scale drift x.params) (courses_of senders)).high in (
+        near_by (cycle_length_of x.params) most bound even.told.rows (sender_rows even senders) seen.lie.even_lengths_to le seen.even_among,
+        near_by (cycle_length_of x.params) most bound odd.told.rows (sender_rows odd senders) seen.lie.odd_lengths_to le seen.odd_among,
+      )
+
+  -- what holds of each length that the course of a sender allows
+  module _ (P : ℤ → Type 0) (each : (s : Sender) → Contains senders s → (ticks : ℤ) → IsBetween (Long s).low (Long s).high ticks → P ticks) where
+    of_rows : (c : Cycle) → ((s : Sender) → Contains senders s → P (cycle_length_of x.params (row_for c.told.rows s.node))) → All (Contains (sender_rows c senders)) c.told.rows
+        → All (λ (row : NodeRow). P (cycle_length_of x.params row)) c.told.rows
+    of_rows c holds among =
+        let Holds : NodeRow → Type 0 = λ row. P (cycle_length_of x.params row) in
+        let at : Sender → NodeRow = λ s. row_for c.told.rows s.node in
+        let all : All Holds (sender_rows c senders) = All-map Holds at senders (All-weaker (Contains senders) (λ (s : Sender). Holds (at s)) holds senders (All-contains_itself senders)) in
+        All-weaker (Contains (sender_rows c senders)) Holds (λ row there. All-contains Holds (sender_rows c senders) row all there) c.told.rows among
+
+    long_as_seen : (s : Sender) → Contains senders s → IsAsLong x drift even odd s
+    long_as_seen s among = All-contains (IsAsLong x drift even odd) senders s seen.lie.long among
+
+    pub even_long : All (λ (row : NodeRow). P (cycle_length_of x.params row)) even.told.rows
+    even_long = of_rows even (λ s among. each s among (cycle_length_of x.params (row_for even.told.rows s.node)) (long_as_seen s among).even_long) seen.even_among
+
+    pub odd_long : All (λ (row : NodeRow). P (cycle_length_of x.params row)) odd.told.rows
+    odd_long = of_rows odd (λ s among. each s among (cycle_length_of x.params (row_for odd.told.rows s.node)) (long_as_seen s among).odd_long) seen.odd_among
+
+-- ---- the nodes of a log
 
 module _ (x : Setting) (h : Cycles) (base : ℕ) (delays : ℕ → Channel → Delays) (clock : ℕ → StraightClock) (l : LogView) (run : IsObservedRun x h base delays clock l) where
   abbrev Scaled : Scale
@@ -171,58 +226,27 @@ module _ (x : Setting) (h : Cycles) (base : ℕ) (delays : ℕ → Channel → D
             number = refl;
           }
 
-  -- ---- a double cycle that is seen in sync
+  -- ---- a double cycle in which all were seen
 
-  module _ (double : ℕ) (named : NamesArbitrary x l) (there : IsDoubleThere h (run_double base double)) (faults : List Fault)
-      (synced : is_sync_seen x.params Scaled l (Here double) double (log_senders x l double) faults ≡ true) where
+  module _ (double : ℕ) (named : NamesArbitrary x l) (there : IsDoubleThere h (run_double base double)) (whole : list_all (is_seen_whole l (Here double) double) x.params.nodes ≡ true) where
     abbrev Senders : List Sender
     Senders = log_senders x l double
 
     abbrev At : ℕ
     At = run_double base double
 
-    abbrev Even : ℕ → NodeRow
-    Even node = row_for there.even.told.rows node
-
-    abbrev Odd : ℕ → NodeRow
-    Odd node = row_for there.odd.told.rows node
-
-    record AreSeenSynced : Type 0 where
-      whole : list_all (is_seen_whole l (Here double) double) x.params.nodes ≡ true
-      starts : (starts_apart Scaled (courses_of Senders)).high ≤ℤ pos (pi_of x.params)
-      lengths : (lengths_apart Scaled (courses_of Senders)).high ≤ℤ pos (lambda_of x.params)
-      proper : list_all (has_proper_length x.params Scaled) Senders ≡ true
-
-    parts : AreSeenSynced
-    unfolding is_sync_seen
-    parts =
-        let starts = int_le (starts_apart Scaled (courses_of Senders)).high (pos (pi_of x.params)) in
-        let lengths = int_le (lengths_apart Scaled (courses_of Senders)).high (pos (lambda_of x.params)) in
-        let whole = list_all (is_seen_whole l (Here double) double) x.params.nodes in
-        let proper = list_all (has_proper_length x.params Scaled) Senders in
-        let one = both (is_nil faults && whole && starts && lengths) proper synced in
-        let two = both (is_nil faults && whole && starts) lengths one.0 in
-        let three = both (is_nil faults && whole) starts two.0 in
-        let four = both (is_nil faults) whole three.0 in
-        record {
-          whole = four.1;
-          starts = le_from (starts_apart Scaled (courses_of Senders)).high (pos (pi_of x.params)) three.1;
-          lengths = le_from (lengths_apart Scaled (courses_of Senders)).high (pos (lambda_of x.params)) two.1;
-          proper = one.1;
-        }
-
     -- a correct node is a sender, with active rows in both cycles
-    record IsSyncedNode (node : ℕ) : Type 0 where
+    record IsSeenNode (node : ℕ) : Type 0 where
       sender : IsSender double node
       in_even : IsActiveIn there.even node
       in_odd : IsActiveIn there.odd node
 
-    node_synced : (node : NodeSpec) → Contains (correct_nodes x) node → IsSyncedNode node.id
-    node_synced node correct =
+    node_seen : (node : NodeSpec) → Contains (correct_nodes x) node → IsSeenNode node.id
+    node_seen node correct =
         let is = correct_node x node correct in
         let number : is_arbitrary_in l node.id ≡ false = sym (named node is.there) ∙ is.correct in
         let seen = All-contains (λ (n : NodeSpec). is_seen_whole l (Here double) double n ≡ true) x.params.nodes node
-        (AllPass-from_list_all (is_seen_whole l (Here double) double) x.params.nodes parts.whole) is.there in
+        (AllPass-from_list_all (is_seen_whole l (Here double) double) x.params.nodes whole) is.there in
         by node.key refl is.there number
         (
         both (is_some node.key && is_some (seen_box l (Here double) node.id (2 * double))) (is_some (seen_box l (Here double) node.id (2 * double + 1)))
@@ -235,7 +259,7 @@ module _ (x : Setting) (h : Cycles) (base : ℕ) (delays : ℕ → Channel → D
 
         by : (key : Option ℕ) → node.key ≡ key → Contains x.params.nodes node → is_arbitrary_in l node.id ≡ false
             → ((is_some node.key && is_some (seen_box l (Here double) node.id (2 * double))) ≡ true) × (is_some (seen_box l (Here double) node.id (2 * double + 1)) ≡ true)
-            → IsSyncedNode node.id
+            → IsSeenNode node.id
         by None keyed among number seen =
             absurd (none_there (is_some (seen_box l (Here double) node.id (2 * double))) (ap (λ k. is_some k && is_some (seen_box l (Here double) node.id (2 * double))) (sym keyed) ∙ seen.0))
           where
@@ -250,91 +274,18 @@ module _ (x : Setting) (h : Cycles) (base : ℕ) (delays : ℕ → Channel → D
               in_odd = active_in node.id slot (2 * double + 1) (suc (2 * At)) double there.odd own (odd_at x h base delays clock l run.timed.sane run.log run.seen double At refl) there.has.has_odd seen.1;
             }
 
-    -- ---- its starts and lengths lie near
-
-    senders_on : All (IsSenderOn x l.drift (clock At) there.even there.odd) Senders
-    senders_on = senders_are_on_course x h base delays clock l double there.even there.odd run.timed run.log run.seen there.has
-
-    drifts : IsWithinDrift l.drift (clock At)
-    drifts = run.seen.seen.within_drift At
-
-    trans : (a b c : ℤ) → a ≤ℤ b → b ≤ℤ c → a ≤ℤ c
-    trans a b c h k = omega (arith, ints)
-
-    starts_near : (one other : ℕ) → IsSender double one → IsSender double other → ((Even one).start -ℤ (Even other).start) ≤ℤ pos (pi_of x.params)
-    starts_near one other a b =
-        let bound = most_at Scaled even_start (courses_of Senders) in
-        let reads = All-weaker (IsSenderOn x l.drift (clock At) there.even there.odd) (λ (s : Sender). ReadsIn (clock At) (even_start Scaled s.course) (Even s.node).start)
-        (λ s is. (corners_lie_lem x.params l.drift (clock At) s.course (Even s.node) (Odd s.node) is.on.seen is.on.holds).even_starts) Senders senders_on in
-        let near = corner_pair x.params l.drift (clock At) run.timed.sane drifts (seen_in there.even there.odd) even_start (λ (s : Sender). (Even s.node).start) Senders a.s b.s reads a.among b.among in
-        let ticks = ticks_apart x.params l.drift (clock At) run.timed.sane drifts bound (Even b.s.node).start (Even a.s.node).start near in
-        subst (λ n. ((Even n).start -ℤ (Even other).start) ≤ℤ pos (pi_of x.params)) a.number
-        (subst (λ n. ((Even a.s.node).start -ℤ (Even n).start) ≤ℤ pos (pi_of x.params)) b.number
-        (trans ((Even a.s.node).start -ℤ (Even b.s.node).start) (most_ticks l.drift bound) (pos (pi_of x.params)) ticks parts.starts))
-
-    -- of rows whose cycles last as long as the courses say
-    lengths_near : (row : ℕ → NodeRow) → All (λ (s : Sender). LastsIn (clock At) s.course.length (cycle_length_of x.params (row s.node))) Senders
-        → (one other : ℕ) → IsSender double one → IsSender double other
-        → (cycle_length_of x.params (row one) -ℤ cycle_length_of x.params (row other)) ≤ℤ pos (lambda_of x.params)
-    lengths_near row lasts one other a b =
-        let c = clock At in
-        let bound = most_at Scaled course_length (courses_of Senders) in
-        let long = λ (s : Sender). cycle_length_of x.params (row s.node) in
-        let near = pair_within c (no_less c.ticks drifts.ticks_from) (λ (s : Sender). s.course.length) (λ (s : Sender). reading_of c (long s)) Senders a.s b.s lasts a.among b.among in
-        let same : map (λ (s : Sender). s.course.length) Senders ≡ map (λ (course : Course). course.length) (courses_of Senders) = sym (map-map (λ (course : Course). course.length) (λ (s : Sender). s.course) Senders) in
-        let reads : (c.counts *ℤ (long a.s -ℤ long b.s)) ≤ℤ (c.ticks *ℤ bound) =
-        subst (λ z. z ≤ℤ (c.ticks *ℤ bound)) (sym (mulz-subz (long a.s) (long b.s) c.counts))
-        (subst (λ cs. (reading_of c (long a.s) -ℤ reading_of c (long b.s)) ≤ℤ (c.ticks *ℤ most_spread cs)) same near) in
-        let ticks = most_ticks_lem l.drift c bound (long a.s -ℤ long b.s) drifts reads in
-        let Near : ℕ → ℕ → Type 0 = λ n m. (cycle_length_of x.params (row n) -ℤ cycle_length_of x.params (row m)) ≤ℤ pos (lambda_of x.params) in
-        subst (λ n. Near n other) a.number
-        (subst (λ m. Near a.s.node m) b.number (trans (long a.s -ℤ long b.s) (most_ticks l.drift bound) (pos (lambda_of x.params)) ticks parts.lengths))
-
-    length_proper : (row : ℕ → NodeRow) → All (λ (s : Sender). LastsIn (clock At) s.course.length (cycle_length_of x.params (row s.node))) Senders
-        → (node : ℕ) → IsSender double node → IsCycleLength x.params (cycle_length_of x.params (row node))
-    length_proper row lasts node is =
-        let Lasts : Sender → Type 0 = λ s. LastsIn (clock At) s.course.length (cycle_length_of x.params (row s.node)) in
-        let long = cycle_length_of x.params (row is.s.node) in
-        let between = readings_have_ticks l.drift (clock At) is.s.course.length long drifts (All-contains Lasts Senders is.s lasts is.among) in
-        let passes = All-contains (λ (s : Sender). has_proper_length x.params Scaled s ≡ true) Senders is.s (AllPass-from_list_all (has_proper_length x.params Scaled) Senders parts.proper) is.among in
-        let shortest = pos (amount x.params name.pMicroPerCycle * shortest_micro x.params) in
-        let longest = pos (amount x.params name.pMicroPerCycle * longest_micro x.params) in
-        let low = least_ticks l.drift is.s.course.length.low in
-        let high = most_ticks l.drift is.s.course.length.high in
-        let tests = both (int_le shortest low) (int_le high longest) passes in
-        subst (λ n. IsCycleLength x.params (cycle_length_of x.params (row n))) is.number
-        (trans shortest low long (le_from shortest low tests.0) between.low, trans long high longest between.high (le_from high longest tests.1))
-
-    even_lasts : All (λ (s : Sender). LastsIn (clock At) s.course.length (cycle_length_of x.params (Even s.node))) Senders
-    even_lasts =
-        All-weaker (IsSenderOn x l.drift (clock At) there.even there.odd) (λ (s : Sender). LastsIn (clock At) s.course.length (cycle_length_of x.params (Even s.node)))
-        (λ s is. is.on.holds.even_lasts) Senders senders_on
-
-    odd_lasts : All (λ (s : Sender). LastsIn (clock At) s.course.length (cycle_length_of x.params (Odd s.node))) Senders
-    odd_lasts =
-        All-weaker (IsSenderOn x l.drift (clock At) there.even there.odd) (λ (s : Sender). LastsIn (clock At) s.course.length (cycle_length_of x.params (Odd s.node)))
-        (λ s is. is.on.holds.odd_lasts) Senders senders_on
-
-    -- ---- all rows
-
     -- the rows of a cycle are those of nodes that are correct
-    module _ (nodes : List NodeSpec) (rows : List NodeRow) (ascend : Ascend nodes) (are : AreRowsOf nodes rows)
+    module _ (c : Cycle) (nodes : List NodeSpec) (ascend : Ascend nodes) (are : AreRowsOf nodes c.told.rows)
         (correct : (node : NodeSpec) → Contains nodes node → Contains (correct_nodes x) node) where
-      pairs_near : (f : NodeRow → ℤ) (bound : ℤ)
-          → ((one other : ℕ) → IsSender double one → IsSender double other → (f (row_for rows one) -ℤ f (row_for rows other)) ≤ℤ bound)
-          → LieWithin bound (map f rows)
-      pairs_near f bound near =
-          let sender = λ (node : NodeSpec) (among : Contains nodes node). (node_synced node (correct node among)).sender in
-          All-map (λ a. All (λ b. (a -ℤ b) ≤ℤ bound) (map f rows)) f rows
-          (all_rows nodes rows (λ r. All (λ b. (f r -ℤ b) ≤ℤ bound) (map f rows)) ascend are
-          (λ node among.
-          All-map (λ b. (f (row_for rows node.id) -ℤ b) ≤ℤ bound) f rows
-          (all_rows nodes rows (λ s. (f (row_for rows node.id) -ℤ f s) ≤ℤ bound) ascend are
-          (λ other also. near node.id other.id (sender node among) (sender other also)))))
+      rows_among : All (Contains (sender_rows c Senders)) c.told.rows
+      rows_among = all_rows nodes c.told.rows (Contains (sender_rows c Senders)) ascend are (λ node among. row_among node.id (node_seen node (correct node among)).sender)
+        where
+          row_among : (node : ℕ) → IsSender double node → Contains (sender_rows c Senders) (row_for c.told.rows node)
+          row_among node is =
+              subst (λ n. Contains (sender_rows c Senders) (row_for c.told.rows n)) is.number (contains_map (λ (s : Sender). row_for c.told.rows s.node) Senders is.s is.among)
 
-      each_proper : ((node : ℕ) → IsSender double node → IsCycleLength x.params (cycle_length_of x.params (row_for rows node)))
-          → All (λ row. IsCycleLength x.params (cycle_length_of x.params row)) rows
-      each_proper proper = all_rows nodes rows (λ row. IsCycleLength x.params (cycle_length_of x.params row)) ascend are (λ node among. proper node.id (node_synced node (correct node among)).sender)
+      rows_active : ((node : NodeSpec) → Contains (correct_nodes x) node → IsActiveIn c node.id) → All (λ (row : NodeRow). row.state ≡ Active) c.told.rows
+      rows_active active = all_rows nodes c.told.rows (λ (row : NodeRow). row.state ≡ Active) ascend are (λ node among. row_active c node.id (active node (correct node among)))
 
     no_followers : (earlier : Cycles) (c : Cycle) → CycleRuns x earlier c → ((node : NodeSpec) → Contains (correct_nodes x) node → IsActiveIn c node.id) → c.followers ≡ []
     no_followers earlier c runs each =
@@ -351,37 +302,93 @@ module _ (x : Setting) (h : Cycles) (base : ℕ) (delays : ℕ → Channel → D
         rows_none nodes [] are none = refl
         rows_none nodes (row ∷ rows) are none = absurd (let e = are ∙ ap (map (λ (node : NodeSpec). node.id)) none in cc e)
 
-    pub sync_is_seen_at : IsUnfollowedSyncAt x.params h At
-    sync_is_seen_at =
+    pub rows_seen : AreRowsSeen x l.drift there.even there.odd (log_senders x l double)
+    rows_seen =
         let cut = cut_at h At there.even there.odd there.has in
         let two = two_at x h At there.even there.odd run.timed there.has cut in
-        let sane = run.timed.sane in
         let even_nodes = row_nodes x cut.earlier in
         let odd_nodes = row_nodes x (there.even ∷ cut.earlier) in
-        let even_ascend = rows_ascend x cut.earlier sane in
-        let odd_ascend = rows_ascend x (there.even ∷ cut.earlier) sane in
-        let even_are = two.even_runs.0.rows.nodes in
-        let odd_are = two.odd_runs.rows.nodes in
+        let even_ascend = rows_ascend x cut.earlier run.timed.sane in
+        let odd_ascend = rows_ascend x (there.even ∷ cut.earlier) run.timed.sane in
         let even_correct = is_correct_row x cut.earlier in
         let odd_correct = is_correct_row x (there.even ∷ cut.earlier) in
+        let in_even : (node : NodeSpec) → Contains (correct_nodes x) node → IsActiveIn there.even node.id = λ node correct. (node_seen node correct).in_even in
+        let in_odd : (node : NodeSpec) → Contains (correct_nodes x) node → IsActiveIn there.odd node.id = λ node correct. (node_seen node correct).in_odd in
+        record {
+          each_active = λ node correct. (in_even node correct, in_odd node correct);
+          active_even = rows_active there.even even_nodes even_ascend two.even_runs.0.rows.nodes even_correct in_even;
+          active_odd = rows_active there.odd odd_nodes odd_ascend two.odd_runs.rows.nodes odd_correct in_odd;
+          even_among = rows_among there.even even_nodes even_ascend two.even_runs.0.rows.nodes even_correct;
+          odd_among = rows_among there.odd odd_nodes odd_ascend two.odd_runs.rows.nodes odd_correct;
+          lie =
+              lie_as_seen x l.drift (clock At) there.even there.odd run.timed.sane (run.seen.seen.within_drift At) Senders
+              (senders_are_on_course x h base delays clock l double there.even there.odd run.timed run.log run.seen there.has);
+          none_early = no_followers cut.earlier there.even two.even_runs.0 in_even;
+          none_late = no_followers (there.even ∷ cut.earlier) there.odd two.odd_runs in_odd;
+        }
+
+  -- ---- a double cycle that is seen in sync
+
+  module _ (double : ℕ) (named : NamesArbitrary x l) (there : IsDoubleThere h (run_double base double)) (faults : List Fault)
+      (synced : is_sync_seen x.params Scaled l (Here double) double (log_senders x l double) faults ≡ true) where
+    record AreSeenSynced : Type 0 where
+      whole : list_all (is_seen_whole l (Here double) double) x.params.nodes ≡ true
+      starts : (starts_apart Scaled (courses_of (log_senders x l double))).high ≤ℤ pos (pi_of x.params)
+      lengths : (lengths_apart Scaled (courses_of (log_senders x l double))).high ≤ℤ pos (lambda_of x.params)
+      proper : list_all (has_proper_length x.params Scaled) (log_senders x l double) ≡ true
+
+    parts : AreSeenSynced
+    unfolding is_sync_seen
+    parts =
+        let senders = log_senders x l double in
+        let starts = int_le (starts_apart Scaled (courses_of senders)).high (pos (pi_of x.params)) in
+        let lengths = int_le (lengths_apart Scaled (courses_of senders)).high (pos (lambda_of x.params)) in
+        let whole = list_all (is_seen_whole l (Here double) double) x.params.nodes in
+        let proper = list_all (has_proper_length x.params Scaled) senders in
+        let one = both (is_nil faults && whole && starts && lengths) proper synced in
+        let two = both (is_nil faults && whole && starts) lengths one.0 in
+        let three = both (is_nil faults && whole) starts two.0 in
+        let four = both (is_nil faults) whole three.0 in
+        record {
+          whole = four.1;
+          starts = le_from (starts_apart Scaled (courses_of senders)).high (pos (pi_of x.params)) three.1;
+          lengths = le_from (lengths_apart Scaled (courses_of senders)).high (pos (lambda_of x.params)) two.1;
+          proper = one.1;
+        }
+
+    proper_by : (s : Sender) → Contains (log_senders x l double) s → (ticks : ℤ) → IsBetween (length_ticks Scaled s.course).low (length_ticks Scaled s.course).high ticks → IsCycleLength x.params ticks
+    proper_by s among ticks between =
+        let senders = log_senders x l double in
+        let shortest = shortest_cycle_of x.params in
+        let longest = longest_cycle_of x.params in
+        let long = length_ticks Scaled s.course in
+        let passes = All-contains (λ (s : Sender). has_proper_length x.params Scaled s ≡ true) senders s (AllPass-from_list_all (has_proper_length x.params Scaled) senders parts.proper) among in
+        let tests = both (int_le shortest long.low) (int_le long.high longest) passes in
+        (trans shortest long.low ticks (le_from shortest long.low tests.0) between.low, trans ticks long.high longest between.high (le_from long.high longest tests.1))
+
+    pub sync_is_seen_at : IsUnfollowedSyncAt x.params h (run_double base double)
+    sync_is_seen_at =
+        let senders = log_senders x l double in
+        let seen = rows_seen double named there parts.whole in
+        let lengths = lengths_near x l.drift there.even there.odd senders seen (pos (lambda_of x.params)) parts.lengths in
         record {
           synced = record {
             even = there.even;
             odd = there.odd;
             has_even = there.has.has_even;
-            has_odd = subst (λ n. cycle_at h n ≡ Some there.odd) (later (2 * At)) there.has.has_odd;
+            has_odd = subst (λ n. cycle_at h n ≡ Some there.odd) (later (2 * run_double base double)) there.has.has_odd;
             in_sync = record {
-              active_even = all_rows even_nodes there.even.told.rows (λ row. row.state ≡ Active) even_ascend even_are (λ node among. row_active there.even node.id (node_synced node (even_correct node among)).in_even);
-              active_odd = all_rows odd_nodes there.odd.told.rows (λ row. row.state ≡ Active) odd_ascend odd_are (λ node among. row_active there.odd node.id (node_synced node (odd_correct node among)).in_odd);
-              starts = pairs_near even_nodes there.even.told.rows even_ascend even_are even_correct (λ row. row.start) (pos (pi_of x.params)) starts_near;
-              even_lengths = pairs_near even_nodes there.even.told.rows even_ascend even_are even_correct (cycle_length_of x.params) (pos (lambda_of x.params)) (lengths_near Even even_lasts);
-              odd_lengths = pairs_near odd_nodes there.odd.told.rows odd_ascend odd_are odd_correct (cycle_length_of x.params) (pos (lambda_of x.params)) (lengths_near Odd odd_lasts);
-              even_proper = each_proper even_nodes there.even.told.rows even_ascend even_are even_correct (length_proper Even even_lasts);
-              odd_proper = each_proper odd_nodes there.odd.told.rows odd_ascend odd_are odd_correct (length_proper Odd odd_lasts);
+              active_even = seen.active_even;
+              active_odd = seen.active_odd;
+              starts = starts_near x l.drift there.even there.odd senders seen (pos (pi_of x.params)) parts.starts;
+              even_lengths = lengths.0;
+              odd_lengths = lengths.1;
+              even_proper = even_long x l.drift there.even there.odd senders seen (IsCycleLength x.params) proper_by;
+              odd_proper = odd_long x l.drift there.even there.odd senders seen (IsCycleLength x.params) proper_by;
             };
           };
-          none_early = no_followers cut.earlier there.even two.even_runs.0 (λ node correct. (node_synced node correct).in_even);
-          none_late = no_followers (there.even ∷ cut.earlier) there.odd two.odd_runs (λ node correct. (node_synced node correct).in_odd);
+          none_early = seen.none_early;
+          none_late = seen.none_late;
         }
       where
         later : (n : ℕ) → suc n ≡ n + 1

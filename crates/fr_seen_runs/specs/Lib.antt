@@ -11,6 +11,7 @@ pub mod NotContradicted
 pub mod OverRows
 pub mod InTime
 pub mod RowsTold
+pub mod KnownDoubles
 pub mod WorkedLog
 pub mod WorkedFaults
 pub mod WorkedFile
