@@ -13,7 +13,7 @@ use Rattle.fr_cluster.specs.declared.nodes.NodeSpec.{NodeSpec}
 use Rattle.fr_cluster.proofs.Elements.{filtered, found}
 use Rattle.fr_precision.proofs.Senders.{All-along}
 use Rattle.fr_time.specs.Slots.{action_point_of}
-use Rattle.fr_history.specs.Cycles.{Cycles}
+use Rattle.fr_history.specs.Cycles.{Cycle, Cycles}
 use Rattle.fr_history.specs.History.{row_for}
 use Rattle.fr_history.specs.Unfollowed.{IsUnfollowedSyncAt}
 use Rattle.fr_runs.specs.Numbers.{HasDouble, IsSyncedRun}
@@ -151,20 +151,111 @@ next_seen x l double =
     all_given (seen_sender scale x.params l (sightings_in seen double) (sightings_in seen (double + 1)) double) (NextSeen x.params l double) x.params.nodes
     (λ node among s given next goes. next_by scale x.params l double node s next given goes)
 
--- ---- the run
+-- ---- what was seen and what was computed
+
+module _ (x : Setting) (h : Cycles) (base : ℕ) (delays : ℕ → Channel → Delays) (clock : ℕ → StraightClock) (l : LogView) (double : ℕ) (o : IsObservedRun x h base delays clock l) where
+  -- a double cycle and the next one, where terms are computed as the courses say
+  pub record AreComputed : Type 0 where
+    pub even : Cycle
+    pub odd : Cycle
+    pub has : HasDouble h (run_double base double) even odd
+    pub next : IsDoubleThere h (suc (run_double base double))
+    pub offsets : All (OffsetIsComputed x l.drift odd (log_senders x l double)) (log_senders x l double)
+    pub rates : All (RateIsComputed x l.drift odd next.even (log_senders x l double)) (log_senders x l double)
+
+  -- where a sender is one of both
+  abbrev pub ComputeBoth : Type 0
+  ComputeBoth = (s : Sender) (next : Course) → Contains (log_senders x l double) s → s.next ≡ Some next → AreComputed
+
+  module _ (both_there : ComputeBoth) where
+    -- ---- offsets
+
+    offset_none : (s : Sender) → Contains (log_senders x l double) s → offset_fault x.params (reading_scale l.drift x.params) double (log_senders x l double) s ≡ None
+    unfolding terms_of
+    offset_none s among = by s.next refl
+      where
+        by : (next : Option Course) → s.next ≡ next
+            → unlike_fault Offset (2 * double + 1) s.node (option_map (λ course. offset_seen (reading_scale l.drift x.params) s.course course s.onward) next)
+            (offset_computed (reading_scale l.drift x.params) (measuring_of x.params) s.course (other_courses (log_senders x l double) s.node) (further_of x.params (log_senders x l double)))
+            ≡ None
+        by None goes = refl
+        by (Some next) goes =
+            let both = both_there s next among goes in
+            let terms =
+            All-contains (TermHolds x l.drift both.odd) (log_senders x l double) s
+            (observed_next_rows_hold x h base delays clock l double both.even both.odd both.next.even both.next.odd o.timed o.log o.seen both.has both.next.has).terms among in
+            let Term : Option Course → Type 0 = λ n. IfSome (option_map (λ course. offset_seen (reading_scale l.drift x.params) s.course course s.onward) n) (λ i. IsBetween i.low i.high (row_for both.odd.told.rows s.node).offset) in
+            unlike_none Offset (2 * double + 1) s.node (Some (offset_seen (reading_scale l.drift x.params) s.course next s.onward))
+            (offset_computed (reading_scale l.drift x.params) (measuring_of x.params) s.course (other_courses (log_senders x l double) s.node) (further_of x.params (log_senders x l double)))
+            (row_for both.odd.told.rows s.node).offset (subst Term goes terms)
+            (All-contains (OffsetIsComputed x l.drift both.odd (log_senders x l double)) (log_senders x l double) s both.offsets among)
+
+    pub no_offset_fault_by : filter_map (offset_fault x.params (reading_scale l.drift x.params) double (log_senders x l double)) (log_senders x l double) ≡ []
+    no_offset_fault_by = none_given (offset_fault x.params (reading_scale l.drift x.params) double (log_senders x l double)) (log_senders x l double) (λ s among. offset_none s among)
+
+    -- ---- rates
+
+    rate_none : (s : Sender) → Contains (log_senders x l double) s → rate_fault x.params (reading_scale l.drift x.params) double (log_senders x l double) s ≡ None
+    rate_none s among = by s.next refl
+      where
+        by : (next : Option Course) → s.next ≡ next
+            → unlike_fault Rate (2 * double + 1) s.node (option_map (rate_step_seen (reading_scale l.drift x.params) s.course) next)
+            (rate_computed (reading_scale l.drift x.params) (measuring_of x.params) s.course (other_courses (log_senders x l double) s.node) (further_of x.params (log_senders x l double)))
+            ≡ None
+        by None goes = refl
+        by (Some next) goes =
+            let both = both_there s next among goes in
+            let goes_on =
+            All-contains (SenderGoesOn x l.drift (clock (run_double base double)) both.even both.odd both.next.even both.next.odd) (log_senders x l double) s
+            (senders_go_on x h base delays clock l double both.even both.odd both.next.even both.next.odd o.timed o.log o.seen both.has both.next.has) among in
+            let Goes : Option Course → Type 0 = λ n. IfSome n (GoesOnBy x l.drift (clock (run_double base double)) both.even both.odd both.next.even both.next.odd s) in
+            let on = subst Goes goes goes_on in
+            unlike_none Rate (2 * double + 1) s.node (Some (rate_step_seen (reading_scale l.drift x.params) s.course next))
+            (rate_computed (reading_scale l.drift x.params) (measuring_of x.params) s.course (other_courses (log_senders x l double) s.node) (further_of x.params (log_senders x l double)))
+            ((row_for both.next.even.told.rows s.node).rate -ℤ (row_for both.odd.told.rows s.node).rate)
+            (
+            rate_steps_are_seen x.params l.drift (clock (run_double base double)) (seen_twice both.even both.odd both.next.even both.next.odd s next) s.onward on.goes
+            )
+            (All-contains (RateIsComputed x l.drift both.odd both.next.even (log_senders x l double)) (log_senders x l double) s both.rates among)
+
+    pub no_rate_fault_by : filter_map (rate_fault x.params (reading_scale l.drift x.params) double (log_senders x l double)) (log_senders x l double) ≡ []
+    no_rate_fault_by = none_given (rate_fault x.params (reading_scale l.drift x.params) double (log_senders x l double)) (log_senders x l double) (λ s among. rate_none s among)
+
+  seen_within : (d : ℕ) → IsSeenIn x.params l d → run_double base d < x.doubles
+  seen_within d seen =
+      less seen.sighting.number base d x.doubles (length h) seen.is o.whole (sighting_within x h base delays clock l seen.sighting o seen.there) o.seen.seen.whole_base
+    where
+      less : (n b d k long : ℕ) → n / 2 ≡ d → long ≡ 2 * k → n + b < long → b % 64 ≡ 0 → d + b / 2 < k
+      less n b d k long half whole below base_is = omega (arith, half, whole, below, base_is)
+
+  -- where a sender is one of the next double cycle too, the run has that
+  pub next_within : (s : Sender) (next : Course) → Contains (log_senders x l double) s → s.next ≡ Some next → suc (run_double base double) < x.doubles
+  next_within s next among goes =
+      let seen = All-contains (NextSeen x.params l double) (log_senders x l double) s (next_seen x l double) among next goes in
+      after double (base / 2) x.doubles (seen_within (double + 1) seen)
+    where
+      after : (d b k : ℕ) → d + 1 + b < k → suc (d + b) < k
+      after d b k less = omega (arith, less)
+
+-- ---- the laws
+
+pub offsets_are_computed : ValuesAreCounted → MiddlesHold → OffsetsAreComputed
+offsets_are_computed counted holds x h base delays clock l double log s =
+    All-along (Contains (log_senders x l double)) (OffsetIsComputed x l.drift s.synced.odd (log_senders x l double)) (log_senders x l double)
+    (λ r among. offset_is_computed x h base delays clock l double log s counted holds r among) (All-contains_itself (log_senders x l double))
+
+pub rates_are_computed : ValuesAreCounted → MiddlesHold → RatesAreComputed
+rates_are_computed counted holds x h base delays clock l double next_even next_odd log s next =
+    All-along (Contains (log_senders x l double)) (RateIsComputed x l.drift s.synced.odd next_even (log_senders x l double)) (log_senders x l double)
+    (λ r among. rate_is_computed x h base delays clock l double log s counted holds next_even next_odd r next among) (All-contains_itself (log_senders x l double))
+
+-- ---- in sync
 
 module _
     (x : Setting) (h : Cycles) (base : ℕ) (delays : ℕ → Channel → Delays) (clock : ℕ → StraightClock) (l : LogView) (from double : ℕ)
     (o : IsObservedRun x h base delays clock l) (stated : IsAsStated x h base l) (unfollowed : IsUnfollowedSyncAt x.params h (run_double base from)) (later : from ≤ double)
     (counted : ValuesAreCounted) (holds : MiddlesHold)
   where
-    seen_within : (d : ℕ) → IsSeenIn x.params l d → run_double base d < x.doubles
-    seen_within d seen =
-        less seen.sighting.number base d x.doubles (length h) seen.is o.whole (sighting_within x h base delays clock l seen.sighting o seen.there) o.seen.seen.whole_base
-      where
-        less : (n b d k long : ℕ) → n / 2 ≡ d → long ≡ 2 * k → n + b < long → b % 64 ≡ 0 → d + b / 2 < k
-        less n b d k long half whole below base_is = omega (arith, half, whole, below, base_is)
-
     named : IsNamedLog x h base delays clock l
     named = record { timed = o.timed; log = o.log; seen = o.seen; named = stated.named }
 
@@ -180,94 +271,27 @@ module _
         more : (a b c : ℕ) → a ≤ b → a + c ≤ b + c
         more a b c le = omega (arith, le)
 
-    -- it and the next one, where a sender is one of both
-    record AreBoth : Type 0 where
-      here : IsSyncedRun x h (run_double base double)
-      has : HasDouble h (run_double base double) here.synced.even here.synced.odd
-      next : IsDoubleThere h (suc (run_double base double))
-
-    both_there : (s : Sender) (next : Course) → Contains (log_senders x l double) s → s.next ≡ Some next → AreBoth
-    both_there s next among goes =
-        let seen = All-contains (NextSeen x.params l double) (log_senders x l double) s (next_seen x l double) among next goes in
-        let below : suc (run_double base double) < x.doubles = after double (base / 2) x.doubles (seen_within (double + 1) seen) in
+    pub both_synced : ComputeBoth x h base delays clock l double o
+    both_synced s next among goes =
+        let below = next_within x h base delays clock l double o s next among goes in
         let here = synced (before (run_double base double) x.doubles below) in
-        record { here = here; has = has_double x h (run_double base double) here; next = doubles_to h x.doubles (suc (run_double base double)) o.whole below }
+        let later = doubles_to h x.doubles (suc (run_double base double)) o.whole below in
+        record {
+          even = here.synced.even;
+          odd = here.synced.odd;
+          has = has_double x h (run_double base double) here;
+          next = later;
+          offsets = offsets_are_computed counted holds x h base delays clock l double named here;
+          rates = rates_are_computed counted holds x h base delays clock l double later.even later.odd named here later.has;
+        }
       where
-        after : (d b k : ℕ) → d + 1 + b < k → suc (d + b) < k
-        after d b k less = omega (arith, less)
-
         before : (d k : ℕ) → suc d < k → d < k
         before d k less = omega (arith, less)
 
-    -- ---- offsets
-
-    offset_none : (s : Sender) → Contains (log_senders x l double) s → offset_fault x.params (reading_scale l.drift x.params) double (log_senders x l double) s ≡ None
-    unfolding terms_of
-    offset_none s among = by s.next refl
-      where
-        by : (next : Option Course) → s.next ≡ next
-            → unlike_fault Offset (2 * double + 1) s.node (option_map (λ course. offset_seen (reading_scale l.drift x.params) s.course course s.onward) next)
-            (offset_computed (reading_scale l.drift x.params) (measuring_of x.params) s.course (other_courses (log_senders x l double) s.node) (further_of x.params (log_senders x l double)))
-            ≡ None
-        by None goes = refl
-        by (Some next) goes =
-            let both = both_there s next among goes in
-            let terms =
-            All-contains (TermHolds x l.drift both.here.synced.odd) (log_senders x l double) s
-            (observed_next_rows_hold x h base delays clock l double both.here.synced.even both.here.synced.odd both.next.even both.next.odd o.timed o.log o.seen both.has both.next.has).terms among in
-            let Term : Option Course → Type 0 = λ n. IfSome (option_map (λ course. offset_seen (reading_scale l.drift x.params) s.course course s.onward) n) (λ i. IsBetween i.low i.high (row_for both.here.synced.odd.told.rows s.node).offset) in
-            unlike_none Offset (2 * double + 1) s.node (Some (offset_seen (reading_scale l.drift x.params) s.course next s.onward))
-            (offset_computed (reading_scale l.drift x.params) (measuring_of x.params) s.course (other_courses (log_senders x l double) s.node) (further_of x.params (log_senders x l double)))
-            (row_for both.here.synced.odd.told.rows s.node).offset (subst Term goes terms)
-            (offset_is_computed x h base delays clock l double named both.here counted holds s among)
-
-    pub no_offset_fault : filter_map (offset_fault x.params (reading_scale l.drift x.params) double (log_senders x l double)) (log_senders x l double) ≡ []
-    no_offset_fault = none_given (offset_fault x.params (reading_scale l.drift x.params) double (log_senders x l double)) (log_senders x l double) (λ s among. offset_none s among)
-
-    -- ---- rates
-
-    rate_none : (s : Sender) → Contains (log_senders x l double) s → rate_fault x.params (reading_scale l.drift x.params) double (log_senders x l double) s ≡ None
-    rate_none s among = by s.next refl
-      where
-        by : (next : Option Course) → s.next ≡ next
-            → unlike_fault Rate (2 * double + 1) s.node (option_map (rate_step_seen (reading_scale l.drift x.params) s.course) next)
-            (rate_computed (reading_scale l.drift x.params) (measuring_of x.params) s.course (other_courses (log_senders x l double) s.node) (further_of x.params (log_senders x l double)))
-            ≡ None
-        by None goes = refl
-        by (Some next) goes =
-            let both = both_there s next among goes in
-            let goes_on =
-            All-contains (SenderGoesOn x l.drift (clock (run_double base double)) both.here.synced.even both.here.synced.odd both.next.even both.next.odd) (log_senders x l double) s
-            (senders_go_on x h base delays clock l double both.here.synced.even both.here.synced.odd both.next.even both.next.odd o.timed o.log o.seen both.has both.next.has) among in
-            let Goes : Option Course → Type 0 = λ n. IfSome n (GoesOnBy x l.drift (clock (run_double base double)) both.here.synced.even both.here.synced.odd both.next.even both.next.odd s) in
-            let on = subst Goes goes goes_on in
-            unlike_none Rate (2 * double + 1) s.node (Some (rate_step_seen (reading_scale l.drift x.params) s.course next))
-            (rate_computed (reading_scale l.drift x.params) (measuring_of x.params) s.course (other_courses (log_senders x l double) s.node) (further_of x.params (log_senders x l double)))
-            ((row_for both.next.even.told.rows s.node).rate -ℤ (row_for both.here.synced.odd.told.rows s.node).rate)
-            (
-            rate_steps_are_seen x.params l.drift (clock (run_double base double)) (seen_twice both.here.synced.even both.here.synced.odd both.next.even both.next.odd s next) s.onward on.goes
-            )
-            (rate_is_computed x h base delays clock l double named both.here counted holds both.next.even both.next.odd s both.next.has among)
-
-    pub no_rate_fault : filter_map (rate_fault x.params (reading_scale l.drift x.params) double (log_senders x l double)) (log_senders x l double) ≡ []
-    no_rate_fault = none_given (rate_fault x.params (reading_scale l.drift x.params) double (log_senders x l double)) (log_senders x l double) (λ s among. rate_none s among)
-
--- ---- the laws
-
-pub offsets_are_computed : ValuesAreCounted → MiddlesHold → OffsetsAreComputed
-offsets_are_computed counted holds x h base delays clock l double log s =
-    All-along (Contains (log_senders x l double)) (OffsetIsComputed x l.drift s.synced.odd (log_senders x l double)) (log_senders x l double)
-    (λ r among. offset_is_computed x h base delays clock l double log s counted holds r among) (All-contains_itself (log_senders x l double))
-
-pub rates_are_computed : ValuesAreCounted → MiddlesHold → RatesAreComputed
-rates_are_computed counted holds x h base delays clock l double next_even next_odd log s next =
-    All-along (Contains (log_senders x l double)) (RateIsComputed x l.drift s.synced.odd next_even (log_senders x l double)) (log_senders x l double)
-    (λ r among. rate_is_computed x h base delays clock l double log s counted holds next_even next_odd r next among) (All-contains_itself (log_senders x l double))
-
 pub offset_faults_are_none : ValuesAreCounted → MiddlesHold → FromSyncOn HasNoOffsetFault
 offset_faults_are_none counted holds x h base delays clock l from double o stated unfollowed later among =
-    no_offset_fault x h base delays clock l from.double double o stated unfollowed later counted holds
+    no_offset_fault_by x h base delays clock l double o (both_synced x h base delays clock l from.double double o stated unfollowed later counted holds)
 
 pub rate_faults_are_none : ValuesAreCounted → MiddlesHold → FromSyncOn HasNoRateFault
 rate_faults_are_none counted holds x h base delays clock l from double o stated unfollowed later among =
-    no_rate_fault x h base delays clock l from.double double o stated unfollowed later counted holds
+    no_rate_fault_by x h base delays clock l double o (both_synced x h base delays clock l from.double double o stated unfollowed later counted holds)

@@ -2,7 +2,7 @@
 use Rattle.fr_seen_runs.specs.InTime.{NoRunInSyncIsContradicted}
 use Rattle.fr_seen_runs.proofs.Contradicted.{none_is_contradicted}
 use Rattle.fr_seen_runs.proofs.InTime.{observed}
-use Rattle.fr_seen_runs.proofs.Standings.{standings_are_so}
+use Rattle.fr_seen_runs.proofs.KnownKept.{standings_are_so}
 use Rattle.fr_seen_runs.proofs.SyncKept.{sync_is_kept}
 
 pub no_run_in_sync_is_contradicted : NoRunInSyncIsContradicted

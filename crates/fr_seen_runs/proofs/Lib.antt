@@ -25,6 +25,7 @@ pub mod Contradicted
 pub mod Reaching
 pub mod ReachesEnd
 pub mod OverLaws
+pub mod KnownKept
 pub mod Standings
 pub mod SyncKept
 pub mod RowsTold

@@ -384,7 +384,7 @@ module _ (x : Setting) (h : Cycles) (base : ℕ) (delays : ℕ → Channel → D
     unfolding progress_told sync_told double_at
     begins_behind double progress among before =
         let sync = sync_told Log (At double) progress.sync in
-        let reach = (progress.reach, progress.is_ended) in
+        let reach : Option Reach × Bool = (progress.reach, progress.is_ended) in
         let now = (standing_told Log (At double) progress.known).is_judged in
         let Is : Option Heard → Type 0 = λ heard. Begins sync (Passed heard sync now progress.judged.span double (even_says Log (At double)) (odd_says Log (At double)) reach).0
         (Passed heard sync now progress.judged.span double (even_says Log (At double)) (odd_says Log (At double)) reach).1 in

@@ -149,7 +149,7 @@ module _ (x : Setting) (l : LogView) where
   Arbitrary = count_by (is_sync_as l true) x.params.nodes
 
   -- the counts of a log are those of a run that it names the arbitrary nodes of
-  arbitrary_alike : NamesArbitrary x l → sync_count x.params x.is_arbitrary ≡ Arbitrary
+  pub arbitrary_alike : NamesArbitrary x l → sync_count x.params x.is_arbitrary ≡ Arbitrary
   arbitrary_alike named =
       count_alike (λ (node : NodeSpec). is_some node.key && x.is_arbitrary node.id) (is_sync_as l true) x.params.nodes
       (λ node among. ap (λ b. is_some node.key && b) (named node among))

@@ -17,7 +17,7 @@ use Rattle.fr_course.specs.declared.scales.Scale.{Scale}
 use Rattle.fr_bound.specs.Judged.{apart_through}
 use Rattle.fr_bound.specs.declared.judging.Heard.{Heard}
 use Rattle.fr_bound.specs.declared.judging.Known.{Known}
-use Rattle.fr_observe.specs.Knowing.{faults_heard, judged_by, judged_faults, known_faults, length_beyond, standing_faults, stated_flutter}
+use Rattle.fr_observe.specs.Knowing.{faults_heard, judged_faults, judged_met, known_faults, length_beyond, standing_faults, stated_flutter}
 use Rattle.fr_observe.specs.declared.knowing.Standing.{Standing}
 use Rattle.fr_observe.specs.Observing.{courses_of, even_high, even_low, odd_high, odd_low, terms_of}
 use Rattle.fr_sightings.specs.Senders.{first_stamp, own_slot}
@@ -183,8 +183,8 @@ standing_faults_ask p scale l span before here double senders st = by st.heard
     by : (heard : Option Heard) → All AsksSync (faults_heard p scale l span before here double senders st heard)
     by None = All-nil AsksSync
     by (Some what) =
-        All-append AsksSync (judged_faults p scale double senders what (judged_by st)) (known_faults p scale l span before here double senders st.known)
-        (judged_faults_ask p scale double senders what (judged_by st)) (known_faults_ask p scale l span before here double senders st.known)
+        All-append AsksSync (judged_faults p scale double senders what (judged_met st)) (known_faults p scale l span before here double senders st.known)
+        (judged_faults_ask p scale double senders what (judged_met st)) (known_faults_ask p scale l span before here double senders st.known)
 
 -- ---- irregular frames
 

@@ -16,7 +16,8 @@ use Rattle.fr_observe.specs.declared.fault.Fault.{Fault}
 use Rattle.fr_sightings.specs.Judging.{judgement_of}
 use Rattle.fr_sightings.specs.Sightings.{OffendingFrames, fate_of, fates_from, irregular_of, offending_frames_of, sightings_of, untimely_of}
 use Rattle.fr_sightings.specs.declared.sighting.Sighting.{Sighting}
-use Rattle.fr_findings.specs.Verdict.{Basis, coverable_of, double_at, faults_told, first_failing, log_basis, log_progress, own_told, progress_of, progress_told, sync_told, verdict_by, verdict_of}
+use Rattle.fr_findings.specs.Verdict.{Basis, coverable_of, double_at, faults_told, first_failing, known_told, log_basis, log_progress, own_told, progress_of, progress_told, standing_told, sync_told, verdict_by, verdict_of}
+use Rattle.fr_observe.specs.Knowing.{known_next, standing_faults, standing_of}
 use Rattle.fr_findings.specs.declared.coverable.Coverable.TheVariants as coverable
 use Rattle.fr_findings.specs.declared.verdict.Verdict.TheVariants as verdict
 use Rattle.fr_seen.specs.Clocks.{StraightClock}
@@ -43,6 +44,7 @@ late_basis later = record {
   log = late_log later;
   span = record { first = 0; last = 3 };
   covered = coverable.Open;
+  heard = None;
 }
 
 -- ---- late by 250 units
@@ -59,8 +61,12 @@ offset_basis : log_basis seen_cluster (late_log 250) ≡ late_basis 250
 unfolding late_sighting coverable_of first_failing is_arbitrary_in
 offset_basis = Prim.rw offset_sightings refl
 
+pub offset_open : coverable_of seen_cluster (late_log 250) ≡ coverable.Open
+unfolding late_sighting coverable_of first_failing is_arbitrary_in
+offset_open = refl
+
 offset_progress : verdict_by (log_progress (late_basis 250) (of_each (late_sighting 250)) none_offending) ≡ verdict.No offset_told
-unfolding late_sighting verdict_by progress_of progress_told sync_told own_told faults_told double_at on_senders on_faults on_rows
+unfolding late_sighting verdict_by progress_of progress_told sync_told own_told faults_told known_told known_next standing_told standing_of standing_faults double_at on_senders on_faults on_rows
 offset_progress = refl
 
 offset_verdict : verdict_of seen_cluster (late_log 250) ≡ verdict.No offset_told
@@ -101,7 +107,7 @@ unfolding late_sighting coverable_of first_failing is_arbitrary_in
 correction_basis = Prim.rw correction_sightings refl
 
 correction_progress : verdict_by (log_progress (late_basis 7_500) (of_each (late_sighting 7_500)) none_offending) ≡ verdict.No correction_told
-unfolding late_sighting verdict_by progress_of progress_told sync_told own_told faults_told double_at on_senders on_faults on_rows
+unfolding late_sighting verdict_by progress_of progress_told sync_told own_told faults_told known_told known_next standing_told standing_of standing_faults double_at on_senders on_faults on_rows
 correction_progress = refl
 
 correction_verdict : verdict_of seen_cluster (late_log 7_500) ≡ verdict.No correction_told
@@ -142,6 +148,7 @@ last_basis last = record {
   log = last_log last;
   span = record { first = 0; last = 3 };
   covered = coverable.Open;
+  heard = None;
 }
 
 -- it is a log where that frame comes no earlier than the one before it
@@ -186,7 +193,7 @@ unfolding coverable_of first_failing is_arbitrary_in
 stranger_basis = Prim.rw stranger_sightings refl
 
 stranger_progress : verdict_by (log_progress (last_basis stranger_entry) first_sightings stranger_frames) ≡ verdict.No stranger_told
-unfolding verdict_by progress_of progress_told sync_told own_told faults_told double_at on_senders on_faults on_rows
+unfolding verdict_by progress_of progress_told sync_told own_told faults_told known_told known_next standing_told standing_of standing_faults double_at on_senders on_faults on_rows
 stranger_progress = refl
 
 stranger_verdict : verdict_of seen_cluster (last_log stranger_entry) ≡ verdict.No stranger_told
@@ -214,7 +221,7 @@ unfolding coverable_of first_failing is_arbitrary_in
 form_basis = Prim.rw form_sightings refl
 
 form_progress : verdict_by (log_progress (last_basis form_entry) first_sightings form_frames) ≡ verdict.No form_told
-unfolding verdict_by progress_of progress_told sync_told own_told faults_told double_at on_senders on_faults on_rows
+unfolding verdict_by progress_of progress_told sync_told own_told faults_told known_told known_next standing_told standing_of standing_faults double_at on_senders on_faults on_rows
 form_progress = refl
 
 form_verdict : verdict_of seen_cluster (last_log form_entry) ≡ verdict.No form_told
@@ -240,10 +247,10 @@ form_is_told = record { log = form_log; verdict = form_verdict }
 -- ---- so no run gives it
 
 pub none_covered :
-    NoRunIsContradicted → (l : LogView) (fault : Fault) → asks_own_slots fault.kind ≡ false → verdict_of seen_cluster l ≡ verdict.No fault
-    → IsSeenOfNoCovered l
-none_covered law l fault slots told x h base delays clock same observed stated =
-    law x h base delays clock l fault observed stated (λ asks. let e : true ≡ false = sym asks ∙ slots in absurd (cc e)) (ap (λ p. verdict_of p l) same ∙ told)
+    NoRunIsContradicted → (l : LogView) (fault : Fault) → asks_own_slots fault.kind ≡ false → coverable_of seen_cluster l ≡ coverable.Open
+    → verdict_of seen_cluster l ≡ verdict.No fault → IsSeenOfNoCovered l
+none_covered law l fault slots checked told x h base delays clock same observed stated =
+    law x h base delays clock l fault observed (stated_where_open x h base l (ap (λ p. coverable_of p l) same ∙ checked) stated) (λ asks. let e : true ≡ false = sym asks ∙ slots in absurd (cc e)) (ap (λ p. verdict_of p l) same ∙ told)
 
 -- where the slots are own, or the fault does not ask for it
 none_where :

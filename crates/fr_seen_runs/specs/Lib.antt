@@ -6,6 +6,7 @@ pub mod Standings
 pub mod SyncFaults
 pub mod ComputedValues
 pub mod ComputedTerms
+pub mod JudgedTerms
 pub mod ToldFaults
 pub mod NotContradicted
 pub mod OverRows

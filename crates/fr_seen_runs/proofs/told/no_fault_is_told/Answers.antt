@@ -1,5 +1,5 @@
 use Rattle.fr_seen_runs.proofs.Contradicted.{no_fault_is_told, told_faults_ask_either, told_faults_ask_own_slots, told_faults_ask_sync}
-use Rattle.fr_seen_runs.proofs.Standings.{standings_are_so}
+use Rattle.fr_seen_runs.proofs.KnownKept.{standings_are_so}
 use Rattle.fr_seen_runs.proofs.SyncKept.{sync_is_kept}
 use Rattle.fr_seen_runs.proofs.told.no_fault_is_told.Goals as goal
 

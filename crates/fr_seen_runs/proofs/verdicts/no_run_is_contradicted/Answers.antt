@@ -1,5 +1,5 @@
 use Rattle.fr_seen_runs.proofs.Contradicted.{no_run_has_own_faults, none_is_contradicted}
-use Rattle.fr_seen_runs.proofs.Standings.{standings_are_so}
+use Rattle.fr_seen_runs.proofs.KnownKept.{standings_are_so}
 use Rattle.fr_seen_runs.proofs.SyncKept.{sync_is_kept}
 use Rattle.fr_seen_runs.proofs.verdicts.no_run_is_contradicted.Goals as goal
 
