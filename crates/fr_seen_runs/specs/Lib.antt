@@ -5,6 +5,7 @@ pub mod KeptInSync
 pub mod SyncFaults
 pub mod ComputedValues
 pub mod ComputedTerms
+pub mod JudgedTerms
 pub mod ToldFaults
 pub mod NotContradicted
 pub mod OverRows
