@@ -18,7 +18,7 @@ from argparse import Namespace
 
 from ..base import ranges
 from .asc import UNPROVED, read_asc
-from .blf import MAGIC, MISSING, SHORTER, STRAY, UNKNOWN, read_blf
+from .blf import MAGIC, MISSING, SHORTER, STRAY, read_blf
 from .capture import load, sort_packets, spans
 from ..base.ending import NO, REFUSED, USAGE, Refused, Stop, printable
 from ..base.files import LONGEST, MIB, check_is_file, named_faults, put, text_of
@@ -38,7 +38,7 @@ WANTED = ("a table [observer] states what is known of the analyzer: resolution_n
           "delay_to_ns; docs/FLEXLAB.md, \"Logs\", has more")
 SHORT, FLAWED = "frames that are not as long as they say", "frames without a trailer, with an error flag"
 REQUESTED = "frames that may be mere requests to transmit"
-LOSSES = (SHORT, FLAWED, UNPROVED, REQUESTED, MISSING, SHORTER, STRAY, UNKNOWN)
+LOSSES = (SHORT, FLAWED, UNPROVED, REQUESTED, MISSING, SHORTER, STRAY)
 OUTSIDE = "frames before --from or from --to on"
 # A counter of stamps has so many values. It is taken to begin anew where a stamp from its last part is followed by one of its first.
 WRAP = 1 << 32
