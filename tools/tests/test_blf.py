@@ -8,6 +8,7 @@ import zlib
 
 from bench import Bench, edited, needs
 from flexlab.captures import blf, observer, packets
+from flexlab.captures.frames import regular_frame
 
 SHORT = edited(("double_cycles = 200", "double_cycles = 10"))
 OBSERVER = """
@@ -17,7 +18,7 @@ drift_ppm = 20
 delay_from_ns = 100
 delay_to_ns = 200
 """
-RECEIVED, RECEIVED_MORE, CAN = 50, 66, 1
+RECEIVED, RECEIVED_MORE, CAN, OLDER = 50, 66, 1, 41
 
 
 def item(kind, body, ns=0, code=2, head=1):
@@ -45,6 +46,14 @@ def frame_item(ns, mask, frame, kind=RECEIVED_MORE, direction=0, code=2, head=1,
     more = bytes(40) if kind == RECEIVED_MORE else b""
     rest = b"" if kind == RECEIVED_MORE else bytes(254 - len(payload) + 6)
     return item(kind, struct.pack("<4H2I6H4I", *fields) + more + payload + rest, ns, code, head)
+
+
+def older_item(ns, number, frame, direction=0, wrong=0):
+    """An object 41 of a received frame: its channel is a number, and it keeps 64 bytes of a payload at most."""
+    first, length, kept_crc = frame[0], 2 * (frame[2] >> 1), (frame[2] & 1) << 10 | frame[3] << 2 | frame[4] >> 6
+    state = bool(first & 0x40) | bool(first & 0x10) << 1 | (not first & 0x20) << 3 | bool(first & 0x08) << 4
+    fields = (number, direction, 0, 0, 0, 0, 0, (first & 7) << 8 | frame[1], kept_crc ^ wrong, state, length, frame[4] & 63, 0, 0, 0)
+    return item(OLDER, struct.pack("<HBB4I3H4BH", *fields) + frame[5:5 + min(64, length)].ljust(64, b"\0"), ns)
 
 
 def blf_file(items, packing=2, size=3000):
@@ -192,15 +201,52 @@ class Blf(Bench):
             self.assertIn(f"WARNING not all of the file was read: {lost[reason]} {reason}", page)
             self.assertEqual(json.loads(self.flexlab("capture", "-o", "lab", "--json", "bus.blf")[0])["lost"], lost)
 
-    def test_older_objects_are_told(self):
-        older = [item(41, bytes(100))] * 3
-        self.keep("bus.blf", blf_file(older))
-        self.write("net.toml", SHORT + OBSERVER)
-        self.assertIn("objects 41, which flexlab does not read and tshark does", self.flexlab("log", "bus.blf", "net.toml", status=5)[1])
-        self.keep("bus.blf", blf_file(older + self.items(self.sent(SHORT + OBSERVER + "missed_none = true\n"))))
-        log, told = self.log("bus.blf")
-        self.assertNotIn("whole,,,,", log)
-        self.assertIn(f"3 {blf.UNKNOWN}", told)
+    def older(self, made, numbers):
+        return [older_item(packet.ns, numbers["AB".index(packet.channel)], packet.frame) for packet in made]
+
+    @needs("tshark")
+    def test_older_objects(self):
+        """Objects 41, as tshark reads them: 0 is channel A, and 1 is B."""
+        made = self.sent(SHORT + OBSERVER + "missed_none = true\n")
+        self.keep("new.blf", blf_file(self.items(made)))
+        wanted = self.log("new.blf")[0]
+        self.assertIn("whole,,,,", wanted)
+        self.keep("bus.blf", blf_file(self.older(made, (0, 1))))
+        self.assertEqual(self.log("bus.blf")[0], wanted)
+        subprocess.run(["tshark", "-r", self.path("bus.blf"), "-F", "pcapng", "-w", self.path("bus.pcapng")], check=True,
+                       capture_output=True)
+        self.assertEqual(self.log("bus.pcapng")[0], wanted)
+        # Numbers from 1 on, and one channel of each form.
+        self.keep("bus.blf", blf_file(self.older(made, (1, 2))))
+        self.assertEqual(self.log("bus.blf")[0], wanted)
+        for channel, number in (("A", 0), ("B", 2)):
+            self.keep("bus.blf", blf_file([older_item(one.ns, number, one.frame) if one.channel == channel else
+                                           frame_item(one.ns, 1 + "AB".index(one.channel), one.frame) for one in made]))
+            self.assertEqual(self.log("bus.blf")[0], wanted)
+
+    def test_channels_of_older_objects_that_are_not_known(self):
+        made = self.sent()[:8]
+        for numbers, listed in (((1, 1), "1"), ((0, 2), "0, 2"), ((3, 4), "3, 4")):
+            self.keep("bus.blf", blf_file(self.older(made, numbers)))
+            self.assertIn(f"its objects 41 have the channel numbers {listed}, and it is not known which these are",
+                          self.flexlab("log", "bus.blf", "net.toml", status=5)[1])
+
+    def test_what_older_objects_keep(self):
+        made = self.sent()[:9]
+        self.keep("bus.blf", blf_file([older_item(one.ns, 0, one.frame, direction=at % 3) for at, one in enumerate(made)]))
+        frames = observer.capture_frames(self.path("bus.blf"))
+        self.assertEqual([one[2] for one in frames.found], [one.frame for at, one in enumerate(made) if at % 3 < 2])
+        self.assertEqual((frames.left, frames.is_torn), ({observer.REQUESTED: 3}, True))
+        # A null frame with a preamble and a payload that is longer than what is kept, and a CRC that does not fit.
+        long = regular_frame("A", 9, 5, 100, True, True, True)
+        odd = bytes([long[0] & ~0x20 | 0x40]) + long[1:]
+        self.keep("bus.blf", blf_file([older_item(5, 0, odd[:-3])]))
+        packet, = blf.read_blf(self.path("bus.blf")).packets
+        self.assertEqual((packet.frame, packet.cut), (odd[:69], 136))
+        frames = observer.capture_frames(self.path("bus.blf"))
+        self.assertEqual(([one[2] for one in frames.found], frames.is_torn), ([odd[:69]], False))
+        self.keep("bus.blf", blf_file([older_item(5, 0, made[0].frame, wrong=1)]))
+        self.assertTrue(observer.capture_frames(self.path("bus.blf")).is_torn)
 
     def test_one_network_of_several(self):
         made = self.sent()

@@ -7,9 +7,10 @@ from fractions import Fraction
 
 from bench import Bench, edited
 from flexlab.base.files import parameter_lines
-from flexlab.captures import both, observed, packets
+from flexlab.captures import both, observing, packets
 from flexlab.program import report
 from flexlab.toml.cluster import read_cluster
+from flexray import texts
 from test_logs import MICROS, instants
 
 LOGS = int(os.environ.get("FLEXLAB_BOTH_LOGS", "4"))
@@ -81,8 +82,8 @@ class Both(Bench):
         """Holds each number against the trace of the run."""
         witnesses = []
         for name, folder in (("a", "seen"), ("b", os.path.join("seen", "second"))):
-            told = report.understood(observed.texts.observation, "log", self.read(folder, "observed.csv"))
-            witnesses.append(both.Witness(read_cluster(self.path(f"{name}.toml")), observed.Part(None, told, self.path(folder))))
+            told = report.understood(texts.observation, "log", self.read(folder, "observed.csv"))
+            witnesses.append(both.Witness(read_cluster(self.path(f"{name}.toml")), observing.Part(None, told, self.path(folder))))
         for number in both.numbers(*witnesses, 0):
             (kind, node, other), row = number.subject, cycles[number.cycle][number.subject.node]
             if kind == "distance":

@@ -18,7 +18,7 @@ import test_observe
 from bench import EXAMPLE, REPOSITORY, Bench, edited, needs
 from flexray import texts
 from flexray.results import ObservedFault
-from flexlab.captures import observed, observer, packets
+from flexlab.captures import observed, observer, observing, packets
 from flexlab.program import report
 from flexlab.captures.frames import frame_bytes
 
@@ -109,11 +109,11 @@ class Rows(Bench):
         self.assertEqual("of no double cycle it is certain" in page, told.sync[0] == "-")
         # What is advised would change something.
         self.assertTrue("can state it" not in page or (told.covered[0] == "open" and told.cycles), page)
-        self.assertEqual(observed.status_of(told, None), 0 if told.verdict[0] == "within" else 1)
+        self.assertEqual(observing.status_of(told, None), 0 if told.verdict[0] == "within" else 1)
         if told.verdict[0] in ("within", "partly"):
-            self.assertEqual(observed.status_of(told, told.judged), 0)
+            self.assertEqual(observing.status_of(told, told.judged), 0)
         with contextlib.redirect_stderr(io.StringIO()) as line:
-            self.assertEqual(observed.status_of(told, told.judged + 1), 1 if told.verdict[0] in ("no", "over") else 7)
+            self.assertEqual(observing.status_of(told, told.judged + 1), 1 if told.verdict[0] in ("no", "over") else 7)
         self.assertEqual(bool(line.getvalue()), told.verdict[0] not in ("no", "over"))
 
 

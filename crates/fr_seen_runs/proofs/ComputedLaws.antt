@@ -1,4 +1,5 @@
--- The terms of the senders of a log, in a double cycle in sync of a covered run, are those that the courses of the others allow.
+-- The terms of the senders of a log are those that the courses of the others allow, in a double cycle in which its nodes apply
+-- midpoints, such as one in sync of a covered run.
 use Rattle.std.proofs.Common.{◌≡◌, ℕ, suc, ◌+◌, ◌-◌, ◌≤◌, true, false, not, ℤ, pos, Option, Some, None, List, [], ◌∷◌, length, map, ap, sym, ◌∙◌, subst, arith}
 use Rattle.std.specs.Prelude.{◌-ℤ◌, ◌+ℤ◌, ◌≤ℤ◌, neg_ℤ, AllPairs, Contains, IfSome, IsSome, count_by, is_some}
 use Rattle.std.specs.List.{range_with_len}
@@ -23,7 +24,7 @@ use Rattle.fr_precision.proofs.Senders.{All-along}
 use Rattle.fr_history.specs.Cycles.{Cycle, Cycles}
 use Rattle.fr_history.specs.History.{row_for, row_of}
 use Rattle.fr_history.proofs.Lists.{map-map}
-use Rattle.fr_runs.specs.Numbers.{HasDouble, IsSyncedRun}
+use Rattle.fr_runs.specs.Numbers.{HasDouble, HasRowIn, IsSyncedRun}
 use Rattle.fr_runs.proofs.Receivers.{is_correct_node}
 use Rattle.fr_log.specs.View.{LogView}
 use Rattle.fr_course.specs.Readings.{reading_scale}
@@ -68,7 +69,7 @@ widened damping (Some m) mid step near lies = record { low = low m.low mid step 
 
 module _
     (x : Setting) (h : Cycles) (base : ℕ) (delays : ℕ → Channel → Delays) (clock : ℕ → StraightClock) (l : LogView) (double : ℕ)
-    (log : IsNamedLog x h base delays clock l) (s : IsSyncedRun x h (run_double base double)) (counted : ValuesAreCounted) (holds : MiddlesHold)
+    (log : IsNamedLog x h base delays clock l) (even odd : Cycle) (two : HasDouble h (run_double base double) even odd) (counted : ValuesAreCounted) (holds : MiddlesHold)
   where
     sane : IsSane x.params
     sane = log.timed.sane
@@ -76,19 +77,19 @@ module _
     within : IsWithinDrift l.drift (clock (run_double base double))
     within = log.seen.seen.within_drift (run_double base double)
 
-    on_course : (t : Sender) → Contains (log_senders x l double) t → IsSenderOn x l.drift (clock (run_double base double)) s.synced.even s.synced.odd t
+    on_course : (t : Sender) → Contains (log_senders x l double) t → IsSenderOn x l.drift (clock (run_double base double)) even odd t
     on_course t among =
-        All-contains (IsSenderOn x l.drift (clock (run_double base double)) s.synced.even s.synced.odd) (log_senders x l double) t
-        (senders_are_on_course x h base delays clock l double s.synced.even s.synced.odd log.timed log.log log.seen (has_double x h (run_double base double) s)) among
+        All-contains (IsSenderOn x l.drift (clock (run_double base double)) even odd) (log_senders x l double) t
+        (senders_are_on_course x h base delays clock l double even odd log.timed log.log log.seen two) among
 
     is_sender : (t : Sender) → Contains (log_senders x l double) t → IsLogSender x.params l t
     is_sender t among = All-contains (IsLogSender x.params l) (log_senders x l double) t (are_log_senders x l double) among
 
-    keyed : (t : Sender) → (among : Contains (log_senders x l double) t) → IsKeyedAt x s.synced.even (is_sender t among).0 (is_sender t among).1.slot (index_of x.params t)
+    keyed : (t : Sender) → (among : Contains (log_senders x l double) t) → IsKeyedAt x even (is_sender t among).0 (is_sender t among).1.slot (index_of x.params t)
     keyed t among =
         let of = is_sender t among in
         let arbitrary : x.is_arbitrary of.0.id ≡ false = log.named of.0 of.1.there ∙ of.1.named in
-        let Has : ℕ → Type 0 = λ n. IsSome (row_of s.synced.even.told.rows n) in
+        let Has : ℕ → Type 0 = λ n. IsSome (row_of even.told.rows n) in
         record {
           has = record { correct = is_correct_node x of.0 of.1.there (ap not arbitrary); row = subst Has of.1.id (on_course t among).rows.in_even };
           key = of.1.key;
@@ -135,34 +136,35 @@ module _
     -- ---- offsets
 
     offset_says : (r t : Sender) (here : Contains (log_senders x l double) r) (there : Contains (log_senders x l double) t)
-        → ComputesOffset x s.synced.even s.synced.odd (is_sender r here).0
-        → SaysAt (told_offsets x s.synced.even s.synced.odd (is_sender r here).0) (index_of x.params t)
+        → ComputesOffset x even odd (is_sender r here).0
+        → SaysAt (told_offsets x even odd (is_sender r here).0) (index_of x.params t)
         (LiesIn (deviation_seen (reading_scale l.drift x.params) (measuring_of x.params) r.course t.course))
     offset_says r t here there computes =
         let one = is_sender r here in
         let other = is_sender t there in
         let said = computes.heard other.0 other.1.slot (index_of x.params t) (keyed t there) in
-        let At : ℕ → ℕ → ℤ → Type 0 = λ a b action. IsDeviation x.params true action (row_for s.synced.odd.told.rows a) (row_for s.synced.odd.told.rows b) said.value in
+        let At : ℕ → ℕ → ℤ → Type 0 = λ a b action. IsDeviation x.params true action (row_for odd.told.rows a) (row_for odd.told.rows b) said.value in
         let Here : ℕ → Type 0 = λ a. At a t.node t.course.action in
         let There : ℕ → Type 0 = λ b. At one.0.id b t.course.action in
         record {
           value = said.value;
           is = said.is;
-          says = deviation_lies x.params l.drift (clock (run_double base double)) sane within counted (seen_in s.synced.even s.synced.odd r) (seen_in s.synced.even s.synced.odd t) said.value
+          says = deviation_lies x.params l.drift (clock (run_double base double)) sane within counted (seen_in even odd r) (seen_in even odd t) said.value
               (on_course r here).on (on_course t there).on
               (subst Here (sym one.1.id) (subst There (sym other.1.id) (subst (At one.0.id other.0.id) (sym other.1.acts) said.says)));
         }
 
-    pub offset_is_computed : (r : Sender) → Contains (log_senders x l double) r → OffsetIsComputed x l.drift s.synced.odd (log_senders x l double) r
-    offset_is_computed r among =
+    pub offset_lies : ((node : NodeSpec) → HasRowIn x even node → ComputesOffset x even odd node) → (r : Sender) → Contains (log_senders x l double) r
+        → OffsetIsComputed x l.drift odd (log_senders x l double) r
+    offset_lies each r among =
         let one = is_sender r among in
-        let computes = offsets_are_midpoints x h (run_double base double) s one.0 (keyed r among).has in
+        let computes = each one.0 (keyed r among).has in
         let box : Sender → Interval = λ t. deviation_seen (reading_scale l.drift x.params) (measuring_of x.params) r.course t.course in
         let further = further_of x.params (log_senders x l double) in
         let lies =
-        middle_lies (told_offsets x s.synced.even s.synced.odd one.0) r box (row_for s.synced.odd.told.rows one.0.id).offset among
+        middle_lies (told_offsets x even odd one.0) r box (row_for odd.told.rows one.0.id).offset among
         (computes.own one.1.slot (index_of x.params r) (keyed r among)) (λ t there. offset_says r t among there computes) computes.few computes.applied in
-        let At : List Interval → ℕ → Type 0 = λ known n. IfSome (middle further (own_value ∷ known)) (λ m. IsBetween m.low m.high (row_for s.synced.odd.told.rows n).offset) in
+        let At : List Interval → ℕ → Type 0 = λ known n. IfSome (middle further (own_value ∷ known)) (λ m. IsBetween m.low m.high (row_for odd.told.rows n).offset) in
         let Known : List Interval → Type 0 = λ known. At known r.node in
         subst Known
         (sym (map-map (deviation_seen (reading_scale l.drift x.params) (measuring_of x.params) r.course) (λ (t : Sender). t.course) (others_than r.node (log_senders x l double))))
@@ -171,41 +173,59 @@ module _
     -- ---- rates
 
     rate_says : (r t : Sender) (here : Contains (log_senders x l double) r) (there : Contains (log_senders x l double) t)
-        → ComputesRate x h (run_double base double) s.synced.even s.synced.odd (is_sender r here).0
-        → SaysAt (told_rates x s.synced.even s.synced.odd (is_sender r here).0) (index_of x.params t)
+        → ComputesRate x h (run_double base double) even odd (is_sender r here).0
+        → SaysAt (told_rates x even odd (is_sender r here).0) (index_of x.params t)
         (LiesIn (rate_value_seen (reading_scale l.drift x.params) (measuring_of x.params) r.course t.course))
     rate_says r t here there computes =
         let one = is_sender r here in
         let other = is_sender t there in
         let said = computes.heard other.0 other.1.slot (index_of x.params t) (keyed t there) in
-        let told = told_sender x s.synced.even s.synced.odd other.0 other.1.slot in
-        let At : ℕ → Type 0 = λ a. PlacesLength x.params (row_for s.synced.odd.told.rows a) told said.value in
+        let told = told_sender x even odd other.0 other.1.slot in
+        let At : ℕ → Type 0 = λ a. PlacesLength x.params (row_for odd.told.rows a) told said.value in
         record {
           value = said.value;
           is = said.is;
-          says = rate_value_lies x.params l.drift (clock (run_double base double)) sane within counted (seen_in s.synced.even s.synced.odd r) (seen_in s.synced.even s.synced.odd t) told said.value
-              (on_course r here).on (on_course t there).on (ap (row_for s.synced.odd.told.rows) (sym other.1.id)) (subst At (sym one.1.id) said.says);
+          says = rate_value_lies x.params l.drift (clock (run_double base double)) sane within counted (seen_in even odd r) (seen_in even odd t) told said.value
+              (on_course r here).on (on_course t there).on (ap (row_for odd.told.rows) (sym other.1.id)) (subst At (sym one.1.id) said.says);
         }
 
     damping_is : x.params.damping ≡ (measuring_of x.params).damping
     damping_is = let range = sane.ranges name.pClusterDriftDamping in natural x.params.damping (omega (arith, ints, range.0))
 
-    pub rate_is_computed : (next_even next_odd : Cycle) (r : Sender) → HasDouble h (suc (run_double base double)) next_even next_odd → Contains (log_senders x l double) r
-        → RateIsComputed x l.drift s.synced.odd next_even (log_senders x l double) r
-    rate_is_computed next_even next_odd r next among =
+    pub rate_lies : ((node : NodeSpec) → HasRowIn x even node → ComputesRate x h (run_double base double) even odd node) → (next_even next_odd : Cycle) (r : Sender) → HasDouble h (suc (run_double base double)) next_even next_odd → Contains (log_senders x l double) r
+        → RateIsComputed x l.drift odd next_even (log_senders x l double) r
+    rate_lies each next_even next_odd r next among =
         let one = is_sender r among in
-        let computes = rates_grow_by_midpoints x h (run_double base double) s one.0 (keyed r among).has in
+        let computes = each one.0 (keyed r among).has in
         let box : Sender → Interval = λ t. rate_value_seen (reading_scale l.drift x.params) (measuring_of x.params) r.course t.course in
         let further = further_of x.params (log_senders x l double) in
         let lies =
-        middle_lies (told_rates x s.synced.even s.synced.odd one.0) r box computes.middle among
+        middle_lies (told_rates x even odd one.0) r box computes.middle among
         (computes.own one.1.slot (index_of x.params r) (keyed r among)) (λ t there. rate_says r t among there computes) computes.few computes.is_middle in
         let Known : List Interval → Type 0 = λ known. IfSome (middle further (own_value ∷ known)) (λ m. IsBetween m.low m.high computes.middle) in
         let known =
         subst Known
         (sym (map-map (rate_value_seen (reading_scale l.drift x.params) (measuring_of x.params) r.course) (λ (t : Sender). t.course) (others_than r.node (log_senders x l double)))) lies in
-        let Near : ℤ → ℕ → Type 0 = λ d n. IsWithin d (((row_for next_even.told.rows n).rate -ℤ (row_for s.synced.odd.told.rows n).rate) -ℤ computes.middle) in
+        let Near : ℤ → ℕ → Type 0 = λ d n. IsWithin d (((row_for next_even.told.rows n).rate -ℤ (row_for odd.told.rows n).rate) -ℤ computes.middle) in
         let near = subst (Near (measuring_of x.params).damping) (sym one.1.id) (subst (λ d. Near d one.0.id) damping_is (computes.grown next_even next_odd next)) in
         widened (measuring_of x.params).damping
         (middle further (own_value ∷ map (rate_value_seen (reading_scale l.drift x.params) (measuring_of x.params) r.course) (other_courses (log_senders x l double) r.node)))
-        computes.middle ((row_for next_even.told.rows r.node).rate -ℤ (row_for s.synced.odd.told.rows r.node).rate) near known
+        computes.middle ((row_for next_even.told.rows r.node).rate -ℤ (row_for odd.told.rows r.node).rate) near known
+
+-- ---- in sync
+
+module _
+    (x : Setting) (h : Cycles) (base : ℕ) (delays : ℕ → Channel → Delays) (clock : ℕ → StraightClock) (l : LogView) (double : ℕ)
+    (log : IsNamedLog x h base delays clock l) (s : IsSyncedRun x h (run_double base double)) (counted : ValuesAreCounted) (holds : MiddlesHold)
+  where
+    two : HasDouble h (run_double base double) s.synced.even s.synced.odd
+    two = has_double x h (run_double base double) s
+
+    pub offset_is_computed : (r : Sender) → Contains (log_senders x l double) r → OffsetIsComputed x l.drift s.synced.odd (log_senders x l double) r
+    offset_is_computed =
+        offset_lies x h base delays clock l double log s.synced.even s.synced.odd two counted holds (offsets_are_midpoints x h (run_double base double) s)
+
+    pub rate_is_computed : (next_even next_odd : Cycle) (r : Sender) → HasDouble h (suc (run_double base double)) next_even next_odd → Contains (log_senders x l double) r
+        → RateIsComputed x l.drift s.synced.odd next_even (log_senders x l double) r
+    rate_is_computed =
+        rate_lies x h base delays clock l double log s.synced.even s.synced.odd two counted holds (rates_grow_by_midpoints x h (run_double base double) s)

@@ -1,13 +1,12 @@
--- The values of the nodes with rows of a double cycle in sync, and the midpoints that they apply.
-use Rattle.std.proofs.Common.{◌≡◌, ◌⊎◌, ℕ, suc, ◌+◌, ◌*◌, ◌<◌, ◌==◌, Bool, true, false, ◌||◌, ℤ, pos, neg_ℤ, Option, Some, None, List, [], ◌∷◌, length, refl, ap, sym, ◌∙◌, subst, inl, inr, arith, if◌then◌else◌}
-use Rattle.std.specs.Prelude.{◌+ℤ◌, ◌-ℤ◌, ◌≤ℤ◌, Contains, int_lt}
+-- The values of the nodes with rows of a double cycle, and the midpoints that they apply: where they hear each other, as in sync.
+use Rattle.std.proofs.Common.{◌≡◌, ◌⊎◌, ℕ, suc, ◌+◌, ◌*◌, ◌<◌, ◌==◌, Bool, true, false, ℤ, pos, Option, Some, None, [], ◌∷◌, length, refl, ap, sym, ◌∙◌, subst, inl, inr, arith, if◌then◌else◌}
+use Rattle.std.specs.Prelude.{◌-ℤ◌, ◌≤ℤ◌, Contains, int_lt}
 use Rattle.std.specs.Int.{int_min}
 use Rattle.std.proofs.lemmas.Int.{ints}
 use Rattle.fr_base.specs.Within.{IsWithin}
 use Rattle.fr_base.specs.declared.channel.Channel.{Channel}
 use Rattle.fr_base.specs.declared.channel.Channel.TheVariants.{A, B}
 use Rattle.fr_base.specs.declared.node_row.NodeRow.{NodeRow}
-use Rattle.fr_base.specs.declared.state.Outcome.TheVariants.{Exceeded, Missing, Within}
 use Rattle.fr_base.specs.declared.state.State.TheVariants.{Active}
 use Rattle.fr_cluster.specs.Questions.{index_in, key_in, key_slot_of, own_index}
 use Rattle.fr_cluster.specs.Sane.{IsSane}
@@ -19,8 +18,6 @@ use Rattle.fr_cluster.proofs.Elements.{filtered}
 use Rattle.fr_time.specs.Slots.{action_point_of}
 use Rattle.fr_time.proofs.Keys.{key_slot_has, slot_of_index}
 use Rattle.fr_midpoint.specs.Midpoint.{IsMidpoint}
-use Rattle.fr_correct.specs.Terms.{IsOffsetTerm, IsRateTerm, damped, term_of}
-use Rattle.fr_correct.specs.declared.term.Term.{Term}
 use Rattle.fr_correct.proofs.There.{offset_term_is_there, rate_term_is_there}
 use Rattle.fr_measure.specs.Values.{change_at, is_own, least_of, mean_of, offset_at, rate_at}
 use Rattle.fr_bound.specs.Bounds.{lambda_of, pi_of}
@@ -50,59 +47,9 @@ use Rattle.fr_runs.proofs.RowsDrawn.{hearer_at, member_at, offsets_uncut, rates_
 use Rattle.fr_runs.proofs.RowsHeard.{SpreadRows, row_near, row_regular, row_runs, rows_hear}
 use Rattle.fr_runs.proofs.RowsRun.{next_rows, spread_rows, synced_are_spread}
 use Rattle.fr_runs.proofs.Whole.{prior_of}
-use Rattle.fr_seen_runs.specs.ComputedValues.{ComputesOffset, IsKeyedAt, OffsetsAreMidpoints, RatesGrowByMidpoints, SaysAt, told_offsets, told_rates, told_sender}
+use Rattle.fr_sharp.proofs.JudgedLaws.{offset_middle, rate_middle, Grows}
+use Rattle.fr_seen_runs.specs.ComputedValues.{ComputesOffset, ComputesRate, IsKeyedAt, OffsetsAreMidpoints, RatesGrowByMidpoints, SaysAt, told_offsets, told_rates, told_sender}
 use Rattle.fr_seen_runs.proofs.ComputedCounts.{AreKeyed, keyed_few}
-
--- ---- terms that are not cut
-
-uncut_value : (limit before : ℤ) → (term_of limit before).outcome ≡ Within → (term_of limit before).value ≡ before
-uncut_value limit before uncut = by_tests (int_lt limit before) (int_lt before (neg_ℤ limit)) uncut
-  where
-    by_tests : (over under : Bool) → (if over || under then Exceeded else Within) ≡ Within → (if over then limit else (if under then neg_ℤ limit else before)) ≡ before
-    by_tests true under is = absurd (cc is)
-    by_tests false true is = absurd (cc is)
-    by_tests false false is = refl
-
--- an offset term that is neither cut nor missing is the midpoint
-offset_middle : (limit : ℤ) (values : List ℤ) (term : Term) → IsOffsetTerm limit values term → term.outcome ≡ Within → IsMidpoint values term.value
-offset_middle limit values term (inl none) uncut = absurd (let missing : Missing ≡ Within = sym (ap (λ (t : Term). t.outcome) none.1) ∙ uncut in cc missing)
-offset_middle limit values term (inr some) uncut =
-    let value : term.value ≡ some.0 = ap (λ (t : Term). t.value) some.2 ∙ uncut_value limit some.0 (sym (ap (λ (t : Term). t.outcome) some.2) ∙ uncut) in
-    subst (IsMidpoint values) (sym value) some.1
-
--- damping takes a number no further than by itself
-damped_near : (damping old middle : ℤ) → pos 0 ≤ℤ damping → IsWithin damping ((damped damping (old +ℤ middle) -ℤ old) -ℤ middle)
-damped_near damping old middle from = by_tests (int_lt damping (old +ℤ middle)) (int_lt (old +ℤ middle) (neg_ℤ damping)) refl refl
-  where
-    above : (d o m : ℤ) → pos 0 ≤ℤ d → IsWithin d ((((o +ℤ m) -ℤ d) -ℤ o) -ℤ m)
-    above d o m h = record { low = omega (arith, ints); high = omega (arith, ints) }
-
-    below : (d o m : ℤ) → pos 0 ≤ℤ d → IsWithin d ((((o +ℤ m) +ℤ d) -ℤ o) -ℤ m)
-    below d o m h = record { low = omega (arith, ints); high = omega (arith, ints) }
-
-    at_zero : (d o m : ℤ) → int_lt d (o +ℤ m) ≡ false → int_lt (o +ℤ m) (neg_ℤ d) ≡ false → IsWithin d ((pos 0 -ℤ o) -ℤ m)
-    at_zero d o m h k = record { low = grind (arith, ints); high = grind (arith, ints) }
-
-    by_tests : (over under : Bool) → int_lt damping (old +ℤ middle) ≡ over → int_lt (old +ℤ middle) (neg_ℤ damping) ≡ under
-        → IsWithin damping (((if over then (old +ℤ middle) -ℤ damping else (if under then (old +ℤ middle) +ℤ damping else pos 0)) -ℤ old) -ℤ middle)
-    by_tests true under is also = above damping old middle from
-    by_tests false true is also = below damping old middle from
-    by_tests false false is also = at_zero damping old middle is also
-
--- what a rate term that is neither cut nor missing grows by
-pub record Grows (values : List ℤ) (damping old value : ℤ) : Type 0 where
-  pub middle : ℤ
-  pub is : IsMidpoint values middle
-  pub near : IsWithin damping ((value -ℤ old) -ℤ middle)
-
-rate_middle : (old damping limit : ℤ) (values : List ℤ) (term : Term) → pos 0 ≤ℤ damping → IsRateTerm old damping limit values term → term.outcome ≡ Within
-    → Grows values damping old term.value
-rate_middle old damping limit values term from (inl none) uncut = absurd (let missing : Missing ≡ Within = sym (ap (λ (t : Term). t.outcome) none.1) ∙ uncut in cc missing)
-rate_middle old damping limit values term from (inr some) uncut =
-    let sum = damped damping (old +ℤ some.0) in
-    let value : term.value ≡ sum = ap (λ (t : Term). t.value) some.2 ∙ uncut_value limit sum (sym (ap (λ (t : Term). t.outcome) some.2) ∙ uncut) in
-    let Near : ℤ → Type 0 = λ v. IsWithin damping ((v -ℤ old) -ℤ some.0) in
-    record { middle = some.0; is = some.1; near = subst Near (sym value) (damped_near damping old some.0 from) }
 
 -- ---- the least of both channels
 
@@ -176,34 +123,24 @@ rates_keyed r n hears index value is = by (is_own n.own index) refl
 
 -- ---- the receivers of a double cycle
 
-module _ (x : Setting) (h : Cycles) (even odd : Cycle) (double : ℕ) (starts lengths reach : ℤ) (s : SpreadRows x h even odd double starts lengths reach) where
+-- what the nodes with rows of a double cycle behind some cycles hear of each other and apply, whatever says so
+pub record AreHearing (x : Setting) (h : Cycles) (even odd : Cycle) (reach : ℤ) : Type 0 where
+  pub round : IsRound (round_at x h even odd)
+  pub among : (node : NodeSpec) → HasRowIn x even node → Contains (row_nodes x h) node
+  pub hears : (node : NodeSpec) → Contains (row_nodes x h) node → IsHearer (round_at x h even odd) reach (hearer_at x even odd node)
+  pub offset : (node : NodeSpec) → Contains (row_nodes x h) node → IsMidpoint (offsets_of (hearer_at x even odd node)) (row_for odd.told.rows node.id).offset
+  pub grows :
+      (node : NodeSpec) → Contains (row_nodes x h) node
+      → Grows (rates_of (hearer_at x even odd node)) x.params.damping (row_for odd.told.rows node.id).rate (member_at x even odd node).rate_term.value
+
+module _ (x : Setting) (h : Cycles) (even odd : Cycle) (reach : ℤ) (s : AreHearing x h even odd reach) where
   sane : IsSane x.params
-  sane = s.covered.clocks.sane
-
-  round_is : IsRound (round_at x h even odd)
-  round_is = record {
-    sane = sane;
-    few = s.covered.clocks.few h;
-    regular = λ node there has. row_regular x h even odd double starts lengths reach s node (is_row_node x h node there has);
-  }
-
-  hearer_is : (node : NodeSpec) → Contains (row_nodes x h) node → IsHearer (round_at x h even odd) reach (hearer_at x even odd node)
-  hearer_is node among = record {
-    regular = row_regular x h even odd double starts lengths reach s node among;
-    suffices = s.limit;
-    near =
-        λ index slot other is.
-        let there = is_row_node x h other is.sender.there is.sender.rows in
-        actions_stay_near x.params starts lengths reach (pos (action_point_of x.params slot)) false (row_for even.told.rows other.id) (row_for odd.told.rows other.id) (row_for even.told.rows node.id) (row_for odd.told.rows node.id)
-        sane (row_runs x h even odd double starts lengths reach s other there) (row_runs x h even odd double starts lengths reach s node among)
-        (row_near x h even odd double starts lengths reach s node other among there) s.fits (no_less (action_point_of x.params slot)) (acts_before (round_at x h even odd) slot other sane is.sender);
-    supply = rows_hear x h even odd double starts lengths reach s node among;
-  }
+  sane = s.round.sane
 
   -- a node with a row and a key slot is a sender
   is_sender : (node : NodeSpec) (slot index : ℕ) → IsKeyedAt x even node slot index → IsSender (round_at x h even odd) node slot
   is_sender node slot index keyed =
-      let among = among_rows x h even odd double starts lengths reach s node keyed.has in
+      let among = s.among node keyed.has in
       let kept = filtered (λ (n : NodeSpec). has_row x h n.id) (correct_nodes x) node among in
       let correct = filtered (λ (n : NodeSpec). is_correct x n.id) x.params.nodes node keyed.has.correct in
       record { there = (correct_node x node keyed.has.correct).there; rows = rw (correct.1, kept.1) refl; key = keyed.key }
@@ -228,8 +165,8 @@ module _ (x : Setting) (h : Cycles) (even odd : Cycle) (double : ℕ) (starts le
       let r = round_at x h even odd in
       let n = hearer_at x even odd node in
       let from : IsFrom r index (sender_with r slot other.id) = record { slot = slot; node = other; from = sender; slot_is = slot_is; is = refl } in
-      let same : row_for odd.told.rows other.id ≡ row_for odd.told.rows node.id = own_odd r n index (sender_with r slot other.id) round_is (hearer_is node among).supply from own in
-      let lasts = micro_lasts x.params n.odd sane (hearer_is node among).regular.odd_micro in
+      let same : row_for odd.told.rows other.id ≡ row_for odd.told.rows node.id = own_odd r n index (sender_with r slot other.id) s.round (s.hears node among).supply from own in
+      let lasts = micro_lasts x.params n.odd sane (s.hears node among).regular.odd_micro in
       let At : NodeRow → Type 0 = λ row. IsDeviation x.params true (pos (action_point_of x.params slot)) (row_for odd.told.rows node.id) row (pos 0) in
       record {
         value = pos 0;
@@ -241,7 +178,7 @@ module _ (x : Setting) (h : Cycles) (even odd : Cycle) (double : ℕ) (starts le
       → SaysAt (told_offsets x even odd node) index (IsDeviation x.params true (pos (action_point_of x.params slot)) (row_for odd.told.rows node.id) (row_for odd.told.rows other.id))
   other_deviation node other slot index among is =
       let n = hearer_at x even odd node in
-      let supply = (hearer_is node among).supply in
+      let supply = (s.hears node among).supply in
       let heard = supply.heard index slot other is in
       let least =
       least_said (IsDeviation x.params true (pos (action_point_of x.params slot)) (row_for odd.told.rows node.id) (row_for odd.told.rows other.id)) (n.look index true A) (n.look index true B)
@@ -258,6 +195,70 @@ module _ (x : Setting) (h : Cycles) (even odd : Cycle) (double : ℕ) (starts le
       by true own = own_deviation node other slot index among (is_sender other slot index keyed) keyed.slot_is own
       by false differs = other_deviation node other slot index among (record { sender = is_sender other slot index keyed; slot_is = keyed.slot_is; other = differs })
 
+  pub computes_offset : (node : NodeSpec) → HasRowIn x even node → ComputesOffset x even odd node
+  computes_offset node has =
+      let among = s.among node has in
+      record {
+        own = λ slot index keyed. own_value (own_index x.params node.id) index (least_of ((hearer_at x even odd node).look index true A) ((hearer_at x even odd node).look index true B)) (own_at node slot index keyed);
+        heard = λ other slot index keyed. offset_heard node other slot index among keyed;
+        few = keyed_few x.params (told_offsets x even odd node) (offsets_keyed (round_at x h even odd) (hearer_at x even odd node) (s.hears node among).supply);
+        applied = s.offset node among;
+      }
+
+  -- ---- rates
+
+  rate_heard : (node other : NodeSpec) (slot index : ℕ) → Contains (row_nodes x h) node → IsKeyedAt x even other slot index
+      → SaysAt (told_rates x even odd node) index (PlacesLength x.params (row_for odd.told.rows node.id) (told_sender x even odd other slot))
+  rate_heard node other slot index among keyed =
+      let r = round_at x h even odd in
+      let told = rates_told r reach (hearer_at x even odd node) s.round (s.hears node among) in
+      let said = told.said index (sender_with r slot other.id) (sender_found r index slot other sane (is_sender other slot index keyed) keyed.slot_is) in
+      record { value = said.0; is = said.1; says = said.2 }
+
+  pub computes_rate : (whole : Cycles) (double : ℕ) (node : NodeSpec) → HasRowIn x even node
+      → ((next_even next_odd : Cycle) → HasDouble whole (suc double) next_even next_odd → (row_for next_even.told.rows node.id).rate ≡ (member_at x even odd node).rate_term.value)
+      → ComputesRate x whole double even odd node
+  computes_rate whole double node has next =
+      let among = s.among node has in
+      let n = hearer_at x even odd node in
+      let grows = s.grows node among in
+      record {
+        own = λ slot index keyed. own_value (own_index x.params node.id) index (mean_of (change_at n.look index A) (change_at n.look index B)) (own_at node slot index keyed);
+        heard = λ other slot index keyed. rate_heard node other slot index among keyed;
+        few = keyed_few x.params (told_rates x even odd node) (rates_keyed (round_at x h even odd) n (s.hears node among).supply);
+        middle = grows.middle;
+        is_middle = grows.is;
+        grown = λ next_even next_odd is.
+            let Near : ℤ → Type 0 = λ v. IsWithin x.params.damping ((v -ℤ (row_for odd.told.rows node.id).rate) -ℤ grows.middle) in
+            subst Near (sym (next next_even next_odd is)) grows.near;
+      }
+
+-- ---- where the rows lie as near as in sync
+
+module _ (x : Setting) (h : Cycles) (even odd : Cycle) (double : ℕ) (starts lengths reach : ℤ) (s : SpreadRows x h even odd double starts lengths reach) where
+  spread_sane : IsSane x.params
+  spread_sane = s.covered.clocks.sane
+
+  round_is : IsRound (round_at x h even odd)
+  round_is = record {
+    sane = spread_sane;
+    few = s.covered.clocks.few h;
+    regular = λ node there has. row_regular x h even odd double starts lengths reach s node (is_row_node x h node there has);
+  }
+
+  hearer_is : (node : NodeSpec) → Contains (row_nodes x h) node → IsHearer (round_at x h even odd) reach (hearer_at x even odd node)
+  hearer_is node among = record {
+    regular = row_regular x h even odd double starts lengths reach s node among;
+    suffices = s.limit;
+    near =
+        λ index slot other is.
+        let there = is_row_node x h other is.sender.there is.sender.rows in
+        actions_stay_near x.params starts lengths reach (pos (action_point_of x.params slot)) false (row_for even.told.rows other.id) (row_for odd.told.rows other.id) (row_for even.told.rows node.id) (row_for odd.told.rows node.id)
+        spread_sane (row_runs x h even odd double starts lengths reach s other there) (row_runs x h even odd double starts lengths reach s node among)
+        (row_near x h even odd double starts lengths reach s node other among there) s.fits (no_less (action_point_of x.params slot)) (acts_before (round_at x h even odd) slot other spread_sane is.sender);
+    supply = rows_hear x h even odd double starts lengths reach s node among;
+  }
+
   odd_active : (node : NodeSpec) → Contains (row_nodes x h) node → (row_for odd.told.rows node.id).state ≡ Active
   odd_active node among = each_row (row_nodes x h) odd.told.rows (λ row. row.state ≡ Active) node s.two.odd_rows.nodes among s.active_odd
 
@@ -269,28 +270,8 @@ module _ (x : Setting) (h : Cycles) (even odd : Cycle) (double : ℕ) (starts le
       subst (IsMidpoint values) (sym applied)
       (offset_middle x.params.offset_limit values term (offset_term_is_there x.params.offset_limit values) (offsets_uncut x h even odd double starts lengths reach s node among))
 
-  pub computes_offset : (node : NodeSpec) → HasRowIn x even node → ComputesOffset x even odd node
-  computes_offset node has =
-      let among = among_rows x h even odd double starts lengths reach s node has in
-      record {
-        own = λ slot index keyed. own_value (own_index x.params node.id) index (least_of ((hearer_at x even odd node).look index true A) ((hearer_at x even odd node).look index true B)) (own_at node slot index keyed);
-        heard = λ other slot index keyed. offset_heard node other slot index among keyed;
-        few = keyed_few x.params (told_offsets x even odd node) (offsets_keyed (round_at x h even odd) (hearer_at x even odd node) (hearer_is node among).supply);
-        applied = offset_applied node among;
-      }
-
-  -- ---- rates
-
-  rate_heard : (node other : NodeSpec) (slot index : ℕ) → Contains (row_nodes x h) node → IsKeyedAt x even other slot index
-      → SaysAt (told_rates x even odd node) index (PlacesLength x.params (row_for odd.told.rows node.id) (told_sender x even odd other slot))
-  rate_heard node other slot index among keyed =
-      let r = round_at x h even odd in
-      let told = rates_told r reach (hearer_at x even odd node) round_is (hearer_is node among) in
-      let said = told.said index (sender_with r slot other.id) (sender_found r index slot other sane (is_sender other slot index keyed) keyed.slot_is) in
-      record { value = said.0; is = said.1; says = said.2 }
-
   damping_from : pos 0 ≤ℤ x.params.damping
-  damping_from = let range = sane.ranges name.pClusterDriftDamping in omega (arith, ints, range.0)
+  damping_from = let range = spread_sane.ranges name.pClusterDriftDamping in omega (arith, ints, range.0)
 
   rate_grows : (node : NodeSpec) → Contains (row_nodes x h) node
       → Grows (rates_of (hearer_at x even odd node)) x.params.damping (row_for odd.told.rows node.id).rate (member_at x even odd node).rate_term.value
@@ -300,6 +281,15 @@ module _ (x : Setting) (h : Cycles) (even odd : Cycle) (double : ℕ) (starts le
       rate_middle old x.params.damping x.params.rate_limit values (member_at x even odd node).rate_term damping_from
       (rate_term_is_there old x.params.damping x.params.rate_limit values) (rates_uncut x h even odd double starts lengths reach s node among)
 
+  pub are_hearing : AreHearing x h even odd reach
+  are_hearing = record {
+    round = round_is;
+    among = among_rows x h even odd double starts lengths reach s;
+    hears = hearer_is;
+    offset = offset_applied;
+    grows = rate_grows;
+  }
+
 -- ---- the double cycle, with the cycles before it
 
 same_even : (h : Cycles) (double : ℕ) (even odd : Cycle) (earlier : Cycles) (e o : Cycle) → HasDouble h double even odd → IsDoubleOf h double earlier e o → e ≡ even
@@ -308,11 +298,11 @@ same_even h double even odd earlier e o has d = let same : Some e ≡ Some even 
 same_odd : (h : Cycles) (double : ℕ) (even odd : Cycle) (earlier : Cycles) (e o : Cycle) → HasDouble h double even odd → IsDoubleOf h double earlier e o → o ≡ odd
 same_odd h double even odd earlier e o has d = let same : Some o ≡ Some odd = sym (odd_is h double earlier e o d) ∙ has.has_odd in cc same
 
-record Here (h : Cycles) (double : ℕ) (even odd : Cycle) : Type 0 where
-  earlier : Cycles
-  is : IsDoubleOf h double earlier even odd
+pub record Here (h : Cycles) (double : ℕ) (even odd : Cycle) : Type 0 where
+  pub earlier : Cycles
+  pub is : IsDoubleOf h double earlier even odd
 
-here : (h : Cycles) (double : ℕ) (even odd : Cycle) → HasDouble h double even odd → Here h double even odd
+pub here : (h : Cycles) (double : ℕ) (even odd : Cycle) → HasDouble h double even odd → Here h double even odd
 here h double even odd has =
     let below : suc (2 * double) < length h = cycle_within h (suc (2 * double)) odd has.has_odd in
     let at = double_at h double (omega (arith, below)) in
@@ -326,11 +316,11 @@ here h double even odd has =
     }
 
 -- the next double cycle stands behind the same cycles
-record NextHere (h : Cycles) (double : ℕ) (even odd even2 odd2 : Cycle) : Type 0 where
-  earlier : Cycles
-  is : IsDoubleOf h (suc double) (odd ∷ even ∷ earlier) even2 odd2
+pub record NextHere (h : Cycles) (double : ℕ) (even odd even2 odd2 : Cycle) : Type 0 where
+  pub earlier : Cycles
+  pub is : IsDoubleOf h (suc double) (odd ∷ even ∷ earlier) even2 odd2
 
-next_here : (h : Cycles) (double : ℕ) (even odd even2 odd2 : Cycle) → HasDouble h double even odd → HasDouble h (suc double) even2 odd2
+pub next_here : (h : Cycles) (double : ℕ) (even odd even2 odd2 : Cycle) → HasDouble h double even odd → HasDouble h (suc double) even2 odd2
     → NextHere h double even odd even2 odd2
 next_here h double even odd even2 odd2 has next =
     let at = here h (suc double) even2 odd2 next in
@@ -365,10 +355,15 @@ synced_rows x h double earlier s d =
     spread_rows x h (part_of x h double s) double earlier s.synced.even s.synced.odd (pos (pi_of x.params)) (pos (lambda_of x.params)) (pos (reach_in x)) d
     (synced_are_spread x s.synced.even s.synced.odd s.covered s.synced.in_sync)
 
+synced_hear : (x : Setting) (h : Cycles) (double : ℕ) (earlier : Cycles) (s : IsSyncedRun x h double) → IsDoubleOf h double earlier s.synced.even s.synced.odd
+    → AreHearing x earlier s.synced.even s.synced.odd (pos (reach_in x))
+synced_hear x h double earlier s d =
+    are_hearing x earlier s.synced.even s.synced.odd double (pos (pi_of x.params)) (pos (lambda_of x.params)) (pos (reach_in x)) (synced_rows x h double earlier s d)
+
 pub offsets_are_midpoints : OffsetsAreMidpoints
 offsets_are_midpoints x h double s node has =
     let at = here h double s.synced.even s.synced.odd (has_double x h double s) in
-    computes_offset x at.earlier s.synced.even s.synced.odd double (pos (pi_of x.params)) (pos (lambda_of x.params)) (pos (reach_in x)) (synced_rows x h double at.earlier s at.is) node has
+    computes_offset x at.earlier s.synced.even s.synced.odd (pos (reach_in x)) (synced_hear x h double at.earlier s at.is) node has
 
 pub rates_grow_by_midpoints : RatesGrowByMidpoints
 rates_grow_by_midpoints x h double s node has =
@@ -379,23 +374,10 @@ rates_grow_by_midpoints x h double s node has =
     let reach = pos (reach_in x) in
     let two = has_double x h double s in
     let at = here h double even odd two in
-    let rows = synced_rows x h double at.earlier s at.is in
-    let among = among_rows x at.earlier even odd double pi lambda reach rows node has in
-    let hears = (hearer_is x at.earlier even odd double pi lambda reach rows node among).supply in
-    let grows = rate_grows x at.earlier even odd double pi lambda reach rows node among in
-    record {
-      own = λ slot index keyed. own_value (own_index x.params node.id) index (mean_of (change_at (hearer_at x even odd node).look index A) (change_at (hearer_at x even odd node).look index B)) (own_at x at.earlier even odd double pi lambda reach rows node slot index keyed);
-      heard = λ other slot index keyed. rate_heard x at.earlier even odd double pi lambda reach rows node other slot index among keyed;
-      few = keyed_few x.params (told_rates x even odd node) (rates_keyed (round_at x at.earlier even odd) (hearer_at x even odd node) hears);
-      middle = grows.middle;
-      is_middle = grows.is;
-      grown =
-          λ even2 odd2 next.
-          let there = next_here h double even odd even2 odd2 two next in
-          let here_rows = synced_rows x h double there.earlier s (prior_of h double there.earlier even odd even2 odd2 there.is) in
-          let n = next_rows x h (part_of x h double s) double there.earlier even odd even2 odd2 there.is in
-          let here_among = among_rows x there.earlier even odd double pi lambda reach here_rows node has in
-          let moves = row_moves x there.earlier even odd double pi lambda reach here_rows even2 odd2 n node here_among in
-          let Near : ℤ → Type 0 = λ v. IsWithin x.params.damping ((v -ℤ (row_for odd.told.rows node.id).rate) -ℤ grows.middle) in
-          subst Near (sym moves.next.even_rate) grows.near;
-    }
+    computes_rate x at.earlier even odd reach (synced_hear x h double at.earlier s at.is) h double node has
+    (λ even2 odd2 next.
+    let there = next_here h double even odd even2 odd2 two next in
+    let here_rows = synced_rows x h double there.earlier s (prior_of h double there.earlier even odd even2 odd2 there.is) in
+    let n = next_rows x h (part_of x h double s) double there.earlier even odd even2 odd2 there.is in
+    let here_among = among_rows x there.earlier even odd double pi lambda reach here_rows node has in
+    (row_moves x there.earlier even odd double pi lambda reach here_rows even2 odd2 n node here_among).next.even_rate)

@@ -10,6 +10,8 @@ pub mod ComputedGaps
 pub mod ComputedSenders
 pub mod ComputedLaws
 pub mod ComputedFaults
+pub mod JudgedRounds
+pub mod JudgedComputed
 pub mod SeenDoubles
 pub mod OwnOffsets
 pub mod SeenCourses

@@ -1,5 +1,6 @@
 ghost use Rattle.fr_seen_runs.specs.ComputedTerms.{OffsetsAreComputed, RatesAreComputed};
 ghost use Rattle.fr_seen_runs.specs.ComputedValues.{OffsetsAreMidpoints, RatesGrowByMidpoints};
+ghost use Rattle.fr_seen_runs.specs.JudgedTerms.{OffsetsAreComputedWhereJudged, RatesAreComputedWhereJudged};
 ghost use Rattle.fr_seen_runs.specs.SyncFaults.{FromSyncOn, HasNoOffsetFault, HasNoRateFault};
 
 use fr_course::{middles_hold, values_are_counted};
@@ -17,6 +18,17 @@ pub fn nodes_apply_midpoints()
 pub fn terms_are_computed()
     ensures offset { OffsetsAreComputed }
     ensures rate { RatesAreComputed }
+{
+    values_are_counted();
+    middles_hold();
+}
+
+/// The law of computed terms where a double cycle is judged by what is known of it, whoever has joined the run by then: of a
+/// log that is seen of the run, the offset term of each sender, and what its rate term grows by, in microticks, lie where
+/// the courses of the senders have it computed. No bound of a cluster in sync is asked for.
+pub fn judged_terms_are_computed()
+    ensures offset { OffsetsAreComputedWhereJudged }
+    ensures rate { RatesAreComputedWhereJudged }
 {
     values_are_counted();
     middles_hold();

@@ -19,14 +19,16 @@ from .packets import FRAME, UNSURE, Packet
 
 MAGIC = b"LOGG"
 CONTAINER = 10
-# Received frames, with how many bytes of fields stand before the payload.
-FRAMES = {50: 44, 66: 84}
-FIELDS = struct.Struct("<4H2I6H4I")
+# Received frames, with how many bytes of fields stand before the payload; those of 41 are other fields.
+FRAMES = {41: 32, 50: 44, 66: 84}
+FIELDS, OLDER_FIELDS, OLDER = struct.Struct("<4H2I6H4I"), struct.Struct("<HBB4I3H4BH"), 41
 STEPS = {1: 10000, 2: 1}
 CHANNELS = {1: "A", 2: "B", 3: "AB"}
 NULL, SYNC, STARTUP, PREAMBLE, ERROR = 0x01, 0x04, 0x08, 0x10, 0x40
-# FlexRay messages as older tools kept them: their form is not known here.
-OLDER = 41
+# Of objects 41: what the bits of their state are, and which channels their numbers are, where these are all that there are. The number 1
+# alone is A or B. They say nothing of a network.
+STATES = {0x01: PREAMBLE, 0x02: SYNC, 0x08: NULL, 0x10: STARTUP}
+NUMBERS = {(0,): {0: 1}, (0, 1): {0: 1, 1: 2}, (2,): {2: 2}, (1, 2): {1: 1, 2: 2}}
 # Objects that tools put between those that the head of a file counts.
 UNCOUNTED = 115
 # At most so many bytes stand behind an object, before the next one.
@@ -35,7 +37,6 @@ COUNT_AT = 32
 MISSING = "objects that the file says it has and that are not there"
 STRAY = "bytes that are of no object of the file"
 SHORTER = "bytes that objects of the file should have and that are not there"
-UNKNOWN = "FlexRay frames of an older form (objects 41)"
 # The error flag that packets of a capture have for a frame that was not coded as it should be.
 FLAWED = 0x02
 
@@ -185,23 +186,42 @@ def contents(path: str, data: bytes, most: int, losses: Losses) -> Iterator[byte
         yield piece
 
 
+def older_fields(item: bytes, head: int) -> tuple[int, ...]:
+    """The fields of an object 41 as those of the others, with the number of its channel in place of the channel."""
+    number, direction, _, _, _, _, _, slot, crc, state, length, cycle, *_ = OLDER_FIELDS.unpack_from(item, head)
+    flags = sum(flag for bit, flag in STATES.items() if state & bit)
+    return 0, 1, number, direction, 0, 0, slot, crc, crc, length, length, cycle, 0, flags, flags, 0
+
+
+def with_channels(path: str, older: list[Received]) -> None:
+    """Puts the channels of objects 41 in place of their numbers."""
+    numbers = tuple(sorted({frame.fields[2] for frame in older}))
+    if older and numbers not in NUMBERS:
+        listed = ", ".join(map(str, numbers))
+        raise Stop(REFUSED, f"{path}: its objects 41 have the channel numbers {listed}, and it is not known which these are (0 and 1, or 1 "
+                            "and 2, are A and B); convert it to ASC in the tool that wrote it")
+    for frame in older:
+        frame.fields = *frame.fields[:2], NUMBERS[numbers][frame.fields[2]], *frame.fields[3:]
+
+
 def received(path: str, most: int, losses: Losses) -> list[Received]:
     """The frames of a file in the order in which they stand there."""
     data = read(path, most, is_capture=True)
     length = struct.unpack_from("<I", data, 4)[0] if len(data) >= 8 else len(data)
     stated = struct.unpack_from("<I", data, COUNT_AT)[0] if len(data) >= COUNT_AT + 4 else 0
-    found, count = list[Received](), 0
+    found, older, count = list[Received](), list[Received](), 0
     for kind, item, head in objects(contents(path, data[length:], most, losses), losses):
         is_whole = len(item) >= 12 and len(item) == struct.unpack_from("<I", item, 8)[0]
         count += is_whole and kind != UNCOUNTED
-        losses.add(UNKNOWN, kind == OLDER)
         if kind in FRAMES and is_whole and len(item) >= max(32, head) + FRAMES[kind]:
             code, stamp = struct.unpack_from("<I4xQ", item, 16)
-            fields = FIELDS.unpack_from(item, head)
+            fields = older_fields(item, head) if kind == OLDER else FIELDS.unpack_from(item, head)
             if code in STEPS:
                 at = head + FRAMES[kind]
                 found.append(Received(code, stamp, fields, item[at:at + min(fields[9], fields[10])]))
+                older += found[-1:] if kind == OLDER else []
     losses.add(MISSING, stated - count)
+    with_channels(path, older)
     return found
 
 
@@ -224,9 +244,6 @@ def read_blf(path: str, most: int = LONGEST, bus: int | None = None) -> Binary:
     """What a file has, of one network; it unpacks to at most so many bytes."""
     losses = Losses()
     frames = of_bus(path, received(path, most, losses), bus)
-    if not frames and losses.found.get(UNKNOWN):
-        raise Stop(REFUSED, f"{path}: its FlexRay frames are objects 41, which flexlab does not read and tshark does: "
-                            "tshark -r FILE -F pcapng -w NEW.pcapng")
     proved = [frame for frame in frames if frame.header]
     place = max((0, 1), key=lambda place: sum(frame.is_told(frame.flags[place]) for frame in proved))
     found: list[Packet] = []

@@ -20,8 +20,9 @@ from ..pages.page import field as lines_of
 from ..program import calls as programs
 from ..runs.runs import keep
 from ..toml.cluster import Cluster, read_cluster
-from .observed import MOST_FAULTS, Part, Seen, least_judged, lower, parts_object, seen_in, upper
+from .observed import MOST_FAULTS, lower, upper
 from .observer import End, is_damaged, plain
+from .observing import Part, Seen, least_judged, parts_object, seen_in
 
 # The second log's files, in the folder of the first.
 SECOND = "second"

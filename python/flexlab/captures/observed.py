@@ -1,30 +1,18 @@
 """The page of `flexlab observe`: what flexray tells of a log, in microseconds and ppm, and its pictures."""
 from __future__ import annotations
 
-import os
-import re
-import sys
-from dataclasses import asdict, replace
+from dataclasses import asdict
 from fractions import Fraction
-from argparse import Namespace
 from collections.abc import Callable, Sequence
 from typing import Any, NamedTuple
 
-from flexray import texts
 from flexray.results import Observation, ObservedFault, ObservedNode
 
-from ..program import calls as programs
-from ..toml.cluster import Cluster, read_cluster
-from ..base.ending import DONE, NO, UNMET, USAGE, Stop, printable
-from ..base.files import hold, make_folder, parameter_lines, put
-from ..program.report import understood
-from ..pages.machine import printed
-from .observer import Frames, Log, Observer, analyzer_words, differences, left_lines, plain, taken, write_log
-from .parts import SILENCE, WORST, begins, parts_of, span_of
+from ..toml.cluster import Cluster
+from .observer import Log, analyzer_words, differences, left_lines, plain
 from ..pages.page import field as lines_of
 from ..pages.page import ms_of_cycle
 from ..pages.pictures import COLOURS, POINTS, draw, node_label, node_texts, plain_axes
-from ..runs.runs import answer, keep
 from ..base.units import TICKS, Number, decimal, us_of_ticks
 
 FATES = ("say where a clock was", "are damaged", "are of arbitrary nodes", "tell nothing of a clock",
@@ -276,13 +264,14 @@ def missed_lines(cluster: Cluster, told: Observation) -> list[str]:
         for node, channel, frames, missed in rows)) if rows else []
 
 
-def page_lines(cluster: Cluster, told: Observation, observer: Observer, frames: Frames, entries: int, name: str) -> list[str]:
-    keys = sum(node.key_slot is not None for node in cluster.nodes.values())
-    found = lines_of("Log", f"{name}: {entries} frames of key slots")
+def page_lines(cluster: Cluster, told: Observation, log: Log, name: str, more: Sequence[str] = ()) -> list[str]:
+    """The page of a log, with more lines behind its contradictions."""
+    frames, keys = log.frames, sum(node.key_slot is not None for node in cluster.nodes.values())
+    found = lines_of("Log", f"{name}: {log.entries} frames of key slots")
     found += lines_of("Cluster", f"{len(cluster.nodes)} nodes, {keys} with a key slot; cycles of "
                                  f"{decimal(ms_of_cycle(1, cluster), 3)} ms; a microtick is "
                                  f"{plain(cluster.microtick_ns)} ns")
-    found += lines_of("Analyzer", analyzer_words(observer, frames))
+    found += lines_of("Analyzer", analyzer_words(log.observer, frames))
     found += lines_of("Frames", ", ".join(f"{count} {fate}" for count, fate in zip(asdict(told.log).values(), FATES)))
     found += left_lines(frames)
     if differs := differences(cluster, frames):
@@ -292,16 +281,16 @@ def page_lines(cluster: Cluster, told: Observation, observer: Observer, frames: 
                                     f"precision, {told.over} over it, {told.open} open")
     found += missed_lines(cluster, told)
     found += lines_of("Precision", f"{decimal(us_of_ticks(told.precision, cluster.microtick_ns), 3)} us")
-    return (found + skew_lines(cluster, told) + verdict_lines(cluster, told) + fault_lines(cluster, told)
-            + node_lines(cluster, told) + lines_of("Origin", ORIGIN))
+    return [*found, *skew_lines(cluster, told), *verdict_lines(cluster, told), *fault_lines(cluster, told), *more,
+            *node_lines(cluster, told), *lines_of("Origin", ORIGIN)]
 
 
-def observed_object(cluster: Cluster, told: Observation, frames: Frames, entries: int) -> dict[str, Any]:
+def observed_object(cluster: Cluster, told: Observation, log: Log) -> dict[str, Any]:
     """A log as an object: names stand in docs/FLEXLAB.md, "For machines"."""
     def us(ticks: int | None, rounded: Callable[[Number, int], str]) -> float | None:
         return None if ticks is None else float(rounded(us_of_ticks(ticks, cluster.microtick_ns), 6))
     return {
-        "names": cluster.names, "entries": entries, "left_out": frames.left, "differs": differences(cluster, frames),
+        "names": cluster.names, "entries": log.entries, "left_out": log.frames.left, "differs": differences(cluster, log.frames),
         "precision": {"ticks": told.precision},
         "log": asdict(told.log), "said": {"within": told.within, "over": told.over, "open": told.open}, "verdict": told.verdict,
         "judged": told.judged, "double_cycles": told.doubles, "sync": told.sync, "covered": told.covered, "numbers": told.numbers,
@@ -369,131 +358,3 @@ def draw_observed(cluster: Cluster, told: Observation, folder: str, name: str) -
     if told.nodes:
         drawn += draw(folder, "observed-nodes", nodes_script(cluster, told), "1000,860", file=name, **node_texts(cluster))
     return drawn
-
-
-# ---- the request
-
-
-def least_judged(text: str | None) -> int | None:
-    """How many double cycles `--require judged=COUNT` wants to be judged."""
-    if text is None:
-        return None
-    if not re.fullmatch(r"judged=[0-9]{1,9}", text):
-        raise Stop(USAGE, f"--require {printable(text)}: it is none of judged=COUNT")
-    return int(text.removeprefix("judged="))
-
-
-def status_of(told: Observation, wanted: int | None) -> int:
-    """Done where all is judged to the end and within the precision, or, where so many double cycles have to be judged, where these are
-    and nothing is contradicted or over it."""
-    word = told.verdict[0]
-    if wanted is None or word in ("no", "over"):
-        return DONE if word == "within" else NO
-    if told.judged < wanted:
-        print(f"flexlab: not met: judged={wanted}: {told.judged} of {told.doubles} double cycles are judged", file=sys.stderr)
-        return UNMET
-    return NO if word == "open" else DONE
-
-
-class Part(NamedTuple):
-    """A log and what flexray tells of it, with the folder that has both."""
-    log: Log
-    told: Observation
-    folder: str
-
-
-def asked(program: str, cluster: Cluster, params: str, folder: str, log: tuple[Observer, Frames]) -> Part:
-    """Writes a log into the folder, and asks flexray for what it tells."""
-    path = os.path.join(folder, "log.csv")
-    written = write_log(cluster, path, *log)
-    text = answer(program, ["observe", params, path], cluster=cluster)
-    keep(folder, "observed.csv", text)
-    return Part(written, understood(texts.observation, "log", text), folder)
-
-
-def all_parts(program: str, cluster: Cluster, params: str, folder: str, observer: Observer, frames: Frames) -> list[Part]:
-    """The log as one, or each of its parts, where frames come behind a silence."""
-    one = asked(program, cluster, params, folder, (observer, replace(frames, left=dict(frames.left))))
-    cuts = begins(cluster, frames) if one.told.log.behind else []
-    if not cuts:
-        return [one]
-    found = []
-    for number, part in enumerate(parts_of(observer, frames, cuts), 1):
-        place = os.path.join(folder, f"part-{number}")
-        make_folder(place)
-        found.append(asked(program, cluster, params, place, part))
-    return found
-
-
-def pages_of(cluster: Cluster, parts: list[Part], name: str) -> list[str]:
-    """The page of a log, or those of its parts, each behind its span, and then how their verdicts are."""
-    pages = [page_lines(cluster, part.told, *part.log[:2], part.log.entries, name) for part in parts]
-    if len(parts) == 1:
-        return pages[0]
-    found, spans, verdicts = list[str](), spans_of(parts), [part.told.verdict[0] for part in parts]
-    for number, (page, span) in enumerate(zip(pages, spans), 1):
-        found += lines_of("Part", f"{number} of {len(parts)}: {span}") + page + [""]
-    counts = ", ".join(f"{verdicts.count(word)} {word}" for word in WORST if word in verdicts)
-    return found + lines_of("Parts", f"{len(parts)}, since behind a silence of more than {SILENCE} cycles a count begins anew: {counts}. "
-                                     "Each may be of a history of its own: nothing is said across a silence")
-
-
-def spans_of(parts: list[Part]) -> list[str]:
-    zero = min(frame.ns for part in parts for frame in part.log.frames.found)
-    return [span_of(part.log.frames, zero) for part in parts]
-
-
-def parts_object(cluster: Cluster, parts: list[Part]) -> dict[str, Any]:
-    """That of the part whose verdict is worst, and of several parts all of them."""
-    found = [observed_object(cluster, part.told, part.log.frames, part.log.entries) for part in parts]
-    worst = min(range(len(parts)), key=lambda place: WORST.index(parts[place].told.verdict[0]))
-    several = [{**one, "span": span, "folder": part.folder} for one, span, part in zip(found, spans_of(parts), parts)]
-    return {**found[worst], "parts": several if len(parts) > 1 else []}
-
-
-class Seen(NamedTuple):
-    """A file, and what flexray tells of its log, or of those of its parts."""
-    cluster: Cluster
-    parts: list[Part]
-    name: str
-
-    @property
-    def page(self) -> list[str]:
-        return pages_of(self.cluster, self.parts, self.name)
-
-    @property
-    def files(self) -> str:
-        several = "" if len(self.parts) == 1 else f", and of each part in part-1 to part-{len(self.parts)}"
-        return f"params.csv, log.csv, observed.csv, observed.txt{several}"
-
-    def drawn(self) -> list[str]:
-        return [path for part in self.parts for path in draw_observed(self.cluster, part.told, part.folder, self.name)]
-
-    def status(self, wanted: int | None) -> int:
-        statuses = [status_of(part.told, wanted) for part in self.parts]
-        return NO if NO in statuses else max(statuses)
-
-
-def seen_in(program: str, cluster: Cluster, words: Namespace, folder: str) -> Seen:
-    """Asks flexray for what the file tells, whose log and text go into the folder, with its page."""
-    params = os.path.join(folder, "params.csv")
-    put(params, "".join(parameter_lines(cluster)), "ascii")
-    seen = Seen(cluster, all_parts(program, cluster, params, folder, *taken(cluster, words)), os.path.basename(words.file))
-    keep(folder, "observed.txt", "\n".join(seen.page) + "\n")
-    return seen
-
-
-def observe(words: Namespace, folder: str) -> int:
-    wanted = least_judged(words.require)
-    program, cluster = programs.flexray(words.flexray, "observe"), read_cluster(words.cluster)
-    hold(folder)
-    seen = seen_in(program, cluster, words, folder)
-    drawn = seen.drawn() if words.pictures else []
-    if words.json:
-        printed({**parts_object(cluster, seen.parts), "folder": folder, "pictures": drawn})
-    else:
-        print("\n".join(seen.page))
-        print(f"{'Files':<16}{folder}/: {seen.files}")
-        for path in drawn:
-            print(f"{'Picture':<16}{path}")
-    return seen.status(wanted)

@@ -12,12 +12,13 @@ from collections.abc import Iterator
 from dataclasses import dataclass, field
 from fractions import Fraction
 from functools import cached_property
+from math import gcd
 from typing import Any, NamedTuple
 from argparse import Namespace
 
 from ..base import ranges
 from .asc import UNPROVED, read_asc
-from .blf import MAGIC, MISSING, SHORTER, STRAY, UNKNOWN, read_blf
+from .blf import MAGIC, MISSING, SHORTER, STRAY, read_blf
 from .capture import load, sort_packets, spans
 from ..base.ending import NO, REFUSED, USAGE, Refused, Stop, printable
 from ..base.files import LONGEST, MIB, check_is_file, named_faults, put, text_of
@@ -31,11 +32,13 @@ from ..toml.source import Source
 from ..base.units import TICKS, Number, decimal
 
 LAST_STAMP = 9 * 10**17
+# So many bytes of what a log may have are left for a row that names a node more arbitrary.
+ROOM = 32
 WANTED = ("a table [observer] states what is known of the analyzer: resolution_ns, drift_ppm, delay_from_ns and "
           "delay_to_ns; docs/FLEXLAB.md, \"Logs\", has more")
 SHORT, FLAWED = "frames that are not as long as they say", "frames without a trailer, with an error flag"
 REQUESTED = "frames that may be mere requests to transmit"
-LOSSES = (SHORT, FLAWED, UNPROVED, REQUESTED, MISSING, SHORTER, STRAY, UNKNOWN)
+LOSSES = (SHORT, FLAWED, UNPROVED, REQUESTED, MISSING, SHORTER, STRAY)
 OUTSIDE = "frames before --from or from --to on"
 # A counter of stamps has so many values. It is taken to begin anew where a stamp from its last part is followed by one of its first.
 WRAP = 1 << 32
@@ -109,10 +112,14 @@ class Frames:
 
 
 class Log(NamedTuple):
-    """A log that was written: its observer, its frames, and how many entries it has."""
+    """A log that was written: its observer, its frames, how many entries it has; its unit in ticks, and what a stamp is off beside it; and
+    of how many units all stamps are multiples, 0 where all are 0."""
     observer: Observer
     frames: Frames
     entries: int
+    unit: int
+    error: int
+    grain: int
 
 
 def is_damaged(channel: str, data: bytes, is_all: bool) -> bool:
@@ -402,8 +409,8 @@ def entry_lines(cluster: Cluster, frames: Frames, unit: int) -> Iterator[str]:
             yield f"{kind},{stamp},{channel},{kept.hex().upper()},\n"
 
 
-def log_of(cluster: Cluster, observer: Observer, frames: Frames) -> tuple[str, int]:
-    """The text of the log, and how many entries it has."""
+def log_of(cluster: Cluster, observer: Observer, frames: Frames) -> tuple[str, Log]:
+    """The text of the log, and what is said of it."""
     if not frames.found:
         raise Stop(NO, f"{frames.path}: there is no frame that could be used")
     unit, error = step_ticks(observer, frames.step, cluster.microtick_ns)
@@ -411,15 +418,15 @@ def log_of(cluster: Cluster, observer: Observer, frames: Frames) -> tuple[str, i
         raise Stop(REFUSED, f"{cluster.path}: by [observer] and the steps of {frames.path} a stamp is off by {error} "
                             f"ticks, and a log takes at most {MOST_TICKS}")
     lines = list(head_lines(cluster, observer, frames, unit, error))
-    size, entries = sum(map(len, lines)), 0
+    size, entries, grain = sum(map(len, lines)), 0, 0
     for line in entry_lines(cluster, frames, unit):
         size += len(line)
-        if size > ranges.FILE_BYTES:
+        if size > ranges.FILE_BYTES - ROOM:
             frames.leave("frames behind those that fit into a log")
         else:
             lines.append(line)
-            entries += 1
-    return "".join(lines), entries
+            entries, grain = entries + 1, gcd(grain, int(line.split(",", 2)[1]))
+    return "".join(lines), Log(observer, frames, entries, unit, error, grain)
 
 
 def differences(cluster: Cluster, frames: Frames) -> list[str]:
@@ -463,10 +470,10 @@ def taken(cluster: Cluster, words: Namespace) -> tuple[Observer, Frames]:
 
 
 def write_log(cluster: Cluster, path: str, observer: Observer, frames: Frames) -> Log:
-    """Writes a log: its observer, its frames, and how many entries it has."""
-    text, entries = log_of(cluster, observer, frames)
+    """Writes a log, and hands back what is said of it."""
+    text, log = log_of(cluster, observer, frames)
     put(path, text, "ascii")
-    return Log(observer, frames, entries)
+    return log
 
 
 def analyzer_words(observer: Observer, frames: Frames) -> str:

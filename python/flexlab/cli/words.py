@@ -297,6 +297,9 @@ def parser() -> argparse.ArgumentParser:
                               "of all parts")
     observe.add_argument("-o", "--out", metavar="FOLDER", help="where files go (CAPTURE.lab beside the capture)")
     observe.add_argument("-p", "--pictures", action="store_true", help="draw skew, rates and offset terms, by gnuplot")
+    observe.add_argument("--blame", action="store_true",
+                         help="name each node arbitrary in turn, and tell with which of them a contradiction is left; without it that is "
+                              "done where a contradiction asks for sync")
     observe.add_argument("--require", metavar="judged=COUNT",
                          help="status 0 where the verdict is partly, too, and status 7 where fewer double cycles are judged; where it "
                               "is no or over the status stays 1")
@@ -494,15 +497,15 @@ def do_log(words: argparse.Namespace) -> int:
     from ..pages.page import field
     path = folder_of(words, ".log.csv")
     cluster = read_cluster(words.cluster)
-    observer, frames, entries = write_log(cluster, path, *taken(cluster, words))
-    print("\n".join(field("Log", f"{path}: {entries} frames of key slots") + field("Analyzer", analyzer_words(observer, frames))
-                    + left_lines(frames)))
+    log = write_log(cluster, path, *taken(cluster, words))
+    print("\n".join(field("Log", f"{path}: {log.entries} frames of key slots")
+                    + field("Analyzer", analyzer_words(log.observer, log.frames)) + left_lines(log.frames)))
     return DONE
 
 
 def do_observe(words: argparse.Namespace) -> int:
     from ..captures.both import observe_both
-    from ..captures.observed import observe
+    from ..captures.observing import observe
     if words.shift is not None and not words.second:
         raise Stop(USAGE, "--shift is of a second log, and no --second names one")
     return (observe_both if words.second else observe)(words, folder_of(words))

@@ -1,0 +1,61 @@
+"""Hints at what may be stated wrongly of an analyzer, by a log and what flexray tells of it. They are no contradictions, and no proof."""
+from __future__ import annotations
+
+from fractions import Fraction
+from typing import Any, NamedTuple
+
+from flexray.results import Observation
+
+from ..base.units import TICKS
+from ..pages.page import field as lines_of
+from ..toml.cluster import Cluster
+from .observed import IRREGULAR
+from .observer import Log, plain
+
+# Of fewer stamps a common divisor may be chance, and of fewer nodes what most of them have.
+STAMPS, NODES = 16, 3
+
+
+class First(NamedTuple):
+    """The first double cycle that has contradictions, its nodes that have one, and of how many nodes it says something. Irregular frames
+    are left aside: of these no analyzer is the cause."""
+    double: int
+    nodes: list[int]
+    of: int
+
+    @property
+    def is_most(self) -> bool:
+        return self.of >= NODES and 2 * len(self.nodes) > self.of
+
+
+def first_of(told: Observation) -> First | None:
+    faults = [fault for fault in told.faults if fault.kind not in IRREGULAR]
+    if not faults:
+        return None
+    double = faults[0].cycle // 2
+    nodes = {fault.node for fault in faults if fault.cycle // 2 == double and fault.node is not None}
+    return First(double, sorted(nodes), len(nodes | {row.node for row in told.nodes if row.double == double}))
+
+
+def grain_of(log: Log) -> int | None:
+    """Of how many units all stamps of a log are multiples, counted from one of them."""
+    return log.grain if log.entries >= STAMPS else None
+
+
+def hint_lines(cluster: Cluster, log: Log, told: Observation) -> list[str]:
+    found, grain, first = [], grain_of(log), first_of(told)
+    if grain and log.error < (grain - 1) * log.unit:
+        unit = log.unit * Fraction(cluster.microtick_ns) / TICKS
+        found.append(f"all stamps are multiples of {plain(grain * unit)} ns, counted from the first frame: if the analyzer counts in such "
+                     f"steps, state resolution_ns = {plain(grain * unit)}, which is an error of {grain - 1} units of {plain(unit)} ns")
+    if first and first.is_most:
+        found.append(f"{len(first.nodes)} of {first.of} nodes have a contradiction in the first double cycle that has one, {first.double}: "
+                     "look first at what is stated of the analyzer, as the limits of delays, the error and the drift")
+    return lines_of("Hint", *found) if found else []
+
+
+def hints_object(log: Log, told: Observation) -> dict[str, Any]:
+    """As an object: names stand in docs/FLEXLAB.md, "For machines"."""
+    first = first_of(told)
+    return {"grain": {"units": grain_of(log), "unit_ticks": log.unit, "error_ticks": log.error},
+            "first": None if first is None else {"double_cycle": first.double, "nodes": first.nodes, "of": first.of}}

@@ -1,0 +1,177 @@
+"""The request `flexlab observe`: a log as one or in parts, what flexray tells of each, and which node it may have been."""
+from __future__ import annotations
+
+import contextlib
+import os
+import re
+import sys
+from argparse import Namespace
+from collections.abc import Sequence
+from dataclasses import replace
+from typing import Any, NamedTuple
+
+from flexray import texts
+from flexray.results import Observation
+
+from ..base.ending import DONE, NO, UNMET, USAGE, Stop, printable
+from ..base.files import hold, make_folder, parameter_lines, put
+from ..pages.machine import printed
+from ..pages.page import field as lines_of
+from ..program import calls as programs
+from ..program.report import understood
+from ..runs.runs import answer, keep
+from ..toml.cluster import Cluster, read_cluster
+from .blame import BLAME, Blamed, blame_lines, blame_object, blame_rows, blamed, is_asked
+from .hints import hint_lines, hints_object
+from .observed import draw_observed, observed_object, page_lines
+from .observer import Frames, Log, Observer, taken, write_log
+from .parts import SILENCE, WORST, begins, parts_of, span_of
+
+LOG = "log.csv"
+
+
+def least_judged(text: str | None) -> int | None:
+    """How many double cycles `--require judged=COUNT` wants to be judged."""
+    if text is None:
+        return None
+    if not re.fullmatch(r"judged=[0-9]{1,9}", text):
+        raise Stop(USAGE, f"--require {printable(text)}: it is none of judged=COUNT")
+    return int(text.removeprefix("judged="))
+
+
+def status_of(told: Observation, wanted: int | None) -> int:
+    """Done where all is judged to the end and within the precision, or, where so many double cycles have to be judged, where these are
+    and nothing is contradicted or over it."""
+    word = told.verdict[0]
+    if wanted is None or word in ("no", "over"):
+        return DONE if word == "within" else NO
+    if told.judged < wanted:
+        print(f"flexlab: not met: judged={wanted}: {told.judged} of {told.doubles} double cycles are judged", file=sys.stderr)
+        return UNMET
+    return NO if word == "open" else DONE
+
+
+class Part(NamedTuple):
+    """A log and what flexray tells of it, with the folder that has both."""
+    log: Log
+    told: Observation
+    folder: str
+    blame: Sequence[Blamed] = ()
+
+    def page(self, cluster: Cluster, name: str) -> list[str]:
+        more = blame_lines(cluster, self.blame) + hint_lines(cluster, self.log, self.told)
+        return page_lines(cluster, self.told, self.log, name, more)
+
+    def object(self, cluster: Cluster) -> dict[str, Any]:
+        return {**observed_object(cluster, self.told, self.log), "blame": blame_object(self.blame), **hints_object(self.log, self.told)}
+
+
+def asked(program: str, cluster: Cluster, params: str, folder: str, log: tuple[Observer, Frames]) -> Part:
+    """Writes a log into the folder, and asks flexray for what it tells."""
+    path = os.path.join(folder, LOG)
+    written = write_log(cluster, path, *log)
+    text = answer(program, ["observe", params, path], cluster=cluster)
+    keep(folder, "observed.csv", text)
+    return Part(written, understood(texts.observation, "log", text), folder)
+
+
+def all_parts(program: str, cluster: Cluster, params: str, folder: str, observer: Observer, frames: Frames) -> list[Part]:
+    """The log as one, or each of its parts, where frames come behind a silence."""
+    one = asked(program, cluster, params, folder, (observer, replace(frames, left=dict(frames.left))))
+    cuts = begins(cluster, frames) if one.told.log.behind else []
+    if not cuts:
+        return [one]
+    found = []
+    for number, part in enumerate(parts_of(observer, frames, cuts), 1):
+        place = os.path.join(folder, f"part-{number}")
+        make_folder(place)
+        found.append(asked(program, cluster, params, place, part))
+    return found
+
+
+def with_blame(program: str, cluster: Cluster, params: str, part: Part, always: bool) -> Part:
+    """A part with what is told of each node, which goes into its folder; one of an earlier call goes away."""
+    path = os.path.join(part.folder, BLAME)
+    if not is_asked(part.told, always):
+        with contextlib.suppress(FileNotFoundError):
+            os.unlink(path)
+        return part
+    found = blamed(program, cluster, params, os.path.join(part.folder, LOG))
+    put(path, "".join(blame_rows(found)), "ascii")
+    return part._replace(blame=found)
+
+
+def pages_of(cluster: Cluster, parts: list[Part], name: str) -> list[str]:
+    """The page of a log, or those of its parts, each behind its span, and then how their verdicts are."""
+    pages = [part.page(cluster, name) for part in parts]
+    if len(parts) == 1:
+        return pages[0]
+    found, spans, verdicts = list[str](), spans_of(parts), [part.told.verdict[0] for part in parts]
+    for number, (page, span) in enumerate(zip(pages, spans), 1):
+        found += lines_of("Part", f"{number} of {len(parts)}: {span}") + page + [""]
+    counts = ", ".join(f"{verdicts.count(word)} {word}" for word in WORST if word in verdicts)
+    return found + lines_of("Parts", f"{len(parts)}, since behind a silence of more than {SILENCE} cycles a count begins anew: {counts}. "
+                                     "Each may be of a history of its own: nothing is said across a silence")
+
+
+def spans_of(parts: list[Part]) -> list[str]:
+    zero = min(frame.ns for part in parts for frame in part.log.frames.found)
+    return [span_of(part.log.frames, zero) for part in parts]
+
+
+def parts_object(cluster: Cluster, parts: list[Part]) -> dict[str, Any]:
+    """That of the part whose verdict is worst, and of several parts all of them."""
+    found = [part.object(cluster) for part in parts]
+    worst = min(range(len(parts)), key=lambda place: WORST.index(parts[place].told.verdict[0]))
+    several = [{**one, "span": span, "folder": part.folder} for one, span, part in zip(found, spans_of(parts), parts)]
+    return {**found[worst], "parts": several if len(parts) > 1 else []}
+
+
+class Seen(NamedTuple):
+    """A file, and what flexray tells of its log, or of those of its parts."""
+    cluster: Cluster
+    parts: list[Part]
+    name: str
+
+    @property
+    def page(self) -> list[str]:
+        return pages_of(self.cluster, self.parts, self.name)
+
+    @property
+    def files(self) -> str:
+        several = "" if len(self.parts) == 1 else f", and of each part in part-1 to part-{len(self.parts)}"
+        blame = f", {BLAME}" if any(part.blame for part in self.parts) else ""
+        return f"params.csv, log.csv, observed.csv{blame}, observed.txt{several}"
+
+    def drawn(self) -> list[str]:
+        return [path for part in self.parts for path in draw_observed(self.cluster, part.told, part.folder, self.name)]
+
+    def status(self, wanted: int | None) -> int:
+        statuses = [status_of(part.told, wanted) for part in self.parts]
+        return NO if NO in statuses else max(statuses)
+
+
+def seen_in(program: str, cluster: Cluster, words: Namespace, folder: str) -> Seen:
+    """Asks flexray for what the file tells, whose log and text go into the folder, with its page."""
+    params = os.path.join(folder, "params.csv")
+    put(params, "".join(parameter_lines(cluster)), "ascii")
+    parts = all_parts(program, cluster, params, folder, *taken(cluster, words))
+    seen = Seen(cluster, [with_blame(program, cluster, params, part, words.blame) for part in parts], os.path.basename(words.file))
+    keep(folder, "observed.txt", "\n".join(seen.page) + "\n")
+    return seen
+
+
+def observe(words: Namespace, folder: str) -> int:
+    wanted = least_judged(words.require)
+    program, cluster = programs.flexray(words.flexray, "observe"), read_cluster(words.cluster)
+    hold(folder)
+    seen = seen_in(program, cluster, words, folder)
+    drawn = seen.drawn() if words.pictures else []
+    if words.json:
+        printed({**parts_object(cluster, seen.parts), "folder": folder, "pictures": drawn})
+    else:
+        print("\n".join(seen.page))
+        print(f"{'Files':<16}{folder}/: {seen.files}")
+        for path in drawn:
+            print(f"{'Picture':<16}{path}")
+    return seen.status(wanted)

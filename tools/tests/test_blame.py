@@ -1,0 +1,294 @@
+"""Which node it may have been: logs of networks whose nodes correct wrongly (tools/tests/clocks_peer.py) are held against each node, and what
+is told of it is what another program reckons of that log; and hints at what is stated wrongly of an analyzer. FLEXLAB_BLAME_LOGS is
+how many networks are taken (6)."""
+import dataclasses
+import json
+import os
+import random
+import unittest
+import unittest.mock
+
+import clocks_peer as clocks
+import observe_peer as peer
+from bench import Bench
+from flexlab.captures import blame, hints, observer
+from flexlab.toml.cluster import read_cluster
+from flexray import texts
+
+LOGS = int(os.environ.get("FLEXLAB_BLAME_LOGS", "6"))
+COLUMNS = ("--columns", "time=Time,channel=Channel,bytes=Data", "--time-unit", "ns")
+HEAD = "node,says,cycle,kind,other,judged,double_cycles"
+
+
+def toml_of(network, arbitrary=()):
+    """The file of a network, with an analyzer whose stamps are of 1 ns and who knows delays to 1 ns."""
+    limits = {"xRateBound": "oscillator_ppm", "xChangeBound": "change_ppm_per_cycle", "xDelayError": "delay_error_microticks"}
+    values = [(name, value) for name, value in network.values.items() if name not in limits]
+    nodes = "".join(f'[[node]]\nid = {node + 1}\nkey_slot = {slot}\nchannels = "AB"\ncoldstart = true\n'
+                    + "arbitrary = true\n" * (node + 1 in arbitrary) for node, slot in enumerate(network.slots))
+    return ("[bench]\nmicrotick_ns = 25\n[cluster]\n" + "".join(f"{name} = {value}\n" for name, value in values)
+            + "[limits]\n" + "".join(f"{key} = {network.values[name]}\n" for name, key in limits.items())
+            + f"[run]\ndouble_cycles = {network.doubles}\n{nodes}[observer]\nresolution_ns = 1\ndrift_ppm = 0\njitter_ns = 0\n"
+            + f"missed_none = true\ndelay_from_ns = 25\ndelay_to_ns = 26\n")
+
+
+class Log(Bench):
+    def network(self, seed, doubles=20, least=4):
+        """A network of so many nodes at least."""
+        draw = random.Random(seed)
+        while len((found := clocks.any_oscillators(draw, doubles)).slots) < least:
+            pass
+        return found
+
+    def table(self, network, rows, changed=lambda ns, node, channel: ns, seed=1):
+        """The table of an analyzer that sees these rows; `changed` has what it makes of a stamp."""
+        keys = {slot: node + 1 for node, slot in enumerate(network.slots)}
+        found = []
+        for line in network.log(random.Random(seed), rows, 40_000, 40_000).splitlines():
+            kind, stamp, channel, data, _ = line.split(",")
+            if kind == "head":
+                node = keys[(int(data[:2], 16) & 7) << 8 | int(data[2:4], 16)]
+                found.append((changed(int(stamp), node, channel), channel, data))
+        self.write("bus.csv", "Time,Channel,Data\n" + "".join(f"{ns},{channel},{data}\n" for ns, channel, data in sorted(found)))
+
+    def observe(self, *words, status=1):
+        return self.flexlab("observe", *COLUMNS, "-o", "seen", "bus.csv", "net.toml", *words, status=status)[0]
+
+    def object(self, *words, status=1):
+        return json.loads(self.observe("--json", *words, status=status))
+
+    def held(self, found):
+        """Holds what is told of each node against the other program, and hands it back by node."""
+        params = peer.Params(peer.rows_of(self.path("seen", "params.csv")))
+        for one in found["blame"]:
+            log = peer.Log(peer.rows_of(self.path("seen", "log.csv")))
+            log.arbitrary.add(one["node"])
+            rows = peer.observe(params, log)
+            faults, sync = [row for row in rows if row[0] == "fault"], next(row for row in rows if row[0] == "sync")
+            self.assertEqual((one["judged"], one["double_cycles"]), (sync[3], sync[4]))
+            said = [None if field == "-" else field for field in (
+                ["out", faults[0][1], faults[0][3], faults[0][2]] if faults else
+                ["left", "-", "-", "-"] if sync[3] else ["open", sync[6], sync[5], sync[7]])]
+            self.assertEqual([one[name] for name in ("says", "cycle", "kind", "other")], said)
+        lines = self.read("seen", blame.BLAME).splitlines()
+        self.assertEqual(lines[0], HEAD)
+        self.assertEqual(lines[1:], [",".join("" if one[name] is None else str(one[name]) for name in HEAD.split(","))
+                                     for one in found["blame"]])
+        return {one["node"]: one["says"] for one in found["blame"]}
+
+
+class Blame(Log):
+    def test_a_node_that_corrects_wrongly(self):
+        """It cannot be excluded, since a run in which it is arbitrary gave the log. Mostly all others are out."""
+        alone = 0
+        for seed in range(LOGS):
+            with self.subTest(seed=seed):
+                draw, network = random.Random(seed), self.network(seed)
+                node = draw.choice(network.nodes)
+                self.write("net.toml", toml_of(network))
+                self.table(network, network.rows(lambda double, it: 40 if it == node and double >= 12 else 0))
+                found = self.object()
+                self.assertEqual((found["verdict"][0], found["faults"][0]["kind"]), ("no", "offset"))
+                said = self.held(found)
+                self.assertEqual(sorted(said), [it + 1 for it in network.nodes])
+                self.assertEqual(said[node + 1], "left")
+                alone += list(said.values()).count("left") == 1
+        self.assertGreater(alone, LOGS // 2)
+
+    def test_the_page(self):
+        network = self.network(3)
+        self.assertEqual(len(network.slots), 4)
+        self.write("net.toml", toml_of(network))
+        self.table(network, network.rows(lambda double, it: 40 if it == 1 and double >= 12 else 0))
+        page = self.one_line(self.observe())
+        self.assertRegex(page, r"Blame node 1 is out: there is still cycle 25, node 2: an offset term of 4\d to 4\d microticks, and by all "
+                               r"that were seen -?\d to 1?\d node 2 cannot be excluded: no contradiction is left, and 20 of 20 double cycles "
+                               r"are judged node 3 is out: .* node 4 is out: .* if one node alone was at fault, no frame was lost on the "
+                               r"bus, and all that is stated is so, it is node 2 ")
+        self.assertNotIn("no other sender takes the ID", page)
+        self.assertIn("seen/: params.csv, log.csv, observed.csv, blame.csv, observed.txt", page)
+        self.assertIn("Blame           node 1 is out", self.read("seen", "observed.txt"))
+        # It is what flexray tells of the log with a row more.
+        self.write("log.csv", "arbitrary,2,,,\n" + self.read("seen", "log.csv"))
+        self.assertNotIn("\nfault,", self.flexray("observe", "seen/params.csv", "log.csv")[1])
+
+    def test_two_nodes_at_once(self):
+        """Then each is out, and the page does not name one."""
+        for seed in range(2):
+            network = self.network(seed, least=6)
+            self.write("net.toml", toml_of(network))
+            self.table(network, network.rows(lambda double, it: 60 if it < 2 and double == 12 else 0))
+            self.assertEqual(set(self.held(self.object()).values()), {"out"})
+            page = self.one_line(self.observe())
+            self.assertIn("no node alone was at fault: several were, or a frame was lost on the bus, or the analyzer", page)
+            self.assertNotIn("it is node", page)
+            self.assertNotIn("cannot be excluded", page)
+
+    def test_nodes_that_are_too_few(self):
+        """Of three nodes with one arbitrary no run is covered, so nothing is held against the rules of sync: all of them are open."""
+        network = clocks.near_oscillators(random.Random(1), 20)
+        self.write("net.toml", toml_of(network))
+        self.table(network, network.rows(lambda double, it: 40 if it == 0 and double == 12 else 0))
+        found = self.object()
+        self.assertEqual(self.held(found), {1: "open", 2: "open", 3: "open"})
+        self.assertEqual({one["kind"] for one in found["blame"]}, {"count"})
+        self.assertIn("node 1 cannot be excluded: no contradiction is left, but no double cycle is judged, since 2 correct nodes with a key "
+                      "slot do not outweigh 1 arbitrary ones", self.one_line(self.observe()))
+
+    def test_beside_a_node_that_is_named(self):
+        """A node that the file names arbitrary is held against nothing, and stays arbitrary."""
+        network = self.network(5, least=8)
+        rows = network.rows(lambda double, it: 60 if it == 4 and double == 12 else 0)
+        self.write("net.toml", toml_of(network, arbitrary=(2,)))
+        self.table(network, rows)
+        found = self.object()
+        said = self.held(found)
+        self.assertEqual(sorted(said), [1, 3, 4, 5, 6, 7, 8])
+        self.assertEqual(said[5], "left")
+        self.assertEqual(self.read("seen", "log.csv").count("arbitrary,"), 1)
+        self.assertIn("if one node alone beside those that are named arbitrary was at fault", self.one_line(self.observe()))
+
+    def test_when_it_is_asked(self):
+        """By itself where a contradiction asks for sync; a node that channels place nowhere is named already."""
+        network = self.network(3)
+        self.write("net.toml", toml_of(network))
+        rows = network.rows()
+        self.table(network, rows)
+        found = self.object(status=0)
+        self.assertEqual((found["verdict"][0], found["blame"]), ("within", []))
+        self.assertEqual(self.object("--blame", status=0)["blame"], [])
+        self.assertFalse(os.path.exists(self.path("seen", blame.BLAME)))
+        # The last frame of a node on channel B comes late.
+        last = max(ns for ns, node, channel in self.frames(network, rows) if (node, channel) == (2, "B"))
+        self.table(network, rows, lambda ns, node, channel: ns + 5000 * (ns == last and (node, channel) == (2, "B")))
+        found = self.object()
+        self.assertEqual(([fault["kind"] for fault in found["faults"]], found["blame"]), (["channels"], []))
+        self.assertNotIn("Blame", self.observe())
+        self.assertEqual(self.held(self.object("--blame")), {1: "out", 2: "left", 3: "out", 4: "out"})
+        # What an earlier call left is gone, where it is not asked.
+        self.object()
+        self.assertFalse(os.path.exists(self.path("seen", blame.BLAME)))
+
+    def frames(self, network, rows):
+        """Stamp, node and channel of each frame, as `table` has them."""
+        found = []
+
+        def kept(*frame):
+            found.append(frame)
+            return frame[0]
+        self.table(network, rows, kept)
+        return found
+
+    def test_irregular_frames(self):
+        """That a frame of another form leaves a contradiction rests on slots that are own, which the page says."""
+        network = self.network(3)
+        self.write("net.toml", toml_of(network))
+        self.table(network, network.rows())
+        lines = self.read("bus.csv").splitlines()
+        at = next(at for at, line in enumerate(lines) if at > 40 and line.split(",")[1] == "A")
+        stamp, channel, data = lines[at].split(",")
+        slot = network.slots[2]
+        odd = clocks.crc(11, 0x385, 0x01A, 2 << 18 | slot << 7, 20)
+        lines.insert(at, f"{stamp},A,{(1 << 37 | (2 << 18 | slot << 7) << 17 | odd << 6 | int(data, 16) & 63).to_bytes(5, 'big').hex()}")
+        self.write("bus.csv", "\n".join(lines) + "\n")
+        found = self.object("--blame")
+        self.assertEqual([fault["kind"] for fault in found["faults"]], ["form"])
+        self.assertEqual(self.held(found), {1: "out", 2: "out", 3: "left", 4: "out"})
+        self.assertIn("it is node 3; a frame of another form, or on a channel that its node does not have, counts as a contradiction, which "
+                      "takes for granted that no other sender takes the ID of a node", self.one_line(self.observe("--blame")))
+
+    def test_each_part_and_each_log(self):
+        network = self.network(3)
+        self.write("net.toml", toml_of(network))
+        rows = network.rows(lambda double, it: 40 if it == 1 and double == 14 else 0)
+        cut = self.frames(network, rows)[len(self.frames(network, rows)) // 4][0]
+        self.table(network, rows, lambda ns, node, channel: ns + 400_000_000 * (ns > cut))
+        found = self.object()
+        self.assertEqual([[one["says"] for one in part["blame"]] for part in found["parts"]], [[], ["out", "left", "out", "out"]])
+        self.assertEqual([os.path.exists(self.path("seen", f"part-{part}", blame.BLAME)) for part in (1, 2)], [False, True])
+        self.table(network, rows)
+        found = self.object("--second", "bus.csv", "net.toml")
+        self.assertEqual(found["blame"], found["second"]["blame"])
+        self.assertEqual(len(found["blame"]), 4)
+        self.assertEqual(self.read("seen", blame.BLAME), self.read("seen", "second", blame.BLAME))
+
+    def test_a_log_that_is_full(self):
+        """There is room for the row."""
+        network = self.network(3)
+        self.table(network, network.rows())
+        cluster = read_cluster(self.write("net.toml", toml_of(network)))
+        frames = observer.table_frames(self.path("bus.csv"), observer.columns_of(COLUMNS[1]), "ns")
+        for most in range(3000, 3060):
+            with unittest.mock.patch.object(observer.ranges, "FILE_BYTES", most):
+                text, log = observer.log_of(cluster, observer.stated(cluster), dataclasses.replace(frames, left={}))
+            self.assertLess(log.entries, len(frames.found))
+            self.assertLessEqual(len(text) + len("arbitrary,2047,,,\n"), most)
+
+
+class Hints(Log):
+    def test_steps_of_an_analyzer(self):
+        network = self.network(3)
+        rows = network.rows()
+        for steps, stated, is_told in ((10, 1, True), (10, 10, False), (10, 5, True), (1, 1, False), (25, 10, True)):
+            with self.subTest(steps=steps, stated=stated):
+                self.write("net.toml", toml_of(network).replace("resolution_ns = 1\n", f"resolution_ns = {stated}\n"))
+                self.table(network, rows, lambda ns, node, channel: ns // steps * steps)
+                found = self.object(status=(0, 1))
+                self.assertEqual(found["grain"]["units"], steps)
+                page = self.one_line(self.observe(status=(0, 1)))
+                told = (f"Hint all stamps are multiples of {steps} ns, counted from the first frame: if the analyzer counts in such steps, "
+                        f"state resolution_ns = {steps}, which is an error of {steps - 1} units of 1 ns")
+                self.assertEqual((told in page, "Hint all stamps" in page), (is_told, is_told))
+        # What is advised has the error that is told.
+        self.write("net.toml", toml_of(network).replace("resolution_ns = 1\n", "resolution_ns = 25\n"))
+        self.assertEqual(self.object(status=(0, 1))["grain"], {"units": 25, "unit_ticks": 40_000, "error_ticks": 24 * 40_000})
+
+    def test_few_stamps_have_no_steps(self):
+        network = self.network(3, doubles=1)
+        self.write("net.toml", toml_of(network))
+        self.table(network, network.rows(), lambda ns, node, channel: ns // 10 * 10)
+        lines = self.read("bus.csv").splitlines()
+        self.assertEqual(len(lines), 17)
+        self.assertEqual(self.object(status=(0, 1))["grain"]["units"], 10)
+        self.write("bus.csv", "\n".join(lines[:-1]) + "\n")
+        self.assertIsNone(self.object(status=(0, 1))["grain"]["units"])
+        self.assertNotIn("Hint", self.observe(status=(0, 1)))
+
+    def test_an_analyzer_that_is_stated_wrongly(self):
+        """Where most nodes have a contradiction at once, that is told; where one corrects wrongly it is not."""
+        network = self.network(3)
+        self.write("net.toml", toml_of(network))
+        rows = network.rows()
+        self.table(network, rows, lambda ns, node, channel: ns + 200 * (channel == "B"))
+        found = self.object()
+        self.assertEqual(found["first"], {"double_cycle": 0, "nodes": [1, 2, 3, 4], "of": 4})
+        self.assertIn("Hint 4 of 4 nodes have a contradiction in the first double cycle that has one, 0: look first at what is stated of the "
+                      "analyzer, as the limits of delays, the error and the drift", self.one_line(self.observe()))
+        self.table(network, network.rows(lambda double, it: 40 if it == 1 and double == 12 else 0))
+        found = self.object()
+        self.assertEqual(found["first"], {"double_cycle": 12, "nodes": [2], "of": 4})
+        self.assertNotIn("Hint", self.observe())
+        self.table(network, rows)
+        self.assertIsNone(self.object(status=0)["first"])
+
+    def test_which_is_the_first(self):
+        """Nodes by their faults and by their rows; irregular frames and faults of several nodes name none."""
+        def told(*faults, senders=(1, 2, 3, 4)):
+            return texts.observation(
+                "precision,5,,,,,,\n" + "".join(f"cycle,{cycle},4,0,1,within,,\n" for cycle in (8, 9))
+                + "".join(f"node,4,{node},1,2,-,-,\n" for node in senders) + "".join(f"fault,{fault},-,-,-,-\n" for fault in faults)
+                + "log,4,0,0,0,0,0,\ncovered,open,,,,,,\nnumbers,sure,,,,,,\nsync,4,seen,1,1,-,-,-\ncycles,8,9,2,0,0,,\n"
+                "verdict,within,8,8,,,,\n")
+        for faults, senders, wanted, is_most in (
+                (("8,1,offset", "9,2,rate"), (1, 2, 3, 4), (4, [1, 2], 4), False),
+                (("8,1,offset", "9,2,rate", "9,1,rate", "8,3,limit"), (1, 2, 4), (4, [1, 2, 3], 4), True),
+                (("8,1,form", "9,2,stranger", "8,-,skew", "8,3,channels", "10,1,offset"), (1, 2), (4, [3], 3), False),
+                (("9,1,channels", "9,2,channels"), (), (4, [1, 2], 2), False),
+                (("8,-,skew",), (1, 2, 3), (4, [], 3), False)):
+            first = hints.first_of(told(*faults, senders=senders))
+            self.assertEqual((*first, first.is_most), (*wanted, is_most))
+        self.assertIsNone(hints.first_of(told("8,1,form", "9,2,stranger", "9,3,form")))
+
+
+if __name__ == "__main__":
+    unittest.main()
