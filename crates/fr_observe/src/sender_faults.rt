@@ -125,7 +125,8 @@ fn length_by(
 ) -> Option<Fault>
     requires proper { EndWithin (pos 1_000_000_000_000) proper.now }
     requires long { EndWithin (pos 6_200_000_000_000_000_000) long.now }
-    ensures { result ≡ length_fault_by cycle node (proper.now.low -ℤ pos beyond) (proper.now.high +ℤ pos beyond) long.now }
+    ensures { result ≡ length_fault_by cycle node (proper.now.low -ℤ pos beyond) (proper.now.high +ℤ pos beyond)
+        long.now }
 {
     let allowed = lengths_beyond(proper, beyond);
     if lie_apart(&allowed, long) {

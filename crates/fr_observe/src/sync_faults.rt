@@ -24,7 +24,8 @@ use fr_sightings::{Sender, Sighting};
 // A number of ticks, seen from `low` to `high`, was certainly greater than a bound.
 fn above(kind: FaultKind, cycle: u32, bound: i128, low: i64, high: Option<i64>) -> Option<Fault>
     requires { neg_ℤ (pos 9_223_372_036_854_775_808) ≤ℤ bound }
-    ensures { result ≡ (if int_lt bound low then Some (plain_fault cycle None kind (Some low) high None (Some bound)) else None) }
+    ensures { result ≡ (if int_lt bound low
+        then Some (plain_fault cycle None kind (Some low) high None (Some bound)) else None) }
 {
     if bound < i128::from(low) {
         Some(Fault::plain(cycle, None, kind, (low, high), (None, Some(bound as i64))))
