@@ -1,6 +1,6 @@
 -- Contradictions that are told one after the other, and those of each of some things.
 use Rattle.std.proofs.Math.Seq.{drop-cons}
-use Rattle.std.proofs.Common.{◌≡◌, ◌∙◌, ℕ, suc, ◌+◌, ◌<◌, ◌≤◌, List, [], ◌∷◌, ◌++◌, Option, Some, None, is_none, Result, Ok, Err, OnOk, drop, get_or, length, option_to_list, filter_map, map, append-nil, refl, ap, sym, subst, arith}
+use Rattle.std.proofs.Common.{◌≡◌, ◌∙◌, ℕ, suc, ◌+◌, ◌<◌, ◌≤◌, List, [], ◌∷◌, ◌++◌, Option, Some, None, is_none, Result, Ok, Err, OnOk, drop, get_or, length, option_to_list, filter_map, append-nil, refl, ap, sym, subst, arith}
 use Rattle.std.specs.List.{cons_option, flat_map}
 use Rattle.std.specs.Option.{option_or}
 use Rattle.std.specs.Result.{IsErr}
@@ -82,6 +82,10 @@ told_is {result = result} {a = a} {b = b} {x = x} {y = y} is told = subst (λ (o
 pub told_same : {result : Result (Unit {0}) PutFault} {a b : Sunk} {x y : Option Fault} {fault same : Fault} → fault ≡ same → TellsFaults result a b x y (fault ∷ [])
     → TellsFaults result a b x y (same ∷ [])
 told_same {result = result} {a = a} {b = b} {x = x} {y = y} is told = subst (λ (f : Fault). TellsFaults result a b x y (f ∷ [])) is told
+
+pub told_all : {result : Result (Unit {0}) PutFault} {a b : Sunk} {x y : Option Fault} {faults same : List Fault} → faults ≡ same → TellsFaults result a b x y faults
+    → TellsFaults result a b x y same
+told_all {result = result} {a = a} {b = b} {x = x} {y = y} is told = subst (TellsFaults result a b x y) is told
 
 -- ---- of each of some things
 

@@ -1,14 +1,18 @@
 -- Contradictions as they are told, one after the other.
-use Rattle.std.specs.Prelude.{◌≡◌, ℕ, List, Option, Result, OnOk}
+use Rattle.std.specs.Prelude.{◌≡◌, ℕ, ◌+◌, ◌*◌, ℤ, List, ◌++◌, Option, Result, OnOk}
 use Rattle.std.specs.List.{flat_map}
-use Rattle.std.specs.Option.{option_or}
+use Rattle.std.specs.Option.{option_or, option_to_list}
 use Rattle.fr_base.specs.Device.{Puts, Sunk}
 use Rattle.fr_base.specs.declared.sink.PutFault.{PutFault}
 use Rattle.fr_cluster.specs.Values.{Values}
+use Rattle.fr_course.specs.Spread.{lengths_apart, starts_apart}
 use Rattle.fr_course.specs.declared.scales.Scale.{Scale}
 use Rattle.fr_sightings.specs.declared.sender.Sender.{Sender}
-use Rattle.fr_observe.specs.Faults.{correction_fault, fault_row, first_of_faults, length_fault, offset_fault, rate_fault}
+use Rattle.fr_observe.specs.Faults.{beyond_fault, correction_fault, fault_row, first_of_faults, length_fault, offset_fault, rate_fault, skew_fault}
+use Rattle.fr_observe.specs.Knowing.{length_beyond}
+use Rattle.fr_observe.specs.Observing.{courses_of, even_high, even_low, odd_high, odd_low}
 use Rattle.fr_observe.specs.declared.fault.Fault.{Fault}
+use Rattle.fr_observe.specs.declared.fault.FaultKind.TheVariants.{Lengths, Start}
 use Rattle.fr_observe.specs.declared.sender_faults.Asked.{Asked}
 use Rattle.fr_observe.specs.declared.sender_faults.Asked.TheVariants as asked
 
@@ -21,5 +25,18 @@ pub record TellsFaults (result : Result (Unit {0}) PutFault) (before now : Sunk)
 abbrev pub sender_fault : Asked → Values → Scale → ℕ → List Sender → Sender → Option Fault
 sender_fault asked.Correction p scale double senders s = correction_fault p scale double s
 sender_fault asked.Length p scale double senders s = length_fault p scale double s
+sender_fault (asked.Beyond beyond) p scale double senders s = length_beyond p scale beyond double s
 sender_fault asked.Offset p scale double senders s = offset_fault p scale double senders s
 sender_fault asked.Rate p scale double senders s = rate_fault p scale double senders s
+
+-- both skews of a double cycle were certainly greater than a bound
+abbrev pub skew_faults : ℤ → Scale → ℕ → List Sender → List Fault
+skew_faults bound scale double senders =
+    option_to_list (skew_fault bound (2 * double) (even_low scale senders) (even_high scale senders))
+    ++ option_to_list (skew_fault bound (2 * double + 1) (odd_low scale senders) (odd_high scale senders))
+
+-- its starts, or its lengths, lay further apart than a bound
+abbrev pub apart_faults : ℤ → ℤ → Scale → ℕ → List Sender → List Fault
+apart_faults starts lengths scale double senders =
+    option_to_list (beyond_fault Start (2 * double) starts (starts_apart scale (courses_of senders)))
+    ++ option_to_list (beyond_fault Lengths (2 * double) lengths (lengths_apart scale (courses_of senders)))

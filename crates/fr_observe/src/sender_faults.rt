@@ -1,4 +1,4 @@
-ghost use Rattle.std.specs.Prelude.{◌≡◌, ◌≤◌, ◌<◌, ◌||◌, Some, All, IfSome, filter_map, int_lt, is_some, length, neg_ℤ, pos};
+ghost use Rattle.std.specs.Prelude.{◌≡◌, ◌≤◌, ◌<◌, ◌||◌, ◌+ℤ◌, ◌-ℤ◌, Some, All, IfSome, filter_map, int_lt, is_some, length, neg_ℤ, pos};
 ghost use Rattle.std.specs.List.{Contains};
 ghost use Rattle.std.specs.Option.{option_map};
 ghost use Rattle.fr_base.specs.Within.{IsBetween};
@@ -8,6 +8,7 @@ ghost use Rattle.fr_course.specs.Near.{EndWithin, IsReadingScale};
 ghost use Rattle.fr_course.specs.Terms.{rate_step_seen};
 ghost use Rattle.fr_sightings.specs.Ranges.{IsProperSender};
 ghost use Rattle.fr_observe.specs.Faults.{correction_fault, further_of, length_fault, length_fault_by, longest_cycle_of, offset_fault, other_courses, rate_fault, shortest_cycle_of, term_fault, unlike_fault};
+ghost use Rattle.fr_observe.specs.Knowing.{length_beyond};
 ghost use Rattle.fr_observe.specs.Telling.{TellsFaults, sender_fault};
 
 use crate::fault::{Fault, FaultKind};
@@ -24,6 +25,7 @@ use fr_sightings::{Sender, keyed_count, offset_computed, rate_computed};
 pub(crate) enum Asked {
     Correction,
     Length,
+    Beyond(u64),
     Offset,
     Rate,
 }
@@ -94,32 +96,76 @@ pub(crate) fn proper_lengths(params: &Params) -> Interval
     }
 }
 
-// Cycles are certainly too long or too short.
-fn length_by(cycle: u32, node: NodeId, proper: &Interval, long: &Interval) -> Option<Fault>
+// Lengths beyond these by so much, in ticks.
+fn lengths_beyond(proper: &Interval, beyond: u64) -> Interval
+    requires { EndWithin (pos 1_000_000_000_000) proper.now }
+    ensures low { result.low ≡ proper.now.low -ℤ pos beyond }
+    ensures high { result.high ≡ proper.now.high +ℤ pos beyond }
+{
+    Interval {
+        low: proper.low - i128::from(beyond),
+        high: proper.high + i128::from(beyond),
+    }
+}
+
+// No number lies in both.
+fn lie_apart(one: &Interval, other: &Interval) -> bool
+    ensures { result ≡ (int_lt one.now.high other.now.low || int_lt other.now.high one.now.low) }
+{
+    one.high < other.low || other.high < one.low
+}
+
+// Cycles are certainly too long or too short, where they may be longer and shorter than proper ones by so much.
+fn length_by(
+    cycle: u32,
+    node: NodeId,
+    beyond: u64,
+    proper: &Interval,
+    long: &Interval,
+) -> Option<Fault>
     requires proper { EndWithin (pos 1_000_000_000_000) proper.now }
     requires long { EndWithin (pos 6_200_000_000_000_000_000) long.now }
-    ensures { result ≡ length_fault_by cycle node proper.now.low proper.now.high long.now }
+    ensures { result ≡ length_fault_by cycle node (proper.now.low -ℤ pos beyond) (proper.now.high +ℤ pos beyond)
+        long.now }
 {
-    if proper.high < long.low || long.high < proper.low {
-        Some(Fault::apart(cycle, node, FaultKind::Length, long, proper))
+    let allowed = lengths_beyond(proper, beyond);
+    if lie_apart(&allowed, long) {
+        Some(Fault::apart(cycle, node, FaultKind::Length, long, &allowed))
     } else {
         None
     }
 }
 
 // Those of a sender are.
+fn length_beyond(
+    params: &Params,
+    scale: &Scale,
+    beyond: u64,
+    double: u32,
+    sender: &Sender,
+) -> Option<Fault>
+    requires scale { IsReadingScale scale.now }
+    requires double { double < 1_000_000 }
+    requires sender { IsProperSender scale.now sender.now }
+    ensures { result ≡ length_beyond params.now scale.now beyond double sender.now }
+{
+    length_by(
+        2 * double,
+        sender.node,
+        beyond,
+        &proper_lengths(params),
+        &length_ticks(scale, &sender.course),
+    )
+}
+
+// They are without leaving the range of proper ones.
 fn length_fault(params: &Params, scale: &Scale, double: u32, sender: &Sender) -> Option<Fault>
     requires scale { IsReadingScale scale.now }
     requires double { double < 1_000_000 }
     requires sender { IsProperSender scale.now sender.now }
     ensures { result ≡ length_fault params.now scale.now double sender.now }
 {
-    length_by(
-        2 * double,
-        sender.node,
-        &proper_lengths(params),
-        &length_ticks(scale, &sender.course),
-    )
+    length_beyond(params, scale, 0, double, sender)
 }
 
 fn unlike_by(
@@ -133,7 +179,7 @@ fn unlike_by(
     requires computed { EndWithin (pos 22_000_000_000_000) computed.now }
     ensures { result ≡ unlike_fault kind cycle node (Some seen.now) (Some computed.now) }
 {
-    if seen.high < computed.low || computed.high < seen.low {
+    if lie_apart(seen, computed) {
         Some(Fault::apart(cycle, node, kind, seen, computed))
     } else {
         None
@@ -294,6 +340,7 @@ fn sender_fault(
     match asked {
         Asked::Correction => correction_fault(params, scale, double, sender),
         Asked::Length => length_fault(params, scale, double, sender),
+        Asked::Beyond(beyond) => length_beyond(params, scale, beyond, double, sender),
         Asked::Offset => offset_fault(params, scale, double, senders, sender),
         Asked::Rate => rate_fault(params, scale, double, senders, sender),
     }

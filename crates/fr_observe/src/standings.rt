@@ -122,7 +122,7 @@ fn known_seen(scene: &Scene<'_>, told: Option<Fault>) -> Option<Known>
 // ---- whether it is judged
 
 // By how much delays flutter that keep within what is stated of them, at most, in ticks.
-fn stated_flutter(params: &Params) -> u64
+pub(crate) fn stated_flutter(params: &Params) -> u64
     ensures value { result ≡ stated_flutter params.now }
     ensures most { result ≤ 20_000_000 }
 {

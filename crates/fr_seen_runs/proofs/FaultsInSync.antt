@@ -1,5 +1,5 @@
 -- The faults of a double cycle in sync, by what it keeps.
-use Rattle.std.proofs.Common.{◌≡◌, ℕ, zero, suc, ◌+◌, ◌-◌, ◌*◌, ◌==◌, ◌<◌, ◌≤◌, ℤ, pos, Bool, true, false, if◌then◌else◌, Option, Some, None, List, [], ◌∷◌, ◌++◌, length, refl, ap, sym, ◌∙◌, inl, inr, arith}
+use Rattle.std.proofs.Common.{◌≡◌, ℕ, zero, suc, ◌+◌, ◌-◌, ◌*◌, ◌==◌, ◌<◌, ◌≤◌, ℤ, pos, Bool, true, false, if◌then◌else◌, Option, Some, None, IsSome, List, [], ◌∷◌, ◌++◌, length, refl, ap, sym, ◌∙◌, inl, inr, arith}
 use Rattle.std.specs.Prelude.{◌≤ℤ◌, ◌&&◌, ◌||◌, int_lt, nat_lt, is_some, get_or, Contains, filter_map}
 use Rattle.std.specs.List.{cons_option, flat_map, slice_get}
 use Rattle.std.specs.Option.{option_to_list}
@@ -26,7 +26,7 @@ use Rattle.fr_sightings.specs.Senders.{first_stamp, own_slot, sightings_in}
 use Rattle.fr_sightings.specs.Sightings.{sightings_of}
 use Rattle.fr_sightings.specs.declared.sender.Sender.{Sender}
 use Rattle.fr_sightings.specs.declared.sighting.Sighting.{Sighting}
-use Rattle.fr_observe.specs.Faults.{before_in_sync, is_inside, length_fault, longest_cycle_of, missing_by, missing_in, missing_of, missing_on, node_missing, shortest_cycle_of, was_seen}
+use Rattle.fr_observe.specs.Faults.{before_in_sync, is_inside, length_fault, longest_cycle_of, missing_by, missing_frames, missing_in, missing_of, missing_on, node_missing, shortest_cycle_of, was_seen}
 use Rattle.fr_observe.specs.Observing.{courses_of, even_low, odd_low, seen_doubles}
 use Rattle.fr_findings.specs.Verdict.{log_span, number_or_none, sightings_before}
 use Rattle.fr_observe.specs.declared.fault.Fault.{Fault}
@@ -40,7 +40,7 @@ use Rattle.fr_seen_runs.specs.SyncFaults.{FromSyncOn, HasNoLengthFault, HasNoLen
 use Rattle.fr_seen_runs.proofs.KeyFrames.{key_frames_are_there}
 use Rattle.fr_seen_runs.proofs.StaysInSync.{doubles_are_there, stays}
 
-not_less : (a b : ℤ) → b ≤ℤ a → int_lt a b ≡ false
+pub not_less : (a b : ℤ) → b ≤ℤ a → int_lt a b ≡ false
 not_less a b le = grind (arith, ints)
 
 from_less : (a b : ℕ) → nat_lt a b ≡ true → a < b
@@ -143,100 +143,78 @@ inside_by seen number is = by (slice_get seen 0) refl (slice_get seen (length se
           before = from_less number last.number parts.1;
         }
 
-no_missing : (l : LogView) (span : LogSpan) (here : List Sighting) (double : ℕ) (node : NodeSpec) → node_missing l span [] here double node ≡ []
-no_missing l span here double node = by (is_some (own_slot l node))
+-- of a node of which each frame is there that is asked for
+module _ (seen : List Sighting) (double : ℕ) (node : NodeSpec)
+    (sent : (number : ℕ) (channel : Channel) → IsCycleOf double number → IsInside seen number → has_channel (Some node) channel ≡ true
+    → IsSome (first_stamp (sightings_in seen double) node.id channel number)) where
+  abbrev Here : List Sighting
+  Here = sightings_in seen double
+
+  none_on : (number : ℕ) (channel : Channel) → IsCycleOf double number → has_channel (Some node) channel ≡ true → missing_on (log_span seen) Here number node.id channel ≡ None
+  none_on number channel of has = by (is_inside (log_span seen) number) refl
+    where
+      by : (b : Bool) → is_inside (log_span seen) number ≡ b → missing_on (log_span seen) Here number node.id channel ≡ None
+      by false is = rw is refl
+      by true is =
+          let there : is_some (first_stamp Here node.id channel number) ≡ true = sent number channel of (inside_by seen number is) has in
+          rw (is, there) refl
+
+  none_by : (number : ℕ) (channel : Channel) → IsCycleOf double number → missing_by (log_span seen) Here number node channel ≡ None
+  none_by number channel of = by (has_channel (Some node) channel) refl
+    where
+      by : (b : Bool) → has_channel (Some node) channel ≡ b → (if b then missing_on (log_span seen) Here number node.id channel else None) ≡ None
+      by true has = none_on number channel of has
+      by false has = refl
+
+  none_in : (number : ℕ) → IsCycleOf double number → missing_in (log_span seen) Here number node ≡ []
+  none_in number of =
+      ap (λ (o : Option Fault). option_to_list o ++ option_to_list (missing_by (log_span seen) Here number node B)) (none_by number A of)
+      ∙ ap (λ (o : Option Fault). option_to_list o) (none_by number B of)
+
+  pub none_of : missing_of (log_span seen) (sightings_in seen double) double node ≡ []
+  none_of =
+      ap (λ (faults : List Fault). faults ++ missing_in (log_span seen) Here (2 * double + 1) node) (none_in (2 * double) (inl refl)) ∙ none_in (2 * double + 1) (inr refl)
+
+-- none is missing where none is of a node that was seen in the double cycle before
+pub none_missing : (p : Values) (l : LogView) (span : LogSpan) (before here : List Sighting) (double : ℕ)
+    → ((node : NodeSpec) → l.whole ≡ true → Contains p.nodes node → is_some (own_slot l node) ≡ true → was_seen before node.id ≡ true → missing_of span here double node ≡ [])
+    → missing_frames p l span before here double ≡ []
+none_missing p l span before here double none = by l.whole refl
   where
-    by : (b : Bool) → (if b && false then missing_of span here double node else []) ≡ []
-    by true = refl
-    by false = refl
-
-module _
-    (x : Setting) (h : Cycles) (base : ℕ) (delays : ℕ → Channel → Delays) (clock : ℕ → StraightClock) (l : LogView) (from : ℕ)
-    (o : IsObservedRun x h base delays clock l) (s : IsAsStated x h base l) (u : IsUnfollowedSyncAt x.params h (run_double base from)) (whole : l.whole ≡ true)
-    (before : ℕ) (le : from ≤ before) (node : NodeSpec) (among : Contains x.params.nodes node) (own : is_some (own_slot l node) ≡ true)
-    (was : WasSeen (sightings_in (sightings_of x.params l) before) node.id)
-  where
-    abbrev Seen : List Sighting
-    Seen = sightings_of x.params l
-
-    abbrev Here : List Sighting
-    Here = sightings_in (sightings_of x.params l) (suc before)
-
-    none_on : (number : ℕ) (channel : Channel) → IsCycleOf (suc before) number → has_channel (Some node) channel ≡ true
-        → missing_on (log_span (sightings_of x.params l)) (sightings_in (sightings_of x.params l) (suc before)) number node.id channel ≡ None
-    none_on number channel of has = by (is_inside (log_span Seen) number) refl
+    node_none : (node : NodeSpec) → l.whole ≡ true → Contains p.nodes node → node_missing l span before here double node ≡ []
+    node_none node whole among = by (is_some (own_slot l node) && was_seen before node.id) refl
       where
-        by : (b : Bool) → is_inside (log_span Seen) number ≡ b → missing_on (log_span Seen) Here number node.id channel ≡ None
-        by false is = rw is refl
-        by true is =
-            let there : is_some (first_stamp Here node.id channel number) ≡ true =
-            key_frames_are_there x h base delays clock l from before number node channel o s u le whole among own was of (inside_by Seen number is) has in
-            rw (is, there) refl
+        by : (b : Bool) → (is_some (own_slot l node) && was_seen before node.id) ≡ b → (if b then missing_of span here double node else []) ≡ []
+        by false fails = refl
+        by true passes = let parts = both (is_some (own_slot l node)) (was_seen before node.id) passes in none node whole among parts.0 parts.1
 
-    none_by : (number : ℕ) (channel : Channel) → IsCycleOf (suc before) number
-        → missing_by (log_span (sightings_of x.params l)) (sightings_in (sightings_of x.params l) (suc before)) number node channel ≡ None
-    none_by number channel of = by (has_channel (Some node) channel) refl
-      where
-        by : (b : Bool) → has_channel (Some node) channel ≡ b → (if b then missing_on (log_span Seen) Here number node.id channel else None) ≡ None
-        by true has = none_on number channel of has
-        by false has = refl
-
-    none_in : (number : ℕ) → IsCycleOf (suc before) number → missing_in (log_span (sightings_of x.params l)) (sightings_in (sightings_of x.params l) (suc before)) number node ≡ []
-    none_in number of =
-        ap (λ (o : Option Fault). option_to_list o ++ option_to_list (missing_by (log_span Seen) Here number node B)) (none_by number A of)
-        ∙ ap (λ (o : Option Fault). option_to_list o) (none_by number B of)
-
-    pub none_of : missing_of (log_span (sightings_of x.params l)) (sightings_in (sightings_of x.params l) (suc before)) (suc before) node ≡ []
-    none_of =
-        ap (λ (faults : List Fault). faults ++ missing_in (log_span Seen) Here (2 * suc before + 1) node) (none_in (2 * suc before) (inl refl))
-        ∙ none_in (2 * suc before + 1) (inr refl)
+    by : (b : Bool) → l.whole ≡ b → (if b then flat_map (node_missing l span before here double) p.nodes else []) ≡ []
+    by false is = refl
+    by true is = none_mapped (node_missing l span before here double) p.nodes (λ node among. node_none node is among)
 
 pub missing_faults_are_none : FromSyncOn HasNoMissingFault
-missing_faults_are_none x h base delays clock l from double o s u le_from among_doubles = by_whole l.whole refl
+missing_faults_are_none x h base delays clock l from double o s u le_from among_doubles =
+    none_missing x.params l (log_span (sightings_of x.params l)) (before_in_sync from double (sightings_before (sightings_of x.params l) double)) (sightings_in (sightings_of x.params l) double) double
+    (λ node whole among own was. node_none double node whole among own was)
   where
-    node_none : (double : ℕ) (node : NodeSpec) → l.whole ≡ true → Contains x.params.nodes node
-        → node_missing l (log_span (sightings_of x.params l)) (before_in_sync from double (sightings_before (sightings_of x.params l) double)) (sightings_in (sightings_of x.params l) double) double node
-        ≡ []
-    node_none zero node whole among = by (nat_lt from.double 0)
-      where
-        by : (b : Bool) → node_missing l (log_span (sightings_of x.params l)) (if b then [] else []) (sightings_in (sightings_of x.params l) 0) 0 node ≡ []
-        by true = no_missing l (log_span (sightings_of x.params l)) (sightings_in (sightings_of x.params l) 0) 0 node
-        by false = no_missing l (log_span (sightings_of x.params l)) (sightings_in (sightings_of x.params l) 0) 0 node
-    node_none (suc before) node whole among = by (nat_lt from.double (suc before)) refl
-      where
-        by : (b : Bool) → nat_lt from.double (suc before) ≡ b
-            → node_missing l (log_span (sightings_of x.params l)) (if b then sightings_in (sightings_of x.params l) before else []) (sightings_in (sightings_of x.params l) (suc before)) (suc before) node
-            ≡ []
-        by false is = no_missing l (log_span (sightings_of x.params l)) (sightings_in (sightings_of x.params l) (suc before)) (suc before) node
-        by true is =
-            by_test (is_some (own_slot l node) && was_seen (sightings_in (sightings_of x.params l) before) node.id) refl
-          where
-            le : (a b : ℕ) → nat_lt a (suc b) ≡ true → a ≤ b
-            le a b is = grind arith
+    nowhere : (node : ℕ) (b : Bool) → was_seen (if b then [] else []) node ≡ true → ⊥
+    nowhere node true was = cc was
+    nowhere node false was = cc was
 
-            by_test : (b : Bool) → (is_some (own_slot l node) && was_seen (sightings_in (sightings_of x.params l) before) node.id) ≡ b
-                → (if b then missing_of (log_span (sightings_of x.params l)) (sightings_in (sightings_of x.params l) (suc before)) (suc before) node else []) ≡ []
-            by_test false fails = refl
-            by_test true passes =
-                let parts = both (is_some (own_slot l node)) (was_seen (sightings_in (sightings_of x.params l) before) node.id) passes in
-                none_of x h base delays clock l from.double o s u whole before (le from.double before is) node among parts.0
-                (seen_among (sightings_in (sightings_of x.params l) before) node.id parts.1)
+    le : (a b : ℕ) → nat_lt a (suc b) ≡ true → a ≤ b
+    le a b is = grind arith
 
-    by_whole : (b : Bool) → l.whole ≡ b
-        → (if b
-        then flat_map
-        (
-        node_missing l (log_span (sightings_of x.params l)) (before_in_sync from double (sightings_before (sightings_of x.params l) double))
-        (sightings_in (sightings_of x.params l) double) double
-        )
-        x.params.nodes
-        else [])
-        ≡ []
-    by_whole false is = refl
-    by_whole true is =
-        none_mapped
-        (
-        node_missing l (log_span (sightings_of x.params l)) (before_in_sync from double (sightings_before (sightings_of x.params l) double))
-        (sightings_in (sightings_of x.params l) double) double
-        )
-        x.params.nodes (λ node among. node_none double node is among)
+    node_none : (double : ℕ) (node : NodeSpec) → l.whole ≡ true → Contains x.params.nodes node → is_some (own_slot l node) ≡ true
+        → was_seen (before_in_sync from double (sightings_before (sightings_of x.params l) double)) node.id ≡ true
+        → missing_of (log_span (sightings_of x.params l)) (sightings_in (sightings_of x.params l) double) double node ≡ []
+    node_none zero node whole among own was = absurd (nowhere node.id (nat_lt from.double 0) was)
+    node_none (suc before) node whole among own was = by (nat_lt from.double (suc before)) refl was
+      where
+        by : (b : Bool) → nat_lt from.double (suc before) ≡ b → was_seen (if b then sightings_in (sightings_of x.params l) before else []) node.id ≡ true
+            → missing_of (log_span (sightings_of x.params l)) (sightings_in (sightings_of x.params l) (suc before)) (suc before) node ≡ []
+        by false is was = absurd (nowhere node.id false was)
+        by true is was =
+            none_of (sightings_of x.params l) (suc before) node
+            (λ number channel of inside has.
+            key_frames_are_there x h base delays clock l from.double before number node channel o s u (le from.double before is) whole among own
+            (seen_among (sightings_in (sightings_of x.params l) before) node.id was) of inside has)

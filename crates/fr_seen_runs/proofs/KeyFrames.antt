@@ -38,7 +38,7 @@ use Rattle.fr_seen.specs.RunRows.{IsTimedRun}
 use Rattle.fr_seen.proofs.RunLaws.{cut_at, nodes_have_both_rows}
 use Rattle.fr_seen.proofs.SenderLaws.{some_row}
 use Rattle.fr_seen.proofs.SightingLaws.{sightings_are_sent}
-use Rattle.fr_seen_runs.specs.Contradictions.{IsAsStated, IsInside, IsObservedRun}
+use Rattle.fr_seen_runs.specs.Contradictions.{IsInside, IsObservedRun, MissesNone, NamesArbitrary}
 use Rattle.fr_seen_runs.specs.KeptInSync.{IsCycleOf, IsDoubleThere, KeyFramesAreThere, WasSeen}
 use Rattle.fr_seen_runs.proofs.StaysInSync.{doubles_to, keeps, last_there, sighting_within}
 
@@ -115,11 +115,15 @@ row_goes_on x h double even odd next_even next_odd node (o ∷ e ∷ rest) run h
 
 -- ---- a node that sends
 
-record IsSync (l : LogView) (node : NodeSpec) : Type 0 where
-  correct : is_arbitrary_in l node.id ≡ false
-  keyed : IsSome node.key
+half_of : (n k : ℕ) → IsCycleOf k n → n / 2 ≡ k
+half_of n k (inl is) = omega (arith, is)
+half_of n k (inr is) = omega (arith, is)
 
-is_sync : (l : LogView) (node : NodeSpec) → IsSome (own_slot l node) → IsSync l node
+pub record IsSync (l : LogView) (node : NodeSpec) : Type 0 where
+  pub correct : is_arbitrary_in l node.id ≡ false
+  pub keyed : IsSome node.key
+
+pub is_sync : (l : LogView) (node : NodeSpec) → IsSome (own_slot l node) → IsSync l node
 is_sync l node is = by (is_arbitrary_in l node.id) refl is
   where
     by : (b : Bool) → is_arbitrary_in l node.id ≡ b → IsSome (if b then None else node.key) → IsSync l node
@@ -191,9 +195,9 @@ module _
         later : (k b : ℕ) → suc k + b ≡ suc (k + b)
         later k b = omega arith
 
-    pub correct_by : (node : NodeSpec) → IsAsStated x h base l → Contains x.params.nodes node → is_arbitrary_in l node.id ≡ false → Contains (correct_nodes x) node
-    correct_by node s there named =
-        kept_filtered (λ (n : NodeSpec). is_correct x n.id) x.params.nodes node there (ap not (s.named node there ∙ named))
+    pub correct_by : (node : NodeSpec) → NamesArbitrary x l → Contains x.params.nodes node → is_arbitrary_in l node.id ≡ false → Contains (correct_nodes x) node
+    correct_by node named there is =
+        kept_filtered (λ (n : NodeSpec). is_correct x n.id) x.params.nodes node there (ap not (named node there ∙ is))
 
     -- the row of a node in a cycle, active
     record HasActive (c : Cycle) (node : ℕ) : Type 0 where
@@ -220,43 +224,48 @@ module _
         less : (n m b long : ℕ) → n < m → m + b < long → n + b < long
         less n m b long a e = omega (arith, a, e)
 
-    pub there_by : (number : ℕ) (node : NodeSpec) (channel : Channel) (even odd : Cycle) (double : ℕ) → IsAsStated x h base l → l.whole ≡ true → IsInside (sightings_of x.params l) number
+    there_by : (number : ℕ) (node : NodeSpec) (channel : Channel) (even odd : Cycle) (double : ℕ) → MissesNone x h base l → IsInside (sightings_of x.params l) number
         → Contains (correct_nodes x) node → IsSome node.key → is_on x node.id channel ≡ true → HasDouble h (run_double base double) even odd → IsCycleOf double number
         → HasBoth even odd node.id → All (λ (r : NodeRow). r.state ≡ Active) even.told.rows → All (λ (r : NodeRow). r.state ≡ Active) odd.told.rows
         → IsSome (first_stamp (sightings_of x.params l) node.id channel number)
-    there_by number node channel even odd double s whole inside correct keyed on has (inl is) rows even_active odd_active =
+    there_by number node channel even odd double unmissed inside correct keyed on has (inl is) rows even_active odd_active =
         let a = active_in even node.id even_active rows.in_even in
-        s.unmissed whole number node channel even a.row inside correct keyed on (ap (cycle_at h) (ap (λ n. n + base) is ∙ sym (twice double)) ∙ has.has_even) a.is a.active
-    there_by number node channel even odd double s whole inside correct keyed on has (inr is) rows even_active odd_active =
+        unmissed number node channel even a.row inside correct keyed on (ap (cycle_at h) (ap (λ n. n + base) is ∙ sym (twice double)) ∙ has.has_even) a.is a.active
+    there_by number node channel even odd double unmissed inside correct keyed on has (inr is) rows even_active odd_active =
         let a = active_in odd node.id odd_active rows.in_odd in
-        s.unmissed whole number node channel odd a.row inside correct keyed on (ap (cycle_at h) (more number double base is (twice double)) ∙ has.has_odd) a.is a.active
+        unmissed number node channel odd a.row inside correct keyed on (ap (cycle_at h) (more number double base is (twice double)) ∙ has.has_odd) a.is a.active
       where
         more : (n k b : ℕ) → n ≡ 2 * k + 1 → 2 * run_double b k ≡ 2 * k + b → n + b ≡ suc (2 * run_double b k)
         more n k b is two = omega (arith, is, two)
 
+    -- so the frames of a node with active rows in both cycles of a double cycle are among the sightings of that
+    pub frames_by : (double number : ℕ) (node : NodeSpec) (channel : Channel) (even odd : Cycle) → NamesArbitrary x l → MissesNone x h base l
+        → Contains x.params.nodes node → IsSome (own_slot l node) → HasDouble h (run_double base double) even odd
+        → HasBoth even odd node.id → All (λ (r : NodeRow). r.state ≡ Active) even.told.rows → All (λ (r : NodeRow). r.state ≡ Active) odd.told.rows
+        → IsCycleOf double number → IsInside (sightings_of x.params l) number → has_channel (Some node) channel ≡ true
+        → IsSome (first_stamp (sightings_in (sightings_of x.params l) double) node.id channel number)
+    frames_by double number node channel even odd named unmissed among own has rows even_active odd_active of inside channel_is =
+        let sync = is_sync l node own in
+        let on : is_on x node.id channel ≡ true = ap (λ n. has_channel n channel) (node_there x.params node o.timed.sane among) ∙ channel_is in
+        subst IsSome (sym (stamp_in (sightings_of x.params l) double node.id number channel (half_of number double of)))
+        (
+        there_by number node channel even odd double unmissed inside (correct_by node named among sync.correct) sync.keyed on has of rows even_active
+        odd_active
+        )
+
 pub key_frames_are_there : KeyFramesAreThere
 key_frames_are_there x h base delays clock l from before number node channel o s u le whole among own was of inside has =
-    let seen = sightings_of x.params l in
-    let sync = is_sync l node own in
-    let correct = correct_by x h base delays clock l o node s among sync.correct in
+    let correct = correct_by x h base delays clock l o node s.named among (is_sync l node own).correct in
     let within = number_within x h base delays clock l o number inside in
-    let half : number / 2 ≡ suc before = half_of number before of in
+    let half : number / 2 ≡ suc before = half_of number (suc before) of in
     let next = double_at x h base delays clock l o number (suc before) half within in
     let early = double_at x h base delays clock l o (2 * before) before (half_of_twice before) (less number before base (length h) half within) in
     let had = seen_has_rows x h base delays clock l o before node.id early was in
     let rows = rows_go_on x h base delays clock l o before node early next correct had in
-    let kept = keeps x h base delays clock l from o s u (suc before) next.even next.odd (le_suc from before le) next.has in
-    let on : is_on x node.id channel ≡ true = ap (λ n. has_channel n channel) (node_there x.params node o.timed.sane among) ∙ has in
-    subst IsSome (sym (stamp_in seen (suc before) node.id number channel half))
-    (
-    there_by x h base delays clock l o number node channel next.even next.odd (suc before) s whole inside correct sync.keyed on next.has of rows kept.gathered.in_sync.active_even
-    kept.gathered.in_sync.active_odd
-    )
+    let sync = (keeps x h base delays clock l from o s u (suc before) next.even next.odd (le_suc from before le) next.has).gathered.in_sync in
+    frames_by x h base delays clock l o (suc before) number node channel next.even next.odd s.named (s.unmissed whole) among own next.has rows sync.active_even sync.active_odd of
+    inside has
   where
-    half_of : (n k : ℕ) → IsCycleOf (suc k) n → n / 2 ≡ suc k
-    half_of n k (inl is) = omega (arith, is)
-    half_of n k (inr is) = omega (arith, is)
-
     half_of_twice : (k : ℕ) → (2 * k) / 2 ≡ k
     half_of_twice k = omega arith
 

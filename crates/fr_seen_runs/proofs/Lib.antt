@@ -20,6 +20,7 @@ pub mod OwnSightings
 pub mod SyncedNodes
 pub mod OwnFaults
 pub mod KnownDoubles
+pub mod KnownFaults
 pub mod SyncKinds
 pub mod Progressing
 pub mod ToldVerdicts

@@ -28,7 +28,7 @@ none_untimely : (x : Setting) (h : Cycles) (base : ℕ) (delays : ℕ → Channe
     → untimely_of x.params l ≡ []
 none_untimely x h base delays clock l run = no_frame_is_untimely x h base delays clock l run.timed.sane run.log run.seen
 
-none_of_four : {X : Type 0} (a b c d : List X) → a ≡ [] → b ≡ [] → c ≡ [] → d ≡ [] → a ++ b ++ c ++ d ≡ []
+pub none_of_four : {X : Type 0} (a b c d : List X) → a ≡ [] → b ≡ [] → c ≡ [] → d ≡ [] → a ++ b ++ c ++ d ≡ []
 none_of_four a b c d e f g i = ap (λ z. z ++ b ++ c ++ d) e ∙ ap (λ z. z ++ c ++ d) f ∙ ap (λ z. z ++ d) g ∙ i
 
 pub own_faults_are_none : OwnFaultsAreNone

@@ -53,16 +53,16 @@ use Rattle.fr_seen_runs.specs.Contradictions.{IsAsStated, IsObservedRun}
 use Rattle.fr_seen_runs.specs.KeptInSync.{CanBeProper, DoublesAreThere, IsAsLong, IsDoubleThere, LieAsSeen, SendersStayInSync, StaysInSync}
 use Rattle.fr_seen_runs.proofs.SendersApart.{all_within, lie_as_seen, two_within}
 
-trans : (a b c : ℤ) → a ≤ℤ b → b ≤ℤ c → a ≤ℤ c
+pub trans : (a b c : ℤ) → a ≤ℤ b → b ≤ℤ c → a ≤ℤ c
 trans a b c h k = omega (arith, ints)
 
-natural : (n : ℕ) → pos 0 ≤ℤ pos n
+pub natural : (n : ℕ) → pos 0 ≤ℤ pos n
 natural n = omega (arith, ints)
 
 -- ---- some of the rows of a cycle
 
 -- what any two of the rows keep, any two of some of them do
-some_within : (bound : ℤ) (f : NodeRow → ℤ) (rows some : List NodeRow) → LieWithin bound (map f rows) → All (Contains rows) some → LieWithin bound (map f some)
+pub some_within : (bound : ℤ) (f : NodeRow → ℤ) (rows some : List NodeRow) → LieWithin bound (map f rows) → All (Contains rows) some → LieWithin bound (map f some)
 some_within bound f rows some near all =
     all_within bound f some (λ a b here there. two_within bound f rows a b near (All-contains (Contains rows) some a all here) (All-contains (Contains rows) some b all there))
 
@@ -77,7 +77,7 @@ below n (pos m) less = omega (arith, ints, less)
 below n (negsuc m) less = absurd (omega (arith, ints, less))
 
 -- so a skew that some of them reach at a macrotick is no greater than that of the cycle
-skew_by : (p : Values) (cycle : ℕ) (odd : Bool) (rows some : List NodeRow) (bound low : ℤ) → is_odd cycle ≡ odd → pos 0 ≤ℤ bound
+pub skew_by : (p : Values) (cycle : ℕ) (odd : Bool) (rows some : List NodeRow) (bound low : ℤ) → is_odd cycle ≡ odd → pos 0 ≤ℤ bound
     → ((macrotick : ℕ) → macrotick < amount p name.gMacroPerCycle → spread_at (grid_for p) cycle rows macrotick ≤ℤ bound)
     → All (Contains (running rows)) some → HasSkew p odd some low → low ≤ℤ bound
 unfolding spread_at
@@ -93,14 +93,14 @@ skew_by p cycle odd rows some bound low parity from kept all skew = by skew.macr
 
 -- ---- the rows of senders
 
-sender_row : (cycle : Cycle) (node : ℕ) → IsSome (row_of cycle.told.rows node) → Contains cycle.told.rows (row_for cycle.told.rows node)
+pub sender_row : (cycle : Cycle) (node : ℕ) → IsSome (row_of cycle.told.rows node) → Contains cycle.told.rows (row_for cycle.told.rows node)
 sender_row cycle node is = (found (λ (row : NodeRow). row.node == node) cycle.told.rows (row_for cycle.told.rows node) (some_row cycle.told.rows node is)).1
 
 runs_there : (rows : List NodeRow) (row : NodeRow) → All (λ (r : NodeRow). r.state ≡ Active) rows → Contains rows row → Contains (running rows) row
 runs_there rows row active there =
     kept_filtered (λ (r : NodeRow). not (is_halted r.state)) rows row there (ap (λ s. not (is_halted s)) (All-contains (λ (r : NodeRow). r.state ≡ Active) rows row active there))
 
-senders_among : (even odd : Cycle) (senders : List Sender) → All (λ (s : Sender). HasBoth even odd s.node) senders
+pub senders_among : (even odd : Cycle) (senders : List Sender) → All (λ (s : Sender). HasBoth even odd s.node) senders
     → All (Contains even.told.rows) (sender_rows even senders) × All (Contains odd.told.rows) (sender_rows odd senders)
 senders_among even odd senders all = (
   All-map (Contains even.told.rows) (λ (s : Sender). row_for even.told.rows s.node) senders
@@ -109,7 +109,7 @@ senders_among even odd senders all = (
       (All-weaker (λ (s : Sender). HasBoth even odd s.node) (λ (s : Sender). Contains odd.told.rows (row_for odd.told.rows s.node)) (λ s both. sender_row odd s.node both.in_odd) senders all),
 )
 
-run_among : (rows some : List NodeRow) → All (λ (r : NodeRow). r.state ≡ Active) rows → All (Contains rows) some → All (Contains (running rows)) some
+pub run_among : (rows some : List NodeRow) → All (λ (r : NodeRow). r.state ≡ Active) rows → All (Contains rows) some → All (Contains (running rows)) some
 run_among rows some active all = All-weaker (Contains rows) (Contains (running rows)) (λ row there. runs_there rows row active there) some all
 
 -- ---- a double cycle of the log in the run

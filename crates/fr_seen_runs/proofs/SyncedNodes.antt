@@ -53,6 +53,7 @@ use Rattle.fr_observe.specs.declared.fault.Fault.{Fault}
 use Rattle.fr_observe.specs.Faults.{has_proper_length, is_nil, is_seen_whole, is_sync_seen, shortest_cycle_of, longest_cycle_of}
 use Rattle.fr_course.specs.Spread.{lengths_apart, starts_apart}
 use Rattle.fr_seen_runs.proofs.SeenDoubles.{frame_sent}
+use Rattle.fr_seen_runs.proofs.StaysInSync.{trans}
 use Rattle.fr_seen_runs.proofs.SeenCourses.{course_there}
 use Rattle.fr_course.specs.Computed.{length_ticks}
 use Rattle.fr_seen_runs.proofs.SendersApart.{all_within, two_within, lie_as_seen}
@@ -77,11 +78,8 @@ none_among : {X : Type 0} (xs : List X) → ((x : X) → Contains xs x → ⊥) 
 none_among [] none = refl
 none_among (x ∷ xs) none = absurd (none x (Contains-here x xs))
 
-pub le_from : (a b : ℤ) → int_le a b ≡ true → a ≤ℤ b
+le_from : (a b : ℤ) → int_le a b ≡ true → a ≤ℤ b
 le_from a b is = grind (arith, ints)
-
-trans : (a b c : ℤ) → a ≤ℤ b → b ≤ℤ c → a ≤ℤ c
-trans a b c h k = omega (arith, ints)
 
 -- ---- a node that was seen in a cycle
 

@@ -1,83 +1,48 @@
-use Rattle.std.proofs.Common.{◌≡◌, ◌∙◌, ℕ, ◌+◌, ◌*◌, List, pos, ap, rules}
+use Rattle.std.proofs.Common.{◌≡◌, ℤ, pos, ap, of_z, to_z, rules}
+use mir.Syntax.{w128}
 use Rattle.fr_bound.specs.Bounds.{lambda_of, pi_of}
-use Rattle.fr_course.specs.Spread.{lengths_apart, starts_apart}
-use Rattle.fr_course.specs.declared.courses.Course.{Course}
-use Rattle.fr_observe.specs.Faults.{beyond_fault, skew_fault}
-use Rattle.fr_observe.specs.Observing.{courses_of, even_high, even_low, odd_high, odd_low}
-use Rattle.fr_observe.specs.declared.fault.FaultKind.TheVariants.{Lengths, Start}
-use Rattle.fr_observe.proofs.Beyond.{all_then, even_cut, lengths_cut, odd_cut, starts_cut}
-use Rattle.fr_observe.proofs.Told.{told_is}
+use Rattle.fr_observe.specs.Telling.{apart_faults, skew_faults}
+use Rattle.fr_observe.proofs.Beyond.{all_told, terms_told}
+use Rattle.fr_observe.proofs.Told.{told_all, told_cut, told_cut_two, told_then}
 use Rattle.fr_observe.proofs.sync_faults.put_sync_faults.Goals as goal
 
-pub returns-in_err-tell : goal.returns-in_err-tell
-returns-in_err-tell g c =
+pub returns-in_err-put_skews : goal.returns-in_err-put_skews
+returns-in_err-put_skews g c =
     let a = c.args in
-    let precision = c.args.precision in
     let scale = c.args.scale.now in
     let senders = c.args.senders.now in
-    let skews = c.requires.skews in
-    let even : c.skew_fault.result ≡ skew_fault precision (2 * a.double) (even_low scale senders) (even_high scale senders) = search rules in
-    even_cut precision a.params.now scale a.log.now a.span.now a.before.now a.here.now a.double senders c.from_residual.result (told_is even c.in_err-tell.ensures) c.from_residual.ensures.0
+    let all = all_told a.precision a.params.now scale a.log.now a.span.now a.before.now a.here.now a.double senders in
+    let bound : to_z w128 (of_z w128 c.from.result) ≡ a.precision = search rules in
+    let skews = ap (λ (b : ℤ). skew_faults b scale a.double senders) bound in
+    told_all all
+    (told_cut_two _ (apart_faults (pos (pi_of a.params.now)) (pos (lambda_of a.params.now)) scale a.double senders) (terms_told a.precision a.params.now scale a.log.now a.span.now a.before.now a.here.now a.double senders) (told_all skews c.in_err-put_skews.ensures) c.from_residual.ensures.0)
 
-pub returns-in_err-tell-2 : goal.returns-in_err-tell-2
-returns-in_err-tell-2 g c =
+pub returns-in_err-put_apart : goal.returns-in_err-put_apart
+returns-in_err-put_apart g c =
     let a = c.args in
-    let precision = c.args.precision in
     let scale = c.args.scale.now in
     let senders = c.args.senders.now in
-    let skews = c.requires.skews in
-    let even : c.skew_fault.result ≡ skew_fault precision (2 * a.double) (even_low scale senders) (even_high scale senders) = search rules in
-    let odd : c.skew_fault-2.result ≡ skew_fault precision (2 * a.double + 1) (odd_low scale senders) (odd_high scale senders) = search rules in
-    odd_cut precision a.params.now scale a.log.now a.span.now a.before.now a.here.now a.double senders (told_is even c.in_ok-tell.ensures) c.from_residual-in_err-tell-2.result (told_is odd c.in_err-tell-2.ensures)
-    c.from_residual-in_err-tell-2.ensures.0
-
-pub returns-in_err-tell-3 : goal.returns-in_err-tell-3
-returns-in_err-tell-3 g c =
-    let a = c.args in
-    let precision = c.args.precision in
-    let scale = c.args.scale.now in
-    let senders = c.args.senders.now in
-    let skews = c.requires.skews in
-    let even : c.skew_fault.result ≡ skew_fault precision (2 * a.double) (even_low scale senders) (even_high scale senders) = search rules in
-    let odd : c.skew_fault-2.result ≡ skew_fault precision (2 * a.double + 1) (odd_low scale senders) (odd_high scale senders) = search rules in
-    let one : c.as_slice.result.now ≡ courses_of senders = c.as_slice.ensures ∙ c.courses_of-courses.ensures.value in
-    let starts : c.starts_fault-starts.result ≡ beyond_fault Start (2 * a.double) (pos (pi_of a.params.now)) (starts_apart scale (courses_of senders)) =
-    c.starts_fault-starts.ensures ∙ ap (λ (l : List Course). beyond_fault Start (2 * a.double) (pos (pi_of a.params.now)) (starts_apart scale l)) one in
-    starts_cut precision a.params.now scale a.log.now a.span.now a.before.now a.here.now a.double senders (told_is even c.in_ok-tell.ensures) (told_is odd c.in_ok-tell-2.ensures) c.from_residual-in_err-tell-3.result
-    (told_is starts c.in_err-tell-3.ensures) c.from_residual-in_err-tell-3.ensures.0
-
-pub returns-in_err-tell-4 : goal.returns-in_err-tell-4
-returns-in_err-tell-4 g c =
-    let a = c.args in
-    let precision = c.args.precision in
-    let scale = c.args.scale.now in
-    let senders = c.args.senders.now in
-    let skews = c.requires.skews in
-    let even : c.skew_fault.result ≡ skew_fault precision (2 * a.double) (even_low scale senders) (even_high scale senders) = search rules in
-    let odd : c.skew_fault-2.result ≡ skew_fault precision (2 * a.double + 1) (odd_low scale senders) (odd_high scale senders) = search rules in
-    let one : c.as_slice.result.now ≡ courses_of senders = c.as_slice.ensures ∙ c.courses_of-courses.ensures.value in
-    let starts : c.starts_fault-starts.result ≡ beyond_fault Start (2 * a.double) (pos (pi_of a.params.now)) (starts_apart scale (courses_of senders)) =
-    c.starts_fault-starts.ensures ∙ ap (λ (l : List Course). beyond_fault Start (2 * a.double) (pos (pi_of a.params.now)) (starts_apart scale l)) one in
-    let two : c.as_slice-2.result.now ≡ courses_of senders = c.as_slice-2.ensures ∙ c.courses_of-courses.ensures.value in
-    let lengths : c.lengths_fault-lengths.result ≡ beyond_fault Lengths (2 * a.double) (pos (lambda_of a.params.now)) (lengths_apart scale (courses_of senders)) =
-    c.lengths_fault-lengths.ensures ∙ ap (λ (l : List Course). beyond_fault Lengths (2 * a.double) (pos (lambda_of a.params.now)) (lengths_apart scale l)) two in
-    lengths_cut precision a.params.now scale a.log.now a.span.now a.before.now a.here.now a.double senders (told_is even c.in_ok-tell.ensures) (told_is odd c.in_ok-tell-2.ensures)
-    (told_is starts c.in_ok-tell-3.ensures) c.from_residual-in_err-tell-4.result (told_is lengths c.in_err-tell-4.ensures) c.from_residual-in_err-tell-4.ensures.0
+    let all = all_told a.precision a.params.now scale a.log.now a.span.now a.before.now a.here.now a.double senders in
+    let bound : to_z w128 (of_z w128 c.from.result) ≡ a.precision = search rules in
+    let skews = ap (λ (b : ℤ). skew_faults b scale a.double senders) bound in
+    let starts : to_z w128 (of_z w128 c.from-2.result) ≡ pos (pi_of a.params.now) = search rules in
+    let lengths : to_z w128 (of_z w128 c.from-3.result) ≡ pos (lambda_of a.params.now) = search rules in
+    let apart : apart_faults (to_z w128 (of_z w128 c.from-2.result)) (to_z w128 (of_z w128 c.from-3.result)) scale a.double senders ≡ apart_faults (pos (pi_of a.params.now)) (pos (lambda_of a.params.now)) scale a.double senders =
+    λ i. apart_faults (starts i) (lengths i) scale a.double senders in
+    told_all all
+    (told_cut _ (terms_told a.precision a.params.now scale a.log.now a.span.now a.before.now a.here.now a.double senders) (told_then _ (told_all skews c.in_ok-put_skews.ensures) (told_all apart c.in_err-put_apart.ensures)) c.from_residual-in_err-put_apart.ensures.0)
 
 pub returns : goal.returns
 returns g c =
     let a = c.args in
-    let precision = c.args.precision in
     let scale = c.args.scale.now in
     let senders = c.args.senders.now in
-    let skews = c.requires.skews in
-    let even : c.skew_fault.result ≡ skew_fault precision (2 * a.double) (even_low scale senders) (even_high scale senders) = search rules in
-    let odd : c.skew_fault-2.result ≡ skew_fault precision (2 * a.double + 1) (odd_low scale senders) (odd_high scale senders) = search rules in
-    let one : c.as_slice.result.now ≡ courses_of senders = c.as_slice.ensures ∙ c.courses_of-courses.ensures.value in
-    let starts : c.starts_fault-starts.result ≡ beyond_fault Start (2 * a.double) (pos (pi_of a.params.now)) (starts_apart scale (courses_of senders)) =
-    c.starts_fault-starts.ensures ∙ ap (λ (l : List Course). beyond_fault Start (2 * a.double) (pos (pi_of a.params.now)) (starts_apart scale l)) one in
-    let two : c.as_slice-2.result.now ≡ courses_of senders = c.as_slice-2.ensures ∙ c.courses_of-courses.ensures.value in
-    let lengths : c.lengths_fault-lengths.result ≡ beyond_fault Lengths (2 * a.double) (pos (lambda_of a.params.now)) (lengths_apart scale (courses_of senders)) =
-    c.lengths_fault-lengths.ensures ∙ ap (λ (l : List Course). beyond_fault Lengths (2 * a.double) (pos (lambda_of a.params.now)) (lengths_apart scale l)) two in
-    all_then precision a.params.now scale a.log.now a.span.now a.before.now a.here.now a.double senders (told_is even c.in_ok-tell.ensures) (told_is odd c.in_ok-tell-2.ensures)
-    (told_is starts c.in_ok-tell-3.ensures) c.put_terms.result (told_is lengths c.in_ok-tell-4.ensures) c.put_terms.ensures
+    let all = all_told a.precision a.params.now scale a.log.now a.span.now a.before.now a.here.now a.double senders in
+    let bound : to_z w128 (of_z w128 c.from.result) ≡ a.precision = search rules in
+    let skews = ap (λ (b : ℤ). skew_faults b scale a.double senders) bound in
+    let starts : to_z w128 (of_z w128 c.from-2.result) ≡ pos (pi_of a.params.now) = search rules in
+    let lengths : to_z w128 (of_z w128 c.from-3.result) ≡ pos (lambda_of a.params.now) = search rules in
+    let apart : apart_faults (to_z w128 (of_z w128 c.from-2.result)) (to_z w128 (of_z w128 c.from-3.result)) scale a.double senders ≡ apart_faults (pos (pi_of a.params.now)) (pos (lambda_of a.params.now)) scale a.double senders =
+    λ i. apart_faults (starts i) (lengths i) scale a.double senders in
+    told_all all
+    (told_then _ (told_then _ (told_all skews c.in_ok-put_skews.ensures) (told_all apart c.in_ok-put_apart.ensures)) c.put_terms.ensures)
