@@ -26,6 +26,7 @@ use Rattle.fr_seen_runs.specs.Contradictions.{IsObservedRun}
 use Rattle.fr_seen_runs.specs.NotContradicted.{NoRunHasOwnFaults, NoRunIsContradicted}
 use Rattle.fr_seen_runs.specs.WorkedFaults.{IsSeenOfNoCovered, IsSeenOfNone, IsSeenOfNoneWithOwnSlots, TellsFault, correction_told, form_entry, form_told, last_entry, last_log, late_entry, late_log, offset_told, stranger_entry, stranger_told}
 use Rattle.fr_seen_runs.specs.WorkedLog.{by_double, entry_sighting, of_each, of_node, seen_cluster}
+use Rattle.fr_seen_runs.proofs.Standings.{stated_where_open}
 use Rattle.fr_seen_runs.proofs.WorkedSeen.{all_of, bytes_of_1, bytes_of_2, log_with}
 use Rattle.fr_seen_runs.proofs.WorkedVerdict.{none_offending, on_faults, on_rows, on_senders}
 
