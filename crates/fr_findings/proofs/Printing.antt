@@ -1,21 +1,28 @@
 -- The rows of double cycles are put one double cycle after the other, and what is known behind them is kept.
-use Rattle.std.proofs.Common.{◌≡◌, ℕ, zero, suc, ◌+◌, ◌-◌, ◌*◌, ◌<◌, ◌≤◌, ℤ, Bool, true, false, List, [], ◌∷◌, ◌++◌, length, slice_get, Option, Some, None, is_none, Result, Ok, Err, refl, sym, ap, ◌∙◌, subst, append-nil, arith}
-use Rattle.std.specs.List.{count_by, range_with_len}
+use Rattle.std.proofs.Common.{◌≡◌, ℕ, zero, suc, ◌+◌, ◌-◌, ◌*◌, ◌<◌, ◌≤◌, ℤ, Bool, true, false, List, [], ◌∷◌, ◌++◌, length, slice_get, Option, Some, None, is_none, Result, Ok, Err, refl, sym, ap, ◌∙◌, subst, append_assoc, append-nil, arith}
+use Rattle.std.specs.List.{count_by, flat_map, range_with_len}
+use Rattle.std.specs.Option.{option_or}
 use Rattle.std.specs.Result.{IsErr}
+use Rattle.std.proofs.lemmas.Grind.{flat_map-append}
 use Rattle.std.proofs.lemmas.List.Elements.{All-weaker}
 use Rattle.std.proofs.lemmas.List.Sums.{count_by-le-length}
 use Rattle.fr_base.specs.Device.{Puts, Sunk}
 use Rattle.fr_base.specs.declared.sink.PutFault.{PutFault}
 use Rattle.fr_base.proofs.Putting.{cut, then}
+use Rattle.fr_bound.specs.declared.judging.Heard.{Heard}
+use Rattle.fr_bound.specs.declared.judging.Known.{Known}
 use Rattle.fr_cluster.specs.Values.{Values}
 use Rattle.fr_log.specs.View.{LogView}
 use Rattle.fr_course.specs.declared.scales.Scale.{Scale}
-use Rattle.fr_observe.specs.Faults.{faults_in_sync, sync_behind}
+use Rattle.fr_observe.specs.Faults.{fault_row, faults_in_sync, first_of_faults, sync_behind}
+use Rattle.fr_observe.specs.Knowing.{standing_faults}
 use Rattle.fr_observe.specs.Telling.{TellsFaults}
 use Rattle.fr_observe.specs.declared.fault.Fault.{Fault}
 use Rattle.fr_observe.specs.declared.fault.LogSpan.{LogSpan}
 use Rattle.fr_observe.specs.declared.fault.SyncFrom.{SyncFrom}
+use Rattle.fr_observe.specs.declared.knowing.Standing.{Standing}
 use Rattle.fr_observe.specs.declared.obstacle.Obstacle.{Obstacle}
+use Rattle.fr_observe.specs.declared.scene.Scene.{Scene}
 use Rattle.fr_observe.proofs.Told.{told_cut}
 use Rattle.fr_sightings.specs.Ranges.{AreSeenFrom}
 use Rattle.fr_sightings.specs.Senders.{double_of, sightings_in}
@@ -24,11 +31,13 @@ use Rattle.fr_sightings.specs.declared.sender.Sender.{Sender}
 use Rattle.fr_sightings.specs.declared.sighting.Sighting.{Sighting}
 use Rattle.fr_findings.specs.Counting.{AreFewCycles, counted, is_open, is_over, is_within, no_cycles_told}
 use Rattle.fr_observe.specs.Observing.{both_say, cycle_row, cycles_text, doubles_between, seen_doubles}
-use Rattle.fr_findings.specs.Ground.{CountsFew}
+use Rattle.fr_findings.specs.Ground.{CountsFew, basis_in, double_in, scene_in}
 use Rattle.fr_observe.specs.Skews.{AreSkews}
-use Rattle.fr_findings.specs.Verdict.{Basis, DoubleCycle, double_at, double_told, double_with, even_says, is_judged, judged_by, no_progress, odd_says, progress_of, progress_told, sightings_before, sync_told, told_of_doubles, unless_synced}
+use Rattle.fr_findings.specs.Verdict.{Basis, DoubleCycle, double_at, double_told, double_with, even_says, is_judged, judged_by, known_told, no_progress, odd_says, progress_of, progress_told, sightings_before, standing_told, sync_told, told_of_doubles, unless_synced}
 use Rattle.fr_findings.specs.declared.counts.Counts.{Counts}
 use Rattle.fr_findings.specs.declared.coverable.Coverable.{Coverable}
+use Rattle.fr_findings.specs.declared.ground.Double.{Double}
+use Rattle.fr_findings.specs.declared.ground.Ground.{Ground}
 use Rattle.fr_findings.specs.declared.progress.Judged.{Judged}
 use Rattle.fr_findings.specs.declared.progress.Progress.{Progress}
 use Rattle.fr_observe.specs.declared.says.Says.{Says}
@@ -67,6 +76,57 @@ none-in-sync true None faults is = refl
 none-in-sync false None faults is = refl
 none-in-sync covered (Some from) faults is = absurd (cc is)
 
+-- some that were told, and then others, of which the first is kept apart
+pub told-apart : {done : Unit {0}} {a b c : Sunk} {x y u v : Option Fault} {told more : List Fault} (result : Result (Unit {0}) PutFault) → TellsFaults (Ok done) a b x y told
+    → TellsFaults result b c u v more → Puts result a c (flat_map fault_row (told ++ more))
+told-apart {a = a} {c = c} {told = told} {more = more} result one next = subst (Puts result a c) (sym (flat_map-append fault_row told more)) (then result one.puts next.puts)
+
+-- the first one of all: of those before, of its own, and of the others
+pub first-of-all : (first : Option Fault) (own more last : List Fault) → option_or (option_or first (first_of_faults own)) (option_or (first_of_faults more) (first_of_faults last))
+    ≡ option_or first (first_of_faults (own ++ (more ++ last)))
+first-of-all (Some fault) own more last = refl
+first-of-all None (fault ∷ own) more last = refl
+first-of-all None [] (fault ∷ more) last = refl
+first-of-all None [] [] last = refl
+
+-- what contradicts its own numbers, by what it is looked at with
+pub known-is : (g : Ground) (d : Double) (scene : Scene) (st : Standing) (known : Option Known) → scene ≡ scene_in g d → st ≡ standing_told (basis_in g) (double_in d) known
+    → standing_faults scene.params.now scene.scale.now scene.log.now scene.span scene.before.now scene.here.now scene.number scene.senders.now st ≡ known_told (basis_in g) (double_in d) known
+unfolding known_told
+known-is g d scene st known scene_is st_is = λ i.
+    standing_faults (scene_is i).params.now (scene_is i).scale.now (scene_is i).log.now (scene_is i).span (scene_is i).before.now (scene_is i).here.now (scene_is i).number
+    (scene_is i).senders.now (st_is i)
+
+-- ---- the text of a double cycle
+
+-- its rows, those of what contradicts any run, those of what else contradicts it, and then its own numbers
+module _ (rows : List ℕ) (own more : List Fault) (spread : List ℕ) where
+  abbrev whole : List ℕ
+  whole = rows ++ (flat_map fault_row (own ++ more) ++ spread)
+
+  parts : rows ++ (flat_map fault_row own ++ (flat_map fault_row more ++ spread)) ≡ whole
+  parts =
+      ap (λ (l : List ℕ). rows ++ l)
+      (sym (append_assoc (flat_map fault_row own) (flat_map fault_row more) spread) ∙ ap (λ (l : List ℕ). l ++ spread) (sym (flat_map-append fault_row own more)))
+
+  pub rows-cut : {fault : PutFault} {a b : Sunk} (result : Result (Unit {0}) PutFault) → Puts (Err fault) a b rows → IsErr result → Puts result a b whole
+  rows-cut result put is = cut result (flat_map fault_row (own ++ more) ++ spread) put is
+
+  pub own-cut : {done : Unit {0}} {fault : PutFault} {a b c : Sunk} (result : Result (Unit {0}) PutFault) → Puts (Ok done) a b rows → Puts (Err fault) b c (flat_map fault_row own) → IsErr result
+      → Puts result a c whole
+  own-cut {a = a} {c = c} result put next is =
+      subst (Puts result a c) parts (then {text = rows} result put (cut result (flat_map fault_row more ++ spread) next is))
+
+  pub more-cut : {done told : Unit {0}} {fault : PutFault} {a b c d : Sunk} (result : Result (Unit {0}) PutFault) → Puts (Ok done) a b rows → Puts (Ok told) b c (flat_map fault_row own)
+      → Puts (Err fault) c d (flat_map fault_row more) → IsErr result → Puts result a d whole
+  more-cut {a = a} {d = d} result put next last is =
+      subst (Puts result a d) parts (then {text = rows} result put (then {text = flat_map fault_row own} result next (cut result spread last is)))
+
+  pub whole-put : {done told all : Unit {0}} {a b c d e : Sunk} (result : Result (Unit {0}) PutFault) → Puts (Ok done) a b rows → Puts (Ok told) b c (flat_map fault_row own)
+      → Puts (Ok all) c d (flat_map fault_row more) → Puts result d e spread → Puts result a e whole
+  whole-put {a = a} {e = e} result put next last end =
+      subst (Puts result a e) parts (then {text = rows} result put (then {text = flat_map fault_row own} result next (then {text = flat_map fault_row more} result last end)))
+
 -- sync behind a double cycle, and what keeps it from being judged: nothing has to be looked at where sync is known
 pub sync-step : (l : LogView) (double : ℕ) (seen : Bool) (why : Option Obstacle) (sync : Option SyncFrom) → is_none why ≡ seen
     → sync_behind l double (is_none (unless_synced sync why)) sync ≡ sync_behind l double seen sync
@@ -79,9 +139,9 @@ obstacle-step l double seen why None = refl
 obstacle-step l double seen why (Some from) = refl
 
 -- what stays the same over a log
-abbrev pub made-basis : ℤ → Scale → Values → LogView → LogSpan → Coverable → Basis
-made-basis precision scale p l span covered =
-    record { precision = precision; scale = scale; params = p; log = l; span = span; covered = covered }
+abbrev pub made-basis : ℤ → Scale → Values → LogView → LogSpan → Coverable → Option Heard → Basis
+made-basis precision scale p l span covered heard =
+    record { precision = precision; scale = scale; params = p; log = l; span = span; covered = covered; heard = heard }
 
 -- ---- what both cycles say
 
@@ -114,7 +174,7 @@ judged-few most false judged double a b few le = (weaker most judged.said few, o
 pub few-told : (most : ℕ) (b : Basis) (d : DoubleCycle) (progress : Progress) → CountsFew most progress → CountsFew (most + 2) (progress_told b d progress)
 unfolding progress_told both_say
 few-told most b d progress few =
-    let judged = judged-few most (is_judged b (sync_told b d progress.sync)) progress.judged d.number (even_says b d) (odd_says b d) few.judged few.judged_doubles in
+    let judged = judged-few most (is_judged b d (sync_told b d progress.sync) progress.known) progress.judged d.number (even_says b d) (odd_says b d) few.judged few.judged_doubles in
     record {
       all = few-more most progress.counts (even_says b d) (odd_says b d) few.all;
       judged = judged.0;

@@ -1,13 +1,14 @@
 -- What functions pass to each other: what stays the same over a log, and a double cycle.
-use Rattle.std.specs.Prelude.{ℕ, ◌+◌, ◌<◌, ◌≤◌, Bool, All, List, [], ◌∷◌, length, Option}
+use Rattle.std.specs.Prelude.{ℕ, ◌+◌, ◌<◌, ◌≤◌, Bool, All, List, [], ◌∷◌, ◌++◌, length, Option}
 use Rattle.std.specs.Option.{option_or}
 use Rattle.fr_log.specs.View.{LogView}
-use Rattle.fr_observe.specs.Faults.{first_of_faults}
+use Rattle.fr_observe.specs.Faults.{faults_in_sync, first_of_faults}
 use Rattle.fr_observe.specs.Obstacles.{farther}
 use Rattle.fr_observe.specs.Skews.{AreSkews}
 use Rattle.fr_findings.specs.Counting.{AreFewCycles, counted}
 use Rattle.fr_bound.specs.declared.judging.Heard.{Heard}
-use Rattle.fr_findings.specs.Verdict.{Basis, DoubleCycle, by_heard, double_with, faults_told, judged_by, known_next_told, obstacle_told, reach_behind_both, reach_where, sync_told}
+use Rattle.fr_bound.specs.declared.judging.Known.{Known}
+use Rattle.fr_findings.specs.Verdict.{Basis, DoubleCycle, by_heard, double_with, faults_told, in_sync_told, is_coverable, judged_by, known_next_told, known_told, obstacle_told, reach_behind_both, reach_where, sync_told}
 use Rattle.fr_findings.specs.declared.ground.Around.{Around}
 use Rattle.fr_findings.specs.declared.ground.Double.{Double}
 use Rattle.fr_findings.specs.declared.ground.Ground.{Ground}
@@ -15,7 +16,10 @@ use Rattle.fr_findings.specs.declared.ground.Offending.{Offending}
 use Rattle.fr_findings.specs.declared.progress.OverRow.{OverRow}
 use Rattle.fr_findings.specs.declared.progress.Progress.{Progress}
 use Rattle.fr_findings.specs.declared.progress.Reach.{Reach}
+use Rattle.fr_observe.specs.declared.fault.Fault.{Fault}
+use Rattle.fr_observe.specs.declared.fault.SyncFrom.{SyncFrom}
 use Rattle.fr_observe.specs.declared.says.Says.{Says}
+use Rattle.fr_observe.specs.declared.scene.Scene.{Scene}
 use Rattle.fr_sightings.specs.Ranges.{AreLogStamps, AreNumbered, AreSeenFrom, DoublesAscend, IsProperSender, IsScaleOf}
 use Rattle.fr_sightings.specs.Sightings.{OffendingFrames}
 use Rattle.fr_sightings.specs.declared.sighting.Sighting.{Sighting}
@@ -43,6 +47,21 @@ double_in d =
       here = d.here.now;
       offending = offending_given d.offending;
       senders = d.senders.now;
+    }
+
+-- what it is looked at with
+abbrev pub scene_in : Ground → Double → Scene
+scene_in g d =
+    record {
+      params = g.params;
+      scale = g.scale;
+      log = g.log;
+      span = g.span;
+      before = d.before;
+      here = d.here;
+      number = d.number;
+      senders = d.senders;
+      skews = d.skews;
     }
 
 abbrev pub double_around : Ground → Around → ℕ → DoubleCycle
@@ -90,6 +109,11 @@ pub record AreWalked (g : Ground) (double : ℕ) (seen : List Sighting) : Type 0
 
 -- ---- what is known behind a double cycle, step by step
 
+-- what contradicts it beside what contradicts any run
+abbrev pub further_told : Basis → DoubleCycle → Option SyncFrom → Option Known → List Fault
+further_told b d sync known =
+    faults_in_sync (is_coverable b.covered) sync (in_sync_told b d) ++ known_told b d known
+
 abbrev pub with_faults : Basis → DoubleCycle → Progress → Progress
 with_faults b d progress =
     record progress {
@@ -105,12 +129,12 @@ reach_passed heard progress double is_judged even odd =
     by_heard heard (reach_behind_both progress.sync double even odd (progress.reach, progress.is_ended))
     (reach_where is_judged progress.judged.span double even odd (progress.reach, progress.is_ended))
 
-abbrev pub with_both : Option Heard → Progress → ℕ → Bool → Says → Says → Option OverRow → Progress
-with_both heard progress double is_judged even odd over =
+abbrev pub with_both : Progress → ℕ → Bool → Says → Says → (Option Reach × Bool) → Option OverRow → Progress
+with_both progress double is_judged even odd reach over =
     record progress {
       counts = counted progress.counts (even ∷ odd ∷ []);
-      reach = (reach_passed heard progress double is_judged even odd).0;
-      is_ended = (reach_passed heard progress double is_judged even odd).1;
+      reach = reach.0;
+      is_ended = reach.1;
       over = option_or progress.over over;
       doubles = progress.doubles + 1;
       judged = judged_by is_judged progress.judged double (even ∷ odd ∷ []);

@@ -3,24 +3,28 @@ ghost use Rattle.std.specs.List.{flat_map};
 ghost use Rattle.std.specs.Option.{option_or};
 ghost use Rattle.fr_base.specs.Device.{Puts};
 ghost use Rattle.fr_observe.specs.Faults.{before_in_sync, fault_row, faults_in_sync, first_of_faults};
+ghost use Rattle.fr_observe.specs.Knowing.{JudgedBySmall, known_obstacle};
 ghost use Rattle.fr_observe.specs.Obstacles.{sync_obstacle};
-ghost use Rattle.fr_findings.specs.Ground.{IsDouble, IsGround, basis_in, double_in, with_faults};
+ghost use Rattle.fr_observe.specs.Scenes.{IsScene};
+ghost use Rattle.fr_findings.specs.Ground.{IsDouble, IsGround, basis_in, double_in, further_told, scene_in, with_faults};
 ghost use Rattle.fr_observe.specs.Telling.{TellsFaults};
-ghost use Rattle.fr_findings.specs.Verdict.{faults_told, in_sync_told, is_coverable, obstacle_told, own_told, sync_told, uncoverable, unless_synced};
+ghost use Rattle.fr_findings.specs.Verdict.{by_heard, in_sync_told, is_coverable, own_told, standing_told, sync_told, uncoverable, unless_synced, unsynced_told};
 
 use crate::coverable::Coverable;
 use crate::ground::{Double, Ground, Offending};
 use crate::progress::Progress;
 use crate::slot_faults::put_slot_faults;
 use fr_base::{PutFault, Sink};
+use fr_bound::Known;
 use fr_observe::{
-    Fault, Obstacle, SyncFrom, put_own_faults, put_sync_faults, sync_behind, sync_obstacle,
+    Fault, Obstacle, Scene, Standing, SyncFrom, known_next, known_obstacle, put_own_faults,
+    put_standing_faults, put_sync_faults, standing, sync_behind, sync_obstacle,
 };
 use fr_sightings::Sighting;
 
 // What contradicts any run, and any that sends each whole frame of the log in the slot of a node.
 #[tactic(auto, unfolding(crate::specs::Verdict::own_told))]
-fn put_own<O: Sink>(
+pub(crate) fn put_own<O: Sink>(
     ground: &Ground<'_>,
     double: &Double<'_>,
     first: &mut Option<Fault>,
@@ -93,8 +97,8 @@ fn why_unjudged(
     }
 }
 
-// From when on the cluster is in sync behind a double cycle, and what keeps that from being judged.
-#[tactic(auto, unfolding(crate::specs::Verdict::sync_told, crate::specs::Verdict::obstacle_told))]
+// From when on the cluster is in sync behind a double cycle, and what keeps that from being judged by it.
+#[tactic(auto, unfolding(crate::specs::Verdict::sync_told))]
 fn sync_of(
     ground: &Ground<'_>,
     double: &Double<'_>,
@@ -105,7 +109,7 @@ fn sync_of(
     requires double { IsDouble ground.now double.now }
     requires told { told ≡ first_of_faults (own_told (basis_in ground.now) (double_in double.now)) }
     ensures sync { result.0 ≡ sync_told (basis_in ground.now) (double_in double.now) sync }
-    ensures obstacle { result.1 ≡ obstacle_told (basis_in ground.now) (double_in double.now)
+    ensures obstacle { result.1 ≡ unsynced_told (basis_in ground.now) (double_in double.now)
         (sync_told (basis_in ground.now) (double_in double.now) sync) }
 {
     let why = why_unsynced(ground, double, told, sync);
@@ -189,28 +193,95 @@ fn earlier(first: Option<Fault>, told: Option<Fault>) -> Option<Fault>
     }
 }
 
-// The faults of a double cycle: what contradicts any run, and behind that what contradicts a covered one in sync.
-#[tactic(auto, unfolding(crate::specs::Verdict::faults_told))]
-pub(crate) fn put_faults<O: Sink>(
-    ground: &Ground<'_>,
-    double: &Double<'_>,
+// What a double cycle is looked at with.
+fn scene_of<'a>(ground: &'a Ground<'a>, double: &'a Double<'a>) -> Scene<'a>
+    requires ground { IsGround ground.now }
+    requires double { IsDouble ground.now double.now }
+    ensures value { result ≡ scene_in ground.now double.now }
+    ensures proper { IsScene result }
+{
+    Scene {
+        params: ground.params,
+        scale: ground.scale,
+        log: ground.log,
+        span: ground.span,
+        before: double.before,
+        here: double.here,
+        number: double.number,
+        senders: double.senders,
+        skews: double.skews,
+    }
+}
+
+// How it stands by its own numbers, where so much is known of it from the one before; `told` is the first fault in it that
+// contradicts any run. Where a run can be covered, nothing is known and nothing is looked at.
+#[tactic(auto, unfolding(crate::specs::Verdict::standing_told))]
+pub(crate) fn standing_of<'a>(
+    ground: &'a Ground<'a>,
+    double: &'a Double<'a>,
+    known: Option<Known>,
+    told: &Option<Fault>,
+) -> Standing
+    requires ground { IsGround ground.now }
+    requires double { IsDouble ground.now double.now }
+    requires told { told.now ≡ first_of_faults (own_told (basis_in ground.now) (double_in double.now)) }
+    ensures value { result ≡ standing_told (basis_in ground.now) (double_in double.now) known }
+    ensures small { JudgedBySmall result }
+{
+    standing(&scene_of(ground, double), ground.heard, known, *told)
+}
+
+// What keeps it from being judged: by sync that is `unsynced`; else it is what its own numbers tell.
+fn obstacle_of<'a>(
+    ground: &'a Ground<'a>,
+    double: &'a Double<'a>,
+    standing: &Standing,
+    told: Option<Fault>,
+    unsynced: Option<Obstacle>,
+) -> Option<Obstacle>
+    requires ground { IsGround ground.now }
+    requires double { IsDouble ground.now double.now }
+    ensures { result ≡ by_heard ground.now.heard unsynced (known_obstacle ground.now.params.now ground.now.log.now
+        double.now.here.now double.now.number standing.now told) }
+{
+    match ground.heard {
+        None => unsynced,
+        Some(_) => known_obstacle(&scene_of(ground, double), standing, told),
+    }
+}
+
+// The faults of a double cycle beside those that contradict any run, the first of which is `told`: what contradicts a
+// covered run in sync, and what contradicts its own numbers.
+pub(crate) fn put_faults<'a, O: Sink>(
+    ground: &'a Ground<'a>,
+    double: &'a Double<'a>,
+    standing: &Standing,
+    told: &Option<Fault>,
     progress: &mut Progress,
     out: &mut O,
 ) -> Result<(), PutFault>
     requires ground { IsGround ground.now }
     requires double { IsDouble ground.now double.now }
+    requires standing { standing.now ≡ standing_told (basis_in ground.now) (double_in double.now) progress.old.known }
+    requires small { JudgedBySmall standing.now }
+    requires told { told.now ≡ first_of_faults (own_told (basis_in ground.now) (double_in double.now)) }
     ensures puts { Puts result (O.state out.old) (O.state out.new)
-        (flat_map fault_row (faults_told (basis_in ground.now) (double_in double.now)
-        (sync_told (basis_in ground.now) (double_in double.now) progress.old.sync))) }
+        (flat_map fault_row (further_told (basis_in ground.now) (double_in double.now)
+        (sync_told (basis_in ground.now) (double_in double.now) progress.old.sync) progress.old.known)) }
     ensures progress { OnOk result (progress.new ≡
         with_faults (basis_in ground.now) (double_in double.now) progress.old) }
 {
-    let mut told = None;
-    put_own(ground, double, &mut told, out)?;
-    let (sync, obstacle) = sync_of(ground, double, told, progress.sync);
-    put_where_synced(ground, double, sync, &mut told, out)?;
+    let (sync, unsynced) = sync_of(ground, double, *told, progress.sync);
+    let mut in_sync = None;
+    put_where_synced(ground, double, sync, &mut in_sync, out)?;
+    let mut against = None;
+    put_standing_faults(&scene_of(ground, double), standing, &mut against, out)?;
+    let obstacle = obstacle_of(ground, double, standing, *told, unsynced);
     progress.sync = sync;
-    progress.first = earlier(progress.first, told);
+    progress.known = known_next(ground.params, standing, against.is_none());
+    let before = earlier(progress.first, *told);
+    let behind = earlier(in_sync, against);
+    progress.first = earlier(before, behind);
     progress.obstacle = Obstacle::farther(progress.obstacle, obstacle);
     Ok(())
 }

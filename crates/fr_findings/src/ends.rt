@@ -3,7 +3,7 @@ ghost use Rattle.fr_text.specs.Pieces.{Spells};
 ghost use Rattle.fr_time.specs.Cycles.{double_cycle_of};
 ghost use Rattle.fr_observe.specs.Observing.{known_count};
 ghost use Rattle.fr_findings.specs.Counting.{cycles_told, first_row_cycle, last_row_cycle, log_row};
-ghost use Rattle.fr_findings.specs.Text.{covered_row, numbers_row, sure_word, sync_double, sync_row, sync_word, verdict_row, why_cycle, why_node, why_unjudged, why_word};
+ghost use Rattle.fr_findings.specs.Text.{covered_row, first_judged, numbers_row, sure_word, sync_double, sync_of, sync_row, sync_word, verdict_row, why_cycle, why_node, why_unjudged, why_word};
 
 use crate::counts::Counts;
 use crate::coverable::Coverable;
@@ -245,16 +245,40 @@ fn why_node(why: &Option<Obstacle>) -> Option<NodeId>
     }
 }
 
-// From which double cycle on a cluster is in sync, how many are judged, and why others are not.
+// Where double cycles are judged by their own numbers, the first of these.
+fn first_judged(span: Option<Reach>) -> Option<SyncFrom>
+    ensures { result ≡ first_judged span }
+{
+    match span {
+        None => None,
+        Some(span) => Some(SyncFrom {
+            double: span.from / 2,
+            is_stated: false,
+        }),
+    }
+}
+
+fn sync_of(progress: &Progress) -> Option<SyncFrom>
+    ensures { result ≡ sync_of progress.now }
+{
+    match progress.sync {
+        Some(from) => Some(from),
+        None => first_judged(progress.judged.span),
+    }
+}
+
+// From which double cycle on a cluster is in sync, or is judged by its own numbers; how many are judged, and why others
+// are not.
 pub(crate) fn sync_row(progress: &Progress) -> Line
     ensures { result ≡ sync_row progress.now }
 {
-    let why = why_unjudged(progress.sync, progress.obstacle);
+    let sync = sync_of(progress);
+    let why = why_unjudged(sync, progress.obstacle);
     row_of(
         b"sync",
         &[
-            sync_double(progress.sync),
-            Word(sync_word(progress.sync)),
+            sync_double(sync),
+            Word(sync_word(sync)),
             Natural(progress.judged.doubles),
             Natural(progress.doubles),
             Word(why_word(&why)),

@@ -7,8 +7,8 @@ use fr_observe::{LogSpan, Skews};
 use fr_sightings::{Sender, Sighting};
 
 // What stays the same over a log: the precision of its cluster in ticks, the cluster's numbers as readings, both files,
-// the cycles from the first sighting to the last, whether a run can be covered, and, where double cycles are judged by their own
-// numbers, what their nodes hear of each other.
+// the cycles from the first sighting to the last, and whether a run can be covered. Where double cycles are judged by
+// their own numbers, it has what their nodes hear of each other.
 #[derive(Clone, Copy)]
 pub(crate) struct Ground<'a> {
     pub(crate) precision: i64,

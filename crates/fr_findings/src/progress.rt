@@ -1,10 +1,10 @@
 ghost use Rattle.std.specs.Prelude.{◌≡◌, ◌≤◌, ◌<◌, ◌∷◌, [], true};
-ghost use Rattle.fr_findings.specs.Ground.{CountsFew, with_both};
+ghost use Rattle.fr_findings.specs.Ground.{CountsFew, reach_passed, with_both};
 ghost use Rattle.fr_findings.specs.Counting.{AreFewCycles, counted};
-ghost use Rattle.fr_findings.specs.Verdict.{further_within, judged_by, no_progress, none_judged, reach_behind, reach_behind_both, reach_by, span_to};
+ghost use Rattle.fr_findings.specs.Verdict.{further_within, judged_by, no_progress, none_judged, reach_behind, reach_behind_both, reach_by, reach_where, span_to};
 
 use crate::counts::Counts;
-use fr_bound::Known;
+use fr_bound::{Heard, Known};
 use fr_observe::{Fault, Obstacle, Says, SyncFrom};
 
 /// Cycles all of whose rows say that the skew is within the precision.
@@ -25,7 +25,9 @@ pub struct OverRow {
     pub low: i64,
 }
 
-/// The double cycles that are judged: those in which what no covered run in sync gives is held against the log.
+/// The double cycles that are judged: those in which more is held against the log than what contradicts any run. Where a
+/// run can be covered, that is what no covered run in sync gives. Where a check fails, it is what the double cycle's own
+/// numbers exclude.
 #[derive(Clone, Copy, Debug, PartialEq, Eq)]
 pub struct Judged {
     /// How many they are.
@@ -41,15 +43,17 @@ pub struct Judged {
 pub struct Progress {
     /// From when on the cluster is in sync, if that is known.
     pub sync: Option<SyncFrom>,
-    /// What is known of the clocks in the next double cycle, in ticks, where this one is judged by its own numbers.
+    /// What is known of the clocks in the next double cycle, in ticks: where the last one is judged by its own numbers, and
+    /// nothing contradicts these.
     pub known: Option<Known>,
     /// The first contradiction.
     pub first: Option<Fault>,
     /// How many cycles say what.
     pub counts: Counts,
-    /// From the first cycle in sync on, those that say within without a gap.
+    /// From the first cycle in sync on, those that say within without a gap. Where double cycles are judged by their own
+    /// numbers, from the first one that is judged on; none behind one that is not.
     pub reach: Option<Reach>,
-    /// Whether one of them said something else.
+    /// Whether one of them said something else, or was not judged.
     pub is_ended: bool,
     /// The first row that says over.
     pub over: Option<OverRow>,
@@ -105,32 +109,45 @@ impl Progress {
         }
     }
 
-    // Behind a double cycle whose cycles say this, the first row of which that says over is this one.
+    // How far rows say within, and whether one of them said something else, behind a double cycle whose even and odd cycle
+    // say this: by sync, or, where it is told what nodes hear of each other, by whether it is judged by its own numbers.
+    pub(crate) fn reach_passed(
+        &self,
+        heard: Option<Heard>,
+        double: u32,
+        is_judged: bool,
+        said: (Says, Says),
+    ) -> (Option<Reach>, bool)
+        requires { double < 1_000_000 }
+        ensures { result ≡ reach_passed heard self.now double is_judged said.0 said.1 }
+    {
+        let reach = (self.reach, self.is_ended);
+        match heard {
+            None => behind_both(self.sync, double, said, reach),
+            Some(_) => behind_judged(is_judged, self.judged.span, double, said, reach),
+        }
+    }
+
+    // Behind a double cycle whose even and odd cycle say this, the first row of which that says over is this one, and behind
+    // which rows reach so far.
     pub(crate) fn pass(
         &mut self,
         double: u32,
         is_judged: bool,
-        even: Says,
-        odd: Says,
+        said: (Says, Says),
+        reach: (Option<Reach>, bool),
         over: Option<OverRow>,
     )
         requires double { double < 1_000_000 }
         requires few { CountsFew 900_000 self.old }
-        ensures { self.new ≡ with_both self.old double is_judged even odd over }
+        ensures { self.new ≡ with_both self.old double is_judged said.0 said.1 reach over }
     {
+        self.reach = reach.0;
+        self.is_ended = reach.1;
         self.doubles += 1;
-        judge(is_judged, double, even, odd, &mut self.judged);
+        judge(is_judged, double, said.0, said.1, &mut self.judged);
         self.over = self.over.or(over);
-        count_both(even, odd, &mut self.counts);
-        let (reach, is_ended) = behind_both(
-            self.sync,
-            double,
-            even,
-            odd,
-            (self.reach, self.is_ended),
-        );
-        self.reach = reach;
-        self.is_ended = is_ended;
+        count_both(said.0, said.1, &mut self.counts);
     }
 }
 
@@ -209,15 +226,35 @@ fn behind(reach: (Option<Reach>, bool), cycle: u32, says: Says) -> (Option<Reach
 fn behind_both(
     sync: Option<SyncFrom>,
     double: u32,
-    even: Says,
-    odd: Says,
+    said: (Says, Says),
     reach: (Option<Reach>, bool),
 ) -> (Option<Reach>, bool)
     requires { double < 1_000_000 }
-    ensures { result ≡ reach_behind_both sync double even odd reach }
+    ensures { result ≡ reach_behind_both sync double said.0 said.1 reach }
 {
     match sync {
         None => reach,
-        Some(_) => behind(behind(reach, 2 * double, even), 2 * double + 1, odd),
+        Some(_) => behind(behind(reach, 2 * double, said.0), 2 * double + 1, said.1),
+    }
+}
+
+// The same where double cycles are judged by their own numbers, these so far: one that is not is a gap behind them.
+fn behind_judged(
+    is_judged: bool,
+    span: Option<Reach>,
+    double: u32,
+    said: (Says, Says),
+    reach: (Option<Reach>, bool),
+) -> (Option<Reach>, bool)
+    requires { double < 1_000_000 }
+    ensures { result ≡ reach_where is_judged span double said.0 said.1 reach }
+{
+    if is_judged {
+        behind(behind(reach, 2 * double, said.0), 2 * double + 1, said.1)
+    } else {
+        match span {
+            None => reach,
+            Some(_) => (None, true),
+        }
     }
 }

@@ -1,4 +1,4 @@
-ghost use Rattle.std.specs.Prelude.{◌≡◌, ◌+◌, ◌-◌, ◌*◌, ◌≤◌, ◌<◌, All, OnOk};
+ghost use Rattle.std.specs.Prelude.{◌≡◌, ◌+◌, ◌-◌, ◌*◌, ◌≤◌, ◌<◌, ◌&&◌, ◌||◌, All, OnOk, is_some};
 ghost use Rattle.std.specs.List.{flat_map, range_with_len};
 ghost use Rattle.std.specs.Option.{option_or};
 ghost use Rattle.fr_base.specs.Device.{Puts};
@@ -6,15 +6,15 @@ ghost use Rattle.fr_course.specs.Near.{IsReadingScale};
 ghost use Rattle.fr_findings.specs.Ground.{AreWalked, CountsFew, IsAround, IsDouble, IsGround, OffendInOrder, basis_in, double_around, double_in, offending_given};
 ghost use Rattle.fr_observe.specs.Observing.{cycles_text, double_rows, node_row};
 ghost use Rattle.fr_observe.specs.Skews.{AreSkews};
-ghost use Rattle.fr_findings.specs.Verdict.{double_told, even_says, is_judged, no_progress, odd_says, over_row, progress_of, progress_told, told_of_doubles};
+ghost use Rattle.fr_findings.specs.Verdict.{double_told, even_says, is_coverable, no_progress, odd_says, over_row, progress_of, progress_told, told_of_doubles};
 ghost use Rattle.fr_sightings.specs.Ranges.{IsProperSender};
 
-use crate::contradicting::put_faults;
+use crate::contradicting::{put_faults, put_own, standing_of};
 use crate::ground::{Around, Double, Ground, Offending};
 use crate::progress::{OverRow, Progress};
 use fr_base::{PutFault, Sink};
 use fr_course::Scale;
-use fr_observe::{Says, Skews, SyncFrom, cycle_row, node_row, skews_of};
+use fr_observe::{Says, Skews, Standing, SyncFrom, cycle_row, node_row, put_spread, skews_of};
 use fr_sightings::{Sender, Sighting, look_at, look_from, seen_senders};
 use fr_text::put_line;
 
@@ -124,18 +124,18 @@ fn over_row(cycle: u32, low: i64, says: Says) -> Option<OverRow>
     }
 }
 
-// Whether a double cycle is judged, where this is known of sync behind it.
-fn is_judged(ground: &Ground<'_>, sync: Option<SyncFrom>) -> bool
-    ensures { result ≡ is_judged (basis_in ground.now) sync }
+// Whether a double cycle is judged: by sync, where this is known of it behind the double cycle, or by its own numbers.
+fn is_judged(ground: &Ground<'_>, standing: &Standing, sync: Option<SyncFrom>) -> bool
+    ensures { result ≡ ((is_coverable ground.now.covered && is_some sync) || standing.now.is_judged) }
 {
-    ground.covered.is_open() && sync.is_some()
+    (ground.covered.is_open() && sync.is_some()) || standing.is_judged
 }
 
-// A double cycle: its rows, and behind them those of its faults.
+// A double cycle: its rows, behind them those of its faults, and then its own numbers, where it is judged by them.
 #[tactic(auto, unfolding(crate::specs::Verdict::double_told, crate::specs::Verdict::progress_told))]
-fn put_double<O: Sink>(
-    ground: &Ground<'_>,
-    double: &Double<'_>,
+fn put_double<'a, O: Sink>(
+    ground: &'a Ground<'a>,
+    double: &'a Double<'a>,
     progress: &mut Progress,
     out: &mut O,
 ) -> Result<(), PutFault>
@@ -150,11 +150,16 @@ fn put_double<O: Sink>(
     let (scale, senders, skews) = (ground.scale, double.senders, double.skews);
     let precision = ground.precision;
     put_rows(scale, precision, double.number, senders, skews, out)?;
-    put_faults(ground, double, progress, out)?;
-    let (even, odd) = both_say(ground, double, skews);
-    let over = first_over(double.number, skews, even, odd);
-    let judged = is_judged(ground, progress.sync);
-    progress.pass(double.number, judged, even, odd, over);
+    let mut told = None;
+    put_own(ground, double, &mut told, out)?;
+    let standing = standing_of(ground, double, progress.known, &told);
+    put_faults(ground, double, &standing, &told, progress, out)?;
+    put_spread(ground.params, double.number, &standing, out)?;
+    let said = both_say(ground, double, skews);
+    let over = first_over(double.number, skews, said.0, said.1);
+    let judged = is_judged(ground, &standing, progress.sync);
+    let reach = progress.reach_passed(ground.heard, double.number, standing.is_judged, said);
+    progress.pass(double.number, judged, said, reach, over);
     Ok(())
 }
 

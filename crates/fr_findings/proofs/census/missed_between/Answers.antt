@@ -1,4 +1,4 @@
-use Rattle.std.proofs.Common.{◌≡◌, ◌∙◌, ◌-◌, ◌<◌, ◌≤◌, arith}
+use Rattle.std.proofs.Common.{◌≡◌, ◌∙◌, ◌<◌, ◌≤◌, arith}
 use Rattle.fr_time.specs.Cycles.{double_cycle_of}
 use Rattle.fr_sightings.specs.Senders.{sightings_in}
 use Rattle.fr_findings.proofs.Missed.{missed-end, missed-first}

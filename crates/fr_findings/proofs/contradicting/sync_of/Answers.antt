@@ -3,11 +3,10 @@ use Rattle.std.specs.Option.{option_or}
 use Rattle.fr_observe.specs.Faults.{first_of_faults, is_sync_seen, sync_behind}
 use Rattle.fr_observe.specs.Obstacles.{sync_obstacle}
 use Rattle.fr_observe.specs.declared.fault.Fault.{Fault}
-use Rattle.fr_observe.specs.declared.fault.SyncFrom.{SyncFrom}
 use Rattle.fr_observe.specs.declared.obstacle.Obstacle.{Obstacle}
 use Rattle.fr_observe.proofs.Others.{obstacle-is}
 use Rattle.fr_findings.specs.Ground.{basis_in, double_in}
-use Rattle.fr_findings.specs.Verdict.{Basis, DoubleCycle, obstacle_told, own_told, sync_told, uncoverable, unless_synced}
+use Rattle.fr_findings.specs.Verdict.{Basis, DoubleCycle, own_told, sync_told, uncoverable, unless_synced}
 use Rattle.fr_findings.proofs.Printing.{obstacle-step, sync-step}
 use Rattle.fr_findings.proofs.contradicting.sync_of.Goals as goal
 
@@ -35,7 +34,7 @@ returns-clause-sync c =
     ∙ sync-step b.log d.number (seen_in b d) (why_in b d) sync (why_seen b d)
 
 pub returns-clause-obstacle : goal.returns-clause-obstacle
-unfolding sync_told obstacle_told
+unfolding sync_told
 returns-clause-obstacle c =
     let b = basis_in c.args.ground.now in
     let d = double_in c.args.double.now in
