@@ -15,13 +15,13 @@ use Rattle.fr_cluster.specs.Values.{Values}
 use Rattle.fr_log.specs.View.{LogView}
 use Rattle.fr_course.specs.declared.scales.Scale.{Scale}
 use Rattle.fr_observe.specs.Faults.{fault_row, faults_in_sync, first_of_faults, sync_behind}
-use Rattle.fr_observe.specs.Knowing.{standing_faults}
+use Rattle.fr_judging.specs.Knowing.{standing_faults}
 use Rattle.fr_observe.specs.Telling.{TellsFaults}
 use Rattle.fr_observe.specs.declared.fault.Fault.{Fault}
 use Rattle.fr_observe.specs.declared.fault.LogSpan.{LogSpan}
 use Rattle.fr_observe.specs.declared.fault.SyncFrom.{SyncFrom}
-use Rattle.fr_observe.specs.declared.knowing.Standing.{Standing}
-use Rattle.fr_observe.specs.declared.obstacle.Obstacle.{Obstacle}
+use Rattle.fr_judging.specs.declared.knowing.Standing.{Standing}
+use Rattle.fr_judging.specs.declared.obstacle.Obstacle.{Obstacle}
 use Rattle.fr_observe.specs.declared.scene.Scene.{Scene}
 use Rattle.fr_observe.proofs.Told.{told_cut}
 use Rattle.fr_sightings.specs.Ranges.{AreSeenFrom}
@@ -35,7 +35,7 @@ use Rattle.fr_findings.specs.Ground.{CountsFew, basis_in, double_in, scene_in}
 use Rattle.fr_observe.specs.Skews.{AreSkews}
 use Rattle.fr_findings.specs.Verdict.{Basis, DoubleCycle, double_at, double_told, double_with, even_says, is_judged, judged_by, known_told, no_progress, odd_says, progress_of, progress_told, sightings_before, standing_told, sync_told, told_of_doubles, unless_synced}
 use Rattle.fr_findings.specs.declared.counts.Counts.{Counts}
-use Rattle.fr_findings.specs.declared.coverable.Coverable.{Coverable}
+use Rattle.fr_judging.specs.declared.coverable.Coverable.{Coverable}
 use Rattle.fr_findings.specs.declared.ground.Double.{Double}
 use Rattle.fr_findings.specs.declared.ground.Ground.{Ground}
 use Rattle.fr_findings.specs.declared.progress.Judged.{Judged}

@@ -3,12 +3,13 @@ use Rattle.std.specs.Prelude.{ℕ, ◌+◌, ◌<◌, ◌≤◌, Bool, All, List,
 use Rattle.std.specs.Option.{option_or}
 use Rattle.fr_log.specs.View.{LogView}
 use Rattle.fr_observe.specs.Faults.{faults_in_sync, first_of_faults}
-use Rattle.fr_observe.specs.Obstacles.{farther}
+use Rattle.fr_judging.specs.Obstacles.{farther}
 use Rattle.fr_observe.specs.Skews.{AreSkews}
 use Rattle.fr_findings.specs.Counting.{AreFewCycles, counted}
 use Rattle.fr_bound.specs.declared.judging.Heard.{Heard}
 use Rattle.fr_bound.specs.declared.judging.Known.{Known}
-use Rattle.fr_findings.specs.Verdict.{Basis, DoubleCycle, by_heard, double_with, faults_told, in_sync_told, is_coverable, judged_by, known_next_told, known_told, obstacle_told, reach_behind_both, reach_where, sync_told}
+use Rattle.fr_findings.specs.Verdict.{Basis, DoubleCycle, by_heard, double_with, faults_told, in_sync_told, judged_by, known_next_told, known_told, obstacle_told, reach_behind_both, reach_where, sync_told}
+use Rattle.fr_judging.specs.Coverables.{is_coverable}
 use Rattle.fr_findings.specs.declared.ground.Around.{Around}
 use Rattle.fr_findings.specs.declared.ground.Double.{Double}
 use Rattle.fr_findings.specs.declared.ground.Ground.{Ground}

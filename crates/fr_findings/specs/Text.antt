@@ -7,21 +7,22 @@ use Rattle.fr_cluster.specs.Values.{Values}
 use Rattle.fr_log.specs.View.{LogView}
 use Rattle.fr_findings.specs.Census.{census_text}
 use Rattle.fr_observe.specs.Faults.{kind_word}
-use Rattle.fr_observe.specs.Obstacles.{obstacle_word}
+use Rattle.fr_judging.specs.Obstacles.{obstacle_word}
 use Rattle.fr_findings.specs.Counting.{cycles_told, log_row}
 use Rattle.fr_observe.specs.Observing.{known_count, precision_row, row, seen_doubles}
 use Rattle.fr_sightings.specs.Ranges.{AreLate, DoublesAscend}
 use Rattle.fr_sightings.specs.Sightings.{IsSighting, OffendingFrames, SightingsView, offending_frames_of, sightings_of, tally_of}
 use Rattle.fr_sightings.specs.Sure.{are_numbers_sure}
-use Rattle.fr_findings.specs.Verdict.{Basis, basis_with, coverable_of, log_progress, no_progress, or_none_seen, told_of_doubles, verdict_by}
-use Rattle.fr_findings.specs.declared.coverable.Coverable.{Coverable}
-use Rattle.fr_findings.specs.declared.coverable.Coverable.TheVariants as coverable
+use Rattle.fr_findings.specs.Verdict.{Basis, basis_with, log_progress, no_progress, or_none_seen, told_of_doubles, verdict_by}
+use Rattle.fr_judging.specs.Coverables.{coverable_of}
+use Rattle.fr_judging.specs.declared.coverable.Coverable.{Coverable}
+use Rattle.fr_judging.specs.declared.coverable.Coverable.TheVariants as coverable
 use Rattle.fr_findings.specs.declared.progress.Progress.{Progress}
 use Rattle.fr_findings.specs.declared.progress.Reach.{Reach}
 use Rattle.fr_sightings.specs.declared.sighting.Sighting.{Sighting}
 use Rattle.fr_sightings.specs.declared.sighting.Tally.{Tally}
 use Rattle.fr_observe.specs.declared.fault.SyncFrom.{SyncFrom}
-use Rattle.fr_observe.specs.declared.obstacle.Obstacle.{Obstacle}
+use Rattle.fr_judging.specs.declared.obstacle.Obstacle.{Obstacle}
 use Rattle.fr_findings.specs.declared.verdict.Verdict.{Verdict}
 use Rattle.fr_findings.specs.declared.verdict.Verdict.TheVariants as verdict
 

@@ -1,33 +1,29 @@
 -- What the rows of a log come to: from which double cycle on the cluster is certainly in sync, what contradicts what, which
 -- double cycles are judged and why others are not, what the rows say of the skew, and the verdict.
-use Rattle.std.specs.Prelude.{ℕ, zero, suc, ◌+◌, ◌-◌, ◌*◌, ◌==◌, ◌&&◌, ◌||◌, nat_le, ℤ, pos, Bool, true, false, List, [], ◌∷◌, ◌++◌, length, Option, Some, None, is_some, slice_get, if◌then◌else◌}
-use Rattle.std.specs.List.{count_by, flat_map}
+use Rattle.std.specs.Prelude.{ℕ, zero, suc, ◌+◌, ◌-◌, ◌*◌, ◌==◌, ◌&&◌, ◌||◌, ℤ, pos, Bool, true, false, List, [], ◌∷◌, ◌++◌, length, Option, Some, None, is_some, slice_get, if◌then◌else◌}
+use Rattle.std.specs.List.{flat_map}
 use Rattle.std.specs.Option.{option_or}
 use Rattle.fr_bound.specs.Bounds.{precision_of}
-use Rattle.fr_bound.specs.Checks.{holds_of, left_of, right_of}
 use Rattle.fr_bound.specs.declared.judging.Heard.{Heard}
-use Rattle.fr_bound.specs.declared.judging.Heard.TheVariants.{Clean, Meeting}
 use Rattle.fr_bound.specs.declared.judging.Known.{Known}
 use Rattle.fr_cluster.specs.Values.{Values}
 use Rattle.fr_log.specs.View.{LogView}
 use Rattle.fr_course.specs.Readings.{reading_scale}
 use Rattle.fr_course.specs.declared.scales.Scale.{Scale}
+use Rattle.fr_judging.specs.Coverables.{coverable_of, heard_by, is_coverable, uncoverable}
 use Rattle.fr_observe.specs.Faults.{before_in_sync, fault_row, faults_in_sync, first_of_faults, is_nil, is_sync_seen, own_faults, slot_faults, sync_behind, sync_faults}
-use Rattle.fr_observe.specs.Knowing.{known_next, known_obstacle, spread_told, standing_faults, standing_of}
+use Rattle.fr_judging.specs.Knowing.{known_next, known_obstacle, spread_told, standing_faults, standing_of}
 use Rattle.fr_findings.specs.Counting.{counted, no_cycles_told}
 use Rattle.fr_observe.specs.Observing.{both_say, double_rows, even_high, even_low, odd_high, odd_low, says_of, seen_doubles}
-use Rattle.fr_observe.specs.Obstacles.{farther, sync_obstacle}
+use Rattle.fr_judging.specs.Obstacles.{farther, sync_obstacle}
 use Rattle.fr_sightings.specs.Senders.{seen_senders, sightings_in}
 use Rattle.fr_sightings.specs.Sightings.{OffendingFrames, offending_frames_of, sightings_of}
-use Rattle.fr_sightings.specs.Sure.{is_sync_as}
-use Rattle.fr_findings.specs.declared.coverable.Coverable.{Coverable}
-use Rattle.fr_findings.specs.declared.coverable.Coverable.TheVariants as coverable
+use Rattle.fr_judging.specs.declared.coverable.Coverable.{Coverable}
 use Rattle.fr_observe.specs.declared.fault.Fault.{Fault}
 use Rattle.fr_observe.specs.declared.fault.LogSpan.{LogSpan}
-use Rattle.fr_observe.specs.declared.knowing.Standing.{Standing}
-use Rattle.fr_observe.specs.declared.obstacle.Obstacle.{Obstacle}
-use Rattle.fr_observe.specs.declared.obstacle.ObstacleKind.{ObstacleKind}
-use Rattle.fr_observe.specs.declared.obstacle.ObstacleKind.TheVariants as obstacle
+use Rattle.fr_judging.specs.declared.knowing.Standing.{Standing}
+use Rattle.fr_judging.specs.declared.obstacle.Obstacle.{Obstacle}
+use Rattle.fr_judging.specs.declared.obstacle.ObstacleKind.TheVariants as obstacle
 use Rattle.fr_findings.specs.declared.progress.Judged.{Judged}
 use Rattle.fr_findings.specs.declared.progress.OverRow.{OverRow}
 use Rattle.fr_findings.specs.declared.progress.Progress.{Progress}
@@ -40,59 +36,6 @@ use Rattle.fr_observe.specs.declared.fault.SyncFrom.{SyncFrom}
 use Rattle.fr_findings.specs.declared.verdict.Partly.{Partly}
 use Rattle.fr_findings.specs.declared.verdict.Verdict.{Verdict}
 use Rattle.fr_findings.specs.declared.verdict.Verdict.TheVariants as verdict
-
--- ---- whether a run can be covered
-
--- the least number up to some of a check that fails
-unfoldable pub first_failing : Values → ℕ → Option ℕ
-first_failing p zero = None
-first_failing p (suc n) = option_or (first_failing p n) (if holds_of (suc n) p then None else Some (suc n))
-
--- so many correct sync nodes suffice for so many arbitrary ones
-abbrev pub are_enough : ℕ → ℕ → Bool
-are_enough correct arbitrary =
-    ((arbitrary == 0) && nat_le 1 correct) || ((arbitrary == 1) && nat_le 3 correct) || ((arbitrary == 2) && nat_le 6 correct)
-
-abbrev pub coverable_with : ℕ → ℕ → Coverable
-coverable_with correct arbitrary = if are_enough correct arbitrary then coverable.Open else coverable.Count correct arbitrary
-
-abbrev pub coverable_by : Values → LogView → Option ℕ → Coverable
-coverable_by p l (Some number) = coverable.Check number (pos (left_of number p)) (pos (right_of number p))
-coverable_by p l None = coverable_with (count_by (is_sync_as l false) p.nodes) (count_by (is_sync_as l true) p.nodes)
-
--- whether nothing that the parameters and the head of a log tell keeps a run from being covered; else the first of the five
--- checks that fails, or the counts of sync nodes that do not suffice
-unfoldable pub coverable_of : Values → LogView → Coverable
-coverable_of p l = coverable_by p l (first_failing p 5)
-
-abbrev pub is_coverable : Coverable → Bool
-is_coverable coverable.Open = true
-is_coverable (coverable.Check number left right) = false
-is_coverable (coverable.Count correct arbitrary) = false
-
--- where a check fails, double cycles are judged by their own numbers: what their nodes hear of each other, where so many correct sync
--- nodes suffice for so many arbitrary ones
-abbrev pub heard_with : ℕ → ℕ → Option Heard
-heard_with correct arbitrary =
-    if are_enough correct arbitrary then (if arbitrary == 0 then Some Clean else Some Meeting) else None
-
-abbrev pub heard_by : Values → LogView → Coverable → Option Heard
-heard_by p l coverable.Open = None
-heard_by p l (coverable.Check number left right) =
-    heard_with (count_by (is_sync_as l false) p.nodes) (count_by (is_sync_as l true) p.nodes)
-heard_by p l (coverable.Count correct arbitrary) = None
-
-abbrev pub heard_of : Values → LogView → Option Heard
-heard_of p l = heard_by p l (coverable_of p l)
-
--- else none of its double cycles is judged
-abbrev pub whole_obstacle : ObstacleKind → Option Obstacle
-whole_obstacle why = Some (record { kind = why; cycle = None; node = None })
-
-abbrev pub uncoverable : Coverable → Option Obstacle
-uncoverable coverable.Open = None
-uncoverable (coverable.Check number left right) = whole_obstacle obstacle.Checks
-uncoverable (coverable.Count correct arbitrary) = whole_obstacle obstacle.Count
 
 -- ---- what stays the same over a log
 

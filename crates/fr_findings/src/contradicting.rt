@@ -3,23 +3,23 @@ ghost use Rattle.std.specs.List.{flat_map};
 ghost use Rattle.std.specs.Option.{option_or};
 ghost use Rattle.fr_base.specs.Device.{Puts};
 ghost use Rattle.fr_observe.specs.Faults.{before_in_sync, fault_row, faults_in_sync, first_of_faults};
-ghost use Rattle.fr_observe.specs.Knowing.{JudgedBySmall, known_obstacle};
-ghost use Rattle.fr_observe.specs.Obstacles.{sync_obstacle};
+ghost use Rattle.fr_judging.specs.Knowing.{JudgedBySmall, known_obstacle};
+ghost use Rattle.fr_judging.specs.Obstacles.{sync_obstacle};
 ghost use Rattle.fr_observe.specs.Scenes.{IsScene};
 ghost use Rattle.fr_findings.specs.Ground.{IsDouble, IsGround, basis_in, double_in, further_told, scene_in, with_faults};
 ghost use Rattle.fr_observe.specs.Telling.{TellsFaults};
-ghost use Rattle.fr_findings.specs.Verdict.{by_heard, in_sync_told, is_coverable, own_told, standing_told, sync_told, uncoverable, unless_synced, unsynced_told};
+ghost use Rattle.fr_findings.specs.Verdict.{by_heard, in_sync_told, own_told, standing_told, sync_told, unless_synced, unsynced_told};
+ghost use Rattle.fr_judging.specs.Coverables.{is_coverable, uncoverable};
 
-use crate::coverable::Coverable;
 use crate::ground::{Double, Ground, Offending};
 use crate::progress::Progress;
-use crate::slot_faults::put_slot_faults;
 use fr_base::{PutFault, Sink};
 use fr_bound::Known;
-use fr_observe::{
-    Fault, Obstacle, Scene, Standing, SyncFrom, known_next, known_obstacle, put_own_faults,
-    put_standing_faults, put_sync_faults, standing, sync_behind, sync_obstacle,
+use fr_judging::{
+    Coverable, Obstacle, Standing, known_next, known_obstacle, put_standing_faults, standing,
+    sync_behind, sync_obstacle,
 };
+use fr_observe::{Fault, Scene, SyncFrom, put_own_faults, put_slot_faults, put_sync_faults};
 use fr_sightings::Sighting;
 
 // What contradicts any run, and any that sends each whole frame of the log in the slot of a node.

@@ -6,11 +6,11 @@ ghost use Rattle.fr_findings.specs.Counting.{cycles_told, first_row_cycle, last_
 ghost use Rattle.fr_findings.specs.Text.{covered_row, first_judged, numbers_row, sure_word, sync_double, sync_of, sync_row, sync_word, verdict_row, why_cycle, why_node, why_unjudged, why_word};
 
 use crate::counts::Counts;
-use crate::coverable::Coverable;
 use crate::progress::{OverRow, Progress, Reach};
 use crate::verdict::{Partly, Verdict, or_none_seen};
 use fr_base::NodeId;
-use fr_observe::{Fault, Obstacle, SyncFrom, known_node};
+use fr_judging::{Coverable, Obstacle};
+use fr_observe::{Fault, SyncFrom, known_node};
 use fr_sightings::{Sighting, Tally};
 use fr_text::Piece::{Natural, Signed, Word};
 use fr_text::{Line, Piece, row_of};

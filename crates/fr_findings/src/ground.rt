@@ -1,7 +1,7 @@
-use crate::coverable::Coverable;
 use fr_bound::Heard;
 use fr_cluster::Params;
 use fr_course::Scale;
+use fr_judging::Coverable;
 use fr_log::Log;
 use fr_observe::{LogSpan, Skews};
 use fr_sightings::{Sender, Sighting};

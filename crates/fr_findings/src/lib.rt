@@ -5,17 +5,14 @@
 mod census;
 mod contradicting;
 mod counts;
-mod coverable;
 mod ends;
 mod ground;
 mod observing;
 mod progress;
-mod slot_faults;
 mod verdict;
 mod writing;
 
 pub use counts::Counts;
-pub use coverable::Coverable;
 pub use observing::write_observed;
 pub use progress::{Judged, OverRow, Progress, Reach};
 pub use verdict::{Partly, Verdict};

@@ -8,11 +8,11 @@ ghost use Rattle.fr_findings.specs.Ground.{ComeInOrder, IsGround, OffendInOrder,
 ghost use Rattle.fr_observe.specs.Observing.{seen_doubles};
 ghost use Rattle.fr_sightings.specs.Sure.{are_numbers_sure};
 ghost use Rattle.fr_findings.specs.Text.{AreGathered, all_told, end_told, observe_text, text_with, whole_told};
-ghost use Rattle.fr_findings.specs.Verdict.{coverable_of, log_span, no_progress, number_or_none, progress_of, told_of_doubles};
+ghost use Rattle.fr_judging.specs.Coverables.{coverable_of};
+ghost use Rattle.fr_findings.specs.Verdict.{log_span, no_progress, number_or_none, progress_of, told_of_doubles};
 ghost use Rattle.fr_sightings.specs.Ranges.{IsScaleOf};
 
 use crate::census::put_census;
-use crate::coverable::Coverable;
 use crate::ends::{covered_row, cycles_told, log_row, numbers_row, sync_row, verdict_row};
 use crate::ground::{Ground, Offending};
 use crate::progress::Progress;
@@ -22,6 +22,7 @@ use fr_base::{PutFault, Sink};
 use fr_bound::bounds;
 use fr_cluster::Params;
 use fr_course::Scale;
+use fr_judging::Coverable;
 use fr_log::Log;
 use fr_observe::{LogSpan, precision_row};
 use fr_sightings::{Sighting, SightingList, Tally, are_numbers_sure};

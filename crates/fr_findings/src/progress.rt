@@ -5,7 +5,8 @@ ghost use Rattle.fr_findings.specs.Verdict.{further_within, judged_by, no_progre
 
 use crate::counts::Counts;
 use fr_bound::{Heard, Known};
-use fr_observe::{Fault, Obstacle, Says, SyncFrom};
+use fr_judging::Obstacle;
+use fr_observe::{Fault, Says, SyncFrom};
 
 /// Cycles all of whose rows say that the skew is within the precision.
 #[derive(Clone, Copy, Debug, PartialEq, Eq)]

@@ -2,7 +2,8 @@ ghost use Rattle.std.specs.Prelude.{◌≡◌};
 ghost use Rattle.fr_findings.specs.Verdict.{or_none_seen, partly_of, reaches_end, verdict_by, verdict_unless_over, verdict_where, verdict_within};
 
 use crate::progress::{OverRow, Progress, Reach};
-use fr_observe::{Fault, Obstacle, ObstacleKind};
+use fr_judging::{Obstacle, ObstacleKind};
+use fr_observe::Fault;
 
 /// Of the rows of a log from the first judged cycle to the last how many say what.
 #[derive(Clone, Copy, Debug, PartialEq, Eq)]

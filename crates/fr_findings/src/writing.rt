@@ -6,7 +6,8 @@ ghost use Rattle.fr_course.specs.Near.{IsReadingScale};
 ghost use Rattle.fr_findings.specs.Ground.{AreWalked, CountsFew, IsAround, IsDouble, IsGround, OffendInOrder, basis_in, double_around, double_in, offending_given};
 ghost use Rattle.fr_observe.specs.Observing.{cycles_text, double_rows, node_row};
 ghost use Rattle.fr_observe.specs.Skews.{AreSkews};
-ghost use Rattle.fr_findings.specs.Verdict.{double_told, even_says, is_coverable, no_progress, odd_says, over_row, progress_of, progress_told, told_of_doubles};
+ghost use Rattle.fr_findings.specs.Verdict.{double_told, even_says, no_progress, odd_says, over_row, progress_of, progress_told, told_of_doubles};
+ghost use Rattle.fr_judging.specs.Coverables.{is_coverable};
 ghost use Rattle.fr_sightings.specs.Ranges.{IsProperSender};
 
 use crate::contradicting::{put_faults, put_own, standing_of};
@@ -14,7 +15,8 @@ use crate::ground::{Around, Double, Ground, Offending};
 use crate::progress::{OverRow, Progress};
 use fr_base::{PutFault, Sink};
 use fr_course::Scale;
-use fr_observe::{Says, Skews, Standing, SyncFrom, cycle_row, node_row, put_spread, skews_of};
+use fr_judging::{Standing, put_spread};
+use fr_observe::{Says, Skews, SyncFrom, cycle_row, node_row, skews_of};
 use fr_sightings::{Sender, Sighting, look_at, look_from, seen_senders};
 use fr_text::put_line;
 

@@ -1,6 +1,6 @@
 -- Contradictions of a log: what no lawful run can have given of which the log is seen, with oscillators within what is stated;
 -- and what none can have given that is covered and in sync.
-use Rattle.std.specs.Prelude.{◌≡◌, ℕ, ◌+◌, ◌-◌, ◌*◌, ◌/◌, ◌==◌, ◌&&◌, ◌||◌, not, nat_le, nat_lt, ℤ, pos, neg_ℤ, int_le, int_lt, Bool, true, false, List, [], ◌∷◌, ◌++◌, codes, length, map, filter_map, count_by, Option, Some, None, is_some, if◌then◌else◌}
+use Rattle.std.specs.Prelude.{◌≡◌, ℕ, ◌+◌, ◌-◌, ◌*◌, ◌/◌, ◌==◌, ◌&&◌, ◌||◌, not, nat_le, nat_lt, ℤ, pos, neg_ℤ, ◌+ℤ◌, ◌-ℤ◌, int_le, int_lt, Bool, true, false, List, [], ◌∷◌, ◌++◌, codes, length, map, filter_map, count_by, Option, Some, None, is_some, if◌then◌else◌}
 use Rattle.std.specs.Fmt.{decimal}
 use Rattle.std.specs.List.{filter, flat_map, list_all, list_any}
 use Rattle.std.specs.Option.{option_and_then, option_map, option_or, option_to_list}
@@ -264,6 +264,12 @@ length_fault_by cycle node least most long =
 abbrev pub length_fault : Values → Scale → ℕ → Sender → Option Fault
 length_fault p scale double s =
     length_fault_by (2 * double) s.node (shortest_cycle_of p) (longest_cycle_of p) (length_ticks scale s.course)
+
+-- a length is certainly none of an oscillator within its bounds that walked so far beyond its range
+abbrev pub length_beyond : Values → Scale → ℕ → ℕ → Sender → Option Fault
+length_beyond p scale beyond double s =
+    length_fault_by (2 * double) s.node (shortest_cycle_of p -ℤ pos beyond) (longest_cycle_of p +ℤ pos beyond)
+    (length_ticks scale s.course)
 
 -- what was seen of a term, and what the node must have computed, have no number in common
 abbrev pub unlike_with : FaultKind → ℕ → ℕ → Interval → Interval → Fault

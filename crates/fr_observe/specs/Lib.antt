@@ -1,8 +1,6 @@
 -- what the public contract cites
 pub mod Observing
 pub mod Faults
-pub mod Obstacles
 pub mod Telling
 pub mod Skews
-pub mod Knowing
 pub mod Scenes

@@ -3,31 +3,24 @@
 #![tactic(auto)]
 
 mod fault;
-mod knowing;
 mod missing;
-mod obstacle;
 mod own_faults;
 mod rows;
 mod says;
 mod scene;
 mod sender_faults;
 mod skews;
-mod standing_faults;
-mod standings;
+mod slot_faults;
 mod sync_faults;
-mod synced;
 mod telling;
 
 pub use fault::{Fault, FaultKind, LogSpan, SyncFrom, known_node};
-pub use knowing::Standing;
-pub use obstacle::{Obstacle, ObstacleKind};
+pub use missing::put_missing;
 pub use own_faults::put_own_faults;
 pub use rows::{cycle_row, node_row, precision_row};
 pub use says::Says;
 pub use scene::Scene;
-pub use skews::{Skews, skews_of};
-pub use standing_faults::{put_spread, put_standing_faults};
-pub use standings::{known_next, known_obstacle, standing};
-pub use sync_faults::put_sync_faults;
-pub use synced::{sync_behind, sync_obstacle};
-pub use telling::tell_one;
+pub use sender_faults::{Asked, proper_lengths, put_of_senders};
+pub use skews::{Skews, courses_of, skews_of};
+pub use slot_faults::put_slot_faults;
+pub use sync_faults::{put_apart, put_skews, put_sync_faults};

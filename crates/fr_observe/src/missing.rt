@@ -43,7 +43,7 @@ fn missing_on(
     }
 }
 
-fn has_channel(node: &NodeSpec, channel: Channel) -> bool
+pub(crate) fn has_channel(node: &NodeSpec, channel: Channel) -> bool
     ensures { result ≡ has_channel (Some node.now) channel }
 {
     match channel {
@@ -150,8 +150,9 @@ fn put_all_missing<O: Sink>(
     Ok(())
 }
 
-// Tells which frames are missing of nodes that sent in the double cycle before, where the observer missed none.
-pub(crate) fn put_missing<O: Sink>(
+/// Tells which frames are missing of nodes that sent in the double cycle before, where the observer missed none: each in one put,
+/// and the first one of all that were told is kept.
+pub fn put_missing<O: Sink>(
     params: &Params,
     log: &Log,
     span: &LogSpan,

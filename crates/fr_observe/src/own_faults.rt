@@ -183,7 +183,7 @@ fn put_clocks<O: Sink>(
 }
 
 // A stamp of a log as a number that is printed.
-fn stamp_number(log: &Log, stamp: u64) -> i64
+pub(crate) fn stamp_number(log: &Log, stamp: u64) -> i64
     requires { log.now.unit * stamp ≤ last_stamp }
     ensures { result ≡ pos stamp }
 {

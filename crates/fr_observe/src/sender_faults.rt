@@ -7,8 +7,7 @@ ghost use Rattle.fr_course.specs.Course.{is_empty};
 ghost use Rattle.fr_course.specs.Near.{EndWithin, IsReadingScale};
 ghost use Rattle.fr_course.specs.Terms.{rate_step_seen};
 ghost use Rattle.fr_sightings.specs.Ranges.{IsProperSender};
-ghost use Rattle.fr_observe.specs.Faults.{correction_fault, further_of, length_fault, length_fault_by, longest_cycle_of, offset_fault, other_courses, rate_fault, shortest_cycle_of, term_fault, unlike_fault};
-ghost use Rattle.fr_observe.specs.Knowing.{length_beyond};
+ghost use Rattle.fr_observe.specs.Faults.{correction_fault, further_of, length_beyond, length_fault, length_fault_by, longest_cycle_of, offset_fault, other_courses, rate_fault, shortest_cycle_of, term_fault, unlike_fault};
 ghost use Rattle.fr_observe.specs.Telling.{TellsFaults, sender_fault};
 
 use crate::fault::{Fault, FaultKind};
@@ -20,13 +19,18 @@ use fr_cluster::{ParamName, Params};
 use fr_course::{Interval, Measuring, Scale, is_empty, length_ticks, rate_step_seen};
 use fr_sightings::{Sender, keyed_count, offset_computed, rate_computed};
 
-// What is asked of a sender.
+/// What is asked of a sender.
 #[derive(Clone, Copy)]
-pub(crate) enum Asked {
+pub enum Asked {
+    /// Whether the limits allow its offset term.
     Correction,
+    /// Whether the lengths of its cycles are proper ones.
     Length,
+    /// Whether they lie at most so far beyond these, in ticks.
     Beyond(u64),
+    /// Whether its offset term is the one that it must have computed.
     Offset,
+    /// Whether its rate term grew by the step that it must have computed.
     Rate,
 }
 
@@ -83,8 +87,8 @@ fn correction_fault(params: &Params, scale: &Scale, double: u32, sender: &Sender
     }
 }
 
-// The lengths of cycles in sync, in ticks.
-pub(crate) fn proper_lengths(params: &Params) -> Interval
+/// The lengths of cycles in sync, before correction, in ticks.
+pub fn proper_lengths(params: &Params) -> Interval
     ensures low { result.low ≡ shortest_cycle_of params.now }
     ensures high { result.high ≡ longest_cycle_of params.now }
     ensures near { EndWithin (pos 1_000_000_000_000) result }
@@ -346,8 +350,9 @@ fn sender_fault(
     }
 }
 
-// Tells what contradicts a run by this of each sender.
-pub(crate) fn put_of_senders<O: Sink>(
+/// Tells what contradicts a run by this of each sender of a double cycle: each in one put, and the first one of all that were told
+/// is kept.
+pub fn put_of_senders<O: Sink>(
     asked: Asked,
     scale: &Scale,
     params: &Params,

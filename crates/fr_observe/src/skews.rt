@@ -18,8 +18,8 @@ pub struct Skews {
     pub odd_high: Option<i64>,
 }
 
-// The courses of senders.
-pub(crate) fn courses_of(scale: &Scale, senders: &[Sender]) -> CourseList
+/// The courses of senders.
+pub fn courses_of(scale: &Scale, senders: &[Sender]) -> CourseList
     requires few { length senders.now ≤ 64 }
     requires senders { All (IsProperSender scale.now) senders.now }
     ensures value { result ≡ courses_of senders.now }

@@ -34,8 +34,9 @@ fn above(kind: FaultKind, cycle: u32, bound: i128, low: i64, high: Option<i64>) 
     }
 }
 
-// Tells where the skew of a double cycle was certainly greater than a bound, in ticks.
-pub(crate) fn put_skews<O: Sink>(
+/// Tells where the skew of a double cycle was certainly greater than a bound, in ticks: each cycle in one put, and the first one of
+/// all that were told is kept.
+pub fn put_skews<O: Sink>(
     bound: i128,
     scene: &Scene<'_>,
     first: &mut Option<Fault>,
@@ -108,8 +109,9 @@ fn lengths_fault(scale: &Scale, cycle: u32, bound: i128, courses: &[Course]) -> 
     )
 }
 
-// Tells where those of a double cycle did.
-pub(crate) fn put_apart<O: Sink>(
+/// Tells where the starts, or the lengths, of the even cycles of a double cycle certainly lay further apart than these bounds, in
+/// ticks: each in one put, and the first one of all that were told is kept.
+pub fn put_apart<O: Sink>(
     starts: i128,
     lengths: i128,
     scene: &Scene<'_>,

@@ -20,8 +20,8 @@ pub(crate) fn tell<O: Sink>(
     }
 }
 
-/// Puts the row of a contradiction, in one put, and keeps it if it is the first one that was told.
-pub fn tell_one<O: Sink>(
+// Puts the row of a contradiction, in one put, and keeps it if it is the first one that was told.
+pub(crate) fn tell_one<O: Sink>(
     fault: &Fault,
     first: &mut Option<Fault>,
     out: &mut O,

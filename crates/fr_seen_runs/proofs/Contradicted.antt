@@ -30,13 +30,14 @@ use Rattle.fr_seen_runs.specs.SyncFaults.{FromSyncOn, HasNoLengthFault, HasNoLen
 use Rattle.fr_seen_runs.specs.ToldFaults.{NoFaultIsTold, ToldFaultsAskEither, ToldFaultsAskOwnSlots, ToldFaultsAskSync, VerdictTellsFirst, log_faults}
 use Rattle.fr_seen_runs.specs.NotContradicted.{NoRunHasOwnFaults, NoRunIsContradicted}
 use Rattle.fr_observe.specs.declared.fault.Fault.{Fault}
-use Rattle.fr_observe.specs.Knowing.{known_next, standing_faults, standing_of}
+use Rattle.fr_judging.specs.Knowing.{known_next, standing_faults, standing_of}
 use Rattle.fr_observe.specs.declared.fault.SyncFrom.{SyncFrom}
-use Rattle.fr_observe.specs.declared.knowing.Standing.{Standing}
+use Rattle.fr_judging.specs.declared.knowing.Standing.{Standing}
 use Rattle.fr_observe.specs.Faults.{asks_own_slots, asks_sync, before_in_sync, beyond_fault, faults_in_sync, first_of_faults, is_nil, is_sync_seen, length_fault, missing_frames, offset_fault, rate_fault, seen_sync, skew_fault, slot_faults, stated_sync, sync_faults}
 use Rattle.fr_course.specs.Spread.{lengths_apart, starts_apart}
 use Rattle.fr_observe.specs.declared.fault.FaultKind.TheVariants.{Lengths, Start}
-use Rattle.fr_findings.specs.Verdict.{Basis, DoubleCycle, double_at, faults_told, heard_of, in_sync_told, is_coverable, known_next_told, known_told, log_basis, log_progress, log_span, no_progress, own_told, progress_behind, progress_told, sightings_before, standing_told, sync_told, verdict_by, verdict_of, verdict_with}
+use Rattle.fr_findings.specs.Verdict.{Basis, DoubleCycle, double_at, faults_told, in_sync_told, known_next_told, known_told, log_basis, log_progress, log_span, no_progress, own_told, progress_behind, progress_told, sightings_before, standing_told, sync_told, verdict_by, verdict_of, verdict_with}
+use Rattle.fr_judging.specs.Coverables.{is_coverable, log_heard}
 use Rattle.fr_findings.specs.declared.progress.Progress.{Progress}
 use Rattle.fr_sightings.specs.Sightings.{OffendingFrames, irregular_of, offending_frames_of}
 use Rattle.fr_findings.specs.declared.verdict.Verdict.TheVariants as verdict
@@ -298,7 +299,7 @@ module _ (x : Setting) (h : Cycles) (base : ℕ) (delays : ℕ → Channel → D
     KnownSo double heard known =
         (faults_by double (standing_by double heard known) ≡ []) × IsKnownOfLog x h base (suc double) (known_next x.params (standing_by double heard known) true)
 
-    known_so : (double : ℕ) (heard : Option Heard) (known : Option Known) → heard_of x.params l ≡ heard → Contains (seen_doubles Seen) double → IsKnownOfLog x h base double known → KnownSo double heard known
+    known_so : (double : ℕ) (heard : Option Heard) (known : Option Known) → log_heard x.params l ≡ heard → Contains (seen_doubles Seen) double → IsKnownOfLog x h base double known → KnownSo double heard known
     unfolding KnownSo faults_by standing_by standing_of standing_faults known_next double_at senders_of
     known_so double None known is among before = (refl, tt)
     known_so double (Some what) known is among before =

@@ -39,7 +39,7 @@ use Rattle.fr_sharp.proofs.RoundLemmas.{hearer}
 use Rattle.fr_sharp.proofs.RowsSupplied.{LawfulRows}
 use Rattle.fr_sharp.proofs.RunDoubles.{goes_on, member_among, members_found}
 use Rattle.fr_sharp.proofs.TimedRuns.{have_rows, rows_of}
-use Rattle.fr_observe.specs.Knowing.{stated_flutter}
+use Rattle.fr_judging.specs.Knowing.{stated_flutter}
 use Rattle.fr_seen_runs.specs.ComputedValues.{ComputesOffset, ComputesRate}
 use Rattle.fr_seen_runs.specs.JudgedTerms.{IsJudgedRun}
 use Rattle.fr_seen_runs.proofs.ComputedRounds.{computes_offset, computes_rate, here, next_here, AreHearing}

@@ -26,12 +26,12 @@ use Rattle.fr_sightings.specs.declared.sender.Sender.{Sender}
 use Rattle.fr_sightings.specs.declared.sighting.Sighting.{Sighting}
 use Rattle.fr_sightings.proofs.Proper.{both}
 use Rattle.fr_observe.specs.Faults.{is_seen_whole, longest_cycle_of, shortest_cycle_of}
-use Rattle.fr_observe.specs.Knowing.{beyond_of, known_by, known_seen, most_beyond}
-use Rattle.fr_observe.specs.Obstacles.{first_unseen, or_unseen, unseen_cycle}
+use Rattle.fr_judging.specs.Knowing.{beyond_of, known_by, known_seen, most_beyond}
+use Rattle.fr_judging.specs.Obstacles.{first_unseen, or_unseen, unseen_cycle}
 use Rattle.fr_observe.specs.Observing.{courses_of}
 use Rattle.fr_observe.specs.declared.fault.Fault.{Fault}
-use Rattle.fr_observe.specs.declared.obstacle.Obstacle.{Obstacle}
-use Rattle.fr_observe.specs.declared.obstacle.ObstacleKind.TheVariants as obstacle
+use Rattle.fr_judging.specs.declared.obstacle.Obstacle.{Obstacle}
+use Rattle.fr_judging.specs.declared.obstacle.ObstacleKind.TheVariants as obstacle
 use Rattle.fr_seen.specs.LogSeen.{log_senders, run_double}
 use Rattle.fr_sharp.specs.JudgedSteps.{EachHasRow, IsKnownAt}
 use Rattle.fr_sharp.specs.Lengths.{IsAboutCycle}

@@ -28,8 +28,8 @@ use Rattle.fr_sightings.specs.Senders.{own_slot, sightings_in}
 use Rattle.fr_sightings.specs.Sightings.{sightings_of}
 use Rattle.fr_sightings.specs.declared.sender.Sender.{Sender}
 use Rattle.fr_sightings.specs.declared.sighting.Sighting.{Sighting}
-use Rattle.fr_observe.specs.Faults.{beyond_fault, longest_cycle_of, missing_frames, shortest_cycle_of}
-use Rattle.fr_observe.specs.Knowing.{known_faults, length_beyond}
+use Rattle.fr_observe.specs.Faults.{beyond_fault, length_beyond, longest_cycle_of, missing_frames, shortest_cycle_of}
+use Rattle.fr_judging.specs.Knowing.{known_faults}
 use Rattle.fr_observe.specs.Observing.{courses_of, even_low, odd_low}
 use Rattle.fr_observe.specs.declared.fault.Fault.{Fault}
 use Rattle.fr_observe.specs.declared.fault.FaultKind.TheVariants.{Lengths, Start}

@@ -19,7 +19,8 @@ use Rattle.fr_seen_runs.specs.Contradictions.{IsObservedRun}
 use Rattle.fr_observe.specs.declared.fault.SyncFrom.{SyncFrom}
 use Rattle.fr_observe.specs.declared.fault.Fault.{Fault}
 use Rattle.fr_observe.specs.Faults.{faults_in_sync, first_of_faults, slot_faults}
-use Rattle.fr_findings.specs.Verdict.{Basis, DoubleCycle, double_at, double_faults, faults_told, in_sync_told, is_coverable, known_told, log_basis, own_told, progress_behind, progress_of, progress_told, sync_told}
+use Rattle.fr_findings.specs.Verdict.{Basis, DoubleCycle, double_at, double_faults, faults_told, in_sync_told, known_told, log_basis, own_told, progress_behind, progress_of, progress_told, sync_told}
+use Rattle.fr_judging.specs.Coverables.{is_coverable}
 use Rattle.fr_findings.specs.declared.progress.Progress.{Progress}
 use Rattle.fr_sightings.specs.Sightings.{OffendingFrames, irregular_of, offending_frames_of}
 use Rattle.fr_seen_runs.specs.ToldFaults.{faults_from}

@@ -8,7 +8,7 @@ use Rattle.fr_bound.specs.declared.judging.Known.{Known}
 use Rattle.fr_cluster.specs.Values.{Values}
 use Rattle.fr_log.specs.View.{LogView}
 use Rattle.fr_observe.specs.Faults.{first_of_faults}
-use Rattle.fr_observe.specs.Knowing.{standing_of}
+use Rattle.fr_judging.specs.Knowing.{standing_of}
 use Rattle.fr_observe.specs.declared.fault.Fault.{Fault}
 use Rattle.fr_observe.specs.Observing.{both_say, doubles_between, seen_doubles}
 use Rattle.fr_observe.specs.declared.fault.SyncFrom.{SyncFrom}
@@ -16,7 +16,8 @@ use Rattle.fr_observe.specs.declared.says.Says.{Says}
 use Rattle.fr_sightings.specs.Senders.{double_of}
 use Rattle.fr_sightings.specs.Sightings.{OffendingFrames, offending_frames_of, sightings_of}
 use Rattle.fr_sightings.specs.declared.sighting.Sighting.{Sighting}
-use Rattle.fr_findings.specs.Verdict.{Basis, DoubleCycle, by_heard, double_at, even_says, is_coverable, is_judged, judged_by, log_basis, log_progress, no_progress, odd_says, own_told, progress_behind, progress_of, progress_told, reach_behind_both, reach_where, span_to, standing_told, sync_told, verdict_of}
+use Rattle.fr_findings.specs.Verdict.{Basis, DoubleCycle, by_heard, double_at, even_says, is_judged, judged_by, log_basis, log_progress, no_progress, odd_says, own_told, progress_behind, progress_of, progress_told, reach_behind_both, reach_where, span_to, standing_told, sync_told, verdict_of}
+use Rattle.fr_judging.specs.Coverables.{is_coverable}
 use Rattle.fr_findings.specs.declared.progress.Judged.{Judged}
 use Rattle.fr_findings.specs.declared.progress.Progress.{Progress}
 use Rattle.fr_findings.specs.declared.progress.Reach.{Reach}

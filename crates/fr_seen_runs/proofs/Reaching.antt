@@ -29,9 +29,10 @@ use Rattle.fr_seen_runs.specs.KeptInSync.{IsDoubleThere}
 use Rattle.fr_seen_runs.specs.NotContradicted.{WithinIsInSync, WithinIsSo, WithinIsThere}
 use Rattle.fr_observe.specs.declared.fault.SyncFrom.{SyncFrom}
 use Rattle.fr_observe.specs.Faults.{is_sync_seen, seen_sync, stated_sync, sync_behind}
-use Rattle.fr_findings.specs.Verdict.{Basis, DoubleCycle, by_heard, coverable_of, double_at, even_says, further_within, heard_by, is_coverable, is_judged, judged_by, log_basis, log_progress, no_progress, odd_says, own_told, progress_behind, progress_told, reach_behind, reach_behind_both, reach_by, reach_where, standing_told, sync_told, verdict_of}
-use Rattle.fr_findings.specs.declared.coverable.Coverable.{Coverable}
-use Rattle.fr_findings.specs.declared.coverable.Coverable.TheVariants as coverable
+use Rattle.fr_findings.specs.Verdict.{Basis, DoubleCycle, by_heard, double_at, even_says, further_within, is_judged, judged_by, log_basis, log_progress, no_progress, odd_says, own_told, progress_behind, progress_told, reach_behind, reach_behind_both, reach_by, reach_where, standing_told, sync_told, verdict_of}
+use Rattle.fr_judging.specs.Coverables.{coverable_of, heard_by, is_coverable}
+use Rattle.fr_judging.specs.declared.coverable.Coverable.{Coverable}
+use Rattle.fr_judging.specs.declared.coverable.Coverable.TheVariants as coverable
 use Rattle.fr_findings.specs.declared.progress.Judged.{Judged}
 use Rattle.fr_findings.specs.declared.progress.Progress.{Progress}
 use Rattle.fr_findings.specs.declared.progress.Reach.{Reach}

@@ -25,10 +25,11 @@ use Rattle.fr_sightings.specs.declared.sighting.Sighting.{Sighting}
 use Rattle.fr_observe.specs.Faults.{is_sync_seen, seen_sync, stated_sync, sync_behind}
 use Rattle.fr_observe.specs.Observing.{seen_doubles, senders_of}
 use Rattle.fr_observe.specs.declared.fault.SyncFrom.{SyncFrom}
-use Rattle.fr_findings.specs.Verdict.{Basis, DoubleCycle, are_enough, coverable_by, coverable_of, coverable_with, double_at, first_failing, log_basis, log_progress, no_progress, own_told, progress_behind, progress_told, sync_told}
-use Rattle.fr_findings.specs.declared.coverable.Coverable.TheVariants as coverable
+use Rattle.fr_findings.specs.Verdict.{Basis, DoubleCycle, double_at, log_basis, log_progress, no_progress, own_told, progress_behind, progress_told, sync_told}
+use Rattle.fr_judging.specs.Coverables.{are_enough, coverable_by, coverable_of, coverable_with, first_failing}
+use Rattle.fr_judging.specs.declared.coverable.Coverable.TheVariants as coverable
 use Rattle.fr_findings.specs.declared.progress.Progress.{Progress}
-use Rattle.fr_findings.proofs.Checks.{none-fails}
+use Rattle.fr_judging.proofs.Checks.{none-fails}
 use Rattle.fr_seen.specs.LogSeen.{run_double}
 use Rattle.fr_seen_runs.specs.Contradictions.{NamesArbitrary}
 use Rattle.fr_seen_runs.specs.RowsTold.{CoveredIsOpen, FailedCheckCoversNone, SeenSyncIsSo, ShortCountCoversNone, StatedSyncIsSo}

@@ -22,13 +22,14 @@ use Rattle.fr_sightings.specs.Sightings.{sightings_of}
 use Rattle.fr_sightings.specs.Sure.{is_sync_as}
 use Rattle.fr_sightings.specs.declared.sender.Sender.{Sender}
 use Rattle.fr_sightings.specs.declared.sighting.Sighting.{Sighting}
-use Rattle.fr_observe.specs.Knowing.{is_judged_by, judged_faults, known_faults, known_next, known_seen, standing_faults, standing_of, stated_flutter}
+use Rattle.fr_judging.specs.Knowing.{is_judged_by, judged_faults, known_faults, known_next, known_seen, standing_faults, standing_of, stated_flutter}
 use Rattle.fr_observe.specs.Faults.{offset_fault, rate_fault, skew_fault}
 use Rattle.fr_observe.specs.Observing.{even_high, even_low, odd_high, odd_low, seen_doubles}
 use Rattle.fr_observe.specs.declared.fault.Fault.{Fault}
-use Rattle.fr_findings.specs.Verdict.{are_enough, coverable_of, heard_by, heard_of, heard_with, log_span, sightings_before}
-use Rattle.fr_findings.specs.declared.coverable.Coverable.{Coverable}
-use Rattle.fr_findings.specs.declared.coverable.Coverable.TheVariants as coverable
+use Rattle.fr_judging.specs.Coverables.{are_enough, coverable_of, heard_by, heard_with, log_heard}
+use Rattle.fr_findings.specs.Verdict.{log_span, sightings_before}
+use Rattle.fr_judging.specs.declared.coverable.Coverable.{Coverable}
+use Rattle.fr_judging.specs.declared.coverable.Coverable.TheVariants as coverable
 use Rattle.fr_sharp.specs.JudgedSteps.{EachHasRow, GoesOnJudged, IsHeardIn, IsKnownAt, IsLawfulStatedRun}
 use Rattle.fr_sharp.specs.SteadyRuns.{IsSteadySetting, MayHaveArbitrary}
 use Rattle.fr_runs.proofs.Parts.{cycle_within}
@@ -74,7 +75,7 @@ module _ (x : Setting) (l : LogView) (named : NamesArbitrary x l) (steady : IsSt
       zero n is = grind arith
   heard_counts what correct arbitrary true false enough_is none_is counts is = subst (λ w. IsHeardIn w x double) (inside Meeting what is) (steady.links double short)
 
-  heard_in : (what : Heard) → heard_of x.params l ≡ Some what → IsHeardIn what x double
+  heard_in : (what : Heard) → log_heard x.params l ≡ Some what → IsHeardIn what x double
   heard_in what is = by (coverable_of x.params l) is
     where
       by : (c : Coverable) → heard_by x.params l c ≡ Some what → IsHeardIn what x double
@@ -86,7 +87,7 @@ module _ (x : Setting) (l : LogView) (named : NamesArbitrary x l) (steady : IsSt
           heard_counts what correct arbitrary (are_enough correct arbitrary) (arbitrary == 0) refl refl (arbitrary_alike x l named) is
 
 -- all of all
-not_poor : (p : Values) (l : LogView) (what : Heard) → heard_of p l ≡ Some what → what ≢ Poor
+not_poor : (p : Values) (l : LogView) (what : Heard) → log_heard p l ≡ Some what → what ≢ Poor
 not_poor p l what is = by (coverable_of p l) is
   where
     counts : (enough none : Bool) → (if enough then (if none then Some Clean else Some Meeting) else None) ≡ Some what → what ≢ Poor
@@ -113,7 +114,7 @@ pub record KnownIsKept : Type 0 where
 
 module _
     (x : Setting) (h : Cycles) (base : ℕ) (delays : ℕ → Channel → Delays) (clock : ℕ → StraightClock) (l : LogView) (what : Heard) (double : ℕ)
-    (run : IsObservedRun x h base delays clock l) (states : IsAsLogStates x h base l) (is : heard_of x.params l ≡ Some what) (among : Contains (seen_doubles (sightings_of x.params l)) double) (kept : KnownIsKept)
+    (run : IsObservedRun x h base delays clock l) (states : IsAsLogStates x h base l) (is : log_heard x.params l ≡ Some what) (among : Contains (seen_doubles (sightings_of x.params l)) double) (kept : KnownIsKept)
   where
     abbrev At : ℕ
     At = run_double base double

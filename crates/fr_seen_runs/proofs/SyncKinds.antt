@@ -17,8 +17,9 @@ use Rattle.fr_course.specs.declared.scales.Scale.{Scale}
 use Rattle.fr_bound.specs.Judged.{apart_through}
 use Rattle.fr_bound.specs.declared.judging.Heard.{Heard}
 use Rattle.fr_bound.specs.declared.judging.Known.{Known}
-use Rattle.fr_observe.specs.Knowing.{faults_heard, judged_faults, judged_met, known_faults, length_beyond, standing_faults, stated_flutter}
-use Rattle.fr_observe.specs.declared.knowing.Standing.{Standing}
+use Rattle.fr_judging.specs.Knowing.{faults_heard, judged_faults, judged_met, known_faults, standing_faults, stated_flutter}
+use Rattle.fr_observe.specs.Faults.{asks_own_slots, asks_sync, beyond_fault, further_of, irregular_fault, is_inside, length_beyond, length_fault, length_fault_by, longest_cycle_of, missing_by, missing_frames, missing_in, missing_of, missing_on, missing_with, node_missing, offset_fault, other_courses, plain_fault, rate_fault, shortest_cycle_of, skew_fault, slot_faults, sync_faults, unlike_fault, unlike_with, was_seen}
+use Rattle.fr_judging.specs.declared.knowing.Standing.{Standing}
 use Rattle.fr_observe.specs.Observing.{courses_of, even_high, even_low, odd_high, odd_low, terms_of}
 use Rattle.fr_sightings.specs.Senders.{first_stamp, own_slot}
 use Rattle.fr_sightings.specs.declared.sender.Sender.{Sender}
@@ -27,7 +28,6 @@ use Rattle.fr_seen.proofs.SenderLaws.{all_given}
 use Rattle.fr_observe.specs.declared.fault.Fault.{Fault}
 use Rattle.fr_observe.specs.declared.fault.FaultKind.{FaultKind}
 use Rattle.fr_observe.specs.declared.fault.LogSpan.{LogSpan}
-use Rattle.fr_observe.specs.Faults.{asks_own_slots, asks_sync, beyond_fault, further_of, irregular_fault, is_inside, length_fault, length_fault_by, longest_cycle_of, missing_by, missing_frames, missing_in, missing_of, missing_on, missing_with, node_missing, offset_fault, other_courses, plain_fault, rate_fault, shortest_cycle_of, skew_fault, slot_faults, sync_faults, unlike_fault, unlike_with, was_seen}
 use Rattle.fr_course.specs.Computed.{length_ticks, measuring_of, offset_computed, rate_computed}
 use Rattle.fr_course.specs.Spread.{lengths_apart, starts_apart}
 use Rattle.fr_observe.specs.declared.fault.FaultKind.TheVariants.{Form, Lengths, Length, Offset, Rate, Skew, Start, Stranger}

@@ -16,9 +16,10 @@ use Rattle.fr_observe.specs.declared.fault.Fault.{Fault}
 use Rattle.fr_sightings.specs.Judging.{judgement_of}
 use Rattle.fr_sightings.specs.Sightings.{OffendingFrames, fate_of, fates_from, irregular_of, offending_frames_of, sightings_of, untimely_of}
 use Rattle.fr_sightings.specs.declared.sighting.Sighting.{Sighting}
-use Rattle.fr_findings.specs.Verdict.{Basis, coverable_of, double_at, faults_told, first_failing, known_told, log_basis, log_progress, own_told, progress_of, progress_told, standing_told, sync_told, verdict_by, verdict_of}
-use Rattle.fr_observe.specs.Knowing.{known_next, standing_faults, standing_of}
-use Rattle.fr_findings.specs.declared.coverable.Coverable.TheVariants as coverable
+use Rattle.fr_findings.specs.Verdict.{Basis, double_at, faults_told, known_told, log_basis, log_progress, own_told, progress_of, progress_told, standing_told, sync_told, verdict_by, verdict_of}
+use Rattle.fr_judging.specs.Coverables.{coverable_of, first_failing}
+use Rattle.fr_judging.specs.Knowing.{known_next, standing_faults, standing_of}
+use Rattle.fr_judging.specs.declared.coverable.Coverable.TheVariants as coverable
 use Rattle.fr_findings.specs.declared.verdict.Verdict.TheVariants as verdict
 use Rattle.fr_seen.specs.Clocks.{StraightClock}
 use Rattle.fr_seen.specs.OwnSlots.{SlotsAreOwn}

@@ -12,8 +12,8 @@ use Rattle.fr_history.specs.Unfollowed.{IsUnfollowedSyncAt}
 use Rattle.fr_runs.specs.Supplied.{IsCovered, StartsBegin}
 use Rattle.fr_log.specs.View.{IsLog, LogView, is_arbitrary_in}
 use Rattle.fr_bound.specs.declared.judging.Heard.{Heard}
-use Rattle.fr_observe.specs.Knowing.{stated_flutter}
-use Rattle.fr_findings.specs.Verdict.{coverable_of, heard_of, is_coverable}
+use Rattle.fr_judging.specs.Knowing.{stated_flutter}
+use Rattle.fr_judging.specs.Coverables.{coverable_of, is_coverable, log_heard}
 use Rattle.fr_sharp.specs.SteadyRuns.{IsSteadySetting}
 use Rattle.fr_course.specs.declared.stamps.Delays.{Delays}
 use Rattle.fr_sightings.specs.Senders.{first_stamp}
@@ -68,5 +68,5 @@ pub record IsAsStated (x : Setting) (h : Cycles) (base : ℕ) (l : LogView) : Ty
 pub record IsAsLogStates (x : Setting) (h : Cycles) (base : ℕ) (l : LogView) : Type 0 where
   pub named : NamesArbitrary x l
   pub synced : is_coverable (coverable_of x.params l) ≡ true → IsAsStated x h base l
-  pub steady : (what : Heard) → heard_of x.params l ≡ Some what → IsSteadySetting x (stated_flutter x.params)
+  pub steady : (what : Heard) → log_heard x.params l ≡ Some what → IsSteadySetting x (stated_flutter x.params)
   pub unmissed : l.whole ≡ true → MissesNone x h base l

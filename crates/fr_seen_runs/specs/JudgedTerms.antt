@@ -12,7 +12,7 @@ use Rattle.fr_runs.specs.Numbers.{HasDouble}
 use Rattle.fr_sharp.specs.JudgedSteps.{EachHasRow, IsHeardIn, IsKnownAt, IsLawfulStatedRun}
 use Rattle.fr_log.specs.View.{LogView}
 use Rattle.fr_course.specs.declared.stamps.Delays.{Delays}
-use Rattle.fr_observe.specs.Knowing.{stated_flutter}
+use Rattle.fr_judging.specs.Knowing.{stated_flutter}
 use Rattle.fr_seen.specs.Clocks.{StraightClock}
 use Rattle.fr_seen.specs.LogSeen.{log_senders, run_double}
 use Rattle.fr_seen_runs.specs.ComputedTerms.{IsNamedLog, OffsetIsComputed, RateIsComputed}

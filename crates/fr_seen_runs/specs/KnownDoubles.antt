@@ -12,8 +12,8 @@ use Rattle.fr_course.specs.declared.stamps.Delays.{Delays}
 use Rattle.fr_sightings.specs.Senders.{sightings_in}
 use Rattle.fr_sightings.specs.Sightings.{sightings_of}
 use Rattle.fr_sightings.specs.declared.sighting.Sighting.{Sighting}
-use Rattle.fr_observe.specs.Faults.{beyond_fault, missing_frames, skew_fault}
-use Rattle.fr_observe.specs.Knowing.{known_faults, known_seen, length_beyond}
+use Rattle.fr_observe.specs.Faults.{beyond_fault, length_beyond, missing_frames, skew_fault}
+use Rattle.fr_judging.specs.Knowing.{known_faults, known_seen}
 use Rattle.fr_observe.specs.Observing.{courses_of, even_high, even_low, odd_high, odd_low, seen_doubles}
 use Rattle.fr_observe.specs.declared.fault.Fault.{Fault}
 use Rattle.fr_observe.specs.declared.fault.FaultKind.TheVariants.{Lengths, Start}

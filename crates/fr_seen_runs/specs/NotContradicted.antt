@@ -24,7 +24,8 @@ use Rattle.fr_observe.specs.Faults.{asks_own_slots, asks_sync, is_sync_seen, own
 use Rattle.fr_findings.specs.Counting.{last_row_cycle}
 use Rattle.fr_findings.specs.declared.progress.Reach.{Reach}
 use Rattle.fr_sightings.specs.Sightings.{irregular_of, untimely_of}
-use Rattle.fr_findings.specs.Verdict.{coverable_of, is_coverable, verdict_of}
+use Rattle.fr_judging.specs.Coverables.{coverable_of, is_coverable}
+use Rattle.fr_findings.specs.Verdict.{verdict_of}
 use Rattle.fr_findings.specs.declared.verdict.Verdict.TheVariants as verdict
 
 -- ---- a double cycle

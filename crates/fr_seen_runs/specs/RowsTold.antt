@@ -10,8 +10,9 @@ use Rattle.fr_log.specs.View.{LogView}
 use Rattle.fr_course.specs.declared.stamps.Delays.{Delays}
 use Rattle.fr_sightings.specs.Sightings.{offending_frames_of, sightings_of}
 use Rattle.fr_observe.specs.declared.fault.SyncFrom.{SyncFrom}
-use Rattle.fr_findings.specs.Verdict.{coverable_of, log_basis, log_progress}
-use Rattle.fr_findings.specs.declared.coverable.Coverable.TheVariants as coverable
+use Rattle.fr_judging.specs.Coverables.{coverable_of}
+use Rattle.fr_findings.specs.Verdict.{log_basis, log_progress}
+use Rattle.fr_judging.specs.declared.coverable.Coverable.TheVariants as coverable
 use Rattle.fr_findings.specs.declared.progress.Progress.{Progress}
 use Rattle.fr_seen.specs.Clocks.{StraightClock}
 use Rattle.fr_seen.specs.LogSeen.{run_double}

@@ -10,11 +10,12 @@ use Rattle.fr_course.specs.Readings.{reading_scale}
 use Rattle.fr_course.specs.declared.stamps.Delays.{Delays}
 use Rattle.fr_sightings.specs.Senders.{sightings_in}
 use Rattle.fr_sightings.specs.Sightings.{sightings_of}
-use Rattle.fr_observe.specs.Knowing.{known_next, standing_faults, standing_of}
+use Rattle.fr_judging.specs.Knowing.{known_next, standing_faults, standing_of}
 use Rattle.fr_observe.specs.Observing.{seen_doubles}
 use Rattle.fr_observe.specs.declared.fault.Fault.{Fault}
-use Rattle.fr_observe.specs.declared.knowing.Standing.{Standing}
-use Rattle.fr_findings.specs.Verdict.{heard_of, log_span, sightings_before}
+use Rattle.fr_judging.specs.declared.knowing.Standing.{Standing}
+use Rattle.fr_judging.specs.Coverables.{log_heard}
+use Rattle.fr_findings.specs.Verdict.{log_span, sightings_before}
 use Rattle.fr_sharp.specs.JudgedSteps.{EachHasRow, IsKnownAt}
 use Rattle.fr_seen.specs.Clocks.{StraightClock}
 use Rattle.fr_seen.specs.LogSeen.{log_senders, run_double}
@@ -46,7 +47,7 @@ abbrev pub StandingsAreSo : Type 0
 StandingsAreSo =
     (x : Setting) (h : Cycles) (base : ℕ) (delays : ℕ → Channel → Delays) (clock : ℕ → StraightClock) (l : LogView)
     (what : Heard) (double : ℕ) (known : Option Known) (told : Option Fault)
-    → IsObservedRun x h base delays clock l → IsAsLogStates x h base l → heard_of x.params l ≡ Some what
+    → IsObservedRun x h base delays clock l → IsAsLogStates x h base l → log_heard x.params l ≡ Some what
     → Contains (seen_doubles (sightings_of x.params l)) double → IsKnownOfLog x h base double known
     → (log_standing_faults x l double (log_standing x l what double known told) ≡ [])
     × IsKnownOfLog x h base (suc double) (known_next x.params (log_standing x l what double known told) true)

@@ -21,7 +21,9 @@ pub use in_time::{a_worked_reading, no_run_in_sync_is_contradicted, sync_is_time
 pub use kept_in_sync::{
     doubles_are_there, key_frames_are_there, senders_lie_as_seen, senders_stay_in_sync,
 };
-pub use known::{known_faults_are_none, seen_numbers_are_known, skew_faults_within_are_none, standings_are_so};
+pub use known::{
+    known_faults_are_none, seen_numbers_are_known, skew_faults_within_are_none, standings_are_so,
+};
 pub use own::{own_faults_are_none, slot_faults_are_none, sync_is_seen};
 pub use rows_told::{covered_row_is_so, sync_row_is_so};
 pub use told::{no_fault_is_told, verdict_tells_first};

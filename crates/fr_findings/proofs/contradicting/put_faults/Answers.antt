@@ -3,12 +3,13 @@ use Rattle.std.specs.List.{flat_map}
 use Rattle.std.specs.Option.{option_or}
 use Rattle.fr_base.specs.Device.{Puts}
 use Rattle.fr_observe.specs.Faults.{fault_row, faults_in_sync, first_of_faults, is_nil}
-use Rattle.fr_observe.specs.Knowing.{known_next, known_obstacle}
-use Rattle.fr_observe.specs.Obstacles.{farther}
+use Rattle.fr_judging.specs.Knowing.{known_next, known_obstacle}
+use Rattle.fr_judging.specs.Obstacles.{farther}
 use Rattle.fr_observe.specs.declared.fault.Fault.{Fault}
 use Rattle.fr_observe.proofs.Told.{clean-is, told_cut}
 use Rattle.fr_findings.specs.Ground.{basis_in, double_in}
-use Rattle.fr_findings.specs.Verdict.{by_heard, faults_told, in_sync_told, is_coverable, known_next_told, known_told, obstacle_told, own_told, sync_told}
+use Rattle.fr_findings.specs.Verdict.{by_heard, faults_told, in_sync_told, known_next_told, known_told, obstacle_told, own_told, sync_told}
+use Rattle.fr_judging.specs.Coverables.{is_coverable}
 use Rattle.fr_findings.proofs.Printing.{first-of-all, known-is, told-apart, told_failed}
 use Rattle.fr_findings.proofs.contradicting.put_faults.Goals as goal
 

@@ -2,7 +2,8 @@ use Rattle.std.proofs.Common.{Ok, subst, sym}
 use Rattle.fr_observe.specs.Telling.{TellsFaults}
 use Rattle.fr_observe.proofs.Told.{told_none}
 use Rattle.fr_findings.specs.Ground.{basis_in, double_in}
-use Rattle.fr_findings.specs.Verdict.{in_sync_told, is_coverable}
+use Rattle.fr_findings.specs.Verdict.{in_sync_told}
+use Rattle.fr_judging.specs.Coverables.{is_coverable}
 use Rattle.fr_findings.proofs.Printing.{none-in-sync}
 use Rattle.fr_findings.proofs.contradicting.put_where_synced.Goals as goal
 

@@ -1,12 +1,13 @@
 use Rattle.std.proofs.Common.{◌≡◌, ◌∙◌, Bool, Option, is_none, ap, rules}
 use Rattle.std.specs.Option.{option_or}
 use Rattle.fr_observe.specs.Faults.{first_of_faults, is_sync_seen, sync_behind}
-use Rattle.fr_observe.specs.Obstacles.{sync_obstacle}
+use Rattle.fr_judging.specs.Obstacles.{sync_obstacle}
 use Rattle.fr_observe.specs.declared.fault.Fault.{Fault}
-use Rattle.fr_observe.specs.declared.obstacle.Obstacle.{Obstacle}
-use Rattle.fr_observe.proofs.Others.{obstacle-is}
+use Rattle.fr_judging.specs.declared.obstacle.Obstacle.{Obstacle}
+use Rattle.fr_judging.proofs.Others.{obstacle-is}
 use Rattle.fr_findings.specs.Ground.{basis_in, double_in}
-use Rattle.fr_findings.specs.Verdict.{Basis, DoubleCycle, own_told, sync_told, uncoverable, unless_synced}
+use Rattle.fr_findings.specs.Verdict.{Basis, DoubleCycle, own_told, sync_told, unless_synced}
+use Rattle.fr_judging.specs.Coverables.{uncoverable}
 use Rattle.fr_findings.proofs.Printing.{obstacle-step, sync-step}
 use Rattle.fr_findings.proofs.contradicting.sync_of.Goals as goal
 

@@ -4,7 +4,7 @@ use Rattle.fr_base.specs.Device.{Puts}
 use Rattle.fr_bound.specs.Bounds.{precision_of}
 use Rattle.fr_findings.specs.Ground.{offending_given}
 use Rattle.fr_findings.specs.Text.{whole_told}
-use Rattle.fr_findings.specs.Verdict.{coverable_of, heard_by}
+use Rattle.fr_judging.specs.Coverables.{coverable_of, heard_by}
 use Rattle.fr_findings.proofs.Printing.{made-basis}
 use Rattle.fr_findings.proofs.observing.put_told.Goals as goal
 

@@ -8,7 +8,7 @@ use Rattle.fr_sightings.specs.Sightings.{IsSighting, OffendingFrames, irregular_
 use Rattle.fr_sightings.specs.declared.sighting.Sighting.{Sighting}
 use Rattle.fr_findings.specs.Ground.{ComeInOrder}
 use Rattle.fr_findings.specs.Text.{observe_text, text_with}
-use Rattle.fr_findings.specs.Verdict.{coverable_of}
+use Rattle.fr_judging.specs.Coverables.{coverable_of}
 use Rattle.fr_findings.proofs.Printing.{offending-of}
 use Rattle.fr_findings.proofs.observing.write_observed.Goals as goal
 

@@ -4,11 +4,12 @@ use Rattle.std.specs.Option.{option_or}
 use mir.Val.{of_z, to_z}
 use Rattle.fr_base.specs.Device.{Puts}
 use Rattle.fr_observe.specs.Faults.{fault_row}
-use Rattle.fr_observe.specs.Knowing.{spread_told}
+use Rattle.fr_judging.specs.Knowing.{spread_told}
 use Rattle.fr_observe.specs.Observing.{both_say, double_rows}
 use Rattle.fr_observe.specs.declared.fault.Fault.{Fault}
 use Rattle.fr_findings.specs.Ground.{basis_in, double_in, further_told, reach_passed, with_both, with_faults}
-use Rattle.fr_findings.specs.Verdict.{double_told, faults_told, is_coverable, is_judged, over_row, over_told, own_told, progress_told, reach_told, standing_told, sync_told}
+use Rattle.fr_findings.specs.Verdict.{double_told, faults_told, is_judged, over_row, over_told, own_told, progress_told, reach_told, standing_told, sync_told}
+use Rattle.fr_judging.specs.Coverables.{is_coverable}
 use Rattle.fr_findings.proofs.Printing.{ended, more-cut, own-cut, rows-cut, whole-put}
 use Rattle.fr_findings.proofs.writing.put_double.Goals as goal
 

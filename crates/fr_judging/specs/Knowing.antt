@@ -1,0 +1,162 @@
+-- What a log tells of how far the clocks of a cluster lie apart in a double cycle, in ticks: by what is seen of it, and by what is known
+-- of it from the one before. No bound of the cluster is asked for. Which double cycles are judged by such numbers, and what
+-- contradicts them.
+use Rattle.std.specs.Prelude.{ℕ, ◌+◌, ◌*◌, ℤ, pos, ◌-ℤ◌, max, ◌&&◌, Bool, false, List, [], ◌∷◌, ◌++◌, codes, filter_map, Option, Some, None, IfSome, is_none, if◌then◌else◌}
+use Rattle.std.specs.Fmt.{decimal}
+use Rattle.std.specs.Int.{int_max}
+use Rattle.std.specs.Option.{option_map, option_or, option_to_list}
+use Rattle.fr_bound.specs.Judged.{all_but_first_hold, apart_through, from_none, is_judged_double, known_after, met_with, IsSmall}
+use Rattle.fr_bound.specs.SharpSpreads.{sharply_near_in}
+use Rattle.fr_bound.specs.declared.judging.Heard.{Heard}
+use Rattle.fr_bound.specs.declared.judging.Known.{Known}
+use Rattle.fr_cluster.specs.Values.{Values, amount}
+use Rattle.fr_cluster.specs.declared.names.ParamName.TheVariants as name
+use Rattle.fr_log.specs.View.{LogView}
+use Rattle.fr_course.specs.Computed.{length_ticks}
+use Rattle.fr_course.specs.Spread.{lengths_apart, starts_apart}
+use Rattle.fr_course.specs.declared.scales.Scale.{Scale}
+use Rattle.fr_sightings.specs.declared.sender.Sender.{Sender}
+use Rattle.fr_sightings.specs.declared.sighting.Sighting.{Sighting}
+use Rattle.fr_observe.specs.Faults.{beyond_fault, length_beyond, longest_cycle_of, missing_frames, offset_fault, rate_fault, shortest_cycle_of, skew_fault}
+use Rattle.fr_observe.specs.Observing.{courses_of, even_high, even_low, odd_high, odd_low, row}
+use Rattle.fr_judging.specs.Obstacles.{faulty, first_unseen, of_several}
+use Rattle.fr_observe.specs.declared.fault.Fault.{Fault}
+use Rattle.fr_observe.specs.declared.fault.FaultKind.TheVariants.{Lengths, Start}
+use Rattle.fr_observe.specs.declared.fault.LogSpan.{LogSpan}
+use Rattle.fr_judging.specs.declared.knowing.Standing.{Standing}
+use Rattle.fr_judging.specs.declared.obstacle.Obstacle.{Obstacle}
+use Rattle.fr_judging.specs.declared.obstacle.ObstacleKind.TheVariants as obstacle
+
+-- ---- what is seen
+
+-- how far the lengths of a sender's cycles may lie beyond their range, as they are seen; below 0 where they lie inside
+abbrev pub beyond_of : Values → Scale → Sender → ℤ
+beyond_of p scale s =
+    int_max (shortest_cycle_of p -ℤ (length_ticks scale s.course).low) ((length_ticks scale s.course).high -ℤ longest_cycle_of p)
+
+-- those of some senders
+unfoldable pub most_beyond : Values → Scale → List Sender → ℕ
+most_beyond p scale [] = 0
+most_beyond p scale (s ∷ senders) = max (from_none (beyond_of p scale s)) (most_beyond p scale senders)
+
+-- what their courses tell of a double cycle
+abbrev pub known_by : Values → Scale → List Sender → Known
+known_by p scale senders =
+    record {
+      spread =
+          record {
+            starts = from_none (starts_apart scale (courses_of senders)).high;
+            lengths = from_none (lengths_apart scale (courses_of senders)).high;
+          };
+      beyond = most_beyond p scale senders;
+    }
+
+-- it is told where all nodes that are not arbitrary were seen in both of its cycles, and nothing contradicts it; `told` is the first
+-- fault in it that is told always
+unfoldable pub known_seen : Values → Scale → LogView → List Sighting → ℕ → List Sender → Option Fault → Option Known
+known_seen p scale l here double senders told =
+    if is_none told && is_none (first_unseen l here double p.nodes) then Some (known_by p scale senders) else None
+
+-- ---- whether it is judged
+
+-- delays that keep within what is stated of them flutter by no more
+abbrev pub stated_flutter : Values → ℕ
+stated_flutter p = 2 * amount p name.xDelayError
+
+abbrev pub is_judged_by : Values → Option Known → Bool
+is_judged_by p None = false
+is_judged_by p (Some met) = is_judged_double p (stated_flutter p) met
+
+-- how a double cycle stands: what is known of it from the one before, that met with what is seen of it, and whether it is judged by
+-- this. Where it is not told what its nodes hear, nothing is known
+abbrev pub standing_with : Values → Option Heard → Option Known → Option Known → Standing
+standing_with p heard known met = record { heard = heard; known = known; met = met; is_judged = is_judged_by p met }
+
+unfoldable pub standing_of : Values → Scale → LogView → List Sighting → ℕ → List Sender → Option Heard → Option Known → Option Fault → Standing
+standing_of p scale l here double senders None known told = record { heard = None; known = None; met = None; is_judged = false }
+standing_of p scale l here double senders (Some what) known told =
+    standing_with p (Some what) known (met_with known (known_seen p scale l here double senders told))
+
+-- the numbers that it is judged by
+abbrev pub judged_met : Standing → Option Known
+judged_met st = if st.is_judged then st.met else None
+
+-- these are small
+abbrev pub JudgedBySmall : Standing → Type 0
+JudgedBySmall st = IfSome (judged_met st) IsSmall
+
+-- what is known of the next one, where nothing known contradicts this one
+abbrev pub known_next_by : Values → Option Heard → Option Known → Option Known
+known_next_by p None judged = None
+known_next_by p (Some what) judged = option_map (known_after what p (stated_flutter p)) judged
+
+unfoldable pub known_next : Values → Standing → Bool → Option Known
+known_next p st is_clear = if is_clear then known_next_by p st.heard (judged_met st) else None
+
+-- what keeps it from being judged
+abbrev pub unfit : Values → ℕ → Option Known → Option Obstacle
+unfit p double None = None
+unfit p double (Some met) =
+    if all_but_first_hold (stated_flutter p) (sharply_near_in p met.spread) p
+    then of_several obstacle.Drift double
+    else of_several obstacle.Reach double
+
+unfoldable pub known_obstacle : Values → LogView → List Sighting → ℕ → Standing → Option Fault → Option Obstacle
+known_obstacle p l here double st told =
+    if st.is_judged then None
+    else option_or (unfit p double st.met) (option_or (first_unseen l here double p.nodes) (faulty told))
+
+-- ---- what contradicts it
+
+-- what is known of it from the one before, which was judged; `before` are the sightings of that
+unfoldable pub known_faults : Values → Scale → LogView → LogSpan → List Sighting → List Sighting → ℕ → List Sender → Option Known → List Fault
+known_faults p scale l span before here double senders None = []
+known_faults p scale l span before here double senders (Some known) =
+    option_to_list (beyond_fault Start (2 * double) (pos known.spread.starts) (starts_apart scale (courses_of senders)))
+    ++ option_to_list (beyond_fault Lengths (2 * double) (pos known.spread.lengths) (lengths_apart scale (courses_of senders)))
+    ++ filter_map (length_beyond p scale known.beyond double) senders
+    ++ missing_frames p l span before here double
+
+-- what is judged by its own numbers
+unfoldable pub judged_faults : Values → Scale → ℕ → List Sender → Heard → Option Known → List Fault
+judged_faults p scale double senders what None = []
+judged_faults p scale double senders what (Some met) =
+    option_to_list
+    (
+    skew_fault (pos (apart_through what p (stated_flutter p) met)) (2 * double) (even_low scale senders) (even_high scale senders)
+    )
+    ++ option_to_list
+    (
+    skew_fault (pos (apart_through what p (stated_flutter p) met)) (2 * double + 1) (odd_low scale senders) (odd_high scale senders)
+    )
+    ++ filter_map (offset_fault p scale double senders) senders
+    ++ filter_map (rate_fault p scale double senders) senders
+
+-- both
+abbrev pub faults_heard : Values → Scale → LogView → LogSpan → List Sighting → List Sighting → ℕ → List Sender → Standing → Option Heard → List Fault
+faults_heard p scale l span before here double senders st None = []
+faults_heard p scale l span before here double senders st (Some what) =
+    judged_faults p scale double senders what (judged_met st) ++ known_faults p scale l span before here double senders st.known
+
+unfoldable pub standing_faults : Values → Scale → LogView → LogSpan → List Sighting → List Sighting → ℕ → List Sender → Standing → List Fault
+standing_faults p scale l span before here double senders st = faults_heard p scale l span before here double senders st st.heard
+
+-- ---- as a record
+
+-- of one that is judged: how far starts and lengths lie apart in it, how far these lie beyond their range, and how far macroticks lie
+-- apart, all at most
+unfoldable pub spread_row : Values → Heard → ℕ → Known → List ℕ
+spread_row p what double known =
+    row (codes "spread")
+    (
+    decimal double ∷ decimal known.spread.starts ∷ decimal known.spread.lengths ∷ decimal known.beyond
+    ∷ decimal (apart_through what p (stated_flutter p) known) ∷ [] ∷ [] ∷ []
+    )
+
+abbrev pub spread_heard : Values → ℕ → Option Heard → Option Known → List ℕ
+spread_heard p double None judged = []
+spread_heard p double (Some what) None = []
+spread_heard p double (Some what) (Some known) = spread_row p what double known
+
+unfoldable pub spread_told : Values → ℕ → Standing → List ℕ
+spread_told p double st = spread_heard p double st.heard (judged_met st)

@@ -1,0 +1,87 @@
+-- Why nothing is held against the rules of sync in a double cycle of a log: what keeps it from being seen in sync, in the order
+-- of how far it came.
+use Rattle.std.specs.Prelude.{ℕ, ◌+◌, ◌*◌, nat_lt, pos, int_le, ◌&&◌, List, codes, Option, Some, None, is_some, if◌then◌else◌}
+use Rattle.std.specs.List.{fold, list_all}
+use Rattle.std.specs.Option.{option_or}
+use Rattle.fr_bound.specs.Bounds.{lambda_of, pi_of}
+use Rattle.fr_cluster.specs.Values.{Values}
+use Rattle.fr_cluster.specs.declared.nodes.NodeSpec.{NodeSpec}
+use Rattle.fr_log.specs.View.{LogView}
+use Rattle.fr_course.specs.Spread.{lengths_apart, starts_apart}
+use Rattle.fr_course.specs.declared.scales.Scale.{Scale}
+use Rattle.fr_sightings.specs.Senders.{seen_box}
+use Rattle.fr_sightings.specs.declared.sender.Sender.{Sender}
+use Rattle.fr_sightings.specs.declared.sighting.Sighting.{Sighting}
+use Rattle.fr_observe.specs.Faults.{has_proper_length, is_seen_whole}
+use Rattle.fr_observe.specs.Observing.{courses_of}
+use Rattle.fr_observe.specs.declared.fault.Fault.{Fault}
+use Rattle.fr_judging.specs.declared.obstacle.Obstacle.{Obstacle}
+use Rattle.fr_judging.specs.declared.obstacle.ObstacleKind.{ObstacleKind}
+use Rattle.fr_judging.specs.declared.obstacle.ObstacleKind.TheVariants as obstacle
+
+-- ---- which of two
+
+-- how far a double cycle came that one of a kind keeps from being judged
+abbrev pub obstacle_rank : ObstacleKind → ℕ
+obstacle_rank obstacle.Checks = 0
+obstacle_rank obstacle.Count = 0
+obstacle_rank obstacle.Unseen = 1
+obstacle_rank obstacle.Fault = 2
+obstacle_rank obstacle.Reach = 3
+obstacle_rank obstacle.Drift = 4
+
+-- that of the double cycle that came farther; of equal ones the first
+abbrev pub farther : Option Obstacle → Option Obstacle → Option Obstacle
+farther None later = later
+farther (Some first) None = Some first
+farther (Some first) (Some later) = if nat_lt (obstacle_rank first.kind) (obstacle_rank later.kind) then Some later else Some first
+
+-- ---- of a double cycle
+
+-- a node that was not seen in both of its cycles, and in which of them not: in the even one, or in the odd one alone
+abbrev pub unseen_cycle : LogView → List Sighting → ℕ → NodeSpec → ℕ
+unseen_cycle l here double node = if is_some (seen_box l here node.id (2 * double)) then 2 * double + 1 else 2 * double
+
+abbrev pub unseen_node : LogView → List Sighting → ℕ → NodeSpec → Option Obstacle
+unseen_node l here double node =
+    if is_seen_whole l here double node then None
+    else Some (record { kind = obstacle.Unseen; cycle = Some (unseen_cycle l here double node); node = Some node.id })
+
+-- the first such node
+abbrev pub or_unseen : LogView → List Sighting → ℕ → Option Obstacle → NodeSpec → Option Obstacle
+or_unseen l here double first node = option_or first (unseen_node l here double node)
+
+unfoldable pub first_unseen : LogView → List Sighting → ℕ → List NodeSpec → Option Obstacle
+first_unseen l here double nodes = fold (or_unseen l here double) None nodes
+
+-- the first fault that is told always
+abbrev pub faulty : Option Fault → Option Obstacle
+faulty None = None
+faulty (Some fault) = Some (record { kind = obstacle.Fault; cycle = Some fault.cycle; node = fault.node })
+
+-- its starts, or the lengths of its cycles, may lie further apart than in sync; or these may be none of oscillators within their
+-- bounds
+abbrev pub of_several : ObstacleKind → ℕ → Option Obstacle
+of_several why double = Some (record { kind = why; cycle = Some (2 * double); node = None })
+
+abbrev pub unlike_sync : Values → Scale → ℕ → List Sender → Option Obstacle
+unlike_sync p scale double senders =
+    if int_le (starts_apart scale (courses_of senders)).high (pos (pi_of p))
+    && int_le (lengths_apart scale (courses_of senders)).high (pos (lambda_of p))
+    then (if list_all (has_proper_length p scale) senders then None else of_several obstacle.Drift double)
+    else of_several obstacle.Reach double
+
+-- what keeps it from being seen in sync, where `told` is the first fault in it that is told always; none where it is seen so
+unfoldable pub sync_obstacle : Values → Scale → LogView → List Sighting → ℕ → List Sender → Option Fault → Option Obstacle
+sync_obstacle p scale l here double senders told =
+    option_or (option_or (first_unseen l here double p.nodes) (faulty told)) (unlike_sync p scale double senders)
+
+-- ---- as records
+
+abbrev pub obstacle_word : ObstacleKind → List ℕ
+obstacle_word obstacle.Checks = codes "checks"
+obstacle_word obstacle.Count = codes "count"
+obstacle_word obstacle.Unseen = codes "unseen"
+obstacle_word obstacle.Fault = codes "fault"
+obstacle_word obstacle.Reach = codes "reach"
+obstacle_word obstacle.Drift = codes "drift"

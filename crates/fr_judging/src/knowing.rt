@@ -1,0 +1,28 @@
+ghost use Rattle.std.specs.Prelude.{◌≡◌};
+ghost use Rattle.fr_judging.specs.Knowing.{judged_met};
+
+use fr_bound::{Heard, Known};
+
+/// How a double cycle of a log stands that is judged by its own numbers.
+#[derive(Clone, Copy, Debug, PartialEq, Eq)]
+pub struct Standing {
+    /// What its nodes hear of each other, where that is told by the counts of sync nodes.
+    pub heard: Option<Heard>,
+    /// What is known of it from the double cycle before, in ticks, where that was judged.
+    pub known: Option<Known>,
+    /// That, met with what is seen of it.
+    pub met: Option<Known>,
+    /// Whether it is judged by this.
+    pub is_judged: bool,
+}
+
+// The numbers that it is judged by.
+pub(crate) fn judged_met(standing: &Standing) -> Option<Known>
+    ensures { result ≡ judged_met standing.now }
+{
+    if standing.is_judged {
+        standing.met
+    } else {
+        None
+    }
+}

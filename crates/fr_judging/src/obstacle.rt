@@ -1,0 +1,89 @@
+ghost use Rattle.std.specs.Prelude.{◌≡◌, ◌≤◌, length};
+ghost use Rattle.fr_judging.specs.Obstacles.{farther, obstacle_word, obstacle_rank};
+
+use fr_base::NodeId;
+
+/// Why nothing is held against the rules of sync in a double cycle, in the order of how far it came; the first two are so of
+/// a whole log.
+#[derive(Clone, Copy, Debug, PartialEq, Eq)]
+pub enum ObstacleKind {
+    /// A check of the parameters fails, so that no run is covered.
+    Checks,
+    /// The correct nodes with a key slot do not outweigh the arbitrary ones.
+    Count,
+    /// The node was not seen.
+    Unseen,
+    /// Something contradicts any run.
+    Fault,
+    /// Starts, or lengths of cycles, may lie further apart than in sync.
+    Reach,
+    /// Cycles may be longer or shorter than oscillators within their bounds make them.
+    Drift,
+}
+
+impl ObstacleKind {
+    /// Its word in records.
+    pub fn word(self) -> &'static [u8]
+        ensures text { result.now ≡ obstacle_word self }
+        ensures short { length result.now ≤ 6 }
+    {
+        match self {
+            ObstacleKind::Checks => b"checks",
+            ObstacleKind::Count => b"count",
+            ObstacleKind::Unseen => b"unseen",
+            ObstacleKind::Fault => b"fault",
+            ObstacleKind::Reach => b"reach",
+            ObstacleKind::Drift => b"drift",
+        }
+    }
+
+    // How far the double cycle came.
+    fn rank(self) -> u32
+        ensures { result ≡ obstacle_rank self }
+    {
+        match self {
+            ObstacleKind::Checks | ObstacleKind::Count => 0,
+            ObstacleKind::Unseen => 1,
+            ObstacleKind::Fault => 2,
+            ObstacleKind::Reach => 3,
+            ObstacleKind::Drift => 4,
+        }
+    }
+}
+
+/// What keeps a double cycle from being judged.
+#[derive(Clone, Copy, Debug, PartialEq, Eq)]
+pub struct Obstacle {
+    pub kind: ObstacleKind,
+    /// The number of its cycle in the log, if it is of one.
+    pub cycle: Option<u32>,
+    /// The node, if it is of one.
+    pub node: Option<NodeId>,
+}
+
+impl Obstacle {
+    /// Of two the one of the double cycle that came farther, and of equal ones the first.
+    pub fn farther(first: Option<Obstacle>, later: Option<Obstacle>) -> Option<Obstacle>
+        ensures { result ≡ farther first later }
+    {
+        match first {
+            None => later,
+            Some(first) => Some(first.or_farther(later)),
+        }
+    }
+
+    fn or_farther(self, later: Option<Obstacle>) -> Obstacle
+        ensures { Some result ≡ farther (Some self) later }
+    {
+        match later {
+            None => self,
+            Some(later) => {
+                if self.kind.rank() < later.kind.rank() {
+                    later
+                } else {
+                    self
+                }
+            }
+        }
+    }
+}

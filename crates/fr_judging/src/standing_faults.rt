@@ -1,0 +1,213 @@
+ghost use Rattle.std.specs.Prelude.{◌≡◌, ◌++◌, IfSome, Some, filter_map, pos};
+ghost use Rattle.fr_base.specs.Device.{Puts};
+ghost use Rattle.fr_bound.specs.Judged.{IsSmall};
+ghost use Rattle.fr_observe.specs.Faults.{length_beyond, missing_frames, offset_fault, rate_fault};
+ghost use Rattle.fr_judging.specs.Knowing.{JudgedBySmall, faults_heard, judged_faults, known_faults, spread_heard, spread_row, spread_told, standing_faults};
+ghost use Rattle.fr_observe.specs.Scenes.{IsScene};
+ghost use Rattle.fr_observe.specs.Telling.{TellsFaults, apart_faults, skew_faults};
+
+use crate::knowing::{Standing, judged_met};
+use crate::standings::stated_flutter;
+use fr_base::{PutFault, Sink};
+use fr_bound::{Heard, Known, apart_through};
+use fr_cluster::Params;
+use fr_observe::{Asked, Fault, Scene, put_apart, put_missing, put_of_senders, put_skews};
+use fr_text::Piece::{Natural, Word};
+use fr_text::{Line, put_line, row_of};
+
+// What contradicts a double cycle in which macroticks may lie so far apart, in ticks.
+fn put_judged_by<O: Sink>(
+    apart: u64,
+    scene: &Scene<'_>,
+    first: &mut Option<Fault>,
+    out: &mut O,
+) -> Result<(), PutFault>
+    requires { IsScene scene.now }
+    ensures { TellsFaults result (O.state out.old) (O.state out.new) first.old first.new
+        (skew_faults (pos apart) scene.now.scale.now scene.now.number scene.now.senders.now
+        ++ filter_map (offset_fault scene.now.params.now scene.now.scale.now scene.now.number scene.now.senders.now)
+        scene.now.senders.now
+        ++ filter_map (rate_fault scene.now.params.now scene.now.scale.now scene.now.number scene.now.senders.now)
+        scene.now.senders.now) }
+{
+    let Scene {
+        params,
+        scale,
+        number,
+        senders,
+        ..
+    } = *scene;
+    put_skews(i128::from(apart), scene, first, out)?;
+    put_of_senders(Asked::Offset, scale, params, number, senders, first, out)?;
+    put_of_senders(Asked::Rate, scale, params, number, senders, first, out)
+}
+
+// What contradicts one that is judged by its own numbers.
+#[tactic(auto, unfolding(crate::specs::Knowing::judged_faults))]
+fn put_judged<O: Sink>(
+    scene: &Scene<'_>,
+    what: Heard,
+    met: Option<Known>,
+    first: &mut Option<Fault>,
+    out: &mut O,
+) -> Result<(), PutFault>
+    requires scene { IsScene scene.now }
+    requires small { IfSome met IsSmall }
+    ensures { TellsFaults result (O.state out.old) (O.state out.new) first.old first.new
+        (judged_faults scene.now.params.now scene.now.scale.now scene.now.number scene.now.senders.now what met) }
+{
+    match met {
+        None => Ok(()),
+        Some(met) => {
+            let flutter = stated_flutter(scene.params);
+            let apart = apart_through(scene.params, what, flutter, met);
+            put_judged_by(apart, scene, first, out)
+        }
+    }
+}
+
+// What contradicts one of which so much is known.
+fn put_known_by<O: Sink>(
+    scene: &Scene<'_>,
+    known: Known,
+    first: &mut Option<Fault>,
+    out: &mut O,
+) -> Result<(), PutFault>
+    requires { IsScene scene.now }
+    ensures { TellsFaults result (O.state out.old) (O.state out.new) first.old first.new
+        (known_faults scene.now.params.now scene.now.scale.now scene.now.log.now scene.now.span scene.now.before.now
+        scene.now.here.now scene.now.number scene.now.senders.now (Some known)) }
+{
+    let Scene {
+        params,
+        scale,
+        log,
+        span,
+        before,
+        here,
+        number,
+        senders,
+        ..
+    } = *scene;
+    let asked = Asked::Beyond(known.beyond);
+    put_apart(
+        i128::from(known.spread.starts),
+        i128::from(known.spread.lengths),
+        scene,
+        first,
+        out,
+    )?;
+    put_of_senders(asked, scale, params, number, senders, first, out)?;
+    put_missing(params, log, &span, before, here, number, first, out)
+}
+
+#[tactic(auto, unfolding(crate::specs::Knowing::known_faults))]
+fn put_known<O: Sink>(
+    scene: &Scene<'_>,
+    known: Option<Known>,
+    first: &mut Option<Fault>,
+    out: &mut O,
+) -> Result<(), PutFault>
+    requires { IsScene scene.now }
+    ensures { TellsFaults result (O.state out.old) (O.state out.new) first.old first.new
+        (known_faults scene.now.params.now scene.now.scale.now scene.now.log.now scene.now.span scene.now.before.now
+        scene.now.here.now scene.now.number scene.now.senders.now known) }
+{
+    match known {
+        None => Ok(()),
+        Some(known) => put_known_by(scene, known, first, out),
+    }
+}
+
+// Both, where it is told what is heard.
+fn put_heard<O: Sink>(
+    scene: &Scene<'_>,
+    what: Heard,
+    standing: &Standing,
+    first: &mut Option<Fault>,
+    out: &mut O,
+) -> Result<(), PutFault>
+    requires scene { IsScene scene.now }
+    requires small { JudgedBySmall standing.now }
+    ensures { TellsFaults result (O.state out.old) (O.state out.new) first.old first.new
+        (faults_heard scene.now.params.now scene.now.scale.now scene.now.log.now scene.now.span scene.now.before.now
+        scene.now.here.now scene.now.number scene.now.senders.now standing.now (Some what)) }
+{
+    put_judged(scene, what, judged_met(standing), first, out)?;
+    put_known(scene, standing.known, first, out)
+}
+
+/// Tells what contradicts a double cycle that stands so: by the numbers that it is judged by, and by what is known of it from the
+/// one before. Each is one put, and the first one of all that were told is kept.
+#[tactic(auto, unfolding(crate::specs::Knowing::standing_faults))]
+pub fn put_standing_faults<O: Sink>(
+    scene: &Scene<'_>,
+    standing: &Standing,
+    first: &mut Option<Fault>,
+    out: &mut O,
+) -> Result<(), PutFault>
+    requires scene { IsScene scene.now }
+    requires small { JudgedBySmall standing.now }
+    ensures { TellsFaults result (O.state out.old) (O.state out.new) first.old first.new
+        (standing_faults scene.now.params.now scene.now.scale.now scene.now.log.now scene.now.span scene.now.before.now
+        scene.now.here.now scene.now.number scene.now.senders.now standing.now) }
+{
+    match standing.heard {
+        None => Ok(()),
+        Some(what) => put_heard(scene, what, standing, first, out),
+    }
+}
+
+// The numbers that it is judged by as a record, and how far macroticks may lie apart in it, in ticks.
+#[tactic(auto, unfolding(crate::specs::Knowing::spread_row))]
+fn spread_row(params: &Params, what: Heard, number: u32, known: Known) -> Line
+    requires { IsSmall known }
+    ensures { result ≡ spread_row params.now what number known }
+{
+    let apart = apart_through(params, what, stated_flutter(params), known);
+    row_of(
+        b"spread",
+        &[
+            Natural(u64::from(number)),
+            Natural(known.spread.starts),
+            Natural(known.spread.lengths),
+            Natural(known.beyond),
+            Natural(apart),
+            Word(b""),
+            Word(b""),
+        ],
+    )
+}
+
+fn put_spread_by<O: Sink>(
+    params: &Params,
+    what: Heard,
+    number: u32,
+    judged: Option<Known>,
+    out: &mut O,
+) -> Result<(), PutFault>
+    requires { IfSome judged IsSmall }
+    ensures { Puts result (O.state out.old) (O.state out.new) (spread_heard params.now number (Some what) judged) }
+{
+    match judged {
+        None => Ok(()),
+        Some(known) => put_line(&spread_row(params, what, number, known), out),
+    }
+}
+
+/// Puts the numbers that a double cycle is judged by as a record, in one put; nothing of one that is not judged.
+#[tactic(auto, unfolding(crate::specs::Knowing::spread_told))]
+pub fn put_spread<O: Sink>(
+    params: &Params,
+    number: u32,
+    standing: &Standing,
+    out: &mut O,
+) -> Result<(), PutFault>
+    requires { JudgedBySmall standing.now }
+    ensures { Puts result (O.state out.old) (O.state out.new) (spread_told params.now number standing.now) }
+{
+    match standing.heard {
+        None => Ok(()),
+        Some(what) => put_spread_by(params, what, number, judged_met(standing), out),
+    }
+}

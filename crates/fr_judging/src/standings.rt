@@ -1,0 +1,286 @@
+ghost use Rattle.std.specs.Prelude.{◌≡◌, ◌≤◌, ◌<◌, ◌-ℤ◌, ◌&&◌, pos, true, All, IfSome, Some, is_none, length};
+ghost use Rattle.std.specs.Int.{int_max};
+ghost use Rattle.fr_base.specs.Within.{IsWithin};
+ghost use Rattle.fr_bound.specs.Judged.{IsSmall, all_but_first_hold, from_none};
+ghost use Rattle.fr_bound.specs.Settling.{IsSettleCheck};
+ghost use Rattle.fr_bound.specs.SharpBounds.{most_flutter};
+ghost use Rattle.fr_bound.specs.SharpChecks.{sharp_holds_of};
+ghost use Rattle.fr_bound.specs.SharpSpreads.{sharply_near_in};
+ghost use Rattle.fr_course.specs.Near.{EndWithin, IsReadingScale};
+ghost use Rattle.fr_sightings.specs.Ranges.{IsProperSender};
+ghost use Rattle.fr_judging.specs.Knowing.{JudgedBySmall, beyond_of, is_judged_by, known_by, known_next, known_next_by, known_obstacle, known_seen, most_beyond, standing_of, standing_with, stated_flutter, unfit};
+ghost use Rattle.fr_judging.specs.Obstacles.{first_unseen};
+ghost use Rattle.fr_observe.specs.Scenes.{IsScene};
+
+use crate::knowing::{Standing, judged_met};
+use crate::obstacle::{Obstacle, ObstacleKind};
+use crate::synced::{faulty, first_unseen, of_several};
+use fr_bound::{
+    Heard, Known, Spread, is_judged, known_after, met_with, near_by, sharp_side_within,
+    shortest_microtick,
+};
+use fr_cluster::{ParamName, Params};
+use fr_course::{Interval, Scale, length_ticks, lengths_apart, starts_apart};
+use fr_observe::{Fault, Scene, courses_of, proper_lengths};
+use fr_sightings::Sender;
+
+// ---- what is seen
+
+// A number, or 0 for one below 0.
+fn from_none(number: i128) -> u64
+    requires { IsWithin (pos 6_200_001_000_000_000_000) number }
+    ensures { result ≡ from_none number }
+{
+    if number <= 0 { 0 } else { number as u64 }
+}
+
+// How far lengths of cycles may lie beyond a range, in ticks; below 0 where they lie inside.
+fn outside(proper: &Interval, long: &Interval) -> i128
+    requires proper { EndWithin (pos 1_000_000_000_000) proper.now }
+    requires long { EndWithin (pos 6_200_000_000_000_000_000) long.now }
+    ensures value { result ≡ int_max (proper.now.low -ℤ long.now.low) (long.now.high -ℤ proper.now.high) }
+    ensures near { IsWithin (pos 6_200_001_000_000_000_000) result }
+{
+    (proper.low - long.low).max(long.high - proper.high)
+}
+
+// How far those of a sender's cycles may lie beyond theirs.
+fn beyond_of(params: &Params, scale: &Scale, sender: &Sender) -> i128
+    requires scale { IsReadingScale scale.now }
+    requires sender { IsProperSender scale.now sender.now }
+    ensures value { result ≡ beyond_of params.now scale.now sender.now }
+    ensures near { IsWithin (pos 6_200_001_000_000_000_000) result }
+{
+    outside(
+        &proper_lengths(params),
+        &length_ticks(scale, &sender.course),
+    )
+}
+
+// Those of some senders.
+fn most_beyond(params: &Params, scale: &Scale, senders: &[Sender]) -> u64
+    requires scale { IsReadingScale scale.now }
+    requires senders { All (IsProperSender scale.now) senders.now }
+    ensures { result ≡ most_beyond params.now scale.now senders.now }
+{
+    let mut most = 0;
+    for sender in senders {
+        most = most.max(from_none(beyond_of(params, scale, sender)));
+    }
+    most
+}
+
+// How far the starts, or the lengths, of their even cycles may lie apart, in ticks.
+fn most_apart(apart: &Interval) -> u64
+    requires { EndWithin (pos 6_200_000_000_000_000_000) apart.now }
+    ensures { result ≡ from_none apart.now.high }
+{
+    from_none(apart.high)
+}
+
+fn known_by(params: &Params, scale: &Scale, senders: &[Sender]) -> Known
+    requires scale { IsReadingScale scale.now }
+    requires few { length senders.now ≤ 64 }
+    requires senders { All (IsProperSender scale.now) senders.now }
+    ensures { result ≡ known_by params.now scale.now senders.now }
+{
+    let courses = courses_of(scale, senders);
+    let starts = most_apart(&starts_apart(scale, courses.as_slice()));
+    let lengths = most_apart(&lengths_apart(scale, courses.as_slice()));
+    Known {
+        spread: Spread { starts, lengths },
+        beyond: most_beyond(params, scale, senders),
+    }
+}
+
+// Nothing contradicts a double cycle, and all its nodes were seen.
+fn is_told(scene: &Scene<'_>, told: Option<Fault>) -> bool
+    requires scene { IsScene scene.now }
+    ensures { result ≡ (is_none told && is_none (first_unseen scene.now.log.now scene.now.here.now scene.now.number
+        scene.now.params.now.nodes)) }
+{
+    told.is_none() && first_unseen(scene.params, scene.log, scene.here, scene.number).is_none()
+}
+
+// What is seen of such a one.
+#[tactic(auto, unfolding(crate::specs::Knowing::known_seen))]
+fn known_seen(scene: &Scene<'_>, told: Option<Fault>) -> Option<Known>
+    requires scene { IsScene scene.now }
+    ensures { result ≡ known_seen scene.now.params.now scene.now.scale.now scene.now.log.now scene.now.here.now
+        scene.now.number scene.now.senders.now told }
+{
+    if is_told(scene, told) {
+        Some(known_by(scene.params, scene.scale, scene.senders))
+    } else {
+        None
+    }
+}
+
+// ---- whether it is judged
+
+// By how much delays flutter that keep within what is stated of them, at most, in ticks.
+pub(crate) fn stated_flutter(params: &Params) -> u64
+    ensures value { result ≡ stated_flutter params.now }
+    ensures most { result ≤ 20_000_000 }
+{
+    2 * params.natural(ParamName::xDelayError)
+}
+
+fn is_judged_by(params: &Params, met: Option<Known>) -> bool
+    ensures value { result ≡ is_judged_by params.now met }
+    ensures small { result ≡ true → IfSome met IsSmall }
+{
+    match met {
+        None => false,
+        Some(met) => is_judged(params, stated_flutter(params), met),
+    }
+}
+
+fn standing_with(
+    params: &Params,
+    heard: Heard,
+    known: Option<Known>,
+    met: Option<Known>,
+) -> Standing
+    ensures value { result ≡ standing_with params.now (Some heard) known met }
+    ensures small { JudgedBySmall result }
+{
+    Standing {
+        heard: Some(heard),
+        known,
+        met,
+        is_judged: is_judged_by(params, met),
+    }
+}
+
+/// How a double cycle stands, by what its nodes hear of each other, by what is known of it from the one before, and by what is
+/// seen of it, where this is the first fault in it that contradicts any run. Where it is not told what is heard, nothing is known
+/// of it and it is not judged.
+#[tactic(auto, unfolding(crate::specs::Knowing::standing_of))]
+pub fn standing(
+    scene: &Scene<'_>,
+    heard: Option<Heard>,
+    known: Option<Known>,
+    told: Option<Fault>,
+) -> Standing
+    requires scene { IsScene scene.now }
+    ensures value { result ≡ standing_of scene.now.params.now scene.now.scale.now scene.now.log.now scene.now.here.now
+        scene.now.number scene.now.senders.now heard known told }
+    ensures small { JudgedBySmall result }
+{
+    match heard {
+        None => Standing {
+            heard: None,
+            known: None,
+            met: None,
+            is_judged: false,
+        },
+        Some(what) => standing_with(
+            scene.params,
+            what,
+            known,
+            met_with(known, known_seen(scene, told)),
+        ),
+    }
+}
+
+fn known_next_by(params: &Params, heard: Option<Heard>, judged: Option<Known>) -> Option<Known>
+    requires small { IfSome judged IsSmall }
+    ensures { result ≡ known_next_by params.now heard judged }
+{
+    match heard {
+        None => None,
+        Some(what) => match judged {
+            None => None,
+            Some(met) => Some(known_after(params, what, stated_flutter(params), met)),
+        },
+    }
+}
+
+/// What is known of the next double cycle behind one that stands so, where nothing that is known contradicts it; none behind
+/// one that is not judged.
+#[tactic(auto, unfolding(crate::specs::Knowing::known_next))]
+pub fn known_next(params: &Params, standing: &Standing, is_clear: bool) -> Option<Known>
+    requires small { JudgedBySmall standing.now }
+    ensures { result ≡ known_next params.now standing.now is_clear }
+{
+    if is_clear {
+        known_next_by(params, standing.heard, judged_met(standing))
+    } else {
+        None
+    }
+}
+
+// ---- what keeps it from being judged
+
+// A sharper check holds with a reach, in ticks.
+fn holds(params: &Params, flutter: u64, reach: u64, number: u8) -> bool
+    requires number { IsSettleCheck number }
+    requires flutter { flutter ≤ most_flutter }
+    requires reach { reach ≤ 5_200_000_000_000 }
+    ensures { result ≡ sharp_holds_of number flutter reach params.now }
+{
+    sharp_side_within(params, flutter, reach, number).holds
+}
+
+// All but the first do.
+fn checks_hold(params: &Params, flutter: u64, reach: u64) -> bool
+    requires flutter { flutter ≤ most_flutter }
+    requires reach { reach ≤ 5_200_000_000_000 }
+    ensures { result ≡ all_but_first_hold flutter reach params.now }
+{
+    let rest = holds(params, flutter, reach, 4) && holds(params, flutter, reach, 5);
+    holds(params, flutter, reach, 2) && holds(params, flutter, reach, 3) && rest
+}
+
+// They do with the reach of such a spread.
+fn is_near(params: &Params, spread: Spread) -> bool
+    ensures { result ≡ all_but_first_hold (stated_flutter params.now) (sharply_near_in params.now spread) params.now }
+{
+    let limit = params.natural(ParamName::pOffsetCorrectionOut) * shortest_microtick(params);
+    if spread.starts <= limit && spread.lengths <= limit {
+        let reach = near_by(params, spread.starts, spread.lengths);
+        checks_hold(params, stated_flutter(params), reach)
+    } else {
+        false
+    }
+}
+
+fn unfit(params: &Params, double: u32, met: Option<Known>) -> Option<Obstacle>
+    requires { double < 1_000_000 }
+    ensures { result ≡ unfit params.now double met }
+{
+    match met {
+        None => None,
+        Some(met) => {
+            if is_near(params, met.spread) {
+                of_several(ObstacleKind::Drift, double)
+            } else {
+                of_several(ObstacleKind::Reach, double)
+            }
+        }
+    }
+}
+
+/// What keeps a double cycle that stands so from being judged, where this is the first fault in it that contradicts any run; none
+/// where it is judged.
+#[tactic(auto, unfolding(crate::specs::Knowing::known_obstacle))]
+pub fn known_obstacle(
+    scene: &Scene<'_>,
+    standing: &Standing,
+    told: Option<Fault>,
+) -> Option<Obstacle>
+    requires scene { IsScene scene.now }
+    ensures { result ≡ known_obstacle scene.now.params.now scene.now.log.now scene.now.here.now scene.now.number
+        standing.now told }
+{
+    if standing.is_judged {
+        return None;
+    }
+    unfit(scene.params, scene.number, standing.met).or(first_unseen(
+        scene.params,
+        scene.log,
+        scene.here,
+        scene.number,
+    ).or(faulty(told)))
+}
