@@ -420,10 +420,20 @@ class Logs(Bench):
         self.flexlab("log", "part.pcap", "net.toml", "-o", "wanted.csv")
         told = self.one_line(self.flexlab("log", path, "net.toml", "-o", "log.csv", "--from", "0.025", "--to", "0.0755")[0])
         self.assertEqual(self.read("log.csv"), self.read("wanted.csv"))
-        self.assertIn(f"{len(made) - len(packets.read_capture(self.path('part.pcap'))[1])} {observer.OUTSIDE}", told)
+        left = len(made) - len(packets.read_capture(self.path("part.pcap"))[1])
+        taken = "from 0.025000 s to 0.075500 s behind the first frame of the file, which came at "
+        self.assertIn(f"Taken {taken}{first // 10**9}.{first // 1000 % 10**6:06} s Left out {left} {observer.OUTSIDE}", told)
         self.assertIn("there is no frame that could be used", self.flexlab("log", path, "net.toml", "--from", "900", status=1)[1])
         for word in ("-1", "1e3", "0,5", "x"):
             self.assertIn("is no number of seconds", self.flexlab("log", path, "net.toml", f"--from={word}", status=2)[1])
+        # So it is judged, and said; what is cut at one end has no other one.
+        found = self.observed(path, "--from", "0.025", "--to", "0.0755")
+        self.assertEqual((self.read("seen", "log.csv"), found["left_out"][observer.OUTSIDE]), (self.read("wanted.csv"), left))
+        self.assertEqual(found["cycles"][0]["cycle"], 4)
+        self.assertIn("Taken " + taken, self.one_line(self.read("seen", "observed.txt")))
+        page = self.one_line(self.flexlab("observe", "-o", "seen", path, "net.toml", "--to", "0.0755", status=(0, 1))[0])
+        self.assertIn("Taken to 0.075500 s behind the first frame", page)
+        self.assertNotIn("Taken", self.flexlab("observe", "-o", "seen", path, "net.toml", status=(0, 1))[0])
 
     def test_a_silence_begins_a_part(self):
         path = self.sent(SHORT + OBSERVER + "missed_none = true\n")
@@ -448,14 +458,37 @@ class Logs(Bench):
         self.assertEqual(["since,4,,," in self.read("seen", f"part-{number}", "log.csv") for number in (1, 2)], [True, False])
 
     def test_a_log_of_another_network(self):
+        """Each value in which it differs is said, and no other one."""
         path = self.sent()
-        found = self.observed(path)
-        self.assertEqual(found["differs"], [])
-        other = edited(("double_cycles = 200", "double_cycles = 10"), ("gPayloadLengthStatic = 8", "gPayloadLengthStatic = 7"))
-        self.write("net.toml", other + OBSERVER)
-        page = self.one_line(self.flexlab("observe", "-o", "seen", path, "net.toml", status=1)[0])
-        self.assertIn("DIFFERS most frames are not as the file of the cluster has them: is the log of another network?", page)
-        self.assertIn("a payload of 8 words, and `gPayloadLengthStatic` is 7", page)
+        self.assertEqual(self.observed(path)["differs"], [])
+        for change, told in (
+                (("gPayloadLengthStatic = 8", "gPayloadLengthStatic = 7"),
+                 ["slots 1-4, 10: a payload of 8 words, and `gPayloadLengthStatic` is 7"]),
+                (("id = 3\nkey_slot = 3", "id = 3\nkey_slot = 9"), ["slot 3: a sync indicator, and it is no node's key slot"]),
+                (("slot = 10\nnode = 1", "slot = 11\nnode = 1"), []),
+                (("slot = 10\nnode = 1", "slot = 12\nnode = 1", "id = 5\nchannels", "id = 5\nkey_slot = 10\nchannels"),
+                 ["slot 10: no sync indicator, and it is the key slot of a node"]),
+                (("id = 1\nkey_slot = 1\nchannels = \"AB\"\ncoldstart = true", "id = 1\nkey_slot = 1\nchannels = \"AB\""),
+                 ["slot 1: a startup indicator, and its node is no coldstart node"]),
+                (("id = 3\nkey_slot = 3\n", "id = 3\nkey_slot = 3\ncoldstart = true\n"),
+                 ["slot 3: no startup indicator, and its node is a coldstart node"]),
+                (("pMicroPerCycle = 200000", "pMicroPerCycle = 204000"),
+                 ["cycles last 4999.9", "us, and by `pMicroPerCycle` and `microtick_ns` 5100.000 us"]),
+                (("pMicroPerCycle = 200000", "pMicroPerCycle = 201000"), []),
+                (("gdStaticSlot = 50\ngdActionPointOffset = 10\ngdNIT = 2000", "gdStaticSlot = 60\ngdActionPointOffset = 10\ngdNIT = 1400"),
+                 ["static slots last some ", "us, and by `gdStaticSlot` 60.000 us"])):
+            with self.subTest(change=change):
+                other = edited(("double_cycles = 200", "double_cycles = 10"), text=re.sub(r" +#[^\n]*", "", EXAMPLE))
+                self.write("net.toml", edited(*zip(change[::2], change[1::2]), text=other) + OBSERVER)
+                page = self.flexlab("observe", "-o", "seen", path, "net.toml", status=(0, 1))[0]
+                page = self.one_line(page[:page.index("\nPrecision")] + " Cycles ")
+                self.assertEqual("DIFFERS most frames are not as the file of the cluster has them: is the log of another network?" in page,
+                                 told != [], page)
+                for one in told:
+                    self.assertIn(one, page)
+                wanted = set(re.findall(r"`\w+`|indicator", " ".join(told)))
+                said = page.split("DIFFERS")[1].split(" Cycles ")[0] if told else ""
+                self.assertEqual(set(re.findall(r"`\w+`|indicator", said)), wanted)
 
     def test_a_text_is_no_capture(self):
         self.write("bus.csv", "Time;Channel;Data\n0,5;A;00\n")
@@ -480,6 +513,15 @@ class Logs(Bench):
         # One channel behind the other is no counter that begins anew.
         wraps = observer.Wraps()
         self.assertEqual([wraps.before(time) for time in ("100", "3900000000", "100", "3900000000", "0.5")], [0] * 5)
+        self.assertEqual((wraps.count, wraps.falls), (0, 1))
+        # Neither is a fall behind a silence, which is said; one of less than half is no more than a row that stands too late.
+        for stamp, falls in ((3_900_000_000, 1), (1_900_000_000, 0)):
+            rows = [f"{one.ns - made[0].ns + (stamp if at < 20 else 100_000_000)},{one.channel},{one.frame.hex()}" for at, one in enumerate(made)]
+            self.write("bus.csv", "\n".join(["Time,Channel,Data", *rows]) + "\n")
+            told = self.one_line(self.flexlab("log", *columns, "bus.csv", "net.toml")[0])
+            self.assertEqual("Stamps 1 fall by more than half of 32 bits, and not from the last to the first 64th of these as those of a "
+                             "counter that begins anew: they are sorted" in told, falls > 0)
+            self.assertNotIn("began anew", told)
 
     def test_refusals(self):
         path = self.sent(SHORT)

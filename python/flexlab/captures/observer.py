@@ -13,6 +13,7 @@ from dataclasses import dataclass, field
 from fractions import Fraction
 from functools import cached_property
 from math import gcd
+from statistics import median
 from typing import Any, NamedTuple
 from argparse import Namespace
 
@@ -43,6 +44,8 @@ OUTSIDE = "frames before --from or from --to on"
 # A counter of stamps has so many values. It is taken to begin anew where a stamp from its last part is followed by one of its first.
 WRAP = 1 << 32
 WRAP_PART = WRAP >> 6
+# Of so many frames it is looked how long cycles and slots are.
+SOME = 10_000
 UNITS = {"s": Fraction(10**9), "ms": Fraction(10**6), "us": Fraction(1000), "ns": Fraction(1)}
 
 
@@ -90,14 +93,16 @@ class Observer:
 @dataclass
 class Frames:
     """The frames of a file that keeps times in steps of so many ns; how many were left out, by reason; the columns that were
-    read, where these are not stated by their names; how often a counter of stamps began anew; and whether frames of key slots
-    may be lost beside what these tell."""
+    read, where these are not stated by their names; how often a counter of stamps began anew, and how often one fell as far and did
+    not; which part of the file was asked for, in words; and whether frames of key slots may be lost beside what these tell."""
     path: str
     step: Fraction
     found: list[Seen]
     left: dict[str, int] = field(default_factory=dict)
     columns: str = ""
     wraps: int = 0
+    falls: int = 0
+    part: str = ""
     is_lossy: bool = False
 
     def leave(self, reason: str, count: int = 1) -> None:
@@ -296,10 +301,10 @@ def time_of(path: str, line: int, time: str) -> re.Match[str]:
 
 class Wraps:
     """How often a counter of 32 bits has begun anew, by the whole numbers of a column in the order of the file, in which rows may
-    stand a little too late."""
+    stand a little too late; and how often it fell by more than half of that, and did not."""
 
     def __init__(self) -> None:
-        self.count, self.last = 0, 0
+        self.count, self.falls, self.last = 0, 0, 0
 
     def before(self, time: str) -> int:
         """What the counter had passed when it began anew, before this time."""
@@ -307,7 +312,9 @@ class Wraps:
         if self.count and self.last < WRAP_PART and WRAP - WRAP_PART <= stamp < WRAP:
             return (self.count - 1) * WRAP
         if 0 <= stamp < WRAP:
-            self.count += self.last >= WRAP - WRAP_PART and stamp < WRAP_PART
+            is_anew = self.last >= WRAP - WRAP_PART and stamp < WRAP_PART
+            self.count += is_anew
+            self.falls += not is_anew and self.last - stamp > WRAP // 2
             self.last = stamp
         return self.count * WRAP
 
@@ -328,7 +335,7 @@ def table_frames(path: str, columns: dict[str, str], unit: str, most_bytes: int 
             frames.leave(SHORT)
         else:
             frames.found.append(Seen((Fraction(time) + whole.before(time)) * UNITS[unit], channel.upper(), data, len(data) == length))
-    frames.step, frames.wraps = UNITS[unit] / 10**most, whole.count
+    frames.step, frames.wraps, frames.falls = UNITS[unit] / 10**most, whole.count, whole.falls
     return frames
 
 
@@ -359,6 +366,8 @@ def cut_out(frames: Frames, begin: Fraction | None, end: Fraction | None) -> Non
     kept = [frame for frame in frames.found if (begin is None or frame.ns >= zero + begin * giga)
             and (end is None or frame.ns < zero + end * giga)]
     frames.leave(OUTSIDE, len(frames.found) - len(kept))
+    ends = [f"{word} {decimal(time, 6)} s" for word, time in (("from", begin), ("to", end)) if time is not None]
+    frames.part = f"{' '.join(ends)} behind the first frame of the file, which came at {decimal(zero / giga, 6)} s"
     frames.found = kept
 
 
@@ -429,21 +438,38 @@ def log_of(cluster: Cluster, observer: Observer, frames: Frames) -> tuple[str, L
     return "".join(lines), Log(observer, frames, entries, unit, error, grain)
 
 
+def other_form(cluster: Cluster, data: bytes) -> str:
+    """What a frame of a static slot has otherwise than the file of the cluster."""
+    words, length, slot = cluster.parameters["gPayloadLengthStatic"], data[2] >> 1, (data[0] & 7) << 8 | data[1]
+    is_sync, is_startup = data[0] & 0x10 != 0, data[0] & 0x08 != 0
+    node = next((node for node in cluster.nodes.values() if node.key_slot == slot), None)
+    if length != words:
+        return f"a payload of {length} words, and `gPayloadLengthStatic` is {words}"
+    if node is None:
+        return "a sync indicator, and it is no node's key slot" if is_sync else ""
+    if not is_sync:
+        return "no sync indicator, and it is the key slot of a node"
+    if node.coldstart == is_startup:
+        return ""
+    return ("a startup indicator, and its node is no coldstart node" if is_startup else
+            "no startup indicator, and its node is a coldstart node")
+
+
 def differences(cluster: Cluster, frames: Frames) -> list[str]:
-    """What most frames of a slot have otherwise than the file of the cluster: where the log is of another network, it shows here."""
-    words, last = cluster.parameters["gPayloadLengthStatic"], cluster.parameters["gNumberOfStaticSlots"]
-    keys = {node.key_slot for node in cluster.nodes.values() if node.key_slot}
+    """What most frames of a slot have otherwise than the file of the cluster, and how long cycles and slots mostly are, where that is
+    otherwise: where the log is of another network, it shows here."""
+    last = cluster.parameters["gNumberOfStaticSlots"]
     counts: dict[int, int] = {}
     kinds: dict[str, dict[int, int]] = {}
-    for _, channel, data, is_all in frames.found:
-        slot, length, is_sync = (data[0] & 7) << 8 | data[1], data[2] >> 1, data[0] & 0x10 != 0
-        if slot > last or is_damaged(channel, data, is_all):
+    whole: list[Seen] = []
+    for frame in frames.found:
+        data = frame.data
+        slot = (data[0] & 7) << 8 | data[1]
+        if slot > last or is_damaged(frame.channel, data, frame.is_all):
             continue
         counts[slot] = counts.get(slot, 0) + 1
-        kind = (f"a payload of {length} words, and `gPayloadLengthStatic` is {words}" if length != words else
-                "no sync indicator, and it is the key slot of a node" if slot in keys and not is_sync else
-                "a sync indicator, and it is no node's key slot" if slot not in keys and is_sync else "")
-        if kind:
+        whole.append(frame)
+        if kind := other_form(cluster, data):
             kinds.setdefault(kind, {}).setdefault(slot, 0)
             kinds[kind][slot] += 1
     found = []
@@ -451,14 +477,58 @@ def differences(cluster: Cluster, frames: Frames) -> list[str]:
         most = [slot for slot, count in slots.items() if 2 * count > counts[slot]]
         if most:
             found.append(f"slot{'s' * (len(most) > 1)} {spans(most)}: {kind}")
+    return found + other_times(cluster, sorted(whole[:SOME], key=lambda frame: frame.ns))
+
+
+def other_times(cluster: Cluster, frames: list[Seen]) -> list[str]:
+    """Where cycles or static slots last otherwise than the file of the cluster has it. No clock within its limits makes a hundredth of a
+    cycle, and clocks that are a quarter of a slot apart are in no sync."""
+    values, cycles, slots = cluster.parameters, list[Fraction](), list[tuple[Fraction, bool]]()
+    cycle = values["pMicroPerCycle"] * Fraction(cluster.microtick_ns)
+    nominal = cycle * values["gdStaticSlot"] / values["gMacroPerCycle"]
+    before: dict[tuple[str, int], tuple[int, Fraction]] = {}
+    # The frames of a cycle, by channel: its count, the first slot with its stamp, and the last one.
+    spans_there: dict[str, tuple[int, int, Fraction, int, Fraction]] = {}
+
+    def end(count: int, first: int, begin: Fraction, last: int, ns: Fraction) -> None:
+        if last > first:
+            slots.append(((ns - begin) / (last - first), 4 * abs(ns - begin - (last - first) * nominal) > nominal))
+
+    for frame in frames:
+        slot, count, ns = (frame.data[0] & 7) << 8 | frame.data[1], frame.data[4] & 63, frame.ns
+        earlier, there = before.get((frame.channel, slot)), spans_there.get(frame.channel)
+        if earlier and (count - earlier[0]) % 64 == 1:
+            cycles.append(ns - earlier[1])
+        before[frame.channel, slot] = count, ns
+        if there and there[0] == count and slot > there[3]:
+            spans_there[frame.channel] = *there[:3], slot, ns
+        else:
+            if there:
+                end(*there)
+            spans_there[frame.channel] = count, slot, ns, slot, ns
+    for there in spans_there.values():
+        end(*there)
+    found = []
+    if cycles and 100 * abs(median(cycles) - cycle) > cycle:
+        found.append(f"cycles last {decimal(median(cycles) / 1000, 3)} us, and by `pMicroPerCycle` and `microtick_ns` "
+                     f"{decimal(cycle / 1000, 3)} us")
+    if 2 * sum(is_off for _, is_off in slots) > len(slots):
+        length = median(length for length, is_off in slots if is_off)
+        found.append(f"static slots last some {decimal(length / 1000, 3)} us, and by `gdStaticSlot` {decimal(nominal / 1000, 3)} us")
     return found
 
 
 def left_lines(frames: Frames) -> list[str]:
-    """Lines of a page: what was left out, and which columns were read."""
+    """Lines of a page: what was taken of a file and what left out, which columns were read, and what became of stamps that fall."""
     left = [f"{count} {reason}" for reason, count in frames.left.items()] or ["nothing"]
-    found = lines_of("Left out", *left) + (lines_of("Columns", frames.columns) if frames.columns else [])
-    return found + (lines_of("Stamps", f"the counter of 32 bits began anew {frames.wraps} times") if frames.wraps else [])
+    stamps = [f"the counter of 32 bits began anew {frames.wraps} times"] if frames.wraps else []
+    if frames.falls:
+        stamps.append(f"{frames.falls} fall by more than half of 32 bits, and not from the last to the first 64th of these as those of a "
+                      "counter that begins anew: they are sorted")
+    found = lines_of("Taken", frames.part) if frames.part else []
+    for title, lines in (("Left out", left), ("Columns", [frames.columns] if frames.columns else []), ("Stamps", stamps)):
+        found += lines_of(title, *lines) if lines else []
+    return found
 
 
 def taken(cluster: Cluster, words: Namespace) -> tuple[Observer, Frames]:

@@ -36,7 +36,7 @@ def parts_of(observer: Observer, frames: Frames, cuts: Sequence[Fraction]) -> It
         if place == 0:
             yield observer, replace(frames, found=some, left=dict(frames.left), is_lossy=frames.is_torn)
         else:
-            yield replace(observer, since=None), replace(frames, found=some, left={}, wraps=0, is_lossy=frames.is_torn)
+            yield replace(observer, since=None), replace(frames, found=some, left={}, wraps=0, falls=0, part="", is_lossy=frames.is_torn)
 
 
 def span_of(frames: Frames, zero: Fraction) -> str:
