@@ -22,7 +22,7 @@ HEAD = "node,says,cycle,kind,other,judged,double_cycles"
 
 def toml_of(network, arbitrary=()):
     """The file of a network, with an analyzer whose stamps are of 1 ns and who knows delays to 1 ns."""
-    limits = {"xRateBound": "oscillator_ppm", "xChangeBound": "change_ppm_per_cycle", "xDelayError": "delay_error_microticks"}
+    limits = {"xRateBound": "oscillator_ppm", clocks.CHANGE: "change_ppm_per_cycle", "xDelayError": "delay_error_microticks"}
     values = [(name, value) for name, value in network.values.items() if name not in limits]
     nodes = "".join(f'[[node]]\nid = {node + 1}\nkey_slot = {slot}\nchannels = "AB"\ncoldstart = true\n'
                     + "arbitrary = true\n" * (node + 1 in arbitrary) for node, slot in enumerate(network.slots))
