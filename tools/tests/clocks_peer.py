@@ -2,7 +2,7 @@
 numbers, after docs/PROTOCOL.md. Without such a node the rows are those of `flexray trace`, which a test holds; with it they
 are those of a network that the program, whose nodes keep the rules, never runs. An analyzer sees them all.
 
-Every node is a coldstart node on both channels and hears all others without delay; no frame is lost.
+Every node is a coldstart node on both channels and hears all others that send, without delay where none is given; no frame is lost.
 """
 import os
 import sys
@@ -25,13 +25,20 @@ VALUES = {
 # By how much a length changes from one cycle to the next, at most.
 CHANGE = "xChangeBound"
 VALUES[CHANGE] = 0
+# A cluster of production shape: a check of it fails, the first one.
+PRODUCTION = {
+    **VALUES, "gMacroPerCycle": 3636, "gNumberOfStaticSlots": 91, "gdStaticSlot": 24, "gdActionPointOffset": 4, "gdNIT": 1452,
+    "gPayloadLengthStatic": 8, "gOffsetCorrectionStart": 3536, "gMaxWithoutClockCorrectionPassive": 4, "gMaxWithoutClockCorrectionFatal": 8,
+    "pOffsetCorrectionOut": 127, "pRateCorrectionOut": 601, "pClusterDriftDamping": 2, "pDelayCompensation": 7, "xRateBound": 100,
+    "xDelayError": 5 * MILLION}
 
 
 class Network:
-    """A run of so many double cycles: of each node its key slot, the ticks of its microtick, and those of its first start."""
+    """A run of so many double cycles: of each node its key slot, the ticks of its microtick, and those of its first start; `delays`
+    has those of a node's frames at another one."""
 
-    def __init__(self, slots, lengths, starts, doubles, values=None):
-        self.values, self.doubles = values or VALUES, doubles
+    def __init__(self, slots, lengths, starts, doubles, values=None, delays=None):
+        self.values, self.doubles, self.delays = values or VALUES, doubles, delays or {}
         self.slots, self.lengths, self.starts = slots, lengths, starts
         self.nodes = range(len(slots))
         self.macros, self.micros = self.values["gMacroPerCycle"], self.values["pMicroPerCycle"]
@@ -44,7 +51,8 @@ class Network:
 
     def drift(self):
         return f"doubles,{self.doubles},,,,\n" + "".join(
-            f"length,{node + 1},0,{self.lengths[node]},,\nstart,{node + 1},{self.starts[node]},0,,\n" for node in self.nodes)
+            f"length,{node + 1},0,{self.lengths[node]},,\nstart,{node + 1},{self.starts[node]},0,,\n" for node in self.nodes) + "".join(
+            f"delay,{one + 1},{other + 1},{channel},0,{ticks}\n" for (one, other), ticks in self.delays.items() for channel in "AB")
 
     def position(self, macrotick, rate):
         return macrotick * (self.micros + rate) // self.macros
@@ -54,11 +62,11 @@ class Network:
         start, length, rate, _ = row
         return start + self.position(self.actions[node], rate) * length
 
-    def deviations(self, rows):
-        """Of each node what it measures of the others, in a cycle."""
-        sent = [self.instant(node, row) for node, row in enumerate(rows)]
-        return [[(sent[other] - start) // length - self.position(self.actions[other], rate)
-                 for other in self.nodes if other != node] for node, (start, length, rate, _) in enumerate(rows)]
+    def deviations(self, rows, senders):
+        """Of each node what it measures of the others that send, in a cycle."""
+        sent, late = [self.instant(node, row) for node, row in enumerate(rows)], self.values["pDelayCompensation"]
+        return [[(sent[other] + self.delays.get((other, node), 0) - start) // length - self.position(self.actions[other], rate) - late
+                 for other in senders if other != node] for node, (start, length, rate, _) in enumerate(rows)]
 
     def rate_after(self, rate, values):
         """The next rate term: the sum is taken toward 0 by the damping, and cut to its limit."""
@@ -66,15 +74,17 @@ class Network:
         total = max(total - damping, 0) if total > 0 else min(total + damping, 0)
         return max(-limit, min(limit, total))
 
-    def rows(self, wrong=lambda double, node: 0, wrong_rate=lambda double, node: 0):
+    def rows(self, wrong=lambda double, node: 0, wrong_rate=lambda double, node: 0, sends=lambda double, node: True):
         """Of each cycle the rows (start, tick length, rate term, offset term) of all nodes; the offset term of a node, or the rate term
-        that it computes, is so many microticks too great in a double cycle as `wrong` and `wrong_rate` say."""
+        that it computes, is so many microticks too great in a double cycle as `wrong` and `wrong_rate` say; a node that does not
+        send is not heard in that double cycle."""
         found, starts, rates, limit = [], list(self.starts), [0] * len(self.slots), self.values["pOffsetCorrectionOut"]
         for double in range(self.doubles):
             even = [(starts[node], self.lengths[node], rates[node], 0) for node in self.nodes]
             starts = [start + (self.micros + rate) * length for start, length, rate, _ in even]
-            before, behind = self.deviations(even), self.deviations(
-                [(starts[node], self.lengths[node], rates[node], 0) for node in self.nodes])
+            senders = [node for node in self.nodes if sends(double, node)]
+            before, behind = self.deviations(even, senders), self.deviations(
+                [(starts[node], self.lengths[node], rates[node], 0) for node in self.nodes], senders)
             terms = [max(-limit, min(limit, midpoint([0] + behind[node]) + wrong(double, node))) for node in self.nodes]
             found += [even, [(starts[node], self.lengths[node], rates[node], terms[node]) for node in self.nodes]]
             starts = [start + (self.micros + rate + term) * length for start, length, rate, term in found[-1]]
@@ -84,18 +94,20 @@ class Network:
 
     def head(self, node, cycle, kept={}):
         """The header bytes of its sync frame, in hexadecimal digits."""
-        slot = self.slots[node]
-        if slot not in kept:
-            kept[slot] = 1 << 37 | (3 << 18 | slot << 7) << 17 | crc(11, 0x385, 0x01A, 3 << 18 | slot << 7, 20) << 6
-        return (kept[slot] | cycle % 64).to_bytes(5, "big").hex().upper()
+        first = 3 << 18 | self.slots[node] << 7 | self.values["gPayloadLengthStatic"]
+        if first not in kept:
+            kept[first] = 1 << 37 | first << 17 | crc(11, 0x385, 0x01A, first, 20) << 6
+        return (kept[first] | cycle % 64).to_bytes(5, "big").hex().upper()
 
-    def log(self, draw, rows, unit, width=0, drift=0):
+    def log(self, draw, rows, unit, width=0, drift=0, sends=lambda double, node: True):
         """The log of an analyzer that misses nothing, with a true clock of which it states a drift of so many ppm: delays are the
-        same for all, but for so many ticks that it states as their range, and a stamp is of the unit in which the frame came."""
+        same for all, but for so many ticks that it states as their range, and a stamp is of the unit in which the frame came.
+        A node has no frames there in a double cycle in which it does not send."""
         low, zero = MILLION, draw.randrange(10**9, 10**10)
         later = {(node, channel): low + draw.randint(0, width) for node in self.nodes for channel in "AB"}
         seen = sorted((self.instant(node, row) + later[node, channel] + zero, node, channel, cycle)
-                      for cycle, of_cycle in enumerate(rows) for node, row in enumerate(of_cycle) for channel in "AB")
+                      for cycle, of_cycle in enumerate(rows) for node, row in enumerate(of_cycle) if sends(cycle // 2, node)
+                      for channel in "AB")
         return (f"unit,{unit},,,\ndrift,{drift},,,\ndelay,,,{low},{low + width}\njitter,0,,,\nwhole,,,,\n"
                 + "".join(f"head,{at // unit},{channel},{self.head(node, cycle)},\n" for at, node, channel, cycle in seen))
 
@@ -130,3 +142,15 @@ def with_delay_error(microticks):
     values["gNumberOfStaticSlots"] = (values["gMacroPerCycle"] - 200) // values["gdStaticSlot"]
     values["gdNIT"] = values["gMacroPerCycle"] - values["gNumberOfStaticSlots"] * values["gdStaticSlot"]
     return values
+
+
+def production(draw, doubles, counts=(2, 9), changes=(0, 0, 1)):
+    """A network of production shape of which a check fails: all start near each other, and delays lie around their compensation."""
+    count, (compensation, error) = draw.randrange(*counts), draw.choice([(7, 5), (7, 5), (4, 2), (3, 1)])
+    values = {**PRODUCTION, "pClusterDriftDamping": draw.choice([0, 1, 2, 2, 3]), "pDelayCompensation": compensation,
+              "xDelayError": error * MILLION, CHANGE: draw.choice(changes)}
+    bound, near = values["xRateBound"], draw.choice([1, 8, 40]) * MILLION
+    delays = {(one, other): max(0, compensation * MILLION + draw.choice([-1, 1]) * draw.choice([error * MILLION, draw.randrange(error * MILLION)]))
+              for one in range(count) for other in range(count) if one != other}
+    return Network(draw.sample(range(1, 21), count), [MILLION + draw.randint(-bound, bound) for _ in range(count)],
+                   [draw.randrange(1, near) for _ in range(count)], doubles, values, delays)

@@ -4,18 +4,12 @@ plain Python and whole numbers from the files alone: `bench/losses` and `test_lo
 A run is of production shape, but that macroticks may be longer: a cycle of 5 ms at a microtick of 25 ns, 2 to 8 nodes with a key slot
 that begin near each other, delays around the compensation, and frames that are lost or damaged in some double cycles.
 """
-from clocks_peer import CHANGE, VALUES
+from clocks_peer import CHANGE, PRODUCTION
 from flexlab.program.forms import FORMS
 
 # The row of a script by which a bit of a frame is inverted on its way.
 DAMAGED = next(word for word, fields in FORMS["script"].kinds.items() if any(field.name == "BIT" for field in fields))
 MILLION = 1_000_000
-# A cluster of production shape.
-PRODUCTION = {
-    **VALUES, "gMacroPerCycle": 3636, "gNumberOfStaticSlots": 91, "gdStaticSlot": 24, "gdActionPointOffset": 4, "gdNIT": 1452,
-    "gPayloadLengthStatic": 8, "gOffsetCorrectionStart": 3536, "gMaxWithoutClockCorrectionPassive": 4, "gMaxWithoutClockCorrectionFatal": 8,
-    "pOffsetCorrectionOut": 127, "pRateCorrectionOut": 601, "pClusterDriftDamping": 2, "pDelayCompensation": 7, "xRateBound": 100,
-    "xDelayError": 5 * MILLION}
 # What frames are lost in a double cycle with losses: of each frame on a channel the share, or all of them.
 KINDS = {"bursts": 1, "twentieths": 0.05, "halves": 0.5, "all": 1, "one": 0}
 

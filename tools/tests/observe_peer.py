@@ -1,6 +1,6 @@
 #!/usr/bin/env python3
 """What `flexray observe PARAMS LOG` prints, reckoned by another program: plain Python and whole numbers, after
-docs/FORMATS.md and the definitions in specs/ of crates fr_course, fr_sightings, fr_observe and fr_findings.
+docs/FORMATS.md and the definitions in specs/ of crates fr_bound, fr_course, fr_sightings, fr_observe and fr_findings.
 
     observe_peer.py PARAMS LOG
 
@@ -10,6 +10,7 @@ observer's clock, in ticks of that clock.
 import csv
 import os
 import sys
+from typing import NamedTuple
 
 sys.path.insert(0, os.path.join(os.path.dirname(os.path.dirname(os.path.dirname(os.path.realpath(__file__)))), "python"))
 
@@ -28,6 +29,14 @@ def up(number, by):
 def rows_of(path):
     with open(path, newline="", encoding="latin-1") as file:
         return [row for row in csv.reader(file) if row]
+
+
+class Known(NamedTuple):
+    """What is known of a double cycle, in ticks: starts and even lengths of its nodes lie no further apart, and lengths no further beyond
+    their range."""
+    starts: int
+    lengths: int
+    beyond: int
 
 
 class Params:
@@ -61,22 +70,71 @@ class Params:
         self.starts = 6 * self.lengths + 4 * self.arrival + 8 * self.longest
         self.precision = self.starts + 2 * self.lengths + 2 * self.longest
 
+        self.own_bounds()
+
+    def own_bounds(self):
+        """What a double cycle by its own numbers has to do with, in ticks, where delays keep within what is stated."""
+        flutter = 2 * self.delay_error
+        later = (self.micros + self.rate_out + self.offset_out + 1) * self.change
+        value = flutter + self.longest - 1 + later
+        alone = 2 * value + self.longest + 2 * self.damping * self.longest + 2 * self.step
+        # How far lengths may lie apart by the rate corrections of one double cycle, without arbitrary nodes and beside them.
+        self.corrected = {"clean": alone, "meeting": 2 * alone}
+        damped = self.shortest - self.damping * self.shortest if self.damping else self.longest
+        self.walk = flutter + self.step + later - 1 + damped
+        self.room = max(self.rate_out * self.shortest - 2 * self.micros * self.rate_bound, 0)
+        self.last_action = self.action_point(max([1] + [key for _, key, _, _ in self.nodes if key]))
+
+    def odd(self, lengths):
+        """How far lengths of odd cycles lie apart, where those of even ones lie so far apart."""
+        return lengths + 2 * self.step
+
+    def behind(self, heard, known):
+        """What is known of the next double cycle."""
+        (starts, lengths, beyond), corrected = known, self.corrected[heard]
+        if heard == "clean":
+            starts, lengths = self.odd(lengths) + 2 * self.arrival + 3 * self.longest, corrected
+        else:
+            starts = (starts + lengths + 2 * self.odd(lengths) + 4 * self.arrival + 7 * self.longest) // 2
+            lengths = (lengths + corrected) // 2
+        return Known(starts, lengths, max(beyond + self.walk, 0))
+
+    def apart(self, heard, known):
+        """How far macroticks lie apart in a double cycle."""
+        here = known.starts + known.lengths + self.odd(known.lengths) + 2 * self.longest
+        return max(here, self.behind(heard, known).starts + self.longest)
+
+    def near(self, known):
+        """How far its action points do."""
+        return known.starts + known.lengths + self.last_action * self.odd(known.lengths) // self.macros + self.longest
+
     def action_point(self, slot):
         return (slot - 1) * self.slot + self.action
 
-    def checks(self):
-        """Both sides of each of the five checks of a cluster."""
+    def checks(self, reach):
+        """Both sides of each of the five checks of a cluster; from the third on with how far clocks lie apart."""
         clear = self.micros - self.rate_out
 
         def of_slot(macroticks):
             return (macroticks * clear - self.macros) * self.shortest
 
-        front = self.macros * (self.precision + self.delay_error)
+        front = self.macros * (reach + self.delay_error)
         return [(self.damping * self.shortest, self.learnt + 2 * self.step),
                 (self.rate_out * self.shortest, 2 * self.micros * self.rate_bound),
-                (self.offset_out * self.shortest, self.precision + self.arrival + self.longest),
+                (self.offset_out * self.shortest, reach + self.arrival + self.longest),
                 (of_slot(self.action), front),
                 (of_slot(self.slot - self.action), front + self.macros * self.widest * MILLION)]
+
+    def failing(self, reach, first=1):
+        """The first check from this one on that fails, with both sides."""
+        return next(([number, left, right] for number, (left, right) in enumerate(self.checks(reach), 1)
+                     if number >= first and (left < right or (number == 5 and left == right))), None)
+
+    def unfit(self, known):
+        """Why a double cycle of which so much is known is not judged by it."""
+        if self.failing(self.near(known), first=2):
+            return 3, "reach"
+        return (4, "drift") if known.beyond + max(self.walk, 0) > self.room else None
 
     def frame_of(self, slot):
         """Of a static slot its node, that node's channels, and the sync and startup indicators of its frames there; None
@@ -453,15 +511,20 @@ class Double:
                 found.append((number, node, "twice", channel, stamp, first))
         return found + self.offending
 
-    def unsynced(self, own):
-        """Why it is not certainly in sync, with what contradicts it whatever the run: (how far it came, reason, cycle, node)."""
-        arbitrary, here, even = self.log.arbitrary, self.here, 2 * self.double
+    def untold(self, own):
+        """Why it does not tell of the clocks of all nodes, with what contradicts it whatever the run: (how far it came, reason, cycle,
+        node)."""
         for node, key, _, _ in self.params.nodes:
-            boxes = [here.box(node, odd) is not None for odd in (0, 1)]
-            if node not in arbitrary and (key is None or not all(boxes)):
-                return 1, "unseen", even + 1 if boxes[0] else even, node
-        if own:
-            return 2, "fault", own[0][0], own[0][1]
+            boxes = [self.here.box(node, odd) is not None for odd in (0, 1)]
+            if node not in self.log.arbitrary and (key is None or not all(boxes)):
+                return 1, "unseen", 2 * self.double + boxes[0], node
+        return (2, "fault", own[0][0], own[0][1]) if own else None
+
+    def unsynced(self, own):
+        """Why it is not certainly in sync."""
+        even = 2 * self.double
+        if why := self.untold(own):
+            return why
         if self.starts[1] > self.params.starts or self.lengths[1] > self.params.lengths:
             return 3, "reach", even, "-"
         if not all(self.proper[0] <= self.clock.least_ticks(course["length"][0])
@@ -472,22 +535,36 @@ class Double:
 
     def in_sync(self, since):
         """What no covered run gives that is in sync from a double cycle on."""
-        params, even, found = self.params, 2 * self.double, []
-        for odd, (low, high) in enumerate(self.skews):
-            if low > params.precision:
-                found.append((even + odd, "-", "skew", low, "-" if high is None else high, "-", params.precision))
-        for kind, apart, bound in (("start", self.starts, params.starts), ("lengths", self.lengths, params.lengths)):
-            if apart[0] > bound:
-                found.append((even, "-", kind, *apart, "-", bound))
+        bounds = Known(self.params.starts, self.params.lengths, 0)
+        found = self.skewed(self.params.precision) + self.beyond(bounds) + self.terms("offset") + self.terms("rate")
+        return found + (self.missing() if since < self.double else [])
+
+    def skewed(self, apart):
+        """Skews that are certainly greater."""
+        return [(2 * self.double + odd, "-", "skew", low, "-" if high is None else high, "-", apart)
+                for odd, (low, high) in enumerate(self.skews) if low > apart]
+
+    def beyond(self, known):
+        """Starts and lengths that certainly lie further apart or beyond their range."""
+        even, (least, most) = 2 * self.double, self.proper
+        found = [(even, "-", kind, *apart, "-", bound)
+                 for kind, apart, bound in (("start", self.starts, known.starts), ("lengths", self.lengths, known.lengths))
+                 if apart[0] > bound]
+        least, most = least - known.beyond, most + known.beyond
         for node, course, _ in self.active:
             long = self.clock.ticks(*course["length"])
-            if long[0] > self.proper[1] or long[1] < self.proper[0]:
-                found.append((even, node, "length", *long, *self.proper))
-        value = Value(params, self.clock, len(params.key_nodes()) - len(self.active))
-        return found + self.terms(value, "offset") + self.terms(value, "rate") + self.missing(since)
+            if long[0] > most or long[1] < least:
+                found.append((even, node, "length", *long, least, most))
+        return found
 
-    def terms(self, value, kind):
-        found = []
+    def seen(self):
+        """What its own stamps tell of it, where nothing keeps them from that."""
+        ways = [self.clock.ticks(*course["length"]) for _, course, _ in self.active]
+        beyond = [max(self.proper[0] - low, high - self.proper[1]) for low, high in ways]
+        return Known(max(self.starts[1], 0), max(self.lengths[1], 0), max([0] + beyond))
+
+    def terms(self, kind):
+        value, found = Value(self.params, self.clock, len(self.params.key_nodes()) - len(self.active)), []
         for node, course, onward in self.active:
             others = [other for number, other, _ in self.active if number != node]
             if kind == "offset":
@@ -502,9 +579,9 @@ class Double:
                 found.append((2 * self.double + 1, node, kind, *seen, *computed))
         return found
 
-    def missing(self, since):
-        """Frames that are not there of nodes that sent in the double cycle before, in sync."""
-        if not self.log.whole or since >= self.double:
+    def missing(self):
+        """Frames that are not there of nodes that sent in the double cycle before."""
+        if not self.log.whole:
             return []
         seen, even = {node for _, node, _, _, _ in self.before.seen}, 2 * self.double
         return [(even + odd, node, "missing", channel) for node, _, channels in self.keys if node in seen
@@ -530,14 +607,23 @@ def says(limit, low, high):
 
 def coverable(params, log):
     """Why no run of this cluster is covered, if that is certain."""
-    for number, (left, right) in enumerate(params.checks(), 1):
-        if left < right or (number == 5 and left == right):
-            return ["check", number, left, right]
+    if failing := params.failing(params.precision):
+        return ["check", *failing]
+    return None if hearing(params, log) else ["count", *counts(params, log)]
+
+
+def counts(params, log):
+    """How many sync nodes are correct, and how many arbitrary."""
     arbitrary = sum(node in log.arbitrary for node, _, _ in params.key_nodes())
-    correct = len(params.key_nodes()) - arbitrary
+    return len(params.key_nodes()) - arbitrary, arbitrary
+
+
+def hearing(params, log):
+    """What correct nodes hear of each other, where the correct sync nodes are enough."""
+    correct, arbitrary = counts(params, log)
     if arbitrary > 2 or correct < (1, 3, 6)[arbitrary]:
-        return ["count", correct, arbitrary]
-    return None
+        return None
+    return "meeting" if arbitrary else "clean"
 
 
 def are_numbers_sure(params, log):
@@ -561,34 +647,61 @@ def sender_lines(params, log, seen):
 
 
 class Progress:
-    """What is known behind some double cycles: sync, the first contradiction, what rows say, and which double cycles are judged."""
+    """What is known behind some double cycles: sync, what is known of the next one by its own numbers, the first contradiction, what
+    rows say, and which double cycles are judged."""
 
     def __init__(self, params, log):
-        self.log, self.gap, self.sync, self.first, self.over, self.why = log, coverable(params, log), None, None, [], None
-        self.doubles, self.judged = 0, []
+        self.params, self.log, self.gap, self.sync, self.first, self.over, self.why = params, log, coverable(params, log), None, None, [], None
+        # What nodes hear of each other, where double cycles are judged by their own numbers.
+        self.heard = hearing(params, log) if self.gap and self.gap[0] == "check" else None
+        self.doubles, self.judged, self.gaps, self.known = 0, [], 0, None
 
     def pass_double(self, double):
-        """Its lines with those of its contradictions."""
-        lines, found = double.lines(), double.own()
+        """Its lines with those of its contradictions and of its own numbers."""
+        lines, own = double.lines(), double.own()
         self.doubles += 1
         if self.sync is None and self.log.since is not None and self.log.since <= 2 * double.double:
             self.sync = self.log.since // 2, "stated"
-        elif self.sync is None and not double.unsynced(found):
+        elif self.sync is None and not double.unsynced(own):
             self.sync = double.double, "seen"
-        why = (0, "checks" if self.gap[0] == "check" else "count", "-", "-") if self.gap else (
-            None if self.sync else double.unsynced(found))
-        if why and (self.why is None or self.why[0] < why[0]):
-            self.why = why
-        if self.sync and not self.gap:
-            found = found + double.in_sync(self.sync[0])
+        found, why, spread = self.by_numbers(double, own) if self.heard else (*self.by_sync(double, own), [])
+        if why:
+            self.why = why if self.why is None or self.why[0] < why[0] else self.why
+            self.gaps += bool(self.judged)
+        else:
             self.judged += [(line[1], line[5]) for line in lines if line[0] == "cycle"]
+        found = own + found
         self.first = self.first or (found[0] if found else None)
         self.over += [line for line in lines if line[0] == "cycle" and line[5] == "over"]
-        return lines + [["fault", *fault, *["-"] * (7 - len(fault))] for fault in found]
+        return lines + [["fault", *fault, *["-"] * (7 - len(fault))] for fault in found] + spread
+
+    def by_sync(self, double, own):
+        """What contradicts it beside its own faults, and why it is not judged."""
+        why = (0, "checks" if self.gap[0] == "check" else "count", "-", "-") if self.gap else (
+            None if self.sync else double.unsynced(own))
+        return [] if why else double.in_sync(self.sync[0]), why
+
+    def by_numbers(self, double, own):
+        """The same, and the row of what it is judged by."""
+        params, known, untold = self.params, self.known, double.untold(own)
+        met = known if untold else double.seen() if known is None else Known(*map(min, known, double.seen()))
+        unfit = params.unfit(met) if met else None
+        why = (*unfit, 2 * double.double, "-") if unfit else None if met else untold
+        found, spread, self.known = [], [], None
+        if not why:
+            apart = params.apart(self.heard, met)
+            found += double.skewed(apart) + double.terms("offset") + double.terms("rate")
+            spread = [["spread", double.double, *met, apart]]
+        if known:
+            found += double.beyond(known) + double.missing()
+        if not why and not found:
+            self.known = params.behind(self.heard, met)
+        return found, why, spread
 
     def sync_fields(self):
-        why = self.why or (None if self.sync else (0, "unseen", "-", "-"))
-        return [*(self.sync or ("-", "open")), len(self.judged) // 2, self.doubles, *(why[1:] if why else "---")]
+        sync = self.sync or ((self.judged[0][0] // 2, "seen") if self.judged else None)
+        why = self.why or (None if sync else (0, "unseen", "-", "-"))
+        return [*(sync or ("-", "open")), len(self.judged) // 2, self.doubles, *(why[1:] if why else "---")]
 
     def verdict(self):
         if self.first:
@@ -600,7 +713,7 @@ class Progress:
             return ["open", *(self.why or (0, "unseen", "-", "-"))[1:]]
         *rows, (last, _) = self.judged
         words = [word for _, word in self.judged]
-        if all(word == "within" for _, word in rows):
+        if not self.gaps and all(word == "within" for _, word in rows):
             return ["within", self.judged[0][0], last - 1]
         return ["partly", self.judged[0][0], last, words.count("within"), words.count("open"), len(words) // 2, self.doubles]
 

@@ -30,6 +30,22 @@ def header_bytes(slot, words, sync, startup, count):
     return (1 << 37 | first << 17 | crc(11, 0x385, 0x01A, first, 20) << 6 | count % 64).to_bytes(5, "big")
 
 
+def instants(values, cycle, row):
+    """When a node has each macrotick of a cycle, by its row."""
+    start, length, rate, term = row
+    macros, turn = values["gMacroPerCycle"], values["gOffsetCorrectionStart"]
+    micros = values["pMicroPerCycle"] + rate
+    last, base = turn if cycle % 2 else macros - 1, turn * micros // macros
+    return [start + length * (at * micros // macros if at <= last else
+                              base + (at - turn) * (micros + term - base) // (macros - turn))
+            for at in range(macros)]
+
+
+def skew(values, cycle, rows):
+    """The greatest distance of a macrotick of some nodes, by their rows."""
+    return max(max(at) - min(at) for at in zip(*(instants(values, cycle, row) for row in rows)))
+
+
 class Cluster:
     """A random cluster and its run: parameters, drift and script as files, and the rows of its trace."""
 
@@ -104,19 +120,9 @@ class Cluster:
         start, length, rate, _, _ = self.rows[cycle, node]
         return start + macrotick * (self.values["pMicroPerCycle"] + rate) // self.values["gMacroPerCycle"] * length
 
-    def instants(self, cycle, node):
-        """When it has each macrotick of a cycle."""
-        start, length, rate, term, _ = self.rows[cycle, node]
-        macros, turn = self.values["gMacroPerCycle"], self.values["gOffsetCorrectionStart"]
-        micros = self.values["pMicroPerCycle"] + rate
-        last, base = turn if cycle % 2 else macros - 1, turn * micros // macros
-        return [start + length * (at * micros // macros if at <= last else
-                                  base + (at - turn) * (micros + term - base) // (macros - turn))
-                for at in range(macros)]
-
     def skew(self, cycle, nodes):
         """The greatest distance of a macrotick of these nodes."""
-        return max(max(at) - min(at) for at in zip(*(self.instants(cycle, node) for node in nodes)))
+        return skew(self.values, cycle, [self.rows[cycle, node][:4] for node in nodes])
 
 
 class Analyzer:
@@ -268,8 +274,8 @@ def rows_of(text, *words):
     return [row for row in rows if row[0] in words] if words else rows
 
 
-class Observed(Bench):
-    """The texts, and the intervals in them."""
+class Told(Bench):
+    """The texts."""
 
     def told(self, log, status=0):
         """What the program tells, which is what the other program reckons."""
@@ -288,11 +294,19 @@ class Observed(Bench):
         """The last line says what the rows before it say, whatever it rests on."""
         cycles, faults = rows_of(text, "cycle"), rows_of(text, "fault")
         (sync,), (verdict,), (covered,) = (rows_of(text, word) for word in ("sync", "verdict", "covered"))
-        judged, doubles = int(sync[3]), int(sync[4])
+        judged, doubles, spread = int(sync[3]), int(sync[4]), [int(row[1]) for row in rows_of(text, "spread")]
         self.assertEqual(2 * doubles, len(cycles))
-        # From the double cycle of the `sync` row on, or from the first one that is there.
-        begins = 0 if sync[1] == "-" or not cycles else max(0, 2 * int(sync[1]) - int(cycles[0][1]))
-        rows = cycles[begins:] if sync[1] != "-" and covered[1] == "open" else []
+        if covered[2] == "check":
+            # Those that have a row of their own numbers.
+            self.assertEqual(spread, sorted(set(spread)))
+            rows = [row for row in cycles if int(row[1]) // 2 in spread]
+            is_through = bool(spread) and spread == list(range(spread[0], int(cycles[-1][1]) // 2 + 1))
+            self.assertTrue(not spread or sync[1] != "-")
+        else:
+            # From the double cycle of the `sync` row on, or from the first one that is there.
+            begins = 0 if sync[1] == "-" or not cycles else max(0, 2 * int(sync[1]) - int(cycles[0][1]))
+            rows, is_through = cycles[begins:] if sync[1] != "-" and covered[1] == "open" else [], True
+            self.assertEqual(spread, [])
         self.assertEqual(2 * judged, len(rows))
         self.assertEqual(sync[5] == "-", judged == doubles and doubles > 0)
         over, words = [row for row in cycles if row[5] == "over"], [row[5] for row in rows]
@@ -302,11 +316,15 @@ class Observed(Bench):
             wanted = ["over", over[0][1], over[0][3], str(len(over))]
         elif not rows:
             wanted = ["open", *(sync[5:] if sync[5] != "-" else ())]
-        elif set(words[:-1]) == {"within"}:
+        elif is_through and set(words[:-1]) == {"within"}:
             wanted = ["within", rows[0][1], rows[-2][1]]
         else:
             wanted = ["partly", rows[0][1], rows[-1][1], *map(str, (words.count("within"), words.count("open"), judged, doubles))]
         self.assertEqual(verdict[1:], wanted + [""] * (7 - len(wanted)))
+
+
+class Observed(Told):
+    """The texts, and the intervals in them."""
 
     def run_of(self, draw, is_long=False, is_covered=False):
         """A cluster with the rows of its trace."""
@@ -480,7 +498,7 @@ class Observed(Bench):
                 told[verdict[1]] = told.get(verdict[1], 0) + 1
                 told["whole"] += not lost
                 told["covered"] += covered
-                if sync[2] == "seen":
+                if sync[2] == "seen" and rows_of(text, "covered")[0][2] != "check":
                     self.in_sync(cluster, int(sync[1]))
         if RUNS != 40:
             print(f"{RUNS} lawful runs: {told}")
@@ -618,7 +636,7 @@ class Observed(Bench):
                 wanted.sort(key=lambda row: int(row[1]) // 2)
                 self.assertEqual([row for row in text if row[0] == "fault"], wanted)
                 self.assertEqual([row for row in text if row[0] == "log"], [["log", *map(str, tally), ""]])
-                words = ("fault", "log", "sync", "verdict")
+                words = ("fault", "spread", "log", "sync", "verdict")
                 self.assertEqual(*([row for row in rows if row[0] not in words] for rows in (text, lawful)))
                 sync = next(row for row in text if row[0] == "sync")
                 self.assertNotIn(sync[1], {str(int(row[1]) // 2) for row in wanted})
