@@ -6,10 +6,11 @@ from collections.abc import Iterator, Sequence
 from dataclasses import dataclass, field
 from typing import NamedTuple, overload
 
-__all__ = ["Check", "Bound", "SharpSide", "SharpBound", "LostBound", "Skew", "Sent", "Heard", "NodeEnd", "Report", "Losses", "SharpReport",
-           "SeriesCycle", "SeriesCycles", "Series", "SharpSeries", "CycleRow", "Deviation", "Join", "Trace", "Verdict", "Failing",
-           "Failure", "ObservedCycle", "ObservedNode", "ObservedFault", "ObservedSender", "LogCounts", "Observation", "FailedCheck",
-           "Settled", "SharpWay", "SharpSettled", "Lead", "Startup", "Frame", "CapturedFrame", "Capture", "Vector", "Vectors", "Upgraded"]
+__all__ = ["Check", "Bound", "SharpSide", "SharpBound", "LostBound", "Skew", "Sent", "Heard", "NodeEnd", "Report", "Losses",
+           "SharpReport", "SeriesCycle", "SeriesCycles", "Series", "SharpSeries", "CycleRow", "Deviation", "Join", "Trace",
+           "Verdict", "Failing", "Failure", "ObservedCycle", "ObservedNode", "ObservedFault", "ObservedSender", "ObservedSpread",
+           "LogCounts", "Observation", "FailedCheck", "Settled", "SharpWay", "SharpSettled", "Lead", "Startup", "Frame",
+           "CapturedFrame", "Capture", "Vector", "Vectors", "Upgraded"]
 
 
 @dataclass(frozen=True)
@@ -449,12 +450,26 @@ class ObservedSender:
 
 
 @dataclass(frozen=True)
+class ObservedSpread:
+    """A double cycle that is judged by its own numbers, since a check of the cluster fails, in ticks: starts and even lengths of
+    correct nodes lie no further apart than `starts` and `lengths`, lengths no further `beyond` their range, and no macroticks of the
+    double cycle further `apart`."""
+
+    double: int
+    starts: int
+    lengths: int
+    beyond: int
+    apart: int
+
+
+@dataclass(frozen=True)
 class Observation:
     """What a log tells of the clocks. `precision` is that of the parameters, in ticks, as the skews of `cycles` are;
     `nodes` has each sender of each double cycle. `first` and `last` are the numbers of the first and the last of
     `cycles`, None where there are none, and `within`, `over` and `open` how many of them say so. `faults` are what
     contradicts the rules, `senders` which frames are there; `covered`, `numbers`, `sync` and `verdict` have the fields of
-    these rows. `judged` is how many of the `doubles` double cycles are held against the rules of sync."""
+    these rows. `judged` is how many of the `doubles` double cycles are held against more than what contradicts any run: against the
+    rules of sync, or, where a check of the cluster fails, against their own numbers, which `spreads` has."""
 
     text: str = field(repr=False)
     precision: int
@@ -474,6 +489,7 @@ class Observation:
     verdict: tuple[str, ...]
     judged: int
     doubles: int
+    spreads: tuple[ObservedSpread, ...] = field(repr=False)
 
 
 @dataclass(frozen=True)

@@ -1,6 +1,6 @@
 """Logs of an analyzer, from captures and tables: runs go through `flexlab pcap` and `flexlab observe`, and each limit
 is held against the trace. FLEXLAB_OBSERVE_CLUSTERS is how many clusters are taken (6), and FLEXLAB_OBSERVE_ROWS of how many random
-logs the page is held against the rows (40)."""
+logs the page is held against the rows (80)."""
 import contextlib
 import gzip
 import io
@@ -14,6 +14,7 @@ import unittest
 from fractions import Fraction
 from types import SimpleNamespace
 
+import test_judged
 import test_observe
 from bench import EXAMPLE, REPOSITORY, Bench, edited, needs
 from flexray import texts
@@ -23,7 +24,7 @@ from flexlab.program import report
 from flexlab.captures.frames import frame_bytes
 
 CLUSTERS = int(os.environ.get("FLEXLAB_OBSERVE_CLUSTERS", "6"))
-ROWS = int(os.environ.get("FLEXLAB_OBSERVE_ROWS", "40"))
+ROWS = int(os.environ.get("FLEXLAB_OBSERVE_ROWS", "80"))
 SHORT = edited(("double_cycles = 200", "double_cycles = 10"))
 OBSERVER = """
 [observer]
@@ -74,16 +75,32 @@ class Rows(Bench):
         cluster.nodes = {int(row[1]): SimpleNamespace(key_slot=row[2]) for row in rows if row[0] == "node"}
         return cluster, texts.observation(self.flexray("observe", "params.csv", "log.csv")[1])
 
+    def of_production(self, seed):
+        """The same of a log of production shape, some frames of which are not there, or wrong."""
+        log = test_judged.Log(seed)
+        draw, nodes = log.draw, log.network.nodes
+        lost = {(draw.randrange(9), draw.choice(nodes)) for _ in range(draw.choice([0, 1, 5, 60]))}
+        errors = {(draw.randrange(9), draw.choice(nodes)): 50 for _ in range(draw.choice([0, 0, 1]))}
+        log.rows = log.network.rows(lambda *at: errors.get(at, 0))
+        self.write("log.csv", log.text(lambda *at: at in lost, draw.choice(["", f"since,{draw.randrange(3) * 2},,,\n"])))
+        self.write("params.csv", log.params(pOffsetCorrectionOut=draw.choice([20, 127, 127])) + "node,60,,A,0\n" * (seed % 7 == 0))
+        cluster = Cluster()
+        cluster.nodes = {node + 1: SimpleNamespace(key_slot=slot) for node, slot in enumerate(log.network.slots)}
+        cluster.nodes[60] = SimpleNamespace(key_slot=None)
+        return cluster, texts.observation(self.flexray("observe", "params.csv", "log.csv")[1])
+
     def test_no_word_is_against_a_row(self):
         said = set()
         for seed in range(ROWS):
             with self.subTest(seed=seed):
-                cluster, told = self.told(seed)
+                cluster, told = self.of_production(seed) if seed % 2 else self.told(seed // 2)
                 lines = observed.skew_lines(cluster, told) + observed.verdict_lines(cluster, told) + observed.fault_lines(cluster, told)
                 self.hold(told, self.one_line("\n".join(lines)))
                 said |= {told.verdict[0], told.sync[1], told.sync[4], told.covered[0]}
-        if ROWS >= 40:
+                said |= {(told.verdict[0], "own")} if observed.is_by_numbers(told) else set()
+        if ROWS >= 80:
             self.assertLessEqual({"no", "over", "open", "within", "partly", "seen", "stated", "checks", "unseen"}, said)
+            self.assertLessEqual({(word, "own") for word in ("no", "open", "within", "partly")}, said)
 
     def hold(self, told, page):
         words = {word: [row.cycle for row in told.cycles if row.says == word] for word in ("within", "over", "open")}
@@ -98,15 +115,25 @@ class Rows(Bench):
         self.assertEqual("CONTRADICTION" in page, verdict.startswith("NO:"))
         if found := re.match(r"in cycles (\d+) to (\d+) the clocks", verdict):
             self.assertEqual(set(range(int(found[1]), int(found[2]) + 1)) - set(words["within"]), set())
-        if found := re.match(r"partly: of cycles (\d+) to (\d+) .* precision in (\d+), for certain; of (\d+) it", verdict):
-            begin, end, *counts = map(int, found.groups())
-            self.assertEqual([sum(begin <= cycle <= end for cycle in words[word]) for word in ("within", "open")], counts)
+        is_own, rows = observed.is_by_numbers(told), {row.double: row for row in told.spreads}
+        if found := re.match(r"partly: of (the judged ones of )?cycles (\d+) to (\d+) .* precision in (\d+), for certain; of (\d+) it", verdict):
+            begin, end, *counts = map(int, found.groups()[1:])
+            self.assertEqual(bool(found[1]), is_own)
+            self.assertEqual([sum(begin <= cycle <= end and (not is_own or cycle // 2 in rows) for cycle in words[word])
+                              for word in ("within", "open")], counts)
         if found := re.match(r"open: .*; in (\d+) cycles the clocks", verdict):
             self.assertEqual(int(found[1]), len(words["within"]))
         judged = re.search(r"Judged (\d+) of (\d+) double cycles", page)
         self.assertEqual((0, told.doubles) if judged is None else (int(judged[1]), int(judged[2])), (told.judged, told.doubles))
-        self.assertEqual("nothing was held against the rules of sync" in page, verdict.startswith("open:"))
-        self.assertEqual("of no double cycle it is certain" in page, told.sync[0] == "-")
+        self.assertEqual("nothing was held against the rules of sync" in page, verdict.startswith("open:") and not is_own)
+        self.assertEqual("of no double cycle it is certain" in page, told.sync[0] == "-" and not is_own)
+        if found := re.search(r"from double cycle (\d+) on; no macroticks of these lie further apart than (\S+) us \(double cycle (\d+)\)", page):
+            self.assertEqual((min(rows), True), (int(found[1]), is_own))
+            most = max(row.apart for row in told.spreads)
+            self.assertEqual(rows[int(found[3])].apart, most)
+            self.assertLessEqual(most, Fraction(found[2]) * 40 * 1_000_000)
+        self.assertEqual(found is not None, bool(rows))
+        self.assertTrue("in sync" not in page.replace("In sync", "") or not is_own, page)
         # What is advised would change something.
         self.assertTrue("can state it" not in page or (told.covered[0] == "open" and told.cycles), page)
         self.assertEqual(observing.status_of(told, None), 0 if told.verdict[0] == "within" else 1)

@@ -16,11 +16,9 @@ from ..pages.page import field as lines_of
 from ..program.report import understood
 from ..runs.runs import answer
 from ..toml.cluster import Cluster
-from .observed import IRREGULAR, Words, why_unjudged
+from .observed import ALWAYS, IRREGULAR, Words, why_unjudged
 
 BLAME = "blame.csv"
-# Kinds of contradictions that need no sync: by itself each excludes every history, and names a node.
-ALWAYS = ("channels", "limit", "correction", "twice", "cycle", *IRREGULAR)
 OWN = ("; a frame of another form, or on a channel that its node does not have, counts as a contradiction, which takes for granted that no "
        "other sender takes the ID of a node")
 
@@ -52,7 +50,7 @@ def blamed_as(cluster: Cluster, node: int, told: Observation) -> Blamed:
     """A node, by what is told of the log with this node named arbitrary. A fault that is not irregular says more."""
     if told.faults:
         first = next((fault for fault in told.faults if fault.kind not in IRREGULAR), told.faults[0])
-        return Blamed(node, "out", first.cycle, first.kind, first.node, told.judged, told.doubles, Words(cluster).of(first))
+        return Blamed(node, "out", first.cycle, first.kind, first.node, told.judged, told.doubles, Words.by(cluster, told).of(first))
     if told.judged:
         return Blamed(node, "left", None, None, None, told.judged, told.doubles,
                       f"no contradiction is left, and {told.judged} of {told.doubles} double cycles are judged")

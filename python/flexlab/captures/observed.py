@@ -21,6 +21,8 @@ FATES = ("say where a clock was", "are damaged", "are of arbitrary nodes", "tell
 MOST_FAULTS = 8
 # Kinds of contradictions to that each whole frame with the ID of a node is one that it sends.
 IRREGULAR = ("stranger", "form")
+# Kinds of contradictions that need no sync: by itself each excludes every history, and names a node.
+ALWAYS = ("channels", "limit", "correction", "twice", "cycle", *IRREGULAR)
 # Reasons why no run of a cluster is covered, so that its precision is that of none.
 UNPROMISED = ("checks", "count")
 ORIGIN = ("Every limit here is one that flexray printed, converted and rounded outwards: it holds in every run of the "
@@ -75,11 +77,20 @@ def offset_of(row: ObservedNode) -> Limits | None:
 # ---- contradictions
 
 
-class Words:
-    """Contradictions in words, with numbers in microseconds and microticks."""
+def is_by_numbers(told: Observation) -> bool:
+    """Whether double cycles are judged by their own numbers, as they are seen, since a check of the cluster fails."""
+    return told.covered[:2] == ("no", "check") and told.sync[4] != "checks"
 
-    def __init__(self, cluster: Cluster) -> None:
-        self.cluster, self.unit = cluster, cluster.microtick_ns
+
+class Words:
+    """Contradictions in words, with numbers in microseconds and microticks; `bound` says of what the bounds are."""
+
+    def __init__(self, cluster: Cluster, bound: str = "in sync") -> None:
+        self.cluster, self.unit, self.bound = cluster, cluster.microtick_ns, bound
+
+    @classmethod
+    def by(cls, cluster: Cluster, told: Observation) -> Words:
+        return cls(cluster, "by what is known" if is_by_numbers(told) else "in sync")
 
     def us(self, low: str, high: str) -> str:
         """A pair of numbers of ticks; the upper one may not be known."""
@@ -87,7 +98,7 @@ class Words:
         return f"{lower(us_of_ticks(int(low), self.unit))} to {most}"
 
     def beyond(self, what: str, fields: Sequence[str]) -> str:
-        return (f"{what} at least {lower(us_of_ticks(int(fields[0]), self.unit))} us apart, and in sync at most "
+        return (f"{what} at least {lower(us_of_ticks(int(fields[0]), self.unit))} us apart, and {self.bound} at most "
                 f"{upper(us_of_ticks(int(fields[3]), self.unit))} us")
 
     def of(self, fault: ObservedFault) -> str:
@@ -118,7 +129,7 @@ class Words:
         if kind == "missing":
             return f"its frame on channel {one} is not there"
         if kind == "length":
-            return f"a cycle of {self.us(one, two)}, and in sync one of {self.us(three, four)}"
+            return f"a cycle of {self.us(one, two)}, and {self.bound} one of {self.us(three, four)}"
         if kind in ("offset", "rate"):
             step = "an offset term" if kind == "offset" else "a change of the rate term"
             return f"{step} of {one} to {two} microticks, and by all that were seen {three} to {four}"
@@ -127,7 +138,7 @@ class Words:
 
 
 def fault_lines(cluster: Cluster, told: Observation) -> list[str]:
-    words, some = Words(cluster), told.faults[:MOST_FAULTS]
+    words, some = Words.by(cluster, told), told.faults[:MOST_FAULTS]
     found = lines_of("CONTRADICTION", *map(words.of, some)) if some else []
     if len(told.faults) > len(some):
         found += lines_of("", f"and {len(told.faults) - len(some)} more, in observed.csv")
@@ -135,7 +146,7 @@ def fault_lines(cluster: Cluster, told: Observation) -> list[str]:
 
 
 def why_unjudged(cluster: Cluster, told: Observation, why: Sequence[str]) -> str:
-    """Why a double cycle is not held against the rules of sync: the last three fields of a `sync` row."""
+    """Why a double cycle is not judged: the last three fields of a `sync` row."""
     kind, cycle, number = why
     node = "" if number == "-" else cluster.called(int(number))
     if kind == "checks":
@@ -149,6 +160,9 @@ def why_unjudged(cluster: Cluster, told: Observation, why: Sequence[str]) -> str
                 else f"node {node} has no key slot, so no frame shows its clock")
     if kind == "fault":
         return f"there is a contradiction in cycle {cycle}" + (f", node {node}" if node else "")
+    if is_by_numbers(told):
+        return ("starts and lengths of cycles may lie so far apart that a check from the second on fails with them" if kind == "reach" else
+                "lengths of cycles may lie further beyond their range than the rate limit follows") + f", in cycle {cycle}"
     if kind == "reach":
         return f"by their stamps starts or lengths of cycles may lie further apart than in sync, in cycle {cycle}"
     return (f"by the drift of the analyzer's clock a cycle may be longer or shorter than oscillators within their bounds make it, in "
@@ -161,6 +175,22 @@ def advice(cluster: Cluster, number: str) -> str:
     if number == "-" or cluster.nodes[int(number)].key_slot:
         return state
     return f"it moves no clock, so leave it out of the file; or {state}"
+
+
+def number_lines(cluster: Cluster, told: Observation) -> list[str]:
+    """Which double cycles are judged by their own numbers, and how far clocks lie apart in these."""
+    why = told.sync[4:]
+    if not told.spreads:
+        node = cluster.nodes.get(int(why[2])) if why[2] != "-" else None
+        more = "; it moves no clock, so leave it out of the file" if node and not node.key_slot else ""
+        return lines_of("Judged", f"0 of {told.doubles} double cycles, since {why_unjudged(cluster, told, why)}{more}")
+    most, unit = max(told.spreads, key=lambda row: row.apart), cluster.microtick_ns
+    text = (f"{told.judged} of {told.doubles} double cycles, by what is seen of them, from double cycle {told.spreads[0].double} on; no "
+            f"macroticks of these lie further apart than {upper(us_of_ticks(most.apart, unit))} us (double cycle {most.double}), in every "
+            "run that keeps to what is stated and in which correct nodes hear each other")
+    if why[0] != "-":
+        text += f"; of the others the one that came farthest is not judged, since {why_unjudged(cluster, told, why)}"
+    return lines_of("Judged", text)
 
 
 def sync_lines(cluster: Cluster, told: Observation) -> list[str]:
@@ -184,22 +214,25 @@ def sync_lines(cluster: Cluster, told: Observation) -> list[str]:
 
 def verdict_text(cluster: Cluster, told: Observation) -> str:
     """The verdict in words."""
-    verdict, clocks = told.verdict, "the clocks of the nodes that sent lay"
+    verdict, clocks, is_own = told.verdict, "the clocks of the nodes that sent lay", is_by_numbers(told)
+    unpromised = ", which nothing promises of this cluster"
     if verdict[0] == "within":
-        return f"in cycles {verdict[1]} to {verdict[2]} {clocks} within the precision"
+        return f"in cycles {verdict[1]} to {verdict[2]} {clocks} within the precision" + (unpromised if is_own else "")
     if verdict[0] == "no":
         alone = ", and in which no other sender takes the ID of a node," if verdict[2] in IRREGULAR else ""
-        return ("NO: no run of this cluster that keeps to what is stated and whose frames come within half a cycle of the "
+        heard = ", in which correct nodes hear each other in each double cycle" if is_own and verdict[2] not in ALWAYS else ""
+        return (f"NO: no run of this cluster that keeps to what is stated{heard} and whose frames come within half a cycle of the "
                 f"schedule{alone} can have given this log; the first contradiction is in cycle {verdict[1]}")
     if verdict[0] == "over":
         low = lower(us_of_ticks(int(verdict[2]), cluster.microtick_ns))
         return (f"OVER: in {verdict[3]} cycles {clocks} further apart than the precision, for certain; in the first of them, cycle "
                 f"{verdict[1]}, at least {low} us")
     if verdict[0] == "partly":
-        return (f"partly: of cycles {verdict[1]} to {verdict[2]} {clocks} within the precision in {verdict[3]}, for certain; of "
-                f"{verdict[4]} it is not certain")
-    return (f"open: nothing was held against the rules of sync, since {why_unjudged(cluster, told, verdict[1:4])}; in {told.within} "
-            f"cycles {clocks} within the precision" + (", which nothing promises of this cluster" if verdict[1] in UNPROMISED else ""))
+        return (f"partly: of {'the judged ones of ' * is_own}cycles {verdict[1]} to {verdict[2]} {clocks} within the precision in "
+                f"{verdict[3]}, for certain; of {verdict[4]} it is not certain")
+    nothing = "no double cycle is judged" if is_own else "nothing was held against the rules of sync"
+    return (f"open: {nothing}, since {why_unjudged(cluster, told, verdict[1:4])}; in {told.within} "
+            f"cycles {clocks} within the precision" + (unpromised if is_own or verdict[1] in UNPROMISED else ""))
 
 
 def verdict_lines(cluster: Cluster, told: Observation) -> list[str]:
@@ -209,11 +242,13 @@ def verdict_lines(cluster: Cluster, told: Observation) -> list[str]:
     if covered[0] == "no":
         why = f"check {covered[2]} fails" if covered[1] == "check" else (
             f"{covered[2]} correct nodes with a key slot do not outweigh {covered[3]} arbitrary ones")
-        found += lines_of("Covered", f"no run of this cluster is: {why}; so nothing is held against the rules of sync")
+        so = "so each double cycle is judged by its own numbers" if is_by_numbers(told) else "so nothing is held against the rules of sync"
+        found += lines_of("Covered", f"no run of this cluster is: {why}; {so}")
     if told.numbers[0] == "premise":
         found += lines_of("Numbers", "that each frame comes within half a cycle of the schedule is taken for granted: the limits that "
                                      "are stated do not suffice to be sure of it of clocks in sync")
-    return found + sync_lines(cluster, told) + lines_of("Verdict", verdict_text(cluster, told))
+    judged = (number_lines if is_by_numbers(told) else sync_lines)(cluster, told)
+    return found + judged + lines_of("Verdict", verdict_text(cluster, told))
 
 
 # ---- the page
@@ -294,7 +329,9 @@ def observed_object(cluster: Cluster, told: Observation, log: Log) -> dict[str, 
         "precision": {"ticks": told.precision},
         "log": asdict(told.log), "said": {"within": told.within, "over": told.over, "open": told.open}, "verdict": told.verdict,
         "judged": told.judged, "double_cycles": told.doubles, "sync": told.sync, "covered": told.covered, "numbers": told.numbers,
-        "faults": [{**asdict(fault), "told": Words(cluster).told(fault.kind, fault.fields)} for fault in told.faults],
+        "faults": [{**asdict(fault), "told": Words.by(cluster, told).told(fault.kind, fault.fields)} for fault in told.faults],
+        "spreads": [{"double_cycle": row.double, "starts": row.starts, "lengths": row.lengths, "beyond": row.beyond, "apart": row.apart,
+                     "apart_us": us(row.apart, upper)} for row in told.spreads],
         "senders": [asdict(row) for row in told.senders],
         "cycles": [{"cycle": row.cycle, "senders": row.senders, "least_us": us(row.low, lower), "most_us": us(row.high, upper),
                     "says": row.says} for row in told.cycles],
