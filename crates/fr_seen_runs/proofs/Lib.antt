@@ -37,6 +37,8 @@ pub mod WorkedSeen
 pub mod WorkedSlots
 pub mod WorkedVerdict
 pub mod WorkedFaults
+pub mod WorkedJudged
+pub mod WorkedJudgedRun
 pub mod WorkedStrangers
 pub mod WorkedFiles
 pub mod CompletenessWidths

@@ -33,7 +33,7 @@ use Rattle.fr_seen_runs.proofs.WorkedVerdict.{none_offending, on_faults, on_rows
 
 -- ---- sightings
 
-late_sighting : ℕ → ℕ → ℕ → Sighting
+unfoldable pub late_sighting : ℕ → ℕ → ℕ → Sighting
 late_sighting later node cycle =
     let sighting : Sighting = entry_sighting node cycle in
     record sighting { stamp = sighting.stamp + by_double cycle 0 (of_node node 0 later) }

@@ -263,7 +263,7 @@ judged_is : (since : Option ℕ) (whole : Bool) → judged_of seen_cluster (seen
 unfolding judged_of fate_of judgement_of is_arbitrary_in on_frames
 judged_is since whole = refl
 
-told_of_sent : AllZip IsToldOf seen_sightings seen_sent
+pub told_of_sent : AllZip IsToldOf seen_sightings seen_sent
 told_of_sent = (told 1 0, (told 2 0, (told 1 1, (told 2 1, (told 1 2, (told 2 2, (told 1 3, (told 2 3, tt))))))))
   where
     told : (node cycle : ℕ) → IsToldOf (entry_sighting node cycle) (sent_frame node cycle)

@@ -100,7 +100,7 @@ verdict_is since whole progress = Prim.rw (basis_is since whole, sightings_are s
 
 -- ---- as stated
 
-named_none : (since : Option ℕ) (whole : Bool) (node : ℕ) → false ≡ is_arbitrary_in (seen_log since whole) node
+pub named_none : (since : Option ℕ) (whole : Bool) (node : ℕ) → false ≡ is_arbitrary_in (seen_log since whole) node
 unfolding is_arbitrary_in
 named_none since whole node = sym (none_named 65 node)
 

@@ -15,5 +15,6 @@ pub mod RowsTold
 pub mod KnownDoubles
 pub mod WorkedLog
 pub mod WorkedFaults
+pub mod WorkedJudged
 pub mod WorkedFile
 pub mod WorkedReading

@@ -28,4 +28,6 @@ pub use own::{own_faults_are_none, slot_faults_are_none, sync_is_seen};
 pub use rows_told::{covered_row_is_so, sync_row_is_so};
 pub use told::{no_fault_is_told, verdict_tells_first};
 pub use verdicts::{no_run_is_contradicted, over_is_so, within_is_so};
-pub use worked::{a_worked_log, worked_contradictions, worked_strangers};
+pub use worked::{
+    a_worked_log, worked_contradictions, worked_judged_contradictions, worked_strangers,
+};

@@ -2,6 +2,7 @@ ghost use Rattle.std.specs.Prelude.{None, Some, false, true};
 ghost use Rattle.fr_log.specs.Files.{IsLogFile};
 ghost use Rattle.fr_seen_runs.specs.WorkedFaults.{IsSeenOfNoCovered, IsSeenOfNone, IsSeenOfNoneWithOwnSlots, IsSeenOfWorkedRun, TellsFault, correction_told, form_entry, form_told, last_log, late_log, offset_told, stranger_entry, stranger_told};
 ghost use Rattle.fr_seen_runs.specs.WorkedFile.{seen_file};
+ghost use Rattle.fr_seen_runs.specs.WorkedJudged.{IsSeenOfNoneAsStated, JudgedLog, JudgedOffsetIsTold, JudgedRun, MissedLog};
 ghost use Rattle.fr_seen_runs.specs.WorkedLog.{WorkedLog, seen_cluster, seen_log};
 
 use crate::verdicts::no_run_is_contradicted;
@@ -45,4 +46,20 @@ pub fn worked_strangers()
     ensures form { IsSeenOfWorkedRun (last_log form_entry) }
 {
     one_lawful_run();
+}
+
+/// A law: the same log, read of a cluster whose offset limit is 20 microticks, so that a check fails. Both of its double
+/// cycles are judged by their own numbers, and the verdict is within, in cycles 0 to 2. The log is seen of a run of this
+/// cluster that is as it states: so what is asked of such runs can be met. Without the frame of node 1 in cycle 2, the
+/// second double cycle is judged by what is known of it from the first. If the frames of node 2 come 250 ns later from
+/// cycle 2 on, the verdict is no, by its offset term. That log is seen of no such run.
+pub fn worked_judged_contradictions()
+    ensures plain { JudgedLog }
+    ensures run { JudgedRun }
+    ensures missed { MissedLog }
+    ensures offset { JudgedOffsetIsTold }
+    ensures of_none { IsSeenOfNoneAsStated (late_log 250) }
+{
+    one_lawful_run();
+    no_run_is_contradicted();
 }
