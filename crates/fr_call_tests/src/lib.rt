@@ -12,4 +12,6 @@ mod listener;
 #[cfg(test)]
 mod node;
 #[cfg(test)]
+mod observed;
+#[cfg(test)]
 mod observing;
