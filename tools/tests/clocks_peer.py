@@ -144,10 +144,11 @@ def with_delay_error(microticks):
     return values
 
 
-def production(draw, doubles, counts=(2, 9), changes=(0, 0, 1)):
-    """A network of production shape of which a check fails: all start near each other, and delays lie around their compensation."""
-    count, (compensation, error) = draw.randrange(*counts), draw.choice([(7, 5), (7, 5), (4, 2), (3, 1)])
-    values = {**PRODUCTION, "pClusterDriftDamping": draw.choice([0, 1, 2, 2, 3]), "pDelayCompensation": compensation,
+def production(draw, doubles, counts=(2, 9), changes=(0, 0, 1), dampings=(0, 1, 2, 2, 3), delays=((7, 5), (7, 5), (4, 2), (3, 1))):
+    """A network of production shape of which a check fails: all start near each other, and delays lie around their compensation, as far
+    as is stated; `delays` has pairs of both, in microticks, of which one is taken."""
+    count, (compensation, error) = draw.randrange(*counts), draw.choice(delays)
+    values = {**PRODUCTION, "pClusterDriftDamping": draw.choice(dampings), "pDelayCompensation": compensation,
               "xDelayError": error * MILLION, CHANGE: draw.choice(changes)}
     bound, near = values["xRateBound"], draw.choice([1, 8, 40]) * MILLION
     delays = {(one, other): max(0, compensation * MILLION + draw.choice([-1, 1]) * draw.choice([error * MILLION, draw.randrange(error * MILLION)]))
