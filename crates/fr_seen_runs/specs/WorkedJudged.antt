@@ -34,19 +34,19 @@ judged_log = seen_log None false
 
 -- ---- its double cycles
 
-abbrev pub known_of : ℕ → ℕ → ℕ → Known
-known_of starts lengths beyond = record { spread = record { starts = starts; lengths = lengths }; beyond = beyond }
+abbrev pub known_from : ℕ → ℕ → ℕ → Known
+known_from starts lengths beyond = record { spread = record { starts = starts; lengths = lengths }; beyond = beyond }
 
 -- what is seen of the first one, in ticks: starts lie at most 3.6 microticks apart, lengths at most the breadth of two stamps.
 -- What is known by this of the second one, and that met with what is seen of it
 abbrev pub first_met : Known
-first_met = known_of 3_520_552 80_000 0
+first_met = known_from 3_520_552 80_000 0
 
 abbrev pub second_known : Known
-second_known = known_of 4_080_600 13_002_198 0
+second_known = known_from 4_080_600 13_002_198 0
 
 abbrev pub second_met : Known
-second_met = known_of 1_520_552 80_000 0
+second_met = known_from 1_520_552 80_000 0
 
 -- a double cycle that is judged by its own numbers
 abbrev pub judged_by_numbers : Option Known → Known → Standing
