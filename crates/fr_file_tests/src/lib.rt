@@ -9,6 +9,8 @@ mod drift;
 #[cfg(test)]
 mod faults;
 #[cfg(test)]
+mod judged;
+#[cfg(test)]
 mod lines;
 #[cfg(test)]
 mod log;
