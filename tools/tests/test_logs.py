@@ -275,6 +275,27 @@ class Logs(Bench):
         self.assertRegex(page, r"Judged \d+ of 10 double cycles are held against the rules of sync")
         self.assertRegex(page, r"Verdict in cycles \d+ to 18 the clocks of the nodes that sent lay within the precision")
 
+    def test_a_cluster_of_which_a_check_fails(self):
+        """One of production shape is judged by what is seen of it; a node that drops out is told of, too."""
+        with open(os.path.join(REPOSITORY, "examples", "sharp", "sharp.toml"), encoding="utf-8") as file:
+            text = file.read().replace("double_cycles = 60", "double_cycles = 12") + OBSERVER + "jitter_ns = 5\nmissed_none = true\n"
+        path = self.sent(text)
+        page = self.one_line(self.flexlab("observe", "-o", "seen", path, "net.toml")[0])
+        self.assertIn("Covered no run of this cluster is: check 1 fails; so each double cycle is judged by its own numbers Judged 12 of 12 "
+                      "double cycles, by what is seen of them, from double cycle 0 on; no macroticks of these lie further apart than", page)
+        self.assertIn("within the precision, which nothing promises of this cluster", page)
+        self.flexlab("observe", "-o", "seen", "--require", "judged=12", path, "net.toml")
+        found = json.loads(self.flexlab("observe", "--json", "-o", "seen", path, "net.toml")[0])
+        self.assertEqual([row["double_cycle"] for row in found["spreads"]], list(range(12)))
+        self.assertTrue(all(row["apart_us"] >= row["apart"] * 25 / 10**9 for row in found["spreads"]))
+        made = [(packet.ns, packet.channel, packet.frame) for packet in packets.read_capture(path)[1]
+                if packet.frame[1] != 3 or packet.frame[4] & 63 < 11]
+        packets.write_capture(self.path("less.pcap"), made)
+        page = self.one_line(self.flexlab("observe", "-o", "seen", "less.pcap", "net.toml", status=1)[0])
+        self.assertIn("Verdict NO: no run of this cluster that keeps to what is stated, in which correct nodes hear each other in each double "
+                      "cycle and whose frames come", page)
+        self.assertRegex(page, r"CONTRADICTION cycle 11, node \d: its frame on channel A is not there")
+
     def test_a_node_that_drops_out(self):
         """Where the analyzer missed nothing, that is told in the cycle in which it is so, and without that it is not."""
         path = self.sent(SHORT + OBSERVER + "missed_none = true\nin_sync_from_cycle = 2\n")
