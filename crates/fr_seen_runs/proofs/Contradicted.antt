@@ -1,15 +1,17 @@
 -- A log that is seen of a run has no fault that asks neither for sync nor for own slots, where the run is as the log states none that
 -- asks for no own slots, and where its slots are own none that asks for them.
-use Rattle.std.proofs.Common.{◌≡◌, ℕ, suc, ◌+◌, ◌*◌, ◌/◌, ◌≤◌, Bool, true, false, Option, Some, None, pos, List, [], ◌∷◌, ◌++◌, All, refl, ap, sym, ◌∙◌, subst, arith}
+use Rattle.std.proofs.Common.{◌≡◌, ℕ, zero, suc, ◌+◌, ◌*◌, ◌/◌, ◌≤◌, Bool, true, false, Option, Some, None, pos, List, [], ◌∷◌, ◌++◌, All, refl, ap, sym, ◌∙◌, subst, arith}
 use Rattle.std.specs.Prelude.{◌||◌, Contains, IfSome, filter_map, nat_le, if◌then◌else◌}
+use Rattle.std.specs.List.{range_with_len}
 use Rattle.std.specs.Option.{option_or, option_to_list}
-use Rattle.std.proofs.lemmas.List.Elements.{All-append, All-head, All-nil, All-weaker}
+use Rattle.std.proofs.lemmas.List.Elements.{All-append, All-cons, All-head, All-nil, All-weaker}
 use Rattle.fr_base.specs.declared.channel.Channel.{Channel}
 use Rattle.fr_bound.specs.Bounds.{lambda_of, pi_of, precision_of}
 use Rattle.fr_bound.specs.declared.judging.Heard.{Heard}
 use Rattle.fr_bound.specs.declared.judging.Known.{Known}
 use Rattle.fr_cluster.specs.Setting.{Setting}
 use Rattle.fr_cluster.specs.Values.{Values}
+use Rattle.fr_cluster.proofs.Elements.{Contains-here, Contains-there}
 use Rattle.fr_history.specs.Cycles.{Cycles}
 use Rattle.fr_history.specs.Unfollowed.{IsUnfollowedSyncAt}
 use Rattle.fr_log.specs.View.{LogView}
@@ -25,12 +27,12 @@ use Rattle.fr_seen.specs.Clocks.{StraightClock}
 use Rattle.fr_seen.specs.LogSeen.{log_senders, run_double}
 use Rattle.fr_seen.specs.OwnSlots.{SlotsAreOwn}
 use Rattle.fr_seen_runs.specs.Contradictions.{IsAsLogStates, IsAsStated, IsObservedRun}
-use Rattle.fr_seen_runs.specs.Standings.{IsKnownOfLog, StandingsAreSo}
+use Rattle.fr_seen_runs.specs.Standings.{IsKnownOfLog, SpreadIsSo, Spreading, SpreadsAreSo, StandingsAreSo, log_spreads, spread_of, spreads_from}
 use Rattle.fr_seen_runs.specs.SyncFaults.{FromSyncOn, HasNoLengthFault, HasNoLengthsFault, HasNoMissingFault, HasNoOffsetFault, HasNoRateFault, HasNoSkewFault, HasNoStartFault}
 use Rattle.fr_seen_runs.specs.ToldFaults.{NoFaultIsTold, ToldFaultsAskEither, ToldFaultsAskOwnSlots, ToldFaultsAskSync, VerdictTellsFirst, log_faults}
 use Rattle.fr_seen_runs.specs.NotContradicted.{NoRunHasOwnFaults, NoRunIsContradicted}
 use Rattle.fr_observe.specs.declared.fault.Fault.{Fault}
-use Rattle.fr_judging.specs.Knowing.{known_next, standing_faults, standing_of}
+use Rattle.fr_judging.specs.Knowing.{judged_met, known_next, standing_faults, standing_of}
 use Rattle.fr_observe.specs.declared.fault.SyncFrom.{SyncFrom}
 use Rattle.fr_judging.specs.declared.knowing.Standing.{Standing}
 use Rattle.fr_observe.specs.Faults.{asks_own_slots, asks_sync, before_in_sync, beyond_fault, faults_in_sync, first_of_faults, is_nil, is_sync_seen, length_fault, missing_frames, offset_fault, rate_fault, seen_sync, skew_fault, slot_faults, stated_sync, sync_faults}
@@ -43,7 +45,7 @@ use Rattle.fr_sightings.specs.Sightings.{OffendingFrames, irregular_of, offendin
 use Rattle.fr_findings.specs.declared.verdict.Verdict.TheVariants as verdict
 use Rattle.fr_seen_runs.proofs.SyncKinds.{AsksOwnSlots, AsksSync, slot_faults_ask, standing_faults_ask, sync_faults_ask}
 use Rattle.fr_seen_runs.proofs.OwnFaults.{slot_faults_are_none, sync_is_seen}
-use Rattle.fr_seen_runs.proofs.Progressing.{faults_left, first_is, seen_in_turn, told_all}
+use Rattle.fr_seen_runs.proofs.Progressing.{AreInTurn, faults_left, first_is, seen_in_turn, told_all}
 use Rattle.fr_seen_runs.proofs.ToldVerdicts.{fault_is_first}
 
 -- ---- the laws of sync
@@ -295,23 +297,37 @@ module _ (x : Setting) (h : Cycles) (base : ℕ) (delays : ℕ → Channel → D
     faults_by : ℕ → Standing → List Fault
     faults_by double st = standing_faults x.params Log.scale l Log.span (At double).before (At double).here (At double).number (At double).senders st
 
+    -- its numbers, where it is told what its nodes hear
+    abbrev pub SpreadBy : Option Heard → Spreading → Type 0
+    SpreadBy None s = Unit {0}
+    SpreadBy (Some what) s = SpreadIsSo x h base what s
+
     KnownSo : ℕ → Option Heard → Option Known → Type 0
     KnownSo double heard known =
-        (faults_by double (standing_by double heard known) ≡ []) × IsKnownOfLog x h base (suc double) (known_next x.params (standing_by double heard known) true)
+        (faults_by double (standing_by double heard known) ≡ [])
+        × ((All (SpreadBy heard) (spread_of double (judged_met (standing_by double heard known))))
+        × IsKnownOfLog x h base (suc double) (known_next x.params (standing_by double heard known) true))
+
+    spread_listed : (what : Heard) (double : ℕ) (judged : Option Known) → IfSome judged (λ met. SpreadIsSo x h base what (record { number = double; met = met }))
+        → All (SpreadIsSo x h base what) (spread_of double judged)
+    spread_listed what double None is = All-nil (SpreadIsSo x h base what)
+    spread_listed what double (Some met) is = All-cons (SpreadIsSo x h base what) (record { number = double; met = met }) [] is (All-nil (SpreadIsSo x h base what))
 
     known_so : (double : ℕ) (heard : Option Heard) (known : Option Known) → log_heard x.params l ≡ heard → Contains (seen_doubles Seen) double → IsKnownOfLog x h base double known → KnownSo double heard known
     unfolding KnownSo faults_by standing_by standing_of standing_faults known_next double_at senders_of
-    known_so double None known is among before = (refl, tt)
+    known_so double None known is among before = (refl, (All-nil (λ (s : Spreading). Unit {0}), tt))
     known_so double (Some what) known is among before =
-        judged x h base delays clock l what double known (first_of_faults (own_told Log (At double))) run states is among before
+        let stands = judged x h base delays clock l what double known (first_of_faults (own_told Log (At double))) run states is among before in
+        (stands.faults, (spread_listed what double (judged_met (standing_by double (Some what) known)) stands.spread, stands.next))
 
     known_where : (double : ℕ) (progress : Progress) → Contains (seen_doubles Seen) double → IsKnownOfLog x h base double progress.known
-        → (known_told Log (At double) progress.known ≡ []) × IsKnownOfLog x h base (suc double) (known_next_told Log (At double) progress.known)
+        → (known_told Log (At double) progress.known ≡ [])
+        × ((All (SpreadBy Log.heard) (spread_of double (judged_met (standing_told Log (At double) progress.known)))) × IsKnownOfLog x h base (suc double) (known_next_told Log (At double) progress.known))
     unfolding known_told standing_told KnownSo faults_by standing_by
     known_where double progress among before =
         let is = known_so double Log.heard progress.known refl among before in
         let clear : is_nil (known_told Log (At double) progress.known) ≡ true = ap is_nil is.0 in
-        (is.0, subst (λ b. IsKnownOfLog x h base (suc double) (known_next x.params (standing_told Log (At double) progress.known) b)) (sym clear) is.1)
+        (is.0, (is.1.0, subst (λ b. IsKnownOfLog x h base (suc double) (known_next x.params (standing_told Log (At double) progress.known) b)) (sym clear) is.1.1))
 
     rest_none : (double : ℕ) (progress : Progress) → Contains (seen_doubles Seen) double → IsKnown double progress → Rest double progress ≡ []
     rest_none double progress among before =
@@ -323,7 +339,7 @@ module _ (x : Setting) (h : Cycles) (base : ℕ) (delays : ℕ → Channel → D
     unfolding progress_told
     rest_step Q double progress among before = (
       subst (All Q) (sym (rest_none double progress among before)) (All-nil Q),
-      (sync_where double progress among before.0, (known_where double progress among before.1).1),
+      (sync_where double progress among before.0, (known_where double progress among before.1).1.1),
     )
 
     first_known : (first : ℕ) → IsKnown first no_progress
@@ -331,6 +347,35 @@ module _ (x : Setting) (h : Cycles) (base : ℕ) (delays : ℕ → Channel → D
 
     pub slots_told : All AsksOwnSlots (log_faults x.params l)
     slots_told = told_are AsksOwnSlots slots_ask IsKnown (rest_step AsksOwnSlots) first_known
+
+    -- ---- the rows of spread
+
+    abbrev KnownStep : List ℕ → Type 0
+    KnownStep doubles = (double : ℕ) → Contains doubles double → Contains (seen_doubles Seen) double
+
+    spreads_each : (count first : ℕ) (progress : Progress) → KnownStep (range_with_len first count) → IsKnownOfLog x h base first progress.known
+        → All (SpreadBy Log.heard) (spreads_from Log Seen Offending progress (range_with_len first count))
+    unfolding spreads_from progress_told
+    spreads_each zero first progress among known = All-nil (SpreadBy Log.heard)
+    spreads_each (suc count) first progress among known =
+        let doubles = range_with_len (first + 1) count in
+        let here = known_where first progress (among first (Contains-here first doubles)) known in
+        let later = progress_behind Log Seen Offending first progress in
+        All-append (SpreadBy Log.heard) (spread_of first (judged_met (standing_told Log (At first) progress.known))) (spreads_from Log Seen Offending later doubles) here.1.0
+        (spreads_each count (first + 1) later (λ double there. among double (Contains-there first doubles double there))
+        (subst (λ n. IsKnownOfLog x h base n later.known) (next first) here.1.1))
+      where
+        next : (n : ℕ) → suc n ≡ n + 1
+        next n = omega arith
+
+    pub spreads_told : All (SpreadBy Log.heard) (log_spreads x.params l)
+    unfolding log_spreads
+    spreads_told = by (seen_in_turn Seen)
+      where
+        by : AreInTurn (seen_doubles Seen) → All (SpreadBy Log.heard) (spreads_from Log Seen Offending no_progress (seen_doubles Seen))
+        by turn =
+            subst (λ doubles. All (SpreadBy Log.heard) (spreads_from Log Seen Offending no_progress doubles)) (sym turn.are)
+            (spreads_each turn.count turn.first no_progress (λ double there. subst (λ doubles. Contains doubles double) (sym turn.are) there) tt)
 
     none_of : (faults : List Fault) → All (λ fault. ⊥) faults → faults ≡ []
     none_of [] all = refl
@@ -351,6 +396,10 @@ told_faults_ask_own_slots kept judged x h base delays clock l run states = slots
 
 pub no_fault_is_told : SyncIsKept → StandingsAreSo → NoFaultIsTold
 no_fault_is_told kept judged x h base delays clock l run states own = none_told x h base delays clock l run states kept judged own
+
+pub spreads_are_so : SyncIsKept → StandingsAreSo → SpreadsAreSo
+spreads_are_so kept judged x h base delays clock l what run states is =
+    subst (λ heard. All (SpreadBy x h base delays clock l run states kept judged heard) (log_spreads x.params l)) is (spreads_told x h base delays clock l run states kept judged)
 
 -- ---- the verdict
 

@@ -22,7 +22,7 @@ use Rattle.fr_sightings.specs.Sightings.{sightings_of}
 use Rattle.fr_sightings.specs.Sure.{is_sync_as}
 use Rattle.fr_sightings.specs.declared.sender.Sender.{Sender}
 use Rattle.fr_sightings.specs.declared.sighting.Sighting.{Sighting}
-use Rattle.fr_judging.specs.Knowing.{is_judged_by, judged_faults, known_faults, known_next, known_seen, standing_faults, standing_of, stated_flutter}
+use Rattle.fr_judging.specs.Knowing.{is_judged_by, judged_faults, judged_met, known_faults, known_next, known_seen, standing_faults, standing_of, stated_flutter}
 use Rattle.fr_observe.specs.Faults.{offset_fault, rate_fault, skew_fault}
 use Rattle.fr_observe.specs.Observing.{even_high, even_low, odd_high, odd_low, seen_doubles}
 use Rattle.fr_observe.specs.declared.fault.Fault.{Fault}
@@ -36,23 +36,23 @@ use Rattle.fr_runs.proofs.Parts.{cycle_within}
 use Rattle.fr_sharp.proofs.JudgedLaws.{known_is_met_lem, unfollowed_goes_on_lem}
 use Rattle.fr_seen.specs.Clocks.{StraightClock}
 use Rattle.fr_seen.specs.LogSeen.{log_senders, run_double}
-use Rattle.fr_seen_runs.specs.Contradictions.{IsAsLogStates, IsAsStated, IsObservedRun, NamesArbitrary}
+use Rattle.fr_seen_runs.specs.Contradictions.{CoveredIsAsLogStates, IsAsLogStates, IsObservedRun, NamesArbitrary}
 use Rattle.fr_seen_runs.specs.ComputedTerms.{IsNamedLog}
 use Rattle.fr_seen_runs.specs.JudgedTerms.{IsJudgedRun, OffsetsAreComputedWhereJudged, RatesAreComputedWhereJudged}
 use Rattle.fr_seen_runs.specs.KeptInSync.{IsDoubleThere}
 use Rattle.fr_seen_runs.specs.KnownDoubles.{HasNoSkewAbove, NoKnownFault, NoSkewFaultWithin, SeenIsKnown}
-use Rattle.fr_seen_runs.specs.Standings.{IsKnownOfLog, StandingsAreSo, log_standing, log_standing_faults}
+use Rattle.fr_seen_runs.specs.Standings.{IsKnownOfLog, SpreadIsSo, Spreading, StandingsAreSo, log_standing, log_standing_faults}
 use Rattle.fr_seen_runs.proofs.ComputedFaults.{ComputeBoth, next_within, no_offset_fault_by, no_rate_fault_by}
 use Rattle.fr_seen_runs.proofs.RowsTold.{arbitrary_alike}
 use Rattle.fr_seen_runs.proofs.StaysInSync.{doubles_are_there, doubles_to}
 
--- ---- where no check fails nothing more is asked of a run than of a covered one
+-- ---- where double cycles are not judged so, nothing more is asked of a covered run
 
-pub stated_where_open : (x : Setting) (h : Cycles) (base : ℕ) (l : LogView) → coverable_of x.params l ≡ coverable.Open → IsAsStated x h base l → IsAsLogStates x h base l
-stated_where_open x h base l none stated = record {
+pub covered_is_as_log_states : CoveredIsAsLogStates
+covered_is_as_log_states x h base l none stated = record {
   named = stated.named;
   synced = λ covers. stated;
-  steady = λ what is. absurd (never what (sym (ap (heard_by x.params l) none) ∙ is));
+  steady = λ what is. absurd (never what (sym none ∙ is));
   unmissed = stated.unmissed;
 }
   where
@@ -260,12 +260,21 @@ module _
       unfolding standing_faults standing_of
       faults_none = ap (λ faults. faults ++ known_faults x.params Scaled l (log_span (sightings_of x.params l)) Before Here double Senders known) (judged_is_none Judged judged_all) ∙ known_is_none known here_known
 
+      spread_is : (judged : Option Known) → IfSome judged IsJudged → IfSome judged (λ some. SpreadIsSo x h base what (record { number = double; met = some }))
+      spread_is None all = tt
+      spread_is (Some some) j = record { known = j.at.0; each = j.at.1; keeps = (goes some j).0.keeps }
+
+      pub spread_so : IfSome (judged_met (log_standing x l what double known told)) (λ some. SpreadIsSo x h base what (record { number = double; met = some }))
+      unfolding standing_of
+      spread_so = spread_is Judged judged_all
+
       pub next_so : IsKnownOfLog x h base (suc double) (known_next x.params (log_standing x l what double known told) true)
       unfolding known_next standing_of
       next_so = next_is Judged judged_all
 
 pub standings_hold : KnownIsKept → StandingsAreSo
-standings_hold kept x h base delays clock l what double known told run states is among before = (
-  faults_none x h base delays clock l what double run states is among kept known told before,
-  next_so x h base delays clock l what double run states is among kept known told before,
-)
+standings_hold kept x h base delays clock l what double known told run states is among before = record {
+  faults = faults_none x h base delays clock l what double run states is among kept known told before;
+  spread = spread_so x h base delays clock l what double run states is among kept known told before;
+  next = next_so x h base delays clock l what double run states is among kept known told before;
+}

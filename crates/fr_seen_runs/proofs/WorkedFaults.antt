@@ -17,7 +17,7 @@ use Rattle.fr_sightings.specs.Judging.{judgement_of}
 use Rattle.fr_sightings.specs.Sightings.{OffendingFrames, fate_of, fates_from, irregular_of, offending_frames_of, sightings_of, untimely_of}
 use Rattle.fr_sightings.specs.declared.sighting.Sighting.{Sighting}
 use Rattle.fr_findings.specs.Verdict.{Basis, double_at, faults_told, known_told, log_basis, log_progress, own_told, progress_of, progress_told, standing_told, sync_told, verdict_by, verdict_of}
-use Rattle.fr_judging.specs.Coverables.{coverable_of, first_failing}
+use Rattle.fr_judging.specs.Coverables.{coverable_of, first_failing, log_heard}
 use Rattle.fr_judging.specs.Knowing.{known_next, standing_faults, standing_of}
 use Rattle.fr_judging.specs.declared.coverable.Coverable.TheVariants as coverable
 use Rattle.fr_findings.specs.declared.verdict.Verdict.TheVariants as verdict
@@ -27,7 +27,7 @@ use Rattle.fr_seen_runs.specs.Contradictions.{IsObservedRun}
 use Rattle.fr_seen_runs.specs.NotContradicted.{NoRunHasOwnFaults, NoRunIsContradicted}
 use Rattle.fr_seen_runs.specs.WorkedFaults.{IsSeenOfNoCovered, IsSeenOfNone, IsSeenOfNoneWithOwnSlots, TellsFault, correction_told, form_entry, form_told, last_entry, last_log, late_entry, late_log, offset_told, stranger_entry, stranger_told}
 use Rattle.fr_seen_runs.specs.WorkedLog.{by_double, entry_sighting, of_each, of_node, seen_cluster}
-use Rattle.fr_seen_runs.proofs.Standings.{stated_where_open}
+use Rattle.fr_seen_runs.proofs.Standings.{covered_is_as_log_states}
 use Rattle.fr_seen_runs.proofs.WorkedSeen.{all_of, bytes_of_1, bytes_of_2, log_with}
 use Rattle.fr_seen_runs.proofs.WorkedVerdict.{none_offending, on_faults, on_rows, on_senders}
 
@@ -63,9 +63,9 @@ offset_basis : log_basis seen_cluster (late_log 250) ≡ late_basis 250
 unfolding late_sighting coverable_of first_failing is_arbitrary_in
 offset_basis = Prim.rw offset_sightings refl
 
-pub offset_open : coverable_of seen_cluster (late_log 250) ≡ coverable.Open
+pub offset_unheard : log_heard seen_cluster (late_log 250) ≡ None
 unfolding late_sighting coverable_of first_failing is_arbitrary_in
-offset_open = refl
+offset_unheard = refl
 
 offset_progress : verdict_by (log_progress (late_basis 250) (of_each (late_sighting 250)) none_offending) ≡ verdict.No offset_told
 unfolding late_sighting verdict_by progress_of progress_told sync_told own_told faults_told known_told known_next standing_told standing_of standing_faults double_at on_senders on_faults on_rows
@@ -249,10 +249,10 @@ form_is_told = record { log = form_log; verdict = form_verdict }
 -- ---- so no run gives it
 
 pub none_covered :
-    NoRunIsContradicted → (l : LogView) (fault : Fault) → asks_own_slots fault.kind ≡ false → coverable_of seen_cluster l ≡ coverable.Open
+    NoRunIsContradicted → (l : LogView) (fault : Fault) → asks_own_slots fault.kind ≡ false → log_heard seen_cluster l ≡ None
     → verdict_of seen_cluster l ≡ verdict.No fault → IsSeenOfNoCovered l
 none_covered law l fault slots checked told x h base delays clock same observed stated =
-    law x h base delays clock l fault observed (stated_where_open x h base l (ap (λ p. coverable_of p l) same ∙ checked) stated) (λ asks. let e : true ≡ false = sym asks ∙ slots in absurd (cc e)) (ap (λ p. verdict_of p l) same ∙ told)
+    law x h base delays clock l fault observed (covered_is_as_log_states x h base l (ap (λ p. log_heard p l) same ∙ checked) stated) (λ asks. let e : true ≡ false = sym asks ∙ slots in absurd (cc e)) (ap (λ p. verdict_of p l) same ∙ told)
 
 -- where the slots are own, or the fault does not ask for it
 none_where :

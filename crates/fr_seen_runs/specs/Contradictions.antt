@@ -1,5 +1,5 @@
 -- When a run can have given a log whole, and what the log may state of it.
-use Rattle.std.specs.Prelude.{◌≡◌, ◌+◌, ◌-◌, ◌*◌, ◌/◌, ◌<◌, ℕ, true, List, length, Contains, Some, IfSome, IsSome, slice_get}
+use Rattle.std.specs.Prelude.{◌≡◌, ◌+◌, ◌-◌, ◌*◌, ◌/◌, ◌<◌, ℕ, true, List, length, Contains, None, Some, IfSome, IsSome, slice_get}
 use Rattle.fr_base.specs.declared.channel.Channel.{Channel}
 use Rattle.fr_base.specs.declared.node_row.NodeRow.{NodeRow}
 use Rattle.fr_base.specs.declared.state.State.TheVariants.{Active}
@@ -63,10 +63,17 @@ pub record IsAsStated (x : Setting) (h : Cycles) (base : ℕ) (l : LogView) : Ty
   pub unmissed : l.whole ≡ true → MissesNone x h base l
 
 -- what faults ask of the run and of what the log states: where the classical checks hold, as faults of sync do; where one fails, and
--- double cycles are judged by their own numbers, that oscillators, their changes and delays keep within what is stated, and of
--- any two correct nodes one channel carries the frames of both cycles of each double cycle
+-- double cycles are judged by their own numbers, that the correct sync nodes that do not join outweigh the arbitrary ones, that
+-- oscillators, their changes and delays keep within what is stated, and that of any two correct nodes one channel carries the
+-- frames of both cycles of each double cycle of the run
 pub record IsAsLogStates (x : Setting) (h : Cycles) (base : ℕ) (l : LogView) : Type 0 where
   pub named : NamesArbitrary x l
   pub synced : is_coverable (coverable_of x.params l) ≡ true → IsAsStated x h base l
   pub steady : (what : Heard) → log_heard x.params l ≡ Some what → IsSteadySetting x (stated_flutter x.params)
   pub unmissed : l.whole ≡ true → MissesNone x h base l
+
+-- where double cycles are not judged so, nothing more is asked of a covered run
+abbrev pub CoveredIsAsLogStates : Type 0
+CoveredIsAsLogStates =
+    (x : Setting) (h : Cycles) (base : ℕ) (l : LogView)
+    → log_heard x.params l ≡ None → IsAsStated x h base l → IsAsLogStates x h base l

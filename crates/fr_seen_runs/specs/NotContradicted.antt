@@ -59,7 +59,7 @@ SyncIsSeen =
 
 -- ---- the verdict
 
--- where the verdict is no, there is no covered run that is as the log states; and where the kind of the fault asks for no sync,
+-- where the verdict is no, there is no run that is as the log states; and where the kind of the fault asks for no sync,
 -- there is no run at all that the log is seen of. By a fault whose kind asks for own slots, this is said of runs where each whole
 -- frame in the slot of a node is one that the node sends
 abbrev pub NoRunIsContradicted : Type 0
@@ -93,8 +93,9 @@ WithinIsThere =
     → IsObservedRun x h base delays clock l → verdict_of x.params l ≡ verdict.Within reach → reach.from ≤ cycle
     → cycle ≤ reach.to → IsDoubleThere h (run_double base (cycle / 2))
 
--- where the verdict is within, it is so in each of its cycles, in each run that the log is seen of; and where the log states no
--- cycle of sync, and names the arbitrary nodes of the run, the run is in sync from the first of these cycles on
+-- where the verdict is within, it is so in each of its cycles, in each run that the log is seen of; and where the
+-- checks hold, the log states no cycle of sync, and it names the arbitrary nodes of the run, the run is in sync from the
+-- first of these cycles on
 abbrev pub WithinIsSo : Type 0
 WithinIsSo =
     (x : Setting) (h : Cycles) (base : ℕ) (delays : ℕ → Channel → Delays) (clock : ℕ → StraightClock) (l : LogView)

@@ -1,22 +1,28 @@
 -- Double cycles of a log that are judged by their own numbers: what is known of them is so, and nothing contradicts it.
-use Rattle.std.specs.Prelude.{◌≡◌, ◌<◌, ℕ, suc, true, List, [], Contains, Option, Some, IfSome}
+use Rattle.std.specs.Prelude.{◌≡◌, ◌<◌, ℕ, suc, true, All, List, [], ◌∷◌, ◌++◌, Contains, Option, Some, IfSome}
+use Rattle.std.specs.Option.{option_map, option_to_list}
 use Rattle.fr_base.specs.declared.channel.Channel.{Channel}
+use Rattle.fr_bound.specs.Judged.{apart_through}
 use Rattle.fr_bound.specs.declared.judging.Heard.{Heard}
 use Rattle.fr_bound.specs.declared.judging.Known.{Known}
 use Rattle.fr_cluster.specs.Setting.{Setting}
+use Rattle.fr_cluster.specs.Values.{Values}
 use Rattle.fr_history.specs.Cycles.{Cycles}
 use Rattle.fr_log.specs.View.{LogView}
 use Rattle.fr_course.specs.Readings.{reading_scale}
 use Rattle.fr_course.specs.declared.stamps.Delays.{Delays}
 use Rattle.fr_sightings.specs.Senders.{sightings_in}
-use Rattle.fr_sightings.specs.Sightings.{sightings_of}
-use Rattle.fr_judging.specs.Knowing.{known_next, standing_faults, standing_of}
+use Rattle.fr_sightings.specs.Sightings.{OffendingFrames, offending_frames_of, sightings_of}
+use Rattle.fr_sightings.specs.declared.sighting.Sighting.{Sighting}
+use Rattle.fr_judging.specs.Knowing.{judged_met, known_next, standing_faults, standing_of, stated_flutter}
 use Rattle.fr_observe.specs.Observing.{seen_doubles}
 use Rattle.fr_observe.specs.declared.fault.Fault.{Fault}
 use Rattle.fr_judging.specs.declared.knowing.Standing.{Standing}
 use Rattle.fr_judging.specs.Coverables.{log_heard}
-use Rattle.fr_findings.specs.Verdict.{log_span, sightings_before}
+use Rattle.fr_findings.specs.Verdict.{Basis, double_at, log_basis, log_span, no_progress, progress_behind, sightings_before, standing_told}
+use Rattle.fr_findings.specs.declared.progress.Progress.{Progress}
 use Rattle.fr_sharp.specs.JudgedSteps.{EachHasRow, IsKnownAt}
+use Rattle.fr_sharp.specs.SharpHistories.{KeepsApart}
 use Rattle.fr_seen.specs.Clocks.{StraightClock}
 use Rattle.fr_seen.specs.LogSeen.{log_senders, run_double}
 use Rattle.fr_seen_runs.specs.Contradictions.{IsAsLogStates, IsObservedRun}
@@ -41,13 +47,54 @@ log_standing_faults x l double st =
     (sightings_before (sightings_of x.params l) double) (sightings_in (sightings_of x.params l) double) double
     (log_senders x l double) st
 
--- in a log that is seen of a run, as it states, nothing contradicts what is known of a double cycle, and what it is judged by is so of
--- the next one
+-- a double cycle of the log, and the numbers that it is judged by, as its row of spread has them
+pub record Spreading : Type 0 where
+  pub number : ℕ
+  pub met : Known
+
+-- they are so in the run: its starts and even lengths lie no further apart, and these no further beyond their range; each correct
+-- node has a row; and no macroticks of it lie further apart than the row says
+pub record SpreadIsSo (x : Setting) (h : Cycles) (base : ℕ) (what : Heard) (s : Spreading) : Type 0 where
+  pub known : IsKnownAt x h (run_double base s.number) s.met
+  pub each : EachHasRow x h (run_double base s.number)
+  pub keeps : KeepsApart x h (run_double base s.number) (apart_through what x.params (stated_flutter x.params) s.met)
+
+-- in a log that is seen of a run, as it states, nothing contradicts what is known of a double cycle; what it is judged by is so, and
+-- what is then known of the next one
+pub record StandsSo (x : Setting) (h : Cycles) (base : ℕ) (l : LogView) (what : Heard) (double : ℕ) (st : Standing) : Type 0 where
+  pub faults : log_standing_faults x l double st ≡ []
+  pub spread : IfSome (judged_met st) (λ met. SpreadIsSo x h base what (record { number = double; met = met }))
+  pub next : IsKnownOfLog x h base (suc double) (known_next x.params st true)
+
 abbrev pub StandingsAreSo : Type 0
 StandingsAreSo =
     (x : Setting) (h : Cycles) (base : ℕ) (delays : ℕ → Channel → Delays) (clock : ℕ → StraightClock) (l : LogView)
     (what : Heard) (double : ℕ) (known : Option Known) (told : Option Fault)
     → IsObservedRun x h base delays clock l → IsAsLogStates x h base l → log_heard x.params l ≡ Some what
     → Contains (seen_doubles (sightings_of x.params l)) double → IsKnownOfLog x h base double known
-    → (log_standing_faults x l double (log_standing x l what double known told) ≡ [])
-    × IsKnownOfLog x h base (suc double) (known_next x.params (log_standing x l what double known told) true)
+    → StandsSo x h base l what double (log_standing x l what double known told)
+
+-- ---- the rows of spread
+
+-- those of some double cycles, one after the other: each by what is known of it from the one before
+abbrev pub spread_of : ℕ → Option Known → List Spreading
+spread_of double judged = option_to_list (option_map (λ met. record { number = double; met = met }) judged)
+
+unfoldable pub spreads_from : Basis → List Sighting → OffendingFrames → Progress → List ℕ → List Spreading
+spreads_from b seen offending progress [] = []
+spreads_from b seen offending progress (double ∷ doubles) =
+    spread_of double (judged_met (standing_told b (double_at b seen offending double) progress.known))
+    ++ spreads_from b seen offending (progress_behind b seen offending double progress) doubles
+
+-- of all of a log
+unfoldable pub log_spreads : Values → LogView → List Spreading
+log_spreads p l =
+    spreads_from (log_basis p l) (sightings_of p l) (offending_frames_of p l) no_progress (seen_doubles (sightings_of p l))
+
+-- each is so in each run that the log is seen of, as it states
+abbrev pub SpreadsAreSo : Type 0
+SpreadsAreSo =
+    (x : Setting) (h : Cycles) (base : ℕ) (delays : ℕ → Channel → Delays) (clock : ℕ → StraightClock) (l : LogView)
+    (what : Heard)
+    → IsObservedRun x h base delays clock l → IsAsLogStates x h base l → log_heard x.params l ≡ Some what
+    → All (SpreadIsSo x h base what) (log_spreads x.params l)

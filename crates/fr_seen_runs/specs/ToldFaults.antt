@@ -30,7 +30,7 @@ unfoldable pub log_faults : Values → LogView → List Fault
 log_faults p l =
     faults_from (log_basis p l) (sightings_of p l) (offending_frames_of p l) no_progress (seen_doubles (sightings_of p l))
 
--- a log that is seen of a covered run, as it states, has none where each whole frame in the slot of a node is one that the node
+-- a log that is seen of a run, as it states, has none where each whole frame in the slot of a node is one that the node
 -- sends; and wherever it is seen of one it has only such as ask for that
 abbrev pub NoFaultIsTold : Type 0
 NoFaultIsTold =

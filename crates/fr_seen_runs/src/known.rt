@@ -1,5 +1,5 @@
 ghost use Rattle.fr_seen_runs.specs.KnownDoubles.{NoFaultBeyond, NoKnownFault, NoKnownFrameMissing, NoSkewFaultWithin, SeenIsKnown};
-ghost use Rattle.fr_seen_runs.specs.Standings.{StandingsAreSo};
+ghost use Rattle.fr_seen_runs.specs.Standings.{SpreadsAreSo, StandingsAreSo};
 
 /// A law of what is seen of a double cycle in which all nodes that are not arbitrary were seen in both cycles. Its starts
 /// and even lengths lie no further apart, in ticks, than its courses tell, and these no further beyond their range. That is
@@ -23,8 +23,16 @@ pub fn skew_faults_within_are_none()
 {}
 
 /// The law of double cycles that are judged by their own numbers, where a check of the cluster fails: in a log that is seen of
-/// a run, as the log states, nothing contradicts how a double cycle stands; and what is known of the next one behind it is
-/// so in the run, where the run has that. No check, and no sync, is asked of the run, and nodes may join it.
+/// a run, as the log states, nothing contradicts how a double cycle stands; the numbers, in ticks, that it is judged by are
+/// so in the run, and what is known of the next one behind it. No check, and no sync, is asked of the run, and nodes may
+/// join it.
 pub fn standings_are_so()
     ensures { StandingsAreSo }
+{}
+
+/// The law of the rows of spread: each has numbers, in ticks, that are so in each run that the log is seen of, as it states:
+/// starts and even lengths lie no further apart in its double cycle, and these no further beyond their range; and no
+/// macroticks of it lie further apart than the row's last number.
+pub fn spreads_are_so()
+    ensures { SpreadsAreSo }
 {}

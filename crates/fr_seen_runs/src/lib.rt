@@ -22,11 +22,12 @@ pub use kept_in_sync::{
     doubles_are_there, key_frames_are_there, senders_lie_as_seen, senders_stay_in_sync,
 };
 pub use known::{
-    known_faults_are_none, seen_numbers_are_known, skew_faults_within_are_none, standings_are_so,
+    known_faults_are_none, seen_numbers_are_known, skew_faults_within_are_none, spreads_are_so,
+    standings_are_so,
 };
 pub use own::{own_faults_are_none, slot_faults_are_none, sync_is_seen};
 pub use rows_told::{covered_row_is_so, sync_row_is_so};
-pub use told::{no_fault_is_told, verdict_tells_first};
+pub use told::{covered_runs_are_as_logs_state, no_fault_is_told, verdict_tells_first};
 pub use verdicts::{no_run_is_contradicted, over_is_so, within_is_so};
 pub use worked::{
     a_worked_log, worked_contradictions, worked_judged_contradictions, worked_strangers,
