@@ -12,7 +12,6 @@ use Rattle.fr_sightings.specs.Sure.{is_sync_as}
 use Rattle.fr_judging.specs.declared.coverable.Coverable.{Coverable}
 use Rattle.fr_judging.specs.declared.coverable.Coverable.TheVariants as coverable
 use Rattle.fr_judging.specs.declared.obstacle.Obstacle.{Obstacle}
-use Rattle.fr_judging.specs.declared.obstacle.ObstacleKind.{ObstacleKind}
 use Rattle.fr_judging.specs.declared.obstacle.ObstacleKind.TheVariants as obstacle
 
 -- the least number up to some of a check that fails
@@ -57,11 +56,11 @@ heard_by p l (coverable.Count correct arbitrary) = None
 abbrev pub log_heard : Values → LogView → Option Heard
 log_heard p l = heard_by p l (coverable_of p l)
 
--- else none of its double cycles is judged
-abbrev pub whole_obstacle : ObstacleKind → Option Obstacle
-whole_obstacle why = Some (record { kind = why; cycle = None; node = None })
+-- else none of its double cycles is judged: where a check fails too, the correct sync nodes do not suffice
+abbrev pub too_few : Obstacle
+too_few = record { kind = obstacle.Count; cycle = None; node = None }
 
 abbrev pub uncoverable : Coverable → Option Obstacle
 uncoverable coverable.Open = None
-uncoverable (coverable.Check number left right) = whole_obstacle obstacle.Checks
-uncoverable (coverable.Count correct arbitrary) = whole_obstacle obstacle.Count
+uncoverable (coverable.Check number left right) = Some too_few
+uncoverable (coverable.Count correct arbitrary) = Some too_few

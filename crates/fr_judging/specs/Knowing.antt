@@ -93,7 +93,7 @@ known_next_by p (Some what) judged = option_map (known_after what p (stated_flut
 unfoldable pub known_next : Values → Standing → Bool → Option Known
 known_next p st is_clear = if is_clear then known_next_by p st.heard (judged_met st) else None
 
--- what keeps it from being judged
+-- what keeps it from being judged: a check but the first fails with its starts and lengths, or these are too much for the rate limit
 abbrev pub unfit : Values → ℕ → Option Known → Option Obstacle
 unfit p double None = None
 unfit p double (Some met) =
@@ -101,10 +101,11 @@ unfit p double (Some met) =
     then of_several obstacle.Drift double
     else of_several obstacle.Reach double
 
+-- first a node that was not seen, then a fault, then its numbers
 unfoldable pub known_obstacle : Values → LogView → List Sighting → ℕ → Standing → Option Fault → Option Obstacle
 known_obstacle p l here double st told =
     if st.is_judged then None
-    else option_or (unfit p double st.met) (option_or (first_unseen l here double p.nodes) (faulty told))
+    else option_or (option_or (first_unseen l here double p.nodes) (faulty told)) (unfit p double st.met)
 
 -- ---- what contradicts it
 

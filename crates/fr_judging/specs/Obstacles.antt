@@ -1,5 +1,5 @@
--- Why nothing is held against the rules of sync in a double cycle of a log: what keeps it from being seen in sync, in the order
--- of how far it came.
+-- Why a double cycle of a log is not judged, in the order of how far it came: too few sync nodes, or what keeps it from being seen
+-- in sync.
 use Rattle.std.specs.Prelude.{ℕ, ◌+◌, ◌*◌, nat_lt, pos, int_le, ◌&&◌, List, codes, Option, Some, None, is_some, if◌then◌else◌}
 use Rattle.std.specs.List.{fold, list_all}
 use Rattle.std.specs.Option.{option_or}
@@ -23,7 +23,6 @@ use Rattle.fr_judging.specs.declared.obstacle.ObstacleKind.TheVariants as obstac
 
 -- how far a double cycle came that one of a kind keeps from being judged
 abbrev pub obstacle_rank : ObstacleKind → ℕ
-obstacle_rank obstacle.Checks = 0
 obstacle_rank obstacle.Count = 0
 obstacle_rank obstacle.Unseen = 1
 obstacle_rank obstacle.Fault = 2
@@ -79,7 +78,6 @@ sync_obstacle p scale l here double senders told =
 -- ---- as records
 
 abbrev pub obstacle_word : ObstacleKind → List ℕ
-obstacle_word obstacle.Checks = codes "checks"
 obstacle_word obstacle.Count = codes "count"
 obstacle_word obstacle.Unseen = codes "unseen"
 obstacle_word obstacle.Fault = codes "fault"

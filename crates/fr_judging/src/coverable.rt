@@ -1,7 +1,7 @@
 ghost use Rattle.std.specs.Prelude.{◌≡◌, ◌≤◌, count_by, length, pos};
 ghost use Rattle.fr_bound.specs.Checks.{FirstFailing, left_of, right_of};
 ghost use Rattle.fr_sightings.specs.Sure.{is_sync_as};
-ghost use Rattle.fr_judging.specs.Coverables.{are_enough, coverable_of, coverable_with, heard_by, heard_with, is_coverable, uncoverable, whole_obstacle};
+ghost use Rattle.fr_judging.specs.Coverables.{are_enough, coverable_of, coverable_with, heard_by, heard_with, is_coverable, too_few, uncoverable};
 
 use crate::obstacle::{Obstacle, ObstacleKind};
 use fr_bound::{Heard, checks, side};
@@ -14,7 +14,8 @@ use fr_sightings::is_sync_as;
 pub enum Coverable {
     /// Nothing that they tell keeps it from that.
     Open,
-    /// The check of this number fails, with these sides.
+    /// The check of this number fails, with these sides. Nothing is held against the rules of sync; where the counts of sync
+    /// nodes suffice, double cycles are judged by their own numbers.
     Check { number: u8, left: i64, right: i64 },
     /// So many correct sync nodes do not suffice for so many arbitrary ones.
     Count { correct: u64, arbitrary: u64 },
@@ -58,26 +59,26 @@ impl Coverable {
         }
     }
 
-    /// What keeps each double cycle from being judged; none where a run can be covered.
+    /// What keeps each double cycle from being judged where none is by its own numbers; none where a run can be covered.
     pub fn obstacle(self) -> Option<Obstacle>
         ensures { result ≡ uncoverable self }
     {
         match self {
             Coverable::Open => None,
-            Coverable::Check { .. } => whole_obstacle(ObstacleKind::Checks),
-            Coverable::Count { .. } => whole_obstacle(ObstacleKind::Count),
+            Coverable::Check { .. } | Coverable::Count { .. } => Some(too_few()),
         }
     }
 }
 
-fn whole_obstacle(kind: ObstacleKind) -> Option<Obstacle>
-    ensures { result ≡ whole_obstacle kind }
+// The correct sync nodes do not suffice.
+fn too_few() -> Obstacle
+    ensures { result ≡ too_few }
 {
-    Some(Obstacle {
-        kind,
+    Obstacle {
+        kind: ObstacleKind::Count,
         cycle: None,
         node: None,
-    })
+    }
 }
 
 // A check that fails.

@@ -3,21 +3,20 @@ ghost use Rattle.fr_judging.specs.Obstacles.{farther, obstacle_word, obstacle_ra
 
 use fr_base::NodeId;
 
-/// Why nothing is held against the rules of sync in a double cycle, in the order of how far it came; the first two are so of
-/// a whole log.
+/// Why a double cycle is not judged, in the order of how far it came; the first is so of a whole log.
 #[derive(Clone, Copy, Debug, PartialEq, Eq)]
 pub enum ObstacleKind {
-    /// A check of the parameters fails, so that no run is covered.
-    Checks,
     /// The correct nodes with a key slot do not outweigh the arbitrary ones.
     Count,
     /// The node was not seen.
     Unseen,
     /// Something contradicts any run.
     Fault,
-    /// Starts, or lengths of cycles, may lie further apart than in sync.
+    /// Starts, or lengths of cycles, may lie further apart than in sync. Where a check fails, they may lie so far apart that
+    /// one of checks 2 to 5 fails with them.
     Reach,
-    /// Cycles may be longer or shorter than oscillators within their bounds make them.
+    /// Cycles may be longer or shorter than oscillators within their bounds make them. Where a check fails, they may be so by
+    /// more than the rate limit can follow.
     Drift,
 }
 
@@ -28,7 +27,6 @@ impl ObstacleKind {
         ensures short { length result.now ≤ 6 }
     {
         match self {
-            ObstacleKind::Checks => b"checks",
             ObstacleKind::Count => b"count",
             ObstacleKind::Unseen => b"unseen",
             ObstacleKind::Fault => b"fault",
@@ -42,7 +40,7 @@ impl ObstacleKind {
         ensures { result ≡ obstacle_rank self }
     {
         match self {
-            ObstacleKind::Checks | ObstacleKind::Count => 0,
+            ObstacleKind::Count => 0,
             ObstacleKind::Unseen => 1,
             ObstacleKind::Fault => 2,
             ObstacleKind::Reach => 3,

@@ -277,10 +277,7 @@ pub fn known_obstacle(
     if standing.is_judged {
         return None;
     }
-    unfit(scene.params, scene.number, standing.met).or(first_unseen(
-        scene.params,
-        scene.log,
-        scene.here,
-        scene.number,
-    ).or(faulty(told)))
+    first_unseen(scene.params, scene.log, scene.here, scene.number)
+        .or(faulty(told))
+        .or(unfit(scene.params, scene.number, standing.met))
 }
