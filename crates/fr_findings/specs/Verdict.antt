@@ -319,7 +319,7 @@ or_none_seen (Some why) = why
 abbrev pub reaches_end : Reach → Reach → Bool
 reaches_end reach span = (reach.from == span.from) && (reach.to + 1 == span.to)
 
--- of the rows from the first judged cycle to the last how many say what, and how many of all double cycles are judged
+-- of the rows of judged double cycles, from the first to the last, how many say what; and how many of all double cycles are judged
 abbrev pub partly_of : Reach → Progress → Partly
 partly_of span progress =
     record {

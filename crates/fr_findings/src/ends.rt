@@ -3,12 +3,13 @@ ghost use Rattle.fr_text.specs.Pieces.{Spells};
 ghost use Rattle.fr_time.specs.Cycles.{double_cycle_of};
 ghost use Rattle.fr_observe.specs.Observing.{known_count};
 ghost use Rattle.fr_findings.specs.Counting.{cycles_told, first_row_cycle, last_row_cycle, log_row};
-ghost use Rattle.fr_findings.specs.Text.{covered_row, first_judged, numbers_row, sure_word, sync_double, sync_of, sync_row, sync_word, verdict_row, why_cycle, why_node, why_unjudged, why_word};
+ghost use Rattle.fr_findings.specs.Text.{covered_row, first_judged, from_word, numbers_row, sure_with, sure_word, sync_double, sync_of, sync_row, sync_word, verdict_row, why_cycle, why_node, why_unjudged, why_word};
 
 use crate::counts::Counts;
 use crate::progress::{OverRow, Progress, Reach};
 use crate::verdict::{Partly, Verdict, or_none_seen};
 use fr_base::NodeId;
+use fr_bound::Heard;
 use fr_judging::{Coverable, Obstacle};
 use fr_observe::{Fault, SyncFrom, known_node};
 use fr_sightings::{Sighting, Tally};
@@ -160,7 +161,18 @@ fn sure_word(sure: bool) -> &'static [u8]
     if sure { b"sure" } else { b"premise" }
 }
 
-// Whether it is sure that frames come in time.
+// Whether it is sure that frames come in time, where this is so of runs in sync: never where a check fails.
+pub(crate) fn sure_with(covered: Coverable, sure: bool) -> bool
+    ensures { result ≡ sure_with covered sure }
+{
+    match covered {
+        Coverable::Open => sure,
+        Coverable::Check { .. } => false,
+        Coverable::Count { .. } => sure,
+    }
+}
+
+// The same as a row.
 pub(crate) fn numbers_row(sure: bool) -> Line
     ensures { result ≡ numbers_row sure }
 {
@@ -187,13 +199,23 @@ fn sync_double(sync: Option<SyncFrom>) -> Piece<'static>
     }
 }
 
-fn sync_word(sync: Option<SyncFrom>) -> &'static [u8]
-    ensures text { result.now ≡ sync_word sync }
+fn from_word(heard: Option<Heard>, from: SyncFrom) -> &'static [u8]
+    ensures text { result.now ≡ from_word heard from }
+    ensures short { length result.now ≤ 6 }
+{
+    match heard {
+        None => { if from.is_stated { b"stated" } else { b"seen" } }
+        Some(_) => b"judged",
+    }
+}
+
+fn sync_word(heard: Option<Heard>, sync: Option<SyncFrom>) -> &'static [u8]
+    ensures text { result.now ≡ sync_word heard sync }
     ensures short { length result.now ≤ 6 }
 {
     match sync {
         None => b"open",
-        Some(from) => { if from.is_stated { b"stated" } else { b"seen" } }
+        Some(from) => from_word(heard, from),
     }
 }
 
@@ -258,27 +280,27 @@ fn first_judged(span: Option<Reach>) -> Option<SyncFrom>
     }
 }
 
-fn sync_of(progress: &Progress) -> Option<SyncFrom>
-    ensures { result ≡ sync_of progress.now }
+fn sync_of(heard: Option<Heard>, progress: &Progress) -> Option<SyncFrom>
+    ensures { result ≡ sync_of heard progress.now }
 {
-    match progress.sync {
-        Some(from) => Some(from),
-        None => first_judged(progress.judged.span),
+    match heard {
+        None => progress.sync,
+        Some(_) => first_judged(progress.judged.span),
     }
 }
 
-// From which double cycle on a cluster is in sync, or is judged by its own numbers; how many are judged, and why others
-// are not.
-pub(crate) fn sync_row(progress: &Progress) -> Line
-    ensures { result ≡ sync_row progress.now }
+// From which double cycle on a cluster is in sync, or which is the first that is judged by its own numbers; how many are
+// judged, and why others are not.
+pub(crate) fn sync_row(heard: Option<Heard>, progress: &Progress) -> Line
+    ensures { result ≡ sync_row heard progress.now }
 {
-    let sync = sync_of(progress);
+    let sync = sync_of(heard, progress);
     let why = why_unjudged(sync, progress.obstacle);
     row_of(
         b"sync",
         &[
             sync_double(sync),
-            Word(sync_word(sync)),
+            Word(sync_word(heard, sync)),
             Natural(progress.judged.doubles),
             Natural(progress.doubles),
             Word(why_word(&why)),

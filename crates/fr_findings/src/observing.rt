@@ -13,13 +13,15 @@ ghost use Rattle.fr_findings.specs.Verdict.{log_span, no_progress, number_or_non
 ghost use Rattle.fr_sightings.specs.Ranges.{IsScaleOf};
 
 use crate::census::put_census;
-use crate::ends::{covered_row, cycles_told, log_row, numbers_row, sync_row, verdict_row};
+use crate::ends::{
+    covered_row, cycles_told, log_row, numbers_row, sure_with, sync_row, verdict_row,
+};
 use crate::ground::{Ground, Offending};
 use crate::progress::Progress;
 use crate::verdict::Verdict;
 use crate::writing::put_doubles;
 use fr_base::{PutFault, Sink};
-use fr_bound::bounds;
+use fr_bound::{Heard, bounds};
 use fr_cluster::Params;
 use fr_course::Scale;
 use fr_judging::Coverable;
@@ -98,16 +100,17 @@ fn end_lines(
     seen: &[Sighting],
     tally: &Tally,
     covered: Coverable,
+    heard: Option<Heard>,
     sure: bool,
     progress: &Progress,
 ) -> [Option<Line>; 6]
-    ensures { joined_lines result ≡ end_told seen.now tally.now covered sure progress.now }
+    ensures { joined_lines result ≡ end_told seen.now tally.now covered heard sure progress.now }
 {
     [
         Some(log_row(tally)),
         Some(covered_row(covered)),
-        Some(numbers_row(sure)),
-        Some(sync_row(progress)),
+        Some(numbers_row(sure_with(covered, sure))),
+        Some(sync_row(heard, progress)),
         Some(cycles_told(seen, &progress.counts)),
         Some(verdict_row(Verdict::of(progress))),
     ]
@@ -125,12 +128,15 @@ fn put_end<O: Sink>(
     requires { ComeInOrder ground.now.log.now seen.now }
     ensures { Puts result (O.state out.old) (O.state out.new)
         (census_text ground.now.params.now ground.now.log.now seen.now
-        ++ end_told seen.now tally.now covered (are_numbers_sure ground.now.params.now ground.now.log.now)
-        progress.now) }
+        ++ end_told seen.now tally.now covered ground.now.heard
+        (are_numbers_sure ground.now.params.now ground.now.log.now) progress.now) }
 {
     let sure = are_numbers_sure(ground.params, ground.log);
     put_census(ground.params, ground.log, seen, out)?;
-    put_lines(&end_lines(seen, tally, covered, sure, progress), out)
+    put_lines(
+        &end_lines(seen, tally, covered, ground.heard, sure, progress),
+        out,
+    )
 }
 
 // All behind the precision.

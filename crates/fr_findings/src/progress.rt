@@ -42,7 +42,7 @@ pub struct Judged {
 /// What is known of a log behind some of its double cycles.
 #[derive(Clone, Copy, Debug, PartialEq, Eq)]
 pub struct Progress {
-    /// From when on the cluster is in sync, if that is known.
+    /// From when on the cluster is in sync, if that is known. Where a run cannot be covered, no fault asks for it.
     pub sync: Option<SyncFrom>,
     /// What is known of the clocks in the next double cycle, in ticks: where the last one is judged by its own numbers, and
     /// nothing contradicts these.

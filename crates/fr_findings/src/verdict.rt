@@ -5,7 +5,7 @@ use crate::progress::{OverRow, Progress, Reach};
 use fr_judging::{Obstacle, ObstacleKind};
 use fr_observe::Fault;
 
-/// Of the rows of a log from the first judged cycle to the last how many say what.
+/// Of the rows of judged double cycles, from the first to the last, how many say what.
 #[derive(Clone, Copy, Debug, PartialEq, Eq)]
 pub struct Partly {
     /// The first judged cycle and the last.
