@@ -49,8 +49,8 @@ sender,1,A,4,0,3,0,\n\
 sender,2,A,4,0,3,0,\n\
 log,8,0,0,0,0,0,\n\
 covered,no,check,1,0,3000400,,\n\
-numbers,sure,,,,,,\n\
-sync,0,seen,2,2,-,-,-\n\
+numbers,premise,,,,,,\n\
+sync,0,judged,2,2,-,-,-\n\
 cycles,0,3,3,0,1,,\n\
 verdict,within,0,2,,,,\n\
 ",
@@ -86,8 +86,8 @@ sender,1,A,4,0,3,0,\n\
 sender,2,A,4,0,3,0,\n\
 log,8,0,0,0,0,0,\n\
 covered,no,check,1,0,3000400,,\n\
-numbers,sure,,,,,,\n\
-sync,0,seen,2,2,-,-,-\n\
+numbers,premise,,,,,,\n\
+sync,0,judged,2,2,-,-,-\n\
 cycles,0,3,3,0,1,,\n\
 verdict,no,1,offset,1,,,\n\
 ",
@@ -129,8 +129,8 @@ sender,1,A,6,0,5,0,\n\
 sender,2,A,5,0,5,1,\n\
 log,11,0,0,0,0,0,\n\
 covered,no,check,1,0,3000400,,\n\
-numbers,sure,,,,,,\n\
-sync,0,seen,2,3,drift,2,-\n\
+numbers,premise,,,,,,\n\
+sync,0,judged,2,3,unseen,2,2\n\
 cycles,0,5,2,0,4,,\n\
 verdict,partly,0,5,2,2,2,3\n\
 ",
@@ -173,8 +173,8 @@ sender,1,A,6,0,5,0,\n\
 sender,2,A,5,0,5,1,\n\
 log,11,0,0,0,0,0,\n\
 covered,no,check,1,0,3000400,,\n\
-numbers,sure,,,,,,\n\
-sync,0,seen,2,3,drift,2,-\n\
+numbers,premise,,,,,,\n\
+sync,0,judged,2,3,unseen,2,2\n\
 cycles,0,5,2,0,4,,\n\
 verdict,no,2,missing,2,,,\n\
 ",
@@ -216,8 +216,8 @@ sender,2,A,4,0,3,0,\n\
 sender,3,A,4,0,3,0,\n\
 log,12,0,0,0,0,0,\n\
 covered,no,check,1,0,3000400,,\n\
-numbers,sure,,,,,,\n\
-sync,0,seen,2,2,-,-,-\n\
+numbers,premise,,,,,,\n\
+sync,0,judged,2,2,-,-,-\n\
 cycles,0,3,3,0,1,,\n\
 verdict,within,0,2,,,,\n\
 ",
