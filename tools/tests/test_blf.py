@@ -172,9 +172,10 @@ class Blf(Bench):
             self.assertGreaterEqual(len(some), found)
             found = len(some)
         self.keep("bus.blf", whole[:150])
+        self.assertIn(f"no packet of it could be read; 6 {blf.STRAY}, {len(made)} {blf.MISSING}",
+                      self.flexlab("log", "bus.blf", "net.toml", status=5)[1])
+        self.keep("bus.blf", blf_file([]))
         self.assertIn("a capture without a packet", self.flexlab("log", "bus.blf", "net.toml", status=1)[1])
-        self.keep("bus.blf", whole[:180] + b"\xff" * 40 + whole[220:])
-        self.assertIn("cannot be unpacked", self.flexlab("log", "bus.blf", "net.toml", status=5)[1])
         self.keep("bus.blf", whole.replace(struct.pack("<H6x", 2), struct.pack("<H6x", 9)))
         self.assertIn("packed by a method 9", self.flexlab("log", "bus.blf", "net.toml", status=5)[1])
 
@@ -188,17 +189,25 @@ class Blf(Bench):
         damaged, at = bytearray(whole), whole.index(b"LOBJ", 1500)
         self.assertLess(at, 3000)
         damaged[at:at + 16] = b"\xee" * 16
-        for data, reason in ((bytes(damaged), blf.STRAY), (whole[:len(whole) // 2], blf.SHORTER)):
+        # A packed container of which some bytes are others: nothing of it is taken, and no object goes over it.
+        packed = blf_file(self.items(made))
+        begin = packed.index(b"LOBJ", packed.index(b"LOBJ", packed.index(b"LOBJ") + 4) + 4)
+        broken = packed[:begin + 60] + bytes(byte ^ 0x55 for byte in packed[begin + 60:begin + 90]) + packed[begin + 90:]
+        for data, reasons in ((bytes(damaged), {blf.STRAY}), (whole[:len(whole) // 2], {blf.SHORTER}), (packed[:len(packed) // 2], {blf.SHORTER}),
+                              (broken, {blf.SHORTER, blf.STRAY})):
             self.keep("bus.blf", data)
             lost = blf.read_blf(self.path("bus.blf")).lost
-            self.assertEqual(set(lost), {reason, blf.MISSING})
+            self.assertEqual(set(lost), reasons | {blf.MISSING})
+            kept, wanted = ([(one.ns, one.channel, one.frame) for one in some] for some in (blf.read_blf(self.path("bus.blf")).packets, made))
+            self.assertEqual([frame for frame in wanted if frame in kept], kept)
             self.assertEqual(lost[blf.MISSING], len(made) - len(blf.read_blf(self.path("bus.blf")).packets))
             log, told = self.log("bus.blf")
             self.assertNotIn("whole,,,,", log)
             self.assertIn(f"{lost[blf.MISSING]} {blf.MISSING}", told)
             self.assertIn("it missed no frame, which is not taken", told)
             page = self.one_line(self.flexlab("capture", "-o", "lab", "bus.blf")[0])
-            self.assertIn(f"WARNING not all of the file was read: {lost[reason]} {reason}", page)
+            for reason, count in lost.items():
+                self.assertIn(f"{count} {reason}", page.split("WARNING not all of the file was read: ")[1])
             self.assertEqual(json.loads(self.flexlab("capture", "-o", "lab", "--json", "bus.blf")[0])["lost"], lost)
 
     def older(self, made, numbers):

@@ -10,6 +10,7 @@ import zlib
 from collections.abc import Iterable, Iterator
 from dataclasses import dataclass, field
 from functools import cached_property
+from itertools import groupby
 from typing import NamedTuple
 
 from ..base.ending import NO, REFUSED, Stop
@@ -154,8 +155,9 @@ def pieces_of(data: bytes) -> Iterator[bytes]:
         yield data[at:at + MIB]
 
 
-def unpacked(path: str, item: bytes, head: int, most: int, losses: Losses) -> bytes:
-    """What a container has, of which not more than so many bytes are made."""
+def unpacked(path: str, item: bytes, head: int, most: int, losses: Losses) -> bytes | None:
+    """What a container has, of which not more than so many bytes are made; None of one that is damaged, since of what it unpacks to
+    nothing is sure."""
     if len(item) < head + 16:
         return b""
     packing, size = struct.unpack_from("<H6xI", item, head)
@@ -170,20 +172,27 @@ def unpacked(path: str, item: bytes, head: int, most: int, losses: Losses) -> by
             if len(data) <= most and not stream.eof and (stream.decompress(stream.unconsumed_tail, 1) or not stream.eof):
                 losses.add(SHORTER, max(1, size - len(data)))
             return data
-    except zlib.error as fault:
-        raise Stop(REFUSED, f"{path}: a container of it cannot be unpacked: {fault}")
+    except zlib.error:
+        losses.add(SHORTER, max(1, size))
+        return None
     raise Stop(REFUSED, f"{path}: a container of it is packed by a method {packing}, which flexlab does not know")
 
 
-def contents(path: str, data: bytes, most: int, losses: Losses) -> Iterator[bytes]:
-    """What the containers of a file have, one after the other, of at most so many bytes in all."""
+def contents(path: str, data: bytes, most: int, losses: Losses) -> Iterator[bytes | None]:
+    """What the containers of a file have, one after the other, of at most so many bytes in all; None where something is lost."""
     left = most
     for kind, item, head in objects(pieces_of(data), losses):
         piece = unpacked(path, item, head, left, losses) if kind == CONTAINER else item
-        left -= len(piece)
+        left -= len(piece or b"")
         if left < 0:
             raise too_long(path, most, is_capture=True, unpacked=True)
         yield piece
+
+
+def all_objects(path: str, data: bytes, most: int, losses: Losses) -> Iterator[tuple[int, bytes, int]]:
+    """The objects of a file; none goes over what is lost."""
+    for _, run in groupby(contents(path, data, most, losses), lambda piece: piece is None):
+        yield from objects((piece for piece in run if piece is not None), losses)
 
 
 def older_fields(item: bytes, head: int) -> tuple[int, ...]:
@@ -210,7 +219,7 @@ def received(path: str, most: int, losses: Losses) -> list[Received]:
     length = struct.unpack_from("<I", data, 4)[0] if len(data) >= 8 else len(data)
     stated = struct.unpack_from("<I", data, COUNT_AT)[0] if len(data) >= COUNT_AT + 4 else 0
     found, older, count = list[Received](), list[Received](), 0
-    for kind, item, head in objects(contents(path, data[length:], most, losses), losses):
+    for kind, item, head in all_objects(path, data[length:], most, losses):
         is_whole = len(item) >= 12 and len(item) == struct.unpack_from("<I", item, 8)[0]
         count += is_whole and kind != UNCOUNTED
         if kind in FRAMES and is_whole and len(item) >= max(32, head) + FRAMES[kind]:

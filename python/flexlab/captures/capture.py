@@ -51,6 +51,9 @@ def load(path: str, most: int = LONGEST, bus: int | None = None) -> Binary:
     link, taken = (LINK_FLEXRAY, read_blf(path, most, bus)) if first == MAGIC else load_by_tshark(path, most)
     if taken.packets and link != LINK_FLEXRAY:
         raise Stop(REFUSED, f"{path}: its link type is {link}, and FlexRay's is {LINK_FLEXRAY}")
+    if not taken.packets and taken.lost:
+        lost = ", ".join(f"{count} {reason}" for reason, count in taken.lost.items())
+        raise Stop(REFUSED, f"{path}: no packet of it could be read; {lost}")
     if not taken.packets:
         raise Stop(NO, f"{path}: a capture without a packet: was the logger on the bus, and its filter open?")
     return taken
