@@ -359,13 +359,17 @@ def skew_script(cluster: Cluster, told: Observation) -> str:
     unit = cluster.microtick_ns
     rows = [Limits(row.cycle, us_of_ticks(row.low, unit), us_of_ticks(row.high, unit)) for row in told.cycles if row.high is not None]
     precision = decimal(us_of_ticks(told.precision, unit), 6)
-    return (data("skew", rows) + plain_axes() + "set title 'Limits of the skew in '.file noenhanced font ',14'\n"
+    apart = [Limits(2 * row.double, us_of_ticks(row.apart, unit), us_of_ticks(row.apart, unit)) for row in told.spreads]
+    judged = ("     $apart using 1:3 title 'no further apart, as judged' with points pointtype 7 pointsize 0.4 linecolor '#e69f00', \\\n"
+              if apart else "")
+    return (data("skew", rows) + (data("apart", apart) if apart else "") + plain_axes()
+            + "set title 'Limits of the skew in '.file noenhanced font ',14'\n"
             "set xlabel 'cycle'\nset ylabel 'microseconds'\nset yrange [0:*]\n"
             "set key outside bottom center horizontal\nset style fill solid 0.35 noborder\n"
             "plot $skew using 1:2:3 title 'the skew lies in between' with filledcurves linecolor '#0072b2', \\\n"
             "     $skew using 1:3 title 'at most' with lines linewidth 1.2 linecolor '#0072b2', \\\n"
             "     $skew using 1:2 title 'at least' with lines linewidth 1.2 linecolor '#009e73', \\\n"
-            f"     {precision} title 'precision' with lines linewidth 2 linecolor '#b00020'\n")
+            f"{judged}     {precision} title 'precision' with lines linewidth 2 linecolor '#b00020'\n")
 
 
 def nodes_script(cluster: Cluster, told: Observation) -> str:
