@@ -27,7 +27,7 @@ use Rattle.fr_seen.specs.Clocks.{StraightClock}
 use Rattle.fr_seen.specs.LogSeen.{log_senders, run_double}
 use Rattle.fr_seen.specs.OwnSlots.{SlotsAreOwn}
 use Rattle.fr_seen_runs.specs.Contradictions.{IsAsLogStates, IsAsStated, IsObservedRun}
-use Rattle.fr_seen_runs.specs.Standings.{IsKnownOfLog, SpreadIsSo, Spreading, SpreadsAreSo, StandingsAreSo, log_spreads, spread_of, spreads_from}
+use Rattle.fr_seen_runs.specs.Standings.{IsKnownOfLog, SpreadIsSo, Spreading, SpreadsAreSo, StandingsAreSo, log_spreads, spread_row_of, spreads_from}
 use Rattle.fr_seen_runs.specs.SyncFaults.{FromSyncOn, HasNoLengthFault, HasNoLengthsFault, HasNoMissingFault, HasNoOffsetFault, HasNoRateFault, HasNoSkewFault, HasNoStartFault}
 use Rattle.fr_seen_runs.specs.ToldFaults.{NoFaultIsTold, ToldFaultsAskEither, ToldFaultsAskOwnSlots, ToldFaultsAskSync, VerdictTellsFirst, log_faults}
 use Rattle.fr_seen_runs.specs.NotContradicted.{NoRunHasOwnFaults, NoRunIsContradicted}
@@ -305,11 +305,11 @@ module _ (x : Setting) (h : Cycles) (base : ℕ) (delays : ℕ → Channel → D
     KnownSo : ℕ → Option Heard → Option Known → Type 0
     KnownSo double heard known =
         (faults_by double (standing_by double heard known) ≡ [])
-        × ((All (SpreadBy heard) (spread_of double (judged_met (standing_by double heard known))))
+        × ((All (SpreadBy heard) (spread_row_of double (judged_met (standing_by double heard known))))
         × IsKnownOfLog x h base (suc double) (known_next x.params (standing_by double heard known) true))
 
     spread_listed : (what : Heard) (double : ℕ) (judged : Option Known) → IfSome judged (λ met. SpreadIsSo x h base what (record { number = double; met = met }))
-        → All (SpreadIsSo x h base what) (spread_of double judged)
+        → All (SpreadIsSo x h base what) (spread_row_of double judged)
     spread_listed what double None is = All-nil (SpreadIsSo x h base what)
     spread_listed what double (Some met) is = All-cons (SpreadIsSo x h base what) (record { number = double; met = met }) [] is (All-nil (SpreadIsSo x h base what))
 
@@ -322,7 +322,7 @@ module _ (x : Setting) (h : Cycles) (base : ℕ) (delays : ℕ → Channel → D
 
     known_where : (double : ℕ) (progress : Progress) → Contains (seen_doubles Seen) double → IsKnownOfLog x h base double progress.known
         → (known_told Log (At double) progress.known ≡ [])
-        × ((All (SpreadBy Log.heard) (spread_of double (judged_met (standing_told Log (At double) progress.known)))) × IsKnownOfLog x h base (suc double) (known_next_told Log (At double) progress.known))
+        × ((All (SpreadBy Log.heard) (spread_row_of double (judged_met (standing_told Log (At double) progress.known)))) × IsKnownOfLog x h base (suc double) (known_next_told Log (At double) progress.known))
     unfolding known_told standing_told KnownSo faults_by standing_by
     known_where double progress among before =
         let is = known_so double Log.heard progress.known refl among before in
@@ -361,7 +361,7 @@ module _ (x : Setting) (h : Cycles) (base : ℕ) (delays : ℕ → Channel → D
         let doubles = range_with_len (first + 1) count in
         let here = known_where first progress (among first (Contains-here first doubles)) known in
         let later = progress_behind Log Seen Offending first progress in
-        All-append (SpreadBy Log.heard) (spread_of first (judged_met (standing_told Log (At first) progress.known))) (spreads_from Log Seen Offending later doubles) here.1.0
+        All-append (SpreadBy Log.heard) (spread_row_of first (judged_met (standing_told Log (At first) progress.known))) (spreads_from Log Seen Offending later doubles) here.1.0
         (spreads_each count (first + 1) later (λ double there. among double (Contains-there first doubles double there))
         (subst (λ n. IsKnownOfLog x h base n later.known) (next first) here.1.1))
       where

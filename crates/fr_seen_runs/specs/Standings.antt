@@ -77,13 +77,13 @@ StandingsAreSo =
 -- ---- the rows of spread
 
 -- those of some double cycles, one after the other: each by what is known of it from the one before
-abbrev pub spread_of : ℕ → Option Known → List Spreading
-spread_of double judged = option_to_list (option_map (λ met. record { number = double; met = met }) judged)
+abbrev pub spread_row_of : ℕ → Option Known → List Spreading
+spread_row_of double judged = option_to_list (option_map (λ met. record { number = double; met = met }) judged)
 
 unfoldable pub spreads_from : Basis → List Sighting → OffendingFrames → Progress → List ℕ → List Spreading
 spreads_from b seen offending progress [] = []
 spreads_from b seen offending progress (double ∷ doubles) =
-    spread_of double (judged_met (standing_told b (double_at b seen offending double) progress.known))
+    spread_row_of double (judged_met (standing_told b (double_at b seen offending double) progress.known))
     ++ spreads_from b seen offending (progress_behind b seen offending double progress) doubles
 
 -- of all of a log
