@@ -677,8 +677,7 @@ class Progress:
 
     def by_sync(self, double, own):
         """What contradicts it beside its own faults, and why it is not judged."""
-        why = (0, "checks" if self.gap[0] == "check" else "count", "-", "-") if self.gap else (
-            None if self.sync else double.unsynced(own))
+        why = (0, "count", "-", "-") if self.gap else None if self.sync else double.unsynced(own)
         return [] if why else double.in_sync(self.sync[0]), why
 
     def by_numbers(self, double, own):
@@ -686,7 +685,7 @@ class Progress:
         params, known, untold = self.params, self.known, double.untold(own)
         met = known if untold else double.seen() if known is None else Known(*map(min, known, double.seen()))
         unfit = params.unfit(met) if met else None
-        why = (*unfit, 2 * double.double, "-") if unfit else None if met else untold
+        why = None if met and not unfit else untold or (*unfit, 2 * double.double, "-")
         found, spread, self.known = [], [], None
         if not why:
             apart = params.apart(self.heard, met)
@@ -699,7 +698,7 @@ class Progress:
         return found, why, spread
 
     def sync_fields(self):
-        sync = self.sync or ((self.judged[0][0] // 2, "seen") if self.judged else None)
+        sync = self.sync if not self.heard else (self.judged[0][0] // 2, "judged") if self.judged else None
         why = self.why or (None if sync else (0, "unseen", "-", "-"))
         return [*(sync or ("-", "open")), len(self.judged) // 2, self.doubles, *(why[1:] if why else "---")]
 
@@ -737,7 +736,8 @@ def observe(params, log):
     lines.append(["log", *(tally[kind] for kind in KINDS)])
     why = coverable(params, log)
     lines.append(["covered", *(["no", *why] if why else ["open"])])
-    lines.append(["numbers", "sure" if are_numbers_sure(params, log) else "premise"])
+    is_sure = are_numbers_sure(params, log) and not (why and why[0] == "check")
+    lines.append(["numbers", "sure" if is_sure else "premise"])
     lines.append(["sync", *progress.sync_fields()])
     ends = (2 * span[0], 2 * span[-1] + 1) if seen else ("-", "-")
     lines.append(["cycles", *ends, *(words.count(word) for word in ("within", "over", "open"))])

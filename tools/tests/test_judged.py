@@ -144,10 +144,10 @@ class Judged(observing.Told):
         self.assertGreater(judged, LOGS)
 
     def test_too_few_beside_arbitrary_nodes(self):
-        """Nothing is judged."""
+        """Nothing is judged, for that reason."""
         log = Log(400, counts=(3, 4))
         told = self.told_of(log, log.text(stated="arbitrary,1,,,\n"))
-        self.assertEqual((rows_of(told, "spread"), rows_of(told, "verdict")[0][1:3]), ([], ["open", "checks"]))
+        self.assertEqual((rows_of(told, "spread"), rows_of(told, "verdict")[0][1:3]), ([], ["open", "count"]))
 
     def test_planted_faults(self):
         """What a node does against the rules is told of it, in its double cycle; what the others do is not."""

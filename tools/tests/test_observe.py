@@ -498,7 +498,7 @@ class Observed(Told):
                 told[verdict[1]] = told.get(verdict[1], 0) + 1
                 told["whole"] += not lost
                 told["covered"] += covered
-                if sync[2] == "seen" and rows_of(text, "covered")[0][2] != "check":
+                if sync[2] == "seen":
                     self.in_sync(cluster, int(sync[1]))
         if RUNS != 40:
             print(f"{RUNS} lawful runs: {told}")

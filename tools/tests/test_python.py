@@ -545,8 +545,8 @@ class Alone(Bench):
         """Of double cycles that are judged by these, each behind its faults."""
         found = texts.observation("precision,7,,,,,,\ncycle,4,1,0,0,within,,\ncycle,5,1,0,0,within,,\nnode,2,1,3,5,0,0,\nspread,2,5,6,0,9,,\n"
                                   "cycle,6,1,0,0,within,,\ncycle,7,1,0,-,open,,\nfault,6,-,start,8,9,-,7\nspread,3,1,2,3,4,,\n"
-                                  "sender,1,A,4,4,7,0,\nlog,4,0,0,0,0,0,\ncovered,no,check,1,2,3,,\nnumbers,sure,,,,,,\n"
-                                  "sync,2,seen,2,2,-,-,-\ncycles,4,7,3,0,1,,\nverdict,no,6,start,-,,,\n")
+                                  "sender,1,A,4,4,7,0,\nlog,4,0,0,0,0,0,\ncovered,no,check,1,2,3,,\nnumbers,premise,,,,,,\n"
+                                  "sync,2,judged,2,2,-,-,-\ncycles,4,7,3,0,1,,\nverdict,no,6,start,-,,,\n")
         self.assertEqual(found.spreads, (flexray.ObservedSpread(2, 5, 6, 0, 9), flexray.ObservedSpread(3, 1, 2, 3, 4)))
         self.assertEqual(([fault.kind for fault in found.faults], len(found.cycles), found.judged), (["start"], 4, 2))
 

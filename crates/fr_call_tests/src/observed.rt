@@ -222,6 +222,71 @@ cycles,0,3,3,0,1,,\n\
 verdict,within,0,2,,,,\n\
 ",
     ),
+    // Sync that the log states is not asked of such a cluster: the first double cycle, in which a node is missed, is not judged.
+    (
+        TWO_ON_A,
+        "\
+since,2,,,\n\
+head,7000,A,3801006F00,\n\
+head,37062,A,380200E8C0,\n\
+head,5007000,A,3801006F01,\n\
+head,10007025,A,3801006F02,\n\
+head,10037037,A,380200E8C2,\n\
+head,15007025,A,3801006F03,\n\
+head,15037037,A,380200E8C3,\n\
+",
+        "\
+precision,124018000,,,,,,\n\
+cycle,0,2,522019,127619476,open,,\n\
+cycle,1,2,0,250195284,open,,\n\
+node,0,1,199999960000,200000040000,0,2,\n\
+node,0,2,199876016800,200124016800,-249,247,\n\
+cycle,2,2,0,2520752,within,,\n\
+cycle,3,2,0,-,open,,\n\
+node,1,1,199999960000,200000040000,-,-,\n\
+node,1,2,199999960000,200000040000,-,-,\n\
+spread,1,1520552,80000,0,5080800,,\n\
+sender,1,A,4,0,3,0,\n\
+sender,2,A,3,0,3,1,\n\
+log,7,0,0,0,0,0,\n\
+covered,no,check,1,0,3000400,,\n\
+numbers,premise,,,,,,\n\
+sync,1,judged,1,2,unseen,1,2\n\
+cycles,0,3,1,0,3,,\n\
+verdict,within,2,2,,,,\n\
+",
+    ),
+    // One correct node does not suffice beside an arbitrary one: nothing is judged, for that reason.
+    (
+        TWO_ON_A,
+        "\
+arbitrary,2,,,\n\
+head,7000,A,3801006F00,\n\
+head,37062,A,380200E8C0,\n\
+head,5007000,A,3801006F01,\n\
+head,5037062,A,380200E8C1,\n\
+head,10007025,A,3801006F02,\n\
+head,10037037,A,380200E8C2,\n\
+head,15007025,A,3801006F03,\n\
+head,15037037,A,380200E8C3,\n\
+",
+        "\
+precision,124018000,,,,,,\n\
+cycle,0,1,0,1000200,within,,\n\
+cycle,1,1,0,2000400,within,,\n\
+node,0,1,199999960000,200000040000,0,2,\n\
+cycle,2,1,0,1000200,within,,\n\
+cycle,3,1,0,-,open,,\n\
+node,1,1,199999960000,200000040000,-,-,\n\
+sender,1,A,4,0,3,0,\n\
+log,4,0,4,0,0,0,\n\
+covered,no,check,1,0,3000400,,\n\
+numbers,premise,,,,,,\n\
+sync,0,seen,0,2,count,-,-\n\
+cycles,0,3,3,0,1,,\n\
+verdict,open,count,-,-,,,\n\
+",
+    ),
 ];
 
 // What a log of such a cluster of these nodes tells.
