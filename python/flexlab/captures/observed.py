@@ -23,8 +23,8 @@ MOST_FAULTS = 8
 IRREGULAR = ("stranger", "form")
 # Kinds of contradictions that need no sync: by itself each excludes every history, and names a node.
 ALWAYS = ("channels", "limit", "correction", "twice", "cycle", *IRREGULAR)
-# Reasons why no run of a cluster is covered, so that its precision is that of none.
-UNPROMISED = ("checks", "count")
+# The reason where no run of a cluster is covered and no double cycle is judged by its own numbers, so that its precision is that of none.
+UNPROMISED = "count"
 ORIGIN = ("Every limit here is one that flexray printed, converted and rounded outwards: it holds in every run of the "
           "cluster that can have given the log, if what is stated of the analyzer and of the oscillators is so. "
           "flexlab computes no answer of its own.")
@@ -79,7 +79,7 @@ def offset_of(row: ObservedNode) -> Limits | None:
 
 def is_by_numbers(told: Observation) -> bool:
     """Whether double cycles are judged by their own numbers, as they are seen, since a check of the cluster fails."""
-    return told.covered[:2] == ("no", "check") and told.sync[4] != "checks"
+    return told.covered[:2] == ("no", "check") and told.sync[4] != UNPROMISED
 
 
 class Words:
@@ -149,10 +149,10 @@ def why_unjudged(cluster: Cluster, told: Observation, why: Sequence[str]) -> str
     """Why a double cycle is not judged: the last three fields of a `sync` row."""
     kind, cycle, number = why
     node = "" if number == "-" else cluster.called(int(number))
-    if kind == "checks":
-        return f"check {told.covered[2]} fails"
-    if kind == "count":
-        return f"{told.covered[2]} correct nodes with a key slot do not outweigh {told.covered[3]} arbitrary ones"
+    if kind == UNPROMISED:
+        counts = told.covered[2:4] if told.covered[1] == "count" else ()
+        few, many = counts or ("the", "the")
+        return f"{few} correct nodes with a key slot do not outweigh {many} arbitrary ones"
     if kind == "unseen":
         if not node:
             return "no frame tells where a clock was"
@@ -198,7 +198,7 @@ def sync_lines(cluster: Cluster, told: Observation) -> list[str]:
     sync = told.sync
     if sync[0] == "-":
         why = why_unjudged(cluster, told, sync[4:])
-        if sync[4] in UNPROMISED:
+        if sync[4] == UNPROMISED:
             text = f"of no double cycle it is certain; none would be held against the rules of sync, since {why}"
         else:
             text = f"of no double cycle it is certain: {why}" + (f"; {advice(cluster, sync[6])}" if told.cycles else "")
@@ -207,7 +207,7 @@ def sync_lines(cluster: Cluster, told: Observation) -> list[str]:
                      + "; a covered cluster stays so")
     text = f"{told.judged} of {told.doubles} double cycles are held against the rules of sync"
     if sync[4] != "-":
-        others = "the others are" if sync[4] in UNPROMISED else "of the others the one that came farthest is"
+        others = "the others are" if sync[4] == UNPROMISED else "of the others the one that came farthest is"
         text += f"; {others} not, since {why_unjudged(cluster, told, sync[4:])}"
     return found + lines_of("Judged", text)
 
@@ -232,7 +232,7 @@ def verdict_text(cluster: Cluster, told: Observation) -> str:
                 f"{verdict[3]}, for certain; of {verdict[4]} it is not certain")
     nothing = "no double cycle is judged" if is_own else "nothing was held against the rules of sync"
     return (f"open: {nothing}, since {why_unjudged(cluster, told, verdict[1:4])}; in {told.within} "
-            f"cycles {clocks} within the precision" + (unpromised if is_own or verdict[1] in UNPROMISED else ""))
+            f"cycles {clocks} within the precision" + (unpromised if is_own or verdict[1] == UNPROMISED else ""))
 
 
 def verdict_lines(cluster: Cluster, told: Observation) -> list[str]:
@@ -245,8 +245,9 @@ def verdict_lines(cluster: Cluster, told: Observation) -> list[str]:
         so = "so each double cycle is judged by its own numbers" if is_by_numbers(told) else "so nothing is held against the rules of sync"
         found += lines_of("Covered", f"no run of this cluster is: {why}; {so}")
     if told.numbers[0] == "premise":
-        found += lines_of("Numbers", "that each frame comes within half a cycle of the schedule is taken for granted: the limits that "
-                                     "are stated do not suffice to be sure of it of clocks in sync")
+        why = ("it is sure of clocks of a covered cluster alone" if covered[1:2] == ("check",) else
+               "the limits that are stated do not suffice to be sure of it of clocks in sync")
+        found += lines_of("Numbers", f"that each frame comes within half a cycle of the schedule is taken for granted: {why}")
     judged = (number_lines if is_by_numbers(told) else sync_lines)(cluster, told)
     return found + judged + lines_of("Verdict", verdict_text(cluster, told))
 
