@@ -77,6 +77,17 @@ class Log(Bench):
         return {one["node"]: one["says"] for one in found["blame"]}
 
 
+def kept_frames(log, network, rows):
+    """Stamp, node and channel of each frame, as `table` has them."""
+    found = []
+
+    def kept(*frame):
+        found.append(frame)
+        return frame[0]
+    log.table(network, rows, kept)
+    return found
+
+
 class Blame(Log):
     def test_a_node_that_corrects_wrongly(self):
         """It cannot be excluded, since a run in which it is arbitrary gave the log. Mostly all others are out."""
@@ -159,7 +170,7 @@ class Blame(Log):
         self.assertEqual(self.object("--blame", status=0)["blame"], [])
         self.assertFalse(os.path.exists(self.path("seen", blame.BLAME)))
         # The last frame of a node on channel B comes late.
-        last = max(ns for ns, node, channel in self.frames(network, rows) if (node, channel) == (2, "B"))
+        last = max(ns for ns, node, channel in kept_frames(self, network, rows) if (node, channel) == (2, "B"))
         self.table(network, rows, lambda ns, node, channel: ns + 5000 * (ns == last and (node, channel) == (2, "B")))
         found = self.object()
         self.assertEqual(([fault["kind"] for fault in found["faults"]], found["blame"]), (["channels"], []))
@@ -168,16 +179,6 @@ class Blame(Log):
         # What an earlier call left is gone, where it is not asked.
         self.object()
         self.assertFalse(os.path.exists(self.path("seen", blame.BLAME)))
-
-    def frames(self, network, rows):
-        """Stamp, node and channel of each frame, as `table` has them."""
-        found = []
-
-        def kept(*frame):
-            found.append(frame)
-            return frame[0]
-        self.table(network, rows, kept)
-        return found
 
     def test_irregular_frames(self):
         """That a frame of another form leaves a contradiction rests on slots that are own, which the page says."""
@@ -201,7 +202,7 @@ class Blame(Log):
         network = self.network(3)
         self.write("net.toml", toml_of(network))
         rows = network.rows(lambda double, it: 40 if it == 1 and double == 14 else 0)
-        cut = self.frames(network, rows)[len(self.frames(network, rows)) // 4][0]
+        cut = kept_frames(self, network, rows)[len(kept_frames(self, network, rows)) // 4][0]
         self.table(network, rows, lambda ns, node, channel: ns + 400_000_000 * (ns > cut))
         found = self.object()
         self.assertEqual([[one["says"] for one in part["blame"]] for part in found["parts"]], [[], ["out", "left", "out", "out"]])
@@ -270,6 +271,31 @@ class Hints(Log):
         self.assertNotIn("Hint", self.observe())
         self.table(network, rows)
         self.assertIsNone(self.object(status=0)["first"])
+
+    def test_a_count_that_begins_anew(self):
+        """From a second startup on: it is said when, and the words that are named take it alone, or what was before."""
+        network = self.network(3)
+        self.write("net.toml", toml_of(network))
+        rows = network.rows()
+        frames = [ns for ns, _, _ in kept_frames(self, network, rows)]
+        begin = frames[len(frames) // 2]
+        # Half of them come 7.4 cycles later, with the counts that they had.
+        self.table(network, rows, lambda ns, node, channel: ns + 37_000_000 * (ns >= begin))
+        found = self.object()
+        at = (begin + 37_000_000 - frames[0]) // 1000 / 10**6
+        self.assertEqual((found["anew_s"], found["faults"][0]["kind"]), (at, "cycle"))
+        text = f"from {at:.6f} s of the file on frames come as if they were counted anew"
+        self.assertIn(text, self.one_line(self.observe()))
+        for words, judged in ((("--from", str(at)), 160), (("--to", str(at)), 160)):
+            part = self.object(*words, status=0)
+            self.assertEqual((part["log"]["judged"], part["anew_s"], part["faults"]), (judged, None, []))
+        # Of a file that is cut already it is the time of the file.
+        self.assertEqual(self.object("--from", "0.02")["anew_s"], at)
+        # A frame with another count alone is none, nor is a count that jumps at the end.
+        for late in (frames[-4:], frames[100:101]):
+            self.table(network, rows, lambda ns, node, channel: ns + 37_000_000 * (ns in late))
+            found = self.object()
+            self.assertEqual((found["anew_s"], "cycle" in {fault["kind"] for fault in found["faults"]}), (None, True))
 
     def test_which_is_the_first(self):
         """Nodes by their faults and by their rows; irregular frames and faults of several nodes name none."""

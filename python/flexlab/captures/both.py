@@ -13,7 +13,7 @@ from typing import Any, NamedTuple
 from flexray.results import ObservedNode
 
 from ..base.ending import NO, REFUSED, Stop
-from ..base.files import hold, make_folder, parameter_lines, read
+from ..base.files import hold, make_folder, parameter_lines
 from ..base.units import TICKS, us_of_ticks
 from ..pages.machine import printed
 from ..pages.page import field as lines_of
@@ -21,15 +21,12 @@ from ..program import calls as programs
 from ..runs.runs import keep
 from ..toml.cluster import Cluster, read_cluster
 from .observed import MOST_FAULTS, lower, upper
-from .observer import End, is_damaged, plain
+from .numbering import COUNTS, frames_of, numbered, text_of
+from .observer import End, plain
 from .observing import Part, Seen, least_judged, parts_object, seen_in
 
 # The second log's files, in the folder of the first.
 SECOND = "second"
-# Numbers of cycles are known but for so many.
-COUNTS = 64
-# In how many ticks half a cycle is passed, and behind which silence a frame has no number, in cycles.
-SILENCE, LAST_CYCLE = 30, 199_999
 ORIGIN = ("Lengths and offset terms are those that flexray printed. Distances of action points are reckoned by flexlab, from the "
           "stamps and from the limits of delays: that is tested, and not proved.")
 KINDS = {"distance": "distances of action points", "length": "lengths of cycles", "offset": "offset terms",
@@ -104,30 +101,6 @@ class Clock:
                         high * TICKS // (TICKS + self.drift if high < 0 else TICKS - self.drift))
 
 
-@dataclass
-class Text:
-    """A log as it was written for flexray: a unit in ticks, what a stamp is off beside, the clock's drift, and limits of delays, all in
-    ticks; and the entries, each its kind, its stamp in units, its channel and its bytes."""
-    unit: int = 0
-    error: int = 0
-    drift: int = 0
-    limits: dict[End, tuple[int, int]] = field(default_factory=dict)
-    entries: list[tuple[str, int, str, bytes]] = field(default_factory=list)
-
-
-def text_of(path: str) -> Text:
-    found = Text()
-    for line in read(path).decode("ascii").splitlines():
-        kind, one, two, three, four = line.split(",")
-        if kind in ("frame", "head"):
-            found.entries.append((kind, int(one), two, bytes.fromhex(three)))
-        elif kind == "delay":
-            found.limits[End(int(one), two)] = int(three), int(four)
-        elif kind in ("unit", "error", "drift"):
-            setattr(found, kind, int(one))
-    return found
-
-
 class Witness:
     """A log, with the numbers of its cycles, and what it limits."""
 
@@ -148,37 +121,12 @@ class Witness:
             if (row.frames, row.first, row.last) != (len(ours), ours[0] if ours else None, ours[-1] if ours else None):
                 raise ValueError(f"{part.folder}: flexray numbers the frames of node {row.node} on channel {row.channel} otherwise")
 
-    def judged(self, entry: tuple[str, int, str, bytes]) -> tuple[int, int, int] | None:
-        """Node, slot and cycle count of an entry that says where a clock was: docs/OBSERVE.md, "Which frames are used"."""
-        kind, _, channel, data = entry
-        slot, words, count = (data[0] & 7) << 8 | data[1], data[2] >> 1, data[4] & 63
-        node = self.keys.get(slot)
-        if node is None or channel not in node.channels or words != self.cluster.parameters["gPayloadLengthStatic"]:
-            return None
-        if (data[0] >> 3 & 3) != 2 + node.coldstart or (self.part.told.log.damaged and is_damaged(channel, data, kind == "frame")):
-            return None
-        return node.number, slot, count
-
     def number_frames(self) -> None:
         """Gives frames the numbers of their cycles, as flexray does."""
-        values = self.cluster.parameters
-        self.keys = {node.key_slot: node for node in self.cluster.nodes.values() if node.key_slot and not node.arbitrary}
-        nominal, last = values["pMicroPerCycle"] * TICKS, None
-        for entry in self.text.entries:
-            if (told := self.judged(entry)) is None:
-                continue
-            node, slot, number = told
-            if last is not None:
-                before, before_slot, before_stamp = last
-                apart = self.text.unit * (entry[1] - before_stamp)
-                number += COUNTS * ((before + COUNTS // 2 - 1 - number) // COUNTS)
-                macroticks = (number - before) * values["gMacroPerCycle"] + (slot - before_slot) * values["gdStaticSlot"]
-                is_timely = abs(apart - macroticks * nominal // values["gMacroPerCycle"]) <= nominal // 2
-                if apart > SILENCE * nominal or not is_timely or not 0 <= number <= LAST_CYCLE or number // 2 < before // 2:
-                    continue
-            last = number, slot, entry[1]
-            self.stamps.setdefault((number, node), {}).setdefault(entry[2], entry[1])
-            self.frames.setdefault(End(node, entry[2]), []).append(number)
+        for frame, number in numbered(self.cluster, self.text.unit, frames_of(self.cluster, self.text, self.part.told.log.damaged > 0)):
+            if number is not None:
+                self.stamps.setdefault((number, frame.node), {}).setdefault(frame.channel, frame.stamp)
+                self.frames.setdefault(End(frame.node, frame.channel), []).append(number)
 
     def place(self, cycle: int, node: int) -> Interval:
         """Between which readings a node's action point lies, by all channels: flexray's `channels`, where that is empty."""

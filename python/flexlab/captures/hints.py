@@ -2,6 +2,7 @@
 from __future__ import annotations
 
 from fractions import Fraction
+from itertools import islice
 from typing import Any, NamedTuple
 
 from flexray.results import Observation
@@ -9,7 +10,8 @@ from flexray.results import Observation
 from ..base.units import TICKS
 from ..pages.page import field as lines_of
 from ..toml.cluster import Cluster
-from .observed import IRREGULAR
+from .numbering import frames_of, numbered, text_of
+from .observed import IRREGULAR, lower
 from .observer import Log, plain
 
 # Of fewer stamps a common divisor may be chance, and of fewer nodes what most of them have.
@@ -42,7 +44,19 @@ def grain_of(log: Log) -> int | None:
     return log.grain if log.entries >= STAMPS else None
 
 
-def hint_lines(cluster: Cluster, log: Log, told: Observation) -> list[str]:
+def anew_of(cluster: Cluster, path: str, told: Observation) -> int | None:
+    """The stamp from which on frames of a log come as if they were counted anew: none has a number by those before, and the next ones have
+    one by this. So it is behind a second startup, and where the analyzer's clock or all counts jumped."""
+    if not any(fault.kind == "cycle" for fault in told.faults):
+        return None
+    text = text_of(path)
+    frames = list(frames_of(cluster, text, told.log.damaged > 0))
+    last = max((at for at, (_, number) in enumerate(numbered(cluster, text.unit, frames)) if number is not None), default=-1)
+    later = [number for _, number in islice(numbered(cluster, text.unit, frames[last + 1:]), STAMPS)]
+    return frames[last + 1].stamp if len(later) == STAMPS and None not in later else None
+
+
+def hint_lines(cluster: Cluster, log: Log, told: Observation, anew: int | None) -> list[str]:
     found, grain, first = [], grain_of(log), first_of(told)
     if grain and log.error < (grain - 1) * log.unit:
         unit = log.unit * Fraction(cluster.microtick_ns) / TICKS
@@ -51,11 +65,22 @@ def hint_lines(cluster: Cluster, log: Log, told: Observation) -> list[str]:
     if first and first.is_most:
         found.append(f"{len(first.nodes)} of {first.of} nodes have a contradiction in the first double cycle that has one, {first.double}: "
                      "look first at what is stated of the analyzer, as the limits of delays, the error and the drift")
+    if anew is not None:
+        at = lower(seconds_of(cluster, log, anew), 6)
+        found.append(f"from {at} s of the file on frames come as if they were counted anew: after a second startup, or where the "
+                     f"analyzer's clock or all counts jumped; --from {at} takes these alone, and --to {at} those before")
     return lines_of("Hint", *found) if found else []
 
 
-def hints_object(log: Log, told: Observation) -> dict[str, Any]:
+def seconds_of(cluster: Cluster, log: Log, stamp: int) -> Fraction:
+    """When a frame of this stamp came, in seconds behind the first frame of the file."""
+    begin = min(frame.ns for frame in log.frames.found) - (log.frames.zero or 0)
+    return (begin + stamp * log.unit * Fraction(cluster.microtick_ns) / TICKS) / 10**9
+
+
+def hints_object(cluster: Cluster, log: Log, told: Observation, anew: int | None) -> dict[str, Any]:
     """As an object: names stand in docs/FLEXLAB.md, "For machines"."""
     first = first_of(told)
     return {"grain": {"units": grain_of(log), "unit_ticks": log.unit, "error_ticks": log.error},
-            "first": None if first is None else {"double_cycle": first.double, "nodes": first.nodes, "of": first.of}}
+            "first": None if first is None else {"double_cycle": first.double, "nodes": first.nodes, "of": first.of},
+            "anew_s": None if anew is None else float(lower(seconds_of(cluster, log, anew), 6))}

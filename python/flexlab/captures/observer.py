@@ -94,7 +94,8 @@ class Observer:
 class Frames:
     """The frames of a file that keeps times in steps of so many ns; how many were left out, by reason; the columns that were
     read, where these are not stated by their names; how often a counter of stamps began anew, and how often one fell as far and did
-    not; which part of the file was asked for, in words; and whether frames of key slots may be lost beside what these tell."""
+    not; which part of the file was asked for, in words; when its first frame came; and whether frames of key slots may be lost
+    beside what these tell."""
     path: str
     step: Fraction
     found: list[Seen]
@@ -103,6 +104,7 @@ class Frames:
     wraps: int = 0
     falls: int = 0
     part: str = ""
+    zero: Fraction | None = None
     is_lossy: bool = False
 
     def leave(self, reason: str, count: int = 1) -> None:
@@ -360,9 +362,10 @@ def read_frames(cluster: Any, path: str, columns: str | None, unit: str, most: i
 
 def cut_out(frames: Frames, begin: Fraction | None, end: Fraction | None) -> None:
     """Keeps the frames from one time on and before another, in seconds behind the first frame of the file."""
+    zero, giga = min((frame.ns for frame in frames.found), default=Fraction(0)), 10**9
+    frames.zero = zero
     if not frames.found or (begin is None and end is None):
         return
-    zero, giga = min(frame.ns for frame in frames.found), 10**9
     kept = [frame for frame in frames.found if (begin is None or frame.ns >= zero + begin * giga)
             and (end is None or frame.ns < zero + end * giga)]
     frames.leave(OUTSIDE, len(frames.found) - len(kept))

@@ -8,6 +8,7 @@ import sys
 from argparse import Namespace
 from collections.abc import Sequence
 from dataclasses import replace
+from fractions import Fraction
 from typing import Any, NamedTuple
 
 from flexray import texts
@@ -22,7 +23,7 @@ from ..program.report import understood
 from ..runs.runs import answer, keep
 from ..toml.cluster import Cluster, read_cluster
 from .blame import BLAME, Blamed, blame_lines, blame_object, blame_rows, blamed, is_asked
-from .hints import hint_lines, hints_object
+from .hints import anew_of, hint_lines, hints_object
 from .observed import draw_observed, observed_object, page_lines
 from .observer import Frames, Log, Observer, taken, write_log
 from .parts import SILENCE, WORST, begins, parts_of, span_of
@@ -57,13 +58,15 @@ class Part(NamedTuple):
     told: Observation
     folder: str
     blame: Sequence[Blamed] = ()
+    anew: int | None = None
 
     def page(self, cluster: Cluster, name: str) -> list[str]:
-        more = blame_lines(cluster, self.blame) + hint_lines(cluster, self.log, self.told)
+        more = blame_lines(cluster, self.blame) + hint_lines(cluster, self.log, self.told, self.anew)
         return page_lines(cluster, self.told, self.log, name, more)
 
     def object(self, cluster: Cluster) -> dict[str, Any]:
-        return {**observed_object(cluster, self.told, self.log), "blame": blame_object(self.blame), **hints_object(self.log, self.told)}
+        return {**observed_object(cluster, self.told, self.log), "blame": blame_object(self.blame),
+                **hints_object(cluster, self.log, self.told, self.anew)}
 
 
 def asked(program: str, cluster: Cluster, params: str, folder: str, log: tuple[Observer, Frames]) -> Part:
@@ -91,12 +94,13 @@ def all_parts(program: str, cluster: Cluster, params: str, folder: str, observer
 
 def with_blame(program: str, cluster: Cluster, params: str, part: Part, always: bool) -> Part:
     """A part with what is told of each node, which goes into its folder; one of an earlier call goes away."""
-    path = os.path.join(part.folder, BLAME)
+    path, log = os.path.join(part.folder, BLAME), os.path.join(part.folder, LOG)
+    part = part._replace(anew=anew_of(cluster, log, part.told))
     if not is_asked(part.told, always):
         with contextlib.suppress(FileNotFoundError):
             os.unlink(path)
         return part
-    found = blamed(program, cluster, params, os.path.join(part.folder, LOG))
+    found = blamed(program, cluster, params, log)
     put(path, "".join(blame_rows(found)), "ascii")
     return part._replace(blame=found)
 
@@ -115,8 +119,7 @@ def pages_of(cluster: Cluster, parts: list[Part], name: str) -> list[str]:
 
 
 def spans_of(parts: list[Part]) -> list[str]:
-    zero = min(frame.ns for part in parts for frame in part.log.frames.found)
-    return [span_of(part.log.frames, zero) for part in parts]
+    return [span_of(part.log.frames, part.log.frames.zero or Fraction(0)) for part in parts]
 
 
 def parts_object(cluster: Cluster, parts: list[Part]) -> dict[str, Any]:
