@@ -1,6 +1,6 @@
-"""Which node it may have been: logs of networks whose nodes correct wrongly (tools/tests/clocks_peer.py) are held against each node, and what
-is told of it is what another program reckons of that log; and hints at what is stated wrongly of an analyzer. FLEXLAB_BLAME_LOGS is
-how many networks are taken (6)."""
+"""Which node it may have been: logs of networks whose nodes correct wrongly (tools/tests/clocks_peer.py) are held against each node, and
+what is told of it is what another program reckons of that log; and hints at what is stated wrongly of an analyzer. FLEXLAB_BLAME_LOGS
+is how many networks are taken (6)."""
 import dataclasses
 import json
 import os
@@ -29,7 +29,7 @@ def toml_of(network, arbitrary=()):
     return ("[bench]\nmicrotick_ns = 25\n[cluster]\n" + "".join(f"{name} = {value}\n" for name, value in values)
             + "[limits]\n" + "".join(f"{key} = {network.values[name]}\n" for name, key in limits.items())
             + f"[run]\ndouble_cycles = {network.doubles}\n{nodes}[observer]\nresolution_ns = 1\ndrift_ppm = 0\njitter_ns = 0\n"
-            + f"missed_none = true\ndelay_from_ns = 25\ndelay_to_ns = 26\n")
+            "missed_none = true\ndelay_from_ns = 25\ndelay_to_ns = 26\n")
 
 
 class Log(Bench):
@@ -113,9 +113,9 @@ class Blame(Log):
         self.table(network, network.rows(lambda double, it: 40 if it == 1 and double >= 12 else 0))
         page = self.one_line(self.observe())
         self.assertRegex(page, r"Blame node 1 is out: there is still cycle 25, node 2: an offset term of 4\d to 4\d microticks, and by all "
-                               r"that were seen -?\d to 1?\d node 2 cannot be excluded: no contradiction is left, and 20 of 20 double cycles "
-                               r"are judged node 3 is out: .* node 4 is out: .* if one node alone was at fault, no frame was lost on the "
-                               r"bus, and all that is stated is so, it is node 2 ")
+                               r"that were seen -?\d to 1?\d node 2 cannot be excluded: no contradiction is left, and 20 of 20 double "
+                               r"cycles are judged node 3 is out: .* node 4 is out: .* if one node alone was at fault, no frame was lost on "
+                               r"the bus, and all else is as the verdict has it, it is node 2 ")
         self.assertNotIn("no other sender takes the ID", page)
         self.assertIn("seen/: params.csv, log.csv, observed.csv, blame.csv, observed.txt", page)
         self.assertIn("Blame           node 1 is out", self.read("seen", "observed.txt"))
@@ -131,7 +131,7 @@ class Blame(Log):
             self.table(network, network.rows(lambda double, it: 60 if it < 2 and double == 12 else 0))
             self.assertEqual(set(self.held(self.object()).values()), {"out"})
             page = self.one_line(self.observe())
-            self.assertIn("no node alone was at fault: several were, or a frame was lost on the bus, or the analyzer", page)
+            self.assertIn("no node alone was at fault, if all else is as the verdict has it: several were, or a frame was lost", page)
             self.assertNotIn("it is node", page)
             self.assertNotIn("cannot be excluded", page)
 
@@ -143,8 +143,8 @@ class Blame(Log):
         found = self.object()
         self.assertEqual(self.held(found), {1: "open", 2: "open", 3: "open"})
         self.assertEqual({one["kind"] for one in found["blame"]}, {"count"})
-        self.assertIn("node 1 cannot be excluded: no contradiction is left, but no double cycle is judged, since 2 correct nodes with a key "
-                      "slot do not outweigh 1 arbitrary ones", self.one_line(self.observe()))
+        self.assertIn("node 1 cannot be excluded: no contradiction is left, but no double cycle is judged, since 2 correct nodes with a "
+                      "key slot do not outweigh 1 arbitrary ones", self.one_line(self.observe()))
 
     def test_beside_a_node_that_is_named(self):
         """A node that the file names arbitrary is held against nothing, and stays arbitrary."""
@@ -195,8 +195,8 @@ class Blame(Log):
         found = self.object("--blame")
         self.assertEqual([fault["kind"] for fault in found["faults"]], ["form"])
         self.assertEqual(self.held(found), {1: "out", 2: "out", 3: "left", 4: "out"})
-        self.assertIn("it is node 3; a frame of another form, or on a channel that its node does not have, counts as a contradiction, which "
-                      "takes for granted that no other sender takes the ID of a node", self.one_line(self.observe("--blame")))
+        self.assertIn("it is node 3; a frame of another form, or on a channel that its node does not have, counts as a contradiction, "
+                      "which takes for granted that no other sender takes the ID of a node", self.one_line(self.observe("--blame")))
 
     def test_each_part_and_each_log(self):
         network = self.network(3)
@@ -263,8 +263,8 @@ class Hints(Log):
         self.table(network, rows, lambda ns, node, channel: ns + 200 * (channel == "B"))
         found = self.object()
         self.assertEqual(found["first"], {"double_cycle": 0, "nodes": [1, 2, 3, 4], "of": 4})
-        self.assertIn("Hint 4 of 4 nodes have a contradiction in the first double cycle that has one, 0: look first at what is stated of the "
-                      "analyzer, as the limits of delays, the error and the drift", self.one_line(self.observe()))
+        self.assertIn("Hint 4 of 4 nodes have a contradiction in the first double cycle that has one, 0: look first at what is stated of "
+                      "the analyzer, as the limits of delays, the error and the drift", self.one_line(self.observe()))
         self.table(network, network.rows(lambda double, it: 40 if it == 1 and double == 12 else 0))
         found = self.object()
         self.assertEqual(found["first"], {"double_cycle": 12, "nodes": [2], "of": 4})

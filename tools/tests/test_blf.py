@@ -193,12 +193,13 @@ class Blf(Bench):
         packed = blf_file(self.items(made))
         begin = packed.index(b"LOBJ", packed.index(b"LOBJ", packed.index(b"LOBJ") + 4) + 4)
         broken = packed[:begin + 60] + bytes(byte ^ 0x55 for byte in packed[begin + 60:begin + 90]) + packed[begin + 90:]
-        for data, reasons in ((bytes(damaged), {blf.STRAY}), (whole[:len(whole) // 2], {blf.SHORTER}), (packed[:len(packed) // 2], {blf.SHORTER}),
-                              (broken, {blf.SHORTER, blf.STRAY})):
+        for data, reasons in ((bytes(damaged), {blf.STRAY}), (whole[:len(whole) // 2], {blf.SHORTER}),
+                              (packed[:len(packed) // 2], {blf.SHORTER}), (broken, {blf.SHORTER, blf.STRAY})):
             self.keep("bus.blf", data)
             lost = blf.read_blf(self.path("bus.blf")).lost
             self.assertEqual(set(lost), reasons | {blf.MISSING})
-            kept, wanted = ([(one.ns, one.channel, one.frame) for one in some] for some in (blf.read_blf(self.path("bus.blf")).packets, made))
+            kept, wanted = ([(one.ns, one.channel, one.frame) for one in some]
+                            for some in (blf.read_blf(self.path("bus.blf")).packets, made))
             self.assertEqual([frame for frame in wanted if frame in kept], kept)
             self.assertEqual(lost[blf.MISSING], len(made) - len(blf.read_blf(self.path("bus.blf")).packets))
             log, told = self.log("bus.blf")

@@ -86,10 +86,10 @@ def blame_lines(cluster: Cluster, found: Sequence[Blamed]) -> list[str]:
     words = {"out": "is out: there is still", "left": "cannot be excluded:", "open": "cannot be excluded:"}
     lines = [f"node {cluster.called(one.node)} {words[one.says]} {one.told}" for one in found]
     some, beside = [one.node for one in found if one.says != "out"], " beside those that are named arbitrary" if cluster.arbitrary else ""
-    lines.append(f"if one node alone{beside} was at fault, no frame was lost on the bus, and all that is stated is so, it is node "
+    lines.append(f"if one node alone{beside} was at fault, no frame was lost on the bus, and all else is as the verdict has it, it is node "
                  f"{listed(cluster, some)}" if some else
-                 f"no node alone{beside} was at fault: several were, or a frame was lost on the bus, or the analyzer or something that is "
-                 "stated is wrong")
+                 f"no node alone{beside} was at fault, if all else is as the verdict has it: several were, or a frame was lost on the bus, "
+                 "or the analyzer or something that is stated is wrong")
     if any(one.kind in IRREGULAR for one in found):
         lines[-1] += OWN
     return lines_of("Blame", *lines)
