@@ -91,7 +91,8 @@ class Rows(Bench):
 
     def test_no_word_is_against_a_row(self):
         said = set()
-        for seed in range(ROWS):
+        # In the last two sync is seen.
+        for seed in [*range(ROWS), 166, 188]:
             with self.subTest(seed=seed):
                 cluster, told = self.of_production(seed) if seed % 2 else self.told(seed // 2)
                 lines = observed.skew_lines(cluster, told) + observed.verdict_lines(cluster, told) + observed.fault_lines(cluster, told)
