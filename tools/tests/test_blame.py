@@ -114,8 +114,8 @@ class Blame(Log):
         page = self.one_line(self.observe())
         self.assertRegex(page, r"Blame node 1 is out: there is still cycle 25, node 2: an offset term of 4\d to 4\d microticks, and by all "
                                r"that were seen -?\d to 1?\d node 2 cannot be excluded: no contradiction is left, and 20 of 20 double "
-                               r"cycles are judged node 3 is out: .* node 4 is out: .* if one node alone was at fault, no frame was lost on "
-                               r"the bus, and all else is as the verdict has it, it is node 2 ")
+                               r"cycles are judged node 3 is out: .* node 4 is out: .* if one node alone was at fault, no frame was lost "
+                               r"on the bus, and all else is as the verdict has it, it is node 2 ")
         self.assertNotIn("no other sender takes the ID", page)
         self.assertIn("seen/: params.csv, log.csv, observed.csv, blame.csv, observed.txt", page)
         self.assertIn("Blame           node 1 is out", self.read("seen", "observed.txt"))
