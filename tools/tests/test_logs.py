@@ -226,7 +226,7 @@ class Logs(Bench):
             with self.subTest(seed=seed):
                 found = self.observed(self.sent(text))
                 self.assertEqual(found["log"]["judged"], found["entries"])
-                self.assertEqual(found["faults"], [])
+                self.assertEqual((found["faults"], found["differs"], found["blame"], found["first"], found["anew_s"]), ([], [], [], None, None))
                 self.assertIn(found["verdict"][0], ("within", "partly", "open"))
                 held += self.hold(found)
         self.assertGreater(held, 30 * CLUSTERS)
