@@ -686,16 +686,18 @@ class Progress:
         met = known if untold else double.seen() if known is None else Known(*map(min, known, double.seen()))
         unfit = params.unfit(met) if met else None
         why = None if met and not unfit else untold or (*unfit, 2 * double.double, "-")
-        found, spread, self.known = [], [], None
+        moved, terms, spread, self.known = [], [], [], None
         if not why:
             apart = params.apart(self.heard, met)
-            found += double.skewed(apart) + double.terms("offset") + double.terms("rate")
+            moved += double.skewed(apart)
+            terms += double.terms("offset") + double.terms("rate")
             spread = [["spread", double.double, *met, apart]]
         if known:
-            found += double.beyond(known) + double.missing()
-        if not why and not found:
+            moved += double.beyond(known)
+            terms += double.missing()
+        if not why and not moved:
             self.known = params.behind(self.heard, met)
-        return found, why, spread
+        return moved + terms, why, spread
 
     def sync_fields(self):
         sync = self.sync if not self.heard else (self.judged[0][0] // 2, "judged") if self.judged else None

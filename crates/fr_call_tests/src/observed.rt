@@ -55,8 +55,7 @@ cycles,0,3,3,0,1,,\n\
 verdict,within,0,2,,,,\n\
 ",
     ),
-    // Node 1 applies an offset term that it cannot have computed: what is known of the next double cycle is seen there
-    // alone.
+    // Node 1 applies an offset term that it cannot have computed: what is known of the next double cycle stays.
     (
         TWO_ON_A,
         "\
@@ -81,7 +80,7 @@ cycle,2,2,3479448,6560752,within,,\n\
 cycle,3,2,3479800,-,open,,\n\
 node,1,1,199999960000,200000040000,-,-,\n\
 node,1,2,199999960000,200000040000,-,-,\n\
-spread,1,5560552,80000,0,7720952,,\n\
+spread,1,4080600,80000,0,6241000,,\n\
 sender,1,A,4,0,3,0,\n\
 sender,2,A,4,0,3,0,\n\
 log,8,0,0,0,0,0,\n\
@@ -177,6 +176,51 @@ numbers,premise,,,,,,\n\
 sync,0,judged,2,3,unseen,2,2\n\
 cycles,0,5,2,0,4,,\n\
 verdict,no,2,missing,2,,,\n\
+",
+    ),
+    // So it does not hide that node 2 drops out.
+    (
+        TWO_ON_A,
+        "\
+whole,,,,\n\
+head,7000,A,3801006F00,\n\
+head,37062,A,380200E8C0,\n\
+head,5007000,A,3801006F01,\n\
+head,5037062,A,380200E8C1,\n\
+head,10007150,A,3801006F02,\n\
+head,15007150,A,3801006F03,\n\
+head,15037037,A,380200E8C3,\n\
+head,20007150,A,3801006F04,\n\
+head,20037037,A,380200E8C4,\n\
+head,25007150,A,3801006F05,\n\
+head,25037037,A,380200E8C5,\n\
+",
+        "\
+precision,124018000,,,,,,\n\
+cycle,0,2,1439448,4520752,within,,\n\
+cycle,1,2,1439800,131494981,open,,\n\
+node,0,1,199999960000,200000040000,5,7,\n\
+node,0,2,199999960000,200000040000,-127,125,\n\
+fault,1,1,offset,5,7,0,2\n\
+spread,0,3520552,80000,0,5680952,,\n\
+cycle,2,2,0,131494981,open,,\n\
+cycle,3,2,2562324,128185805,open,,\n\
+node,1,1,199999960000,200000040000,-1,1,\n\
+node,1,2,199876016800,200124016800,-124,124,\n\
+fault,2,2,missing,A,-,-,-\n\
+cycle,4,2,3479448,6560752,within,,\n\
+cycle,5,2,3479800,-,open,,\n\
+node,2,1,199999960000,200000040000,-,-,\n\
+node,2,2,199999960000,200000040000,-,-,\n\
+spread,2,5560552,80000,0,7720952,,\n\
+sender,1,A,6,0,5,0,\n\
+sender,2,A,5,0,5,1,\n\
+log,11,0,0,0,0,0,\n\
+covered,no,check,1,0,3000400,,\n\
+numbers,premise,,,,,,\n\
+sync,0,judged,2,3,unseen,2,2\n\
+cycles,0,5,2,0,4,,\n\
+verdict,no,1,offset,1,,,\n\
 ",
     ),
     // Beside a node that may send anything.

@@ -15,7 +15,7 @@ use Rattle.fr_cluster.specs.Values.{Values}
 use Rattle.fr_log.specs.View.{LogView}
 use Rattle.fr_course.specs.declared.scales.Scale.{Scale}
 use Rattle.fr_observe.specs.Faults.{fault_row, faults_in_sync, first_of_faults, sync_behind}
-use Rattle.fr_judging.specs.Knowing.{standing_faults}
+use Rattle.fr_judging.specs.Knowing.{moving_faults, standing_faults, term_faults}
 use Rattle.fr_observe.specs.Telling.{TellsFaults}
 use Rattle.fr_observe.specs.declared.fault.Fault.{Fault}
 use Rattle.fr_observe.specs.declared.fault.LogSpan.{LogSpan}
@@ -23,7 +23,7 @@ use Rattle.fr_observe.specs.declared.fault.SyncFrom.{SyncFrom}
 use Rattle.fr_judging.specs.declared.knowing.Standing.{Standing}
 use Rattle.fr_judging.specs.declared.obstacle.Obstacle.{Obstacle}
 use Rattle.fr_observe.specs.declared.scene.Scene.{Scene}
-use Rattle.fr_observe.proofs.Told.{told_cut}
+use Rattle.fr_observe.proofs.Told.{told_cut, told_then}
 use Rattle.fr_sightings.specs.Ranges.{AreSeenFrom}
 use Rattle.fr_sightings.specs.Senders.{double_of, sightings_in}
 use Rattle.fr_sightings.specs.Sightings.{OffendingFrames}
@@ -33,7 +33,7 @@ use Rattle.fr_findings.specs.Counting.{AreFewCycles, counted, is_open, is_over, 
 use Rattle.fr_observe.specs.Observing.{both_say, cycle_row, cycles_text, doubles_between, seen_doubles}
 use Rattle.fr_findings.specs.Ground.{CountsFew, basis_in, double_in, scene_in}
 use Rattle.fr_observe.specs.Skews.{AreSkews}
-use Rattle.fr_findings.specs.Verdict.{Basis, DoubleCycle, double_at, double_told, double_with, even_says, is_judged, judged_by, known_told, no_progress, odd_says, progress_of, progress_told, sightings_before, standing_told, sync_told, told_of_doubles, unless_synced}
+use Rattle.fr_findings.specs.Verdict.{Basis, DoubleCycle, double_at, double_told, double_with, even_says, is_judged, judged_by, known_told, moving_told, no_progress, odd_says, progress_of, progress_told, sightings_before, standing_told, sync_told, told_of_doubles, unless_synced}
 use Rattle.fr_findings.specs.declared.counts.Counts.{Counts}
 use Rattle.fr_judging.specs.declared.coverable.Coverable.{Coverable}
 use Rattle.fr_findings.specs.declared.ground.Double.{Double}
@@ -96,6 +96,33 @@ unfolding known_told
 known-is g d scene st known scene_is st_is = λ i.
     standing_faults (scene_is i).params.now (scene_is i).scale.now (scene_is i).log.now (scene_is i).span (scene_is i).before.now (scene_is i).here.now (scene_is i).number
     (scene_is i).senders.now (st_is i)
+
+-- and those of skews, starts and lengths among it
+pub moving-is : (g : Ground) (d : Double) (scene : Scene) (st : Standing) (known : Option Known) → scene ≡ scene_in g d → st ≡ standing_told (basis_in g) (double_in d) known
+    → moving_faults scene.params.now scene.scale.now scene.number scene.senders.now st ≡ moving_told (basis_in g) (double_in d) known
+unfolding moving_told
+moving-is g d scene st known scene_is st_is = λ i. moving_faults (scene_is i).params.now (scene_is i).scale.now (scene_is i).number (scene_is i).senders.now (st_is i)
+
+-- they are told first, and then the others
+module _ (scene : Scene) (st : Standing) where
+  abbrev moving_of : List Fault
+  moving_of = moving_faults scene.params.now scene.scale.now scene.number scene.senders.now st
+
+  abbrev terms_of : List Fault
+  terms_of = term_faults scene.params.now scene.scale.now scene.log.now scene.span scene.before.now scene.here.now scene.number scene.senders.now st
+
+  abbrev all_of : List Fault
+  all_of = standing_faults scene.params.now scene.scale.now scene.log.now scene.span scene.before.now scene.here.now scene.number scene.senders.now st
+
+  pub moving-cut : {fault : PutFault} {a b : Sunk} {x y : Option Fault} (result : Result (Unit {0}) PutFault) → TellsFaults (Err fault) a b x y moving_of → IsErr result
+      → TellsFaults result a b x y all_of
+  unfolding standing_faults
+  moving-cut result one is = told_cut result terms_of one is
+
+  pub moving-then : {done : Unit {0}} {a b c : Sunk} {x y z : Option Fault} (result : Result (Unit {0}) PutFault) → TellsFaults (Ok done) a b x y moving_of
+      → TellsFaults result b c y z terms_of → TellsFaults result a c x z all_of
+  unfolding standing_faults
+  moving-then result one next = told_then result one next
 
 -- ---- the text of a double cycle
 

@@ -12,7 +12,7 @@ use Rattle.fr_course.specs.Readings.{reading_scale}
 use Rattle.fr_course.specs.declared.scales.Scale.{Scale}
 use Rattle.fr_judging.specs.Coverables.{coverable_of, heard_by, is_coverable, uncoverable}
 use Rattle.fr_observe.specs.Faults.{before_in_sync, fault_row, faults_in_sync, first_of_faults, is_nil, is_sync_seen, own_faults, slot_faults, sync_behind, sync_faults}
-use Rattle.fr_judging.specs.Knowing.{known_next, known_obstacle, spread_told, standing_faults, standing_of}
+use Rattle.fr_judging.specs.Knowing.{known_next, known_obstacle, moving_faults, spread_told, standing_faults, standing_of}
 use Rattle.fr_findings.specs.Counting.{counted, no_cycles_told}
 use Rattle.fr_observe.specs.Observing.{both_say, double_rows, even_high, even_low, odd_high, odd_low, says_of, seen_doubles}
 use Rattle.fr_judging.specs.Obstacles.{farther, sync_obstacle}
@@ -140,9 +140,13 @@ unfoldable pub known_told : Basis → DoubleCycle → Option Known → List Faul
 known_told b d known =
     standing_faults b.params b.scale b.log b.span d.before d.here d.number d.senders (standing_told b d known)
 
--- what is known of the next one
+-- those of its skews, starts and lengths
+unfoldable pub moving_told : Basis → DoubleCycle → Option Known → List Fault
+moving_told b d known = moving_faults b.params b.scale d.number d.senders (standing_told b d known)
+
+-- what is known of the next one, where there are none of these
 abbrev pub known_next_told : Basis → DoubleCycle → Option Known → Option Known
-known_next_told b d known = known_next b.params (standing_told b d known) (is_nil (known_told b d known))
+known_next_told b d known = known_next b.params (standing_told b d known) (is_nil (moving_told b d known))
 
 -- all faults of it, where the cluster is in sync from there on, and so much is known of it
 unfoldable pub faults_told : Basis → DoubleCycle → Option SyncFrom → Option Known → List Fault

@@ -16,8 +16,8 @@ use crate::progress::Progress;
 use fr_base::{PutFault, Sink};
 use fr_bound::Known;
 use fr_judging::{
-    Coverable, Obstacle, Standing, known_next, known_obstacle, put_standing_faults, standing,
-    sync_behind, sync_obstacle,
+    Coverable, Obstacle, Standing, known_next, known_obstacle, put_moving_faults, put_term_faults,
+    standing, sync_behind, sync_obstacle,
 };
 use fr_observe::{Fault, Scene, SyncFrom, put_own_faults, put_slot_faults, put_sync_faults};
 use fr_sightings::Sighting;
@@ -274,11 +274,14 @@ pub(crate) fn put_faults<'a, O: Sink>(
     let (sync, unsynced) = sync_of(ground, double, *told, progress.sync);
     let mut in_sync = None;
     put_where_synced(ground, double, sync, &mut in_sync, out)?;
-    let mut against = None;
-    put_standing_faults(&scene_of(ground, double), standing, &mut against, out)?;
+    let scene = scene_of(ground, double);
+    let mut moved = None;
+    put_moving_faults(&scene, standing, &mut moved, out)?;
+    let mut against = moved;
+    put_term_faults(&scene, standing, &mut against, out)?;
     let obstacle = obstacle_of(ground, double, standing, *told, unsynced);
     progress.sync = sync;
-    progress.known = known_next(ground.params, standing, against.is_none());
+    progress.known = known_next(ground.params, standing, moved.is_none());
     let before = earlier(progress.first, *told);
     let behind = earlier(in_sync, against);
     progress.first = earlier(before, behind);

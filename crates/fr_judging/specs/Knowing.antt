@@ -85,7 +85,7 @@ judged_met st = if st.is_judged then st.met else None
 abbrev pub JudgedBySmall : Standing → Type 0
 JudgedBySmall st = IfSome (judged_met st) IsSmall
 
--- what is known of the next one, where nothing known contradicts this one
+-- what is known of the next one, where this one is clear: neither its skews nor its starts and lengths contradict its numbers
 abbrev pub known_next_by : Values → Option Heard → Option Known → Option Known
 known_next_by p None judged = None
 known_next_by p (Some what) judged = option_map (known_after what p (stated_flutter p)) judged
@@ -109,19 +109,10 @@ known_obstacle p l here double st told =
 
 -- ---- what contradicts it
 
--- what is known of it from the one before, which was judged; `before` are the sightings of that
-unfoldable pub known_faults : Values → Scale → LogView → LogSpan → List Sighting → List Sighting → ℕ → List Sender → Option Known → List Fault
-known_faults p scale l span before here double senders None = []
-known_faults p scale l span before here double senders (Some known) =
-    option_to_list (beyond_fault Start (2 * double) (pos known.spread.starts) (starts_apart scale (courses_of senders)))
-    ++ option_to_list (beyond_fault Lengths (2 * double) (pos known.spread.lengths) (lengths_apart scale (courses_of senders)))
-    ++ filter_map (length_beyond p scale known.beyond double) senders
-    ++ missing_frames p l span before here double
-
--- what is judged by its own numbers
-unfoldable pub judged_faults : Values → Scale → ℕ → List Sender → Heard → Option Known → List Fault
-judged_faults p scale double senders what None = []
-judged_faults p scale double senders what (Some met) =
+-- its skews, where it is judged by its own numbers
+unfoldable pub judged_skews : Values → Scale → ℕ → List Sender → Heard → Option Known → List Fault
+judged_skews p scale double senders what None = []
+judged_skews p scale double senders what (Some met) =
     option_to_list
     (
     skew_fault (pos (apart_through what p (stated_flutter p) met)) (2 * double) (even_low scale senders) (even_high scale senders)
@@ -130,17 +121,44 @@ judged_faults p scale double senders what (Some met) =
     (
     skew_fault (pos (apart_through what p (stated_flutter p) met)) (2 * double + 1) (odd_low scale senders) (odd_high scale senders)
     )
-    ++ filter_map (offset_fault p scale double senders) senders
-    ++ filter_map (rate_fault p scale double senders) senders
 
--- both
-abbrev pub faults_heard : Values → Scale → LogView → LogSpan → List Sighting → List Sighting → ℕ → List Sender → Standing → Option Heard → List Fault
-faults_heard p scale l span before here double senders st None = []
-faults_heard p scale l span before here double senders st (Some what) =
-    judged_faults p scale double senders what (judged_met st) ++ known_faults p scale l span before here double senders st.known
+-- its starts and lengths, where they are known from the one before, which was judged
+unfoldable pub known_apart : Values → Scale → ℕ → List Sender → Option Known → List Fault
+known_apart p scale double senders None = []
+known_apart p scale double senders (Some known) =
+    option_to_list (beyond_fault Start (2 * double) (pos known.spread.starts) (starts_apart scale (courses_of senders)))
+    ++ option_to_list (beyond_fault Lengths (2 * double) (pos known.spread.lengths) (lengths_apart scale (courses_of senders)))
+    ++ filter_map (length_beyond p scale known.beyond double) senders
 
+-- both: behind one of these nothing is known of the next double cycle
+abbrev pub moving_heard : Values → Scale → ℕ → List Sender → Standing → Option Heard → List Fault
+moving_heard p scale double senders st None = []
+moving_heard p scale double senders st (Some what) =
+    judged_skews p scale double senders what (judged_met st) ++ known_apart p scale double senders st.known
+
+unfoldable pub moving_faults : Values → Scale → ℕ → List Sender → Standing → List Fault
+moving_faults p scale double senders st = moving_heard p scale double senders st st.heard
+
+-- its terms, where it is judged
+unfoldable pub judged_terms : Values → Scale → ℕ → List Sender → Option Known → List Fault
+judged_terms p scale double senders None = []
+judged_terms p scale double senders (Some met) =
+    filter_map (offset_fault p scale double senders) senders ++ filter_map (rate_fault p scale double senders) senders
+
+-- frames that are missing, where something is known from the one before; `before` are the sightings of that
+unfoldable pub known_missing : Values → LogView → LogSpan → List Sighting → List Sighting → ℕ → Option Known → List Fault
+known_missing p l span before here double None = []
+known_missing p l span before here double (Some known) = missing_frames p l span before here double
+
+-- both: these end nothing that is known
+unfoldable pub term_faults : Values → Scale → LogView → LogSpan → List Sighting → List Sighting → ℕ → List Sender → Standing → List Fault
+term_faults p scale l span before here double senders st =
+    judged_terms p scale double senders (judged_met st) ++ known_missing p l span before here double st.known
+
+-- all
 unfoldable pub standing_faults : Values → Scale → LogView → LogSpan → List Sighting → List Sighting → ℕ → List Sender → Standing → List Fault
-standing_faults p scale l span before here double senders st = faults_heard p scale l span before here double senders st st.heard
+standing_faults p scale l span before here double senders st =
+    moving_faults p scale double senders st ++ term_faults p scale l span before here double senders st
 
 -- ---- as a record
 

@@ -12,6 +12,6 @@ mod synced;
 pub use coverable::Coverable;
 pub use knowing::Standing;
 pub use obstacle::{Obstacle, ObstacleKind};
-pub use standing_faults::{put_spread, put_standing_faults};
+pub use standing_faults::{put_moving_faults, put_spread, put_term_faults};
 pub use standings::{known_next, known_obstacle, standing};
 pub use synced::{sync_behind, sync_obstacle};

@@ -2,7 +2,7 @@ ghost use Rattle.std.specs.Prelude.{◌≡◌, ◌++◌, IfSome, Some, filter_ma
 ghost use Rattle.fr_base.specs.Device.{Puts};
 ghost use Rattle.fr_bound.specs.Judged.{IsSmall};
 ghost use Rattle.fr_observe.specs.Faults.{length_beyond, missing_frames, offset_fault, rate_fault};
-ghost use Rattle.fr_judging.specs.Knowing.{JudgedBySmall, faults_heard, judged_faults, known_faults, spread_heard, spread_row, spread_told, standing_faults};
+ghost use Rattle.fr_judging.specs.Knowing.{JudgedBySmall, judged_skews, judged_terms, known_apart, known_missing, moving_faults, moving_heard, spread_heard, spread_row, spread_told, term_faults};
 ghost use Rattle.fr_observe.specs.Scenes.{IsScene};
 ghost use Rattle.fr_observe.specs.Telling.{TellsFaults, apart_faults, skew_faults};
 
@@ -15,8 +15,8 @@ use fr_observe::{Asked, Fault, Scene, put_apart, put_missing, put_of_senders, pu
 use fr_text::Piece::{Natural, Word};
 use fr_text::{Line, put_line, row_of};
 
-// What contradicts a double cycle in which macroticks may lie so far apart, in ticks.
-fn put_judged_by<O: Sink>(
+// The skews of a double cycle in which macroticks may lie so far apart, in ticks.
+fn put_skews_by<O: Sink>(
     apart: u64,
     scene: &Scene<'_>,
     first: &mut Option<Fault>,
@@ -24,27 +24,14 @@ fn put_judged_by<O: Sink>(
 ) -> Result<(), PutFault>
     requires { IsScene scene.now }
     ensures { TellsFaults result (O.state out.old) (O.state out.new) first.old first.new
-        (skew_faults (pos apart) scene.now.scale.now scene.now.number scene.now.senders.now
-        ++ filter_map (offset_fault scene.now.params.now scene.now.scale.now scene.now.number scene.now.senders.now)
-        scene.now.senders.now
-        ++ filter_map (rate_fault scene.now.params.now scene.now.scale.now scene.now.number scene.now.senders.now)
-        scene.now.senders.now) }
+        (skew_faults (pos apart) scene.now.scale.now scene.now.number scene.now.senders.now) }
 {
-    let Scene {
-        params,
-        scale,
-        number,
-        senders,
-        ..
-    } = *scene;
-    put_skews(i128::from(apart), scene, first, out)?;
-    put_of_senders(Asked::Offset, scale, params, number, senders, first, out)?;
-    put_of_senders(Asked::Rate, scale, params, number, senders, first, out)
+    put_skews(i128::from(apart), scene, first, out)
 }
 
-// What contradicts one that is judged by its own numbers.
-#[tactic(auto, unfolding(crate::specs::Knowing::judged_faults))]
-fn put_judged<O: Sink>(
+// Those of one that is judged by its own numbers.
+#[tactic(auto, unfolding(crate::specs::Knowing::judged_skews))]
+fn put_judged_skews<O: Sink>(
     scene: &Scene<'_>,
     what: Heard,
     met: Option<Known>,
@@ -54,20 +41,20 @@ fn put_judged<O: Sink>(
     requires scene { IsScene scene.now }
     requires small { IfSome met IsSmall }
     ensures { TellsFaults result (O.state out.old) (O.state out.new) first.old first.new
-        (judged_faults scene.now.params.now scene.now.scale.now scene.now.number scene.now.senders.now what met) }
+        (judged_skews scene.now.params.now scene.now.scale.now scene.now.number scene.now.senders.now what met) }
 {
     match met {
         None => Ok(()),
         Some(met) => {
             let flutter = stated_flutter(scene.params);
             let apart = apart_through(scene.params, what, flutter, met);
-            put_judged_by(apart, scene, first, out)
+            put_skews_by(apart, scene, first, out)
         }
     }
 }
 
-// What contradicts one of which so much is known.
-fn put_known_by<O: Sink>(
+// The starts and lengths of one of which so much is known.
+fn put_apart_by<O: Sink>(
     scene: &Scene<'_>,
     known: Known,
     first: &mut Option<Fault>,
@@ -75,16 +62,11 @@ fn put_known_by<O: Sink>(
 ) -> Result<(), PutFault>
     requires { IsScene scene.now }
     ensures { TellsFaults result (O.state out.old) (O.state out.new) first.old first.new
-        (known_faults scene.now.params.now scene.now.scale.now scene.now.log.now scene.now.span scene.now.before.now
-        scene.now.here.now scene.now.number scene.now.senders.now (Some known)) }
+        (known_apart scene.now.params.now scene.now.scale.now scene.now.number scene.now.senders.now (Some known)) }
 {
     let Scene {
         params,
         scale,
-        log,
-        span,
-        before,
-        here,
         number,
         senders,
         ..
@@ -97,12 +79,11 @@ fn put_known_by<O: Sink>(
         first,
         out,
     )?;
-    put_of_senders(asked, scale, params, number, senders, first, out)?;
-    put_missing(params, log, &span, before, here, number, first, out)
+    put_of_senders(asked, scale, params, number, senders, first, out)
 }
 
-#[tactic(auto, unfolding(crate::specs::Knowing::known_faults))]
-fn put_known<O: Sink>(
+#[tactic(auto, unfolding(crate::specs::Knowing::known_apart))]
+fn put_known_apart<O: Sink>(
     scene: &Scene<'_>,
     known: Option<Known>,
     first: &mut Option<Fault>,
@@ -110,17 +91,16 @@ fn put_known<O: Sink>(
 ) -> Result<(), PutFault>
     requires { IsScene scene.now }
     ensures { TellsFaults result (O.state out.old) (O.state out.new) first.old first.new
-        (known_faults scene.now.params.now scene.now.scale.now scene.now.log.now scene.now.span scene.now.before.now
-        scene.now.here.now scene.now.number scene.now.senders.now known) }
+        (known_apart scene.now.params.now scene.now.scale.now scene.now.number scene.now.senders.now known) }
 {
     match known {
         None => Ok(()),
-        Some(known) => put_known_by(scene, known, first, out),
+        Some(known) => put_apart_by(scene, known, first, out),
     }
 }
 
 // Both, where it is told what is heard.
-fn put_heard<O: Sink>(
+fn put_moving_heard<O: Sink>(
     scene: &Scene<'_>,
     what: Heard,
     standing: &Standing,
@@ -130,17 +110,18 @@ fn put_heard<O: Sink>(
     requires scene { IsScene scene.now }
     requires small { JudgedBySmall standing.now }
     ensures { TellsFaults result (O.state out.old) (O.state out.new) first.old first.new
-        (faults_heard scene.now.params.now scene.now.scale.now scene.now.log.now scene.now.span scene.now.before.now
-        scene.now.here.now scene.now.number scene.now.senders.now standing.now (Some what)) }
+        (moving_heard scene.now.params.now scene.now.scale.now scene.now.number scene.now.senders.now standing.now
+        (Some what)) }
 {
-    put_judged(scene, what, judged_met(standing), first, out)?;
-    put_known(scene, standing.known, first, out)
+    put_judged_skews(scene, what, judged_met(standing), first, out)?;
+    put_known_apart(scene, standing.known, first, out)
 }
 
-/// Tells what contradicts a double cycle that stands so: by the numbers that it is judged by, and by what is known of it from the
-/// one before. Each is one put, and the first one of all that were told is kept.
-#[tactic(auto, unfolding(crate::specs::Knowing::standing_faults))]
-pub fn put_standing_faults<O: Sink>(
+/// Tells which skews, starts and lengths contradict a double cycle that stands so: skews by the numbers that it is judged by,
+/// starts and lengths by what is known of it from the one before. Behind one of these nothing is known of the next double
+/// cycle. Each is one put, and the first one of all that were told is kept.
+#[tactic(auto, unfolding(crate::specs::Knowing::moving_faults))]
+pub fn put_moving_faults<O: Sink>(
     scene: &Scene<'_>,
     standing: &Standing,
     first: &mut Option<Fault>,
@@ -149,13 +130,113 @@ pub fn put_standing_faults<O: Sink>(
     requires scene { IsScene scene.now }
     requires small { JudgedBySmall standing.now }
     ensures { TellsFaults result (O.state out.old) (O.state out.new) first.old first.new
-        (standing_faults scene.now.params.now scene.now.scale.now scene.now.log.now scene.now.span scene.now.before.now
-        scene.now.here.now scene.now.number scene.now.senders.now standing.now) }
+        (moving_faults scene.now.params.now scene.now.scale.now scene.now.number scene.now.senders.now standing.now) }
 {
     match standing.heard {
         None => Ok(()),
-        Some(what) => put_heard(scene, what, standing, first, out),
+        Some(what) => put_moving_heard(scene, what, standing, first, out),
     }
+}
+
+// The terms that are not those that nodes must have computed.
+fn put_terms<O: Sink>(
+    scene: &Scene<'_>,
+    first: &mut Option<Fault>,
+    out: &mut O,
+) -> Result<(), PutFault>
+    requires { IsScene scene.now }
+    ensures { TellsFaults result (O.state out.old) (O.state out.new) first.old first.new
+        (filter_map (offset_fault scene.now.params.now scene.now.scale.now scene.now.number scene.now.senders.now)
+        scene.now.senders.now
+        ++ filter_map (rate_fault scene.now.params.now scene.now.scale.now scene.now.number scene.now.senders.now)
+        scene.now.senders.now) }
+{
+    let Scene {
+        params,
+        scale,
+        number,
+        senders,
+        ..
+    } = *scene;
+    put_of_senders(Asked::Offset, scale, params, number, senders, first, out)?;
+    put_of_senders(Asked::Rate, scale, params, number, senders, first, out)
+}
+
+#[tactic(auto, unfolding(crate::specs::Knowing::judged_terms))]
+fn put_judged_terms<O: Sink>(
+    scene: &Scene<'_>,
+    met: Option<Known>,
+    first: &mut Option<Fault>,
+    out: &mut O,
+) -> Result<(), PutFault>
+    requires { IsScene scene.now }
+    ensures { TellsFaults result (O.state out.old) (O.state out.new) first.old first.new
+        (judged_terms scene.now.params.now scene.now.scale.now scene.now.number scene.now.senders.now met) }
+{
+    match met {
+        None => Ok(()),
+        Some(_) => put_terms(scene, first, out),
+    }
+}
+
+// The frames that are missing.
+fn put_missing_in<O: Sink>(
+    scene: &Scene<'_>,
+    first: &mut Option<Fault>,
+    out: &mut O,
+) -> Result<(), PutFault>
+    requires { IsScene scene.now }
+    ensures { TellsFaults result (O.state out.old) (O.state out.new) first.old first.new
+        (missing_frames scene.now.params.now scene.now.log.now scene.now.span scene.now.before.now scene.now.here.now
+        scene.now.number) }
+{
+    let Scene {
+        params,
+        log,
+        span,
+        before,
+        here,
+        number,
+        ..
+    } = *scene;
+    put_missing(params, log, &span, before, here, number, first, out)
+}
+
+#[tactic(auto, unfolding(crate::specs::Knowing::known_missing))]
+fn put_known_missing<O: Sink>(
+    scene: &Scene<'_>,
+    known: Option<Known>,
+    first: &mut Option<Fault>,
+    out: &mut O,
+) -> Result<(), PutFault>
+    requires { IsScene scene.now }
+    ensures { TellsFaults result (O.state out.old) (O.state out.new) first.old first.new
+        (known_missing scene.now.params.now scene.now.log.now scene.now.span scene.now.before.now scene.now.here.now
+        scene.now.number known) }
+{
+    match known {
+        None => Ok(()),
+        Some(_) => put_missing_in(scene, first, out),
+    }
+}
+
+/// Tells which terms of a double cycle that stands so are not those that its nodes must have computed, where it is judged, and
+/// which frames are missing, where something is known of it from the one before. They end nothing that is known. Each is one
+/// put, and the first one of all that were told is kept.
+#[tactic(auto, unfolding(crate::specs::Knowing::term_faults))]
+pub fn put_term_faults<O: Sink>(
+    scene: &Scene<'_>,
+    standing: &Standing,
+    first: &mut Option<Fault>,
+    out: &mut O,
+) -> Result<(), PutFault>
+    requires { IsScene scene.now }
+    ensures { TellsFaults result (O.state out.old) (O.state out.new) first.old first.new
+        (term_faults scene.now.params.now scene.now.scale.now scene.now.log.now scene.now.span scene.now.before.now
+        scene.now.here.now scene.now.number scene.now.senders.now standing.now) }
+{
+    put_judged_terms(scene, judged_met(standing), first, out)?;
+    put_known_missing(scene, standing.known, first, out)
 }
 
 // The numbers that it is judged by as a record, and how far macroticks may lie apart in it, in ticks.

@@ -197,8 +197,8 @@ fn known_next_by(params: &Params, heard: Option<Heard>, judged: Option<Known>) -
     }
 }
 
-/// What is known of the next double cycle behind one that stands so, where nothing that is known contradicts it; none behind
-/// one that is not judged.
+/// What is known of the next double cycle behind one that stands so, where it is clear: neither its skews nor its starts and
+/// lengths contradict its numbers. None behind one that is not judged.
 #[tactic(auto, unfolding(crate::specs::Knowing::known_next))]
 pub fn known_next(params: &Params, standing: &Standing, is_clear: bool) -> Option<Known>
     requires small { JudgedBySmall standing.now }

@@ -32,13 +32,13 @@ use Rattle.fr_seen_runs.specs.SyncFaults.{FromSyncOn, HasNoLengthFault, HasNoLen
 use Rattle.fr_seen_runs.specs.ToldFaults.{NoFaultIsTold, ToldFaultsAskEither, ToldFaultsAskOwnSlots, ToldFaultsAskSync, VerdictTellsFirst, log_faults}
 use Rattle.fr_seen_runs.specs.NotContradicted.{NoRunHasOwnFaults, NoRunIsContradicted}
 use Rattle.fr_observe.specs.declared.fault.Fault.{Fault}
-use Rattle.fr_judging.specs.Knowing.{judged_met, known_next, standing_faults, standing_of}
+use Rattle.fr_judging.specs.Knowing.{judged_met, judged_terms, known_missing, known_next, moving_faults, standing_faults, standing_of, term_faults}
 use Rattle.fr_observe.specs.declared.fault.SyncFrom.{SyncFrom}
 use Rattle.fr_judging.specs.declared.knowing.Standing.{Standing}
 use Rattle.fr_observe.specs.Faults.{asks_own_slots, asks_sync, before_in_sync, beyond_fault, faults_in_sync, first_of_faults, is_nil, is_sync_seen, length_fault, missing_frames, offset_fault, rate_fault, seen_sync, skew_fault, slot_faults, stated_sync, sync_faults}
 use Rattle.fr_course.specs.Spread.{lengths_apart, starts_apart}
 use Rattle.fr_observe.specs.declared.fault.FaultKind.TheVariants.{Lengths, Start}
-use Rattle.fr_findings.specs.Verdict.{Basis, DoubleCycle, double_at, faults_told, in_sync_told, known_next_told, known_told, log_basis, log_progress, log_span, no_progress, own_told, progress_behind, progress_told, sightings_before, standing_told, sync_told, verdict_by, verdict_of, verdict_with}
+use Rattle.fr_findings.specs.Verdict.{Basis, DoubleCycle, double_at, faults_told, in_sync_told, known_next_told, known_told, log_basis, log_progress, log_span, moving_told, no_progress, own_told, progress_behind, progress_told, sightings_before, standing_told, sync_told, verdict_by, verdict_of, verdict_with}
 use Rattle.fr_judging.specs.Coverables.{is_coverable, log_heard}
 use Rattle.fr_findings.specs.declared.progress.Progress.{Progress}
 use Rattle.fr_sightings.specs.Sightings.{OffendingFrames, irregular_of, offending_frames_of}
@@ -64,6 +64,11 @@ pub record SyncIsKept : Type 0 where
 first_all : (P : Fault → Type 0) (faults : List Fault) → All P faults → IfSome (first_of_faults faults) P
 first_all P [] all = tt
 first_all P (fault ∷ faults) all = All-head P fault faults all
+
+-- where there are none at all, the first ones of them are none
+front_none : (faults more : List Fault) → faults ++ more ≡ [] → faults ≡ []
+front_none [] more none = refl
+front_none (fault ∷ faults) more none = absurd (cc none)
 
 module _ (x : Setting) (h : Cycles) (base : ℕ) (delays : ℕ → Channel → Delays) (clock : ℕ → StraightClock) (l : LogView) (run : IsObservedRun x h base delays clock l) where
   abbrev Seen : List Sighting
@@ -314,7 +319,7 @@ module _ (x : Setting) (h : Cycles) (base : ℕ) (delays : ℕ → Channel → D
     spread_listed what double (Some met) is = All-cons (SpreadIsSo x h base what) (record { number = double; met = met }) [] is (All-nil (SpreadIsSo x h base what))
 
     known_so : (double : ℕ) (heard : Option Heard) (known : Option Known) → log_heard x.params l ≡ heard → Contains (seen_doubles Seen) double → IsKnownOfLog x h base double known → KnownSo double heard known
-    unfolding KnownSo faults_by standing_by standing_of standing_faults known_next double_at senders_of
+    unfolding KnownSo faults_by standing_by standing_of standing_faults moving_faults term_faults judged_terms known_missing known_next double_at senders_of
     known_so double None known is among before = (refl, (All-nil (λ (s : Spreading). Unit {0}), tt))
     known_so double (Some what) known is among before =
         let stands = judged x h base delays clock l what double known (first_of_faults (own_told Log (At double))) run states is among before in
@@ -323,10 +328,11 @@ module _ (x : Setting) (h : Cycles) (base : ℕ) (delays : ℕ → Channel → D
     known_where : (double : ℕ) (progress : Progress) → Contains (seen_doubles Seen) double → IsKnownOfLog x h base double progress.known
         → (known_told Log (At double) progress.known ≡ [])
         × ((All (SpreadBy Log.heard) (spread_row_of double (judged_met (standing_told Log (At double) progress.known)))) × IsKnownOfLog x h base (suc double) (known_next_told Log (At double) progress.known))
-    unfolding known_told standing_told KnownSo faults_by standing_by
+    unfolding known_told moving_told standing_told standing_faults KnownSo faults_by standing_by
     known_where double progress among before =
         let is = known_so double Log.heard progress.known refl among before in
-        let clear : is_nil (known_told Log (At double) progress.known) ≡ true = ap is_nil is.0 in
+        let told = term_faults Log.params Log.scale Log.log Log.span (At double).before (At double).here (At double).number (At double).senders (standing_told Log (At double) progress.known) in
+        let clear : is_nil (moving_told Log (At double) progress.known) ≡ true = ap is_nil (front_none (moving_told Log (At double) progress.known) told is.0) in
         (is.0, (is.1.0, subst (λ b. IsKnownOfLog x h base (suc double) (known_next x.params (standing_told Log (At double) progress.known) b)) (sym clear) is.1.1))
 
     rest_none : (double : ℕ) (progress : Progress) → Contains (seen_doubles Seen) double → IsKnown double progress → Rest double progress ≡ []

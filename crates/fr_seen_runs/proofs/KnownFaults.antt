@@ -1,5 +1,5 @@
 -- Nothing in a double cycle of a log contradicts what is known of it in a run that the log is seen of.
-use Rattle.std.proofs.Common.{◌≡◌, ◌∙◌, ℕ, suc, ◌+◌, ◌*◌, true, false, ℤ, pos, Option, Some, None, IsSome, List, [], All, refl, ap, subst, arith}
+use Rattle.std.proofs.Common.{◌≡◌, ◌∙◌, ℕ, suc, ◌+◌, ◌*◌, true, false, ℤ, pos, Option, Some, None, IsSome, List, [], ◌++◌, All, refl, ap, subst, arith}
 use Rattle.std.specs.Prelude.{◌≤ℤ◌, ◌+ℤ◌, ◌-ℤ◌, Contains, filter_map}
 use Rattle.std.specs.Option.{option_map, option_map_or, option_to_list}
 use Rattle.std.proofs.lemmas.List.Elements.{All-contains}
@@ -29,7 +29,7 @@ use Rattle.fr_sightings.specs.Sightings.{sightings_of}
 use Rattle.fr_sightings.specs.declared.sender.Sender.{Sender}
 use Rattle.fr_sightings.specs.declared.sighting.Sighting.{Sighting}
 use Rattle.fr_observe.specs.Faults.{beyond_fault, length_beyond, longest_cycle_of, missing_frames, shortest_cycle_of}
-use Rattle.fr_judging.specs.Knowing.{known_faults}
+use Rattle.fr_judging.specs.Knowing.{known_apart, known_missing}
 use Rattle.fr_observe.specs.Observing.{courses_of, even_low, odd_low}
 use Rattle.fr_observe.specs.declared.fault.Fault.{Fault}
 use Rattle.fr_observe.specs.declared.fault.FaultKind.TheVariants.{Lengths, Start}
@@ -46,7 +46,6 @@ use Rattle.fr_seen_runs.specs.Contradictions.{IsObservedRun, MissesNone, NamesAr
 use Rattle.fr_seen_runs.specs.KeptInSync.{IsAsLong, LieAsSeen}
 use Rattle.fr_seen_runs.specs.KnownDoubles.{HasNoFaultBeyond, HasNoSkewAbove, NoFaultBeyond, NoKnownFault, NoKnownFrameMissing, NoSkewFaultWithin}
 use Rattle.fr_seen_runs.proofs.FaultsInSync.{none_given, none_missing, none_of, not_less}
-use Rattle.fr_seen_runs.proofs.OwnFaults.{none_of_four}
 use Rattle.fr_seen_runs.proofs.KeyFrames.{correct_by, frames_by, is_sync}
 use Rattle.fr_seen_runs.proofs.SendersApart.{lie_as_seen}
 use Rattle.fr_seen_runs.proofs.StaysInSync.{natural, run_among, sender_row, senders_among, skew_by, some_within, trans}
@@ -163,19 +162,22 @@ no_fault_beyond x h base delays clock l double known o at = beyond_none x h base
 pub no_known_frame_missing : NoKnownFrameMissing
 no_known_frame_missing x h base delays clock l before double known o named unmissed at each = missing_none x h base delays clock l double known o at before named unmissed each
 
+none_of_three : (a b c : List Fault) → a ≡ [] → b ≡ [] → c ≡ [] → a ++ b ++ c ≡ []
+none_of_three a b c d e f = ap (λ z. z ++ b ++ c) d ∙ ap (λ z. z ++ c) e ∙ f
+
 pub no_known_fault : NoKnownFault
-unfolding known_faults
+unfolding known_apart known_missing
 no_known_fault x h base delays clock l before double known o named unmissed at each =
     let p = x.params in
     let scale = reading_scale l.drift p in
     let senders = log_senders x l double in
-    let beyond = beyond_none x h base delays clock l double known o at in
-    none_of_four (option_to_list (beyond_fault Start (2 * double) (pos known.spread.starts) (starts_apart scale (courses_of senders))))
-    (option_to_list (beyond_fault Lengths (2 * double) (pos known.spread.lengths) (lengths_apart scale (courses_of senders))))
-    (filter_map (length_beyond p scale known.beyond double) senders)
-    (missing_frames p l (log_span (sightings_of p l)) before (sightings_in (sightings_of p l) double) double)
-    (ap (λ (f : Option Fault). option_to_list f) beyond.starts) (ap (λ (f : Option Fault). option_to_list f) beyond.lengths) beyond.long
-    (missing_none x h base delays clock l double known o at before named unmissed each)
+    let beyond = beyond_none x h base delays clock l double known o at in (
+      none_of_three (option_to_list (beyond_fault Start (2 * double) (pos known.spread.starts) (starts_apart scale (courses_of senders))))
+          (option_to_list (beyond_fault Lengths (2 * double) (pos known.spread.lengths) (lengths_apart scale (courses_of senders))))
+          (filter_map (length_beyond p scale known.beyond double) senders)
+          (ap (λ (f : Option Fault). option_to_list f) beyond.starts) (ap (λ (f : Option Fault). option_to_list f) beyond.lengths) beyond.long,
+      missing_none x h base delays clock l double known o at before named unmissed each,
+    )
 
 pub no_skew_fault_within : NoSkewFaultWithin
 no_skew_fault_within x h base delays clock l double apart known o at keeps = skews_none x h base delays clock l double known o at apart keeps

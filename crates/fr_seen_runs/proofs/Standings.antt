@@ -1,5 +1,5 @@
 -- What holds of double cycles of a log that are judged by their own numbers.
-use Rattle.std.proofs.Common.{◌≡◌, ℕ, suc, ◌+◌, ◌*◌, ◌/◌, ◌<◌, ◌≤◌, ◌%◌, ◌==◌, ◌≢◌, Bool, true, false, Option, Some, None, pos, List, [], ◌++◌, All, length, refl, ap, sym, ◌∙◌, subst, arith}
+use Rattle.std.proofs.Common.{◌≡◌, ℕ, suc, ◌+◌, ◌*◌, ◌/◌, ◌<◌, ◌==◌, ◌≢◌, Bool, true, false, Option, Some, None, pos, List, [], ◌++◌, length, refl, ap, sym, ◌∙◌, subst, arith}
 use Rattle.std.specs.Prelude.{Contains, IfSome, count_by, filter_map, if◌then◌else◌}
 use Rattle.std.specs.Option.{option_map, option_to_list}
 use Rattle.fr_base.specs.declared.channel.Channel.{Channel}
@@ -14,7 +14,6 @@ use Rattle.fr_precision.specs.Round.{sync_count}
 use Rattle.fr_history.specs.Cycles.{Cycles}
 use Rattle.fr_log.specs.View.{LogView}
 use Rattle.fr_course.specs.Readings.{reading_scale}
-use Rattle.fr_course.specs.declared.courses.Course.{Course}
 use Rattle.fr_course.specs.declared.scales.Scale.{Scale}
 use Rattle.fr_course.specs.declared.stamps.Delays.{Delays}
 use Rattle.fr_sightings.specs.Senders.{sightings_in}
@@ -22,16 +21,16 @@ use Rattle.fr_sightings.specs.Sightings.{sightings_of}
 use Rattle.fr_sightings.specs.Sure.{is_sync_as}
 use Rattle.fr_sightings.specs.declared.sender.Sender.{Sender}
 use Rattle.fr_sightings.specs.declared.sighting.Sighting.{Sighting}
-use Rattle.fr_judging.specs.Knowing.{is_judged_by, judged_faults, judged_met, known_faults, known_next, known_seen, standing_faults, standing_of, stated_flutter}
+use Rattle.fr_judging.specs.Knowing.{is_judged_by, judged_met, judged_skews, judged_terms, known_apart, known_missing, known_next, known_seen, moving_faults, standing_faults, standing_of, stated_flutter, term_faults}
 use Rattle.fr_observe.specs.Faults.{offset_fault, rate_fault, skew_fault}
 use Rattle.fr_observe.specs.Observing.{even_high, even_low, odd_high, odd_low, seen_doubles}
 use Rattle.fr_observe.specs.declared.fault.Fault.{Fault}
-use Rattle.fr_judging.specs.Coverables.{are_enough, coverable_of, heard_by, heard_with, log_heard}
+use Rattle.fr_judging.specs.Coverables.{are_enough, coverable_of, heard_by, log_heard}
 use Rattle.fr_findings.specs.Verdict.{log_span, sightings_before}
 use Rattle.fr_judging.specs.declared.coverable.Coverable.{Coverable}
 use Rattle.fr_judging.specs.declared.coverable.Coverable.TheVariants as coverable
 use Rattle.fr_sharp.specs.JudgedSteps.{EachHasRow, GoesOnJudged, IsHeardIn, IsKnownAt, IsLawfulStatedRun}
-use Rattle.fr_sharp.specs.SteadyRuns.{IsSteadySetting, MayHaveArbitrary}
+use Rattle.fr_sharp.specs.SteadyRuns.{IsSteadySetting}
 use Rattle.fr_runs.proofs.Parts.{cycle_within}
 use Rattle.fr_sharp.proofs.JudgedLaws.{known_is_met_lem, unfollowed_goes_on_lem}
 use Rattle.fr_seen.specs.Clocks.{StraightClock}
@@ -41,7 +40,7 @@ use Rattle.fr_seen_runs.specs.ComputedTerms.{IsNamedLog}
 use Rattle.fr_seen_runs.specs.JudgedTerms.{IsJudgedRun, OffsetsAreComputedWhereJudged, RatesAreComputedWhereJudged}
 use Rattle.fr_seen_runs.specs.KeptInSync.{IsDoubleThere}
 use Rattle.fr_seen_runs.specs.KnownDoubles.{HasNoSkewAbove, NoKnownFault, NoSkewFaultWithin, SeenIsKnown}
-use Rattle.fr_seen_runs.specs.Standings.{IsKnownOfLog, SpreadIsSo, Spreading, StandingsAreSo, log_standing, log_standing_faults}
+use Rattle.fr_seen_runs.specs.Standings.{IsKnownOfLog, SpreadIsSo, StandingsAreSo, log_standing, log_standing_faults}
 use Rattle.fr_seen_runs.proofs.ComputedFaults.{ComputeBoth, next_within, no_offset_fault_by, no_rate_fault_by}
 use Rattle.fr_seen_runs.proofs.RowsTold.{arbitrary_alike}
 use Rattle.fr_seen_runs.proofs.StaysInSync.{doubles_are_there, doubles_to}
@@ -104,6 +103,9 @@ not_poor p l what is = by (coverable_of p l) is
         counts (are_enough correct arbitrary) (arbitrary == 0) is
 
 -- ---- the laws of judged double cycles
+
+none_of_two : (a b : List Fault) → a ≡ [] → b ≡ [] → a ++ b ≡ []
+none_of_two a b a0 b0 = ap (λ z. z ++ b) a0 ∙ b0
 
 pub record KnownIsKept : Type 0 where
   pub seen : SeenIsKnown
@@ -200,18 +202,19 @@ module _
       skews : HasNoSkewAbove x l double (apart_through what x.params (stated_flutter x.params) met)
       skews = kept.skew x h base delays clock l double (apart_through what x.params (stated_flutter x.params) met) met run j.at.0 goes.0.keeps
 
-      judged_none : judged_faults x.params (reading_scale l.drift x.params) double (log_senders x l double) what (Some met) ≡ []
-      unfolding judged_faults
-      judged_none =
+      skews_none : judged_skews x.params (reading_scale l.drift x.params) double (log_senders x l double) what (Some met) ≡ []
+      unfolding judged_skews
+      skews_none =
           let apart = pos (apart_through what x.params (stated_flutter x.params) met) in
-          none_of_four (option_to_list (skew_fault apart (2 * double) (even_low Scaled Senders) (even_high Scaled Senders)))
+          none_of_two (option_to_list (skew_fault apart (2 * double) (even_low Scaled Senders) (even_high Scaled Senders)))
           (option_to_list (skew_fault apart (2 * double + 1) (odd_low Scaled Senders) (odd_high Scaled Senders)))
-          (filter_map (offset_fault x.params Scaled double Senders) Senders) (filter_map (rate_fault x.params Scaled double Senders) Senders)
           (ap option_to_list skews.even) (ap option_to_list skews.odd)
+
+      terms_none : judged_terms x.params (reading_scale l.drift x.params) double (log_senders x l double) (Some met) ≡ []
+      unfolding judged_terms
+      terms_none =
+          none_of_two (filter_map (offset_fault x.params Scaled double Senders) Senders) (filter_map (rate_fault x.params Scaled double Senders) Senders)
           (no_offset_fault_by x h base delays clock l double run both_judged) (no_rate_fault_by x h base delays clock l double run both_judged)
-        where
-          none_of_four : (a b c d : List Fault) → a ≡ [] → b ≡ [] → c ≡ [] → d ≡ [] → a ++ b ++ c ++ d ≡ []
-          none_of_four a b c d a0 b0 c0 d0 = ap (λ z. z ++ b ++ c ++ d) a0 ∙ ap (λ z. z ++ c ++ d) b0 ∙ ap (λ z. z ++ d) c0 ∙ d0
 
       next_known : IsKnownOfLog x h base (suc double) (Some (known_after what x.params (stated_flutter x.params) met))
       next_known =
@@ -221,20 +224,30 @@ module _
           after : (d b : ℕ) → suc (d + b) ≡ suc d + b
           after d b = omega arith
 
-    judged_is_none : (judged : Option Known) → IfSome judged IsJudged → judged_faults x.params (reading_scale l.drift x.params) double (log_senders x l double) what judged ≡ []
-    unfolding judged_faults
-    judged_is_none None all = refl
-    judged_is_none (Some met) j = judged_none met j
+    skews_are_none : (judged : Option Known) → IfSome judged IsJudged → judged_skews x.params (reading_scale l.drift x.params) double (log_senders x l double) what judged ≡ []
+    unfolding judged_skews
+    skews_are_none None all = refl
+    skews_are_none (Some met) j = skews_none met j
+
+    terms_are_none : (judged : Option Known) → IfSome judged IsJudged → judged_terms x.params (reading_scale l.drift x.params) double (log_senders x l double) judged ≡ []
+    unfolding judged_terms
+    terms_are_none None all = refl
+    terms_are_none (Some met) j = terms_none met j
 
     next_is : (judged : Option Known) → IfSome judged IsJudged → IsKnownOfLog x h base (suc double) (option_map (known_after what x.params (stated_flutter x.params)) judged)
     next_is None all = tt
     next_is (Some met) j = next_known met j
 
-    known_is_none : (known : Option Known) → IfSome known Is
-        → known_faults x.params (reading_scale l.drift x.params) l (log_span (sightings_of x.params l)) (sightings_before (sightings_of x.params l) double) (sightings_in (sightings_of x.params l) double) double (log_senders x l double) known ≡ []
-    unfolding known_faults
-    known_is_none None at = refl
-    known_is_none (Some known) at = kept.fault x h base delays clock l Before double known run states.named states.unmissed at.0 at.1
+    apart_is_none : (known : Option Known) → IfSome known Is → known_apart x.params (reading_scale l.drift x.params) double (log_senders x l double) known ≡ []
+    unfolding known_apart
+    apart_is_none None at = refl
+    apart_is_none (Some known) at = (kept.fault x h base delays clock l Before double known run states.named states.unmissed at.0 at.1).0
+
+    missing_is_none : (known : Option Known) → IfSome known Is
+        → known_missing x.params l (log_span (sightings_of x.params l)) (sightings_before (sightings_of x.params l) double) (sightings_in (sightings_of x.params l) double) double known ≡ []
+    unfolding known_missing
+    missing_is_none None at = refl
+    missing_is_none (Some known) at = (kept.fault x h base delays clock l Before double known run states.named states.unmissed at.0 at.1).1
 
     module _ (known : Option Known) (told : Option Fault) (before : IsKnownOfLog x h base double known) where
       here_known : IfSome known Is
@@ -257,8 +270,10 @@ module _
       judged_all = judged_where (met_with known Seen) (is_judged_by x.params (met_with known Seen)) refl met
 
       pub faults_none : log_standing_faults x l double (log_standing x l what double known told) ≡ []
-      unfolding standing_faults standing_of
-      faults_none = ap (λ faults. faults ++ known_faults x.params Scaled l (log_span (sightings_of x.params l)) Before Here double Senders known) (judged_is_none Judged judged_all) ∙ known_is_none known here_known
+      unfolding standing_faults moving_faults term_faults standing_of
+      faults_none =
+          none_of_two _ _ (none_of_two _ _ (skews_are_none Judged judged_all) (apart_is_none known here_known))
+          (none_of_two _ _ (terms_are_none Judged judged_all) (missing_is_none known here_known))
 
       spread_is : (judged : Option Known) → IfSome judged IsJudged → IfSome judged (λ some. SpreadIsSo x h base what (record { number = double; met = some }))
       spread_is None all = tt

@@ -17,7 +17,7 @@ use Rattle.fr_course.specs.declared.scales.Scale.{Scale}
 use Rattle.fr_bound.specs.Judged.{apart_through}
 use Rattle.fr_bound.specs.declared.judging.Heard.{Heard}
 use Rattle.fr_bound.specs.declared.judging.Known.{Known}
-use Rattle.fr_judging.specs.Knowing.{faults_heard, judged_faults, judged_met, known_faults, standing_faults, stated_flutter}
+use Rattle.fr_judging.specs.Knowing.{judged_met, judged_skews, judged_terms, known_apart, known_missing, moving_faults, moving_heard, standing_faults, stated_flutter, term_faults}
 use Rattle.fr_observe.specs.Faults.{asks_own_slots, asks_sync, beyond_fault, further_of, irregular_fault, is_inside, length_beyond, length_fault, length_fault_by, longest_cycle_of, missing_by, missing_frames, missing_in, missing_of, missing_on, missing_with, node_missing, offset_fault, other_courses, plain_fault, rate_fault, shortest_cycle_of, skew_fault, slot_faults, sync_faults, unlike_fault, unlike_with, was_seen}
 use Rattle.fr_judging.specs.declared.knowing.Standing.{Standing}
 use Rattle.fr_observe.specs.Observing.{courses_of, even_high, even_low, odd_high, odd_low, terms_of}
@@ -137,54 +137,63 @@ sync_faults_ask precision p scale l span before here double senders =
 skew_asks : (precision : ℤ) (cycle : ℕ) (low : ℤ) (high : Option ℤ) → All AsksSync (option_to_list (skew_fault precision cycle low high))
 skew_asks precision cycle low high = listed (skew_fault precision cycle low high) (told_asks (int_lt precision low) (plain_fault cycle None Skew (Some low) high None (Some precision)) refl)
 
-judged_faults_ask : (p : Values) (scale : Scale) (double : ℕ) (senders : List Sender) (what : Heard) (judged : Option Known) → All AsksSync (judged_faults p scale double senders what judged)
-unfolding judged_faults
-judged_faults_ask p scale double senders what None = All-nil AsksSync
-judged_faults_ask p scale double senders what (Some met) =
+judged_skews_ask : (p : Values) (scale : Scale) (double : ℕ) (senders : List Sender) (what : Heard) (judged : Option Known) → All AsksSync (judged_skews p scale double senders what judged)
+unfolding judged_skews
+judged_skews_ask p scale double senders what None = All-nil AsksSync
+judged_skews_ask p scale double senders what (Some met) =
     let apart = pos (apart_through what p (stated_flutter p) met) in
     let even = option_to_list (skew_fault apart (2 * double) (even_low scale senders) (even_high scale senders)) in
     let odd = option_to_list (skew_fault apart (2 * double + 1) (odd_low scale senders) (odd_high scale senders)) in
-    let offset = filter_map (offset_fault p scale double senders) senders in
-    let rate = filter_map (rate_fault p scale double senders) senders in
-    let two = All-append AsksSync even odd (skew_asks apart (2 * double) (even_low scale senders) (even_high scale senders)) (skew_asks apart (2 * double + 1) (odd_low scale senders) (odd_high scale senders)) in
-    let three = All-append AsksSync (even ++ odd) offset two
+    All-append AsksSync even odd (skew_asks apart (2 * double) (even_low scale senders) (even_high scale senders)) (skew_asks apart (2 * double + 1) (odd_low scale senders) (odd_high scale senders))
+
+judged_terms_ask : (p : Values) (scale : Scale) (double : ℕ) (senders : List Sender) (judged : Option Known) → All AsksSync (judged_terms p scale double senders judged)
+unfolding judged_terms
+judged_terms_ask p scale double senders None = All-nil AsksSync
+judged_terms_ask p scale double senders (Some met) =
+    All-append AsksSync (filter_map (offset_fault p scale double senders) senders) (filter_map (rate_fault p scale double senders) senders)
     (given (offset_fault p scale double senders) senders
     (λ s.
     unlike_asks Offset (2 * double + 1) s.node refl (terms_of scale s)
-    (offset_computed scale (measuring_of p) s.course (other_courses senders s.node) (further_of p senders)))) in
-    All-append AsksSync ((even ++ odd) ++ offset) rate three
+    (offset_computed scale (measuring_of p) s.course (other_courses senders s.node) (further_of p senders))))
     (given (rate_fault p scale double senders) senders
     (λ s.
     unlike_asks Rate (2 * double + 1) s.node refl (option_map (rate_step_seen scale s.course) s.next)
     (rate_computed scale (measuring_of p) s.course (other_courses senders s.node) (further_of p senders))))
 
-known_faults_ask : (p : Values) (scale : Scale) (l : LogView) (span : LogSpan) (before here : List Sighting) (double : ℕ) (senders : List Sender) (known : Option Known)
-    → All AsksSync (known_faults p scale l span before here double senders known)
-unfolding known_faults
-known_faults_ask p scale l span before here double senders None = All-nil AsksSync
-known_faults_ask p scale l span before here double senders (Some known) =
+known_apart_ask : (p : Values) (scale : Scale) (double : ℕ) (senders : List Sender) (known : Option Known) → All AsksSync (known_apart p scale double senders known)
+unfolding known_apart
+known_apart_ask p scale double senders None = All-nil AsksSync
+known_apart_ask p scale double senders (Some known) =
     let start = option_to_list (beyond_fault Start (2 * double) (pos known.spread.starts) (starts_apart scale (courses_of senders))) in
     let lengths = option_to_list (beyond_fault Lengths (2 * double) (pos known.spread.lengths) (lengths_apart scale (courses_of senders))) in
     let long = filter_map (length_beyond p scale known.beyond double) senders in
     let asks_start = listed (beyond_fault Start (2 * double) (pos known.spread.starts) (starts_apart scale (courses_of senders))) (beyond_asks Start (2 * double) (pos known.spread.starts) (starts_apart scale (courses_of senders)) refl) in
     let asks_lengths = listed (beyond_fault Lengths (2 * double) (pos known.spread.lengths) (lengths_apart scale (courses_of senders))) (beyond_asks Lengths (2 * double) (pos known.spread.lengths) (lengths_apart scale (courses_of senders)) refl) in
     let two = All-append AsksSync start lengths asks_start asks_lengths in
-    let three = All-append AsksSync (start ++ lengths) long two
+    All-append AsksSync (start ++ lengths) long two
     (given (length_beyond p scale known.beyond double) senders
-    (λ s. length_asks (2 * double) s.node (shortest_cycle_of p -ℤ pos known.beyond) (longest_cycle_of p +ℤ pos known.beyond) (length_ticks scale s.course))) in
-    All-append AsksSync ((start ++ lengths) ++ long) (missing_frames p l span before here double) three (all_missing_asks p l span before here double)
+    (λ s. length_asks (2 * double) s.node (shortest_cycle_of p -ℤ pos known.beyond) (longest_cycle_of p +ℤ pos known.beyond) (length_ticks scale s.course)))
+
+known_missing_ask : (p : Values) (l : LogView) (span : LogSpan) (before here : List Sighting) (double : ℕ) (known : Option Known) → All AsksSync (known_missing p l span before here double known)
+unfolding known_missing
+known_missing_ask p l span before here double None = All-nil AsksSync
+known_missing_ask p l span before here double (Some known) = all_missing_asks p l span before here double
 
 -- each fault that is told of such a one asks for sync
 pub standing_faults_ask : (p : Values) (scale : Scale) (l : LogView) (span : LogSpan) (before here : List Sighting) (double : ℕ) (senders : List Sender) (st : Standing)
     → All AsksSync (standing_faults p scale l span before here double senders st)
-unfolding standing_faults
-standing_faults_ask p scale l span before here double senders st = by st.heard
+unfolding standing_faults moving_faults term_faults
+standing_faults_ask p scale l span before here double senders st =
+    let terms = judged_terms p scale double senders (judged_met st) in
+    let missing = known_missing p l span before here double st.known in
+    All-append AsksSync (moving_heard p scale double senders st st.heard) (terms ++ missing) (moving st.heard)
+    (All-append AsksSync terms missing (judged_terms_ask p scale double senders (judged_met st)) (known_missing_ask p l span before here double st.known))
   where
-    by : (heard : Option Heard) → All AsksSync (faults_heard p scale l span before here double senders st heard)
-    by None = All-nil AsksSync
-    by (Some what) =
-        All-append AsksSync (judged_faults p scale double senders what (judged_met st)) (known_faults p scale l span before here double senders st.known)
-        (judged_faults_ask p scale double senders what (judged_met st)) (known_faults_ask p scale l span before here double senders st.known)
+    moving : (heard : Option Heard) → All AsksSync (moving_heard p scale double senders st heard)
+    moving None = All-nil AsksSync
+    moving (Some what) =
+        All-append AsksSync (judged_skews p scale double senders what (judged_met st)) (known_apart p scale double senders st.known)
+        (judged_skews_ask p scale double senders what (judged_met st)) (known_apart_ask p scale double senders st.known)
 
 -- ---- irregular frames
 

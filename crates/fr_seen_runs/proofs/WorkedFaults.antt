@@ -16,9 +16,9 @@ use Rattle.fr_observe.specs.declared.fault.Fault.{Fault}
 use Rattle.fr_sightings.specs.Judging.{judgement_of}
 use Rattle.fr_sightings.specs.Sightings.{OffendingFrames, fate_of, fates_from, irregular_of, offending_frames_of, sightings_of, untimely_of}
 use Rattle.fr_sightings.specs.declared.sighting.Sighting.{Sighting}
-use Rattle.fr_findings.specs.Verdict.{Basis, double_at, faults_told, known_told, log_basis, log_progress, own_told, progress_of, progress_told, standing_told, sync_told, verdict_by, verdict_of}
+use Rattle.fr_findings.specs.Verdict.{Basis, double_at, faults_told, known_told, log_basis, log_progress, moving_told, own_told, progress_of, progress_told, standing_told, sync_told, verdict_by, verdict_of}
 use Rattle.fr_judging.specs.Coverables.{coverable_of, first_failing, log_heard}
-use Rattle.fr_judging.specs.Knowing.{known_next, standing_faults, standing_of}
+use Rattle.fr_judging.specs.Knowing.{judged_terms, known_missing, known_next, moving_faults, standing_faults, standing_of, term_faults}
 use Rattle.fr_judging.specs.declared.coverable.Coverable.TheVariants as coverable
 use Rattle.fr_findings.specs.declared.verdict.Verdict.TheVariants as verdict
 use Rattle.fr_seen.specs.Clocks.{StraightClock}
@@ -68,7 +68,7 @@ unfolding late_sighting coverable_of first_failing is_arbitrary_in
 offset_unheard = refl
 
 offset_progress : verdict_by (log_progress (late_basis 250) (of_each (late_sighting 250)) none_offending) ≡ verdict.No offset_told
-unfolding late_sighting verdict_by progress_of progress_told sync_told own_told faults_told known_told known_next standing_told standing_of standing_faults double_at on_senders on_faults on_rows
+unfolding late_sighting verdict_by progress_of progress_told sync_told own_told faults_told known_told moving_told known_next standing_told standing_of standing_faults moving_faults term_faults judged_terms known_missing double_at on_senders on_faults on_rows
 offset_progress = refl
 
 offset_verdict : verdict_of seen_cluster (late_log 250) ≡ verdict.No offset_told
@@ -109,7 +109,7 @@ unfolding late_sighting coverable_of first_failing is_arbitrary_in
 correction_basis = Prim.rw correction_sightings refl
 
 correction_progress : verdict_by (log_progress (late_basis 7_500) (of_each (late_sighting 7_500)) none_offending) ≡ verdict.No correction_told
-unfolding late_sighting verdict_by progress_of progress_told sync_told own_told faults_told known_told known_next standing_told standing_of standing_faults double_at on_senders on_faults on_rows
+unfolding late_sighting verdict_by progress_of progress_told sync_told own_told faults_told known_told moving_told known_next standing_told standing_of standing_faults moving_faults term_faults judged_terms known_missing double_at on_senders on_faults on_rows
 correction_progress = refl
 
 correction_verdict : verdict_of seen_cluster (late_log 7_500) ≡ verdict.No correction_told
@@ -195,7 +195,7 @@ unfolding coverable_of first_failing is_arbitrary_in
 stranger_basis = Prim.rw stranger_sightings refl
 
 stranger_progress : verdict_by (log_progress (last_basis stranger_entry) first_sightings stranger_frames) ≡ verdict.No stranger_told
-unfolding verdict_by progress_of progress_told sync_told own_told faults_told known_told known_next standing_told standing_of standing_faults double_at on_senders on_faults on_rows
+unfolding verdict_by progress_of progress_told sync_told own_told faults_told known_told moving_told known_next standing_told standing_of standing_faults moving_faults term_faults judged_terms known_missing double_at on_senders on_faults on_rows
 stranger_progress = refl
 
 stranger_verdict : verdict_of seen_cluster (last_log stranger_entry) ≡ verdict.No stranger_told
@@ -223,7 +223,7 @@ unfolding coverable_of first_failing is_arbitrary_in
 form_basis = Prim.rw form_sightings refl
 
 form_progress : verdict_by (log_progress (last_basis form_entry) first_sightings form_frames) ≡ verdict.No form_told
-unfolding verdict_by progress_of progress_told sync_told own_told faults_told known_told known_next standing_told standing_of standing_faults double_at on_senders on_faults on_rows
+unfolding verdict_by progress_of progress_told sync_told own_told faults_told known_told moving_told known_next standing_told standing_of standing_faults moving_faults term_faults judged_terms known_missing double_at on_senders on_faults on_rows
 form_progress = refl
 
 form_verdict : verdict_of seen_cluster (last_log form_entry) ≡ verdict.No form_told

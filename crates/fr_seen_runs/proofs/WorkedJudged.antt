@@ -8,14 +8,14 @@ use Rattle.fr_history.proofs.Computing.{on_frames}
 use Rattle.fr_log.specs.View.{LogView, is_arbitrary_in}
 use Rattle.fr_course.specs.Readings.{reading_scale}
 use Rattle.fr_observe.specs.Faults.{asks_own_slots}
-use Rattle.fr_judging.specs.Knowing.{judged_faults, known_faults, known_next, known_seen, most_beyond, spread_row, spread_told, standing_faults, standing_of}
+use Rattle.fr_judging.specs.Knowing.{judged_skews, judged_terms, known_apart, known_missing, known_next, known_seen, most_beyond, moving_faults, spread_row, spread_told, standing_faults, standing_of, term_faults}
 use Rattle.fr_judging.specs.Obstacles.{first_unseen}
 use Rattle.fr_observe.specs.declared.fault.Fault.{Fault}
 use Rattle.fr_sightings.specs.Judging.{judgement_of}
 use Rattle.fr_sightings.specs.Sightings.{fate_of, fates_from, irregular_of, offending_frames_of, sightings_of, untimely_of}
 use Rattle.fr_sightings.specs.declared.sighting.Sighting.{Sighting}
 use Rattle.fr_judging.specs.Coverables.{coverable_of, first_failing, log_heard}
-use Rattle.fr_findings.specs.Verdict.{Basis, double_at, faults_told, known_next_told, known_told, log_basis, log_progress, obstacle_told, own_told, progress_of, progress_told, standing_told, sync_told, verdict_by, verdict_of}
+use Rattle.fr_findings.specs.Verdict.{Basis, double_at, faults_told, known_next_told, known_told, log_basis, log_progress, moving_told, obstacle_told, own_told, progress_of, progress_told, standing_told, sync_told, verdict_by, verdict_of}
 use Rattle.fr_judging.specs.declared.coverable.Coverable.TheVariants as coverable
 use Rattle.fr_findings.specs.declared.verdict.Verdict.TheVariants as verdict
 use Rattle.fr_seen_runs.specs.NotContradicted.{NoRunIsContradicted}
@@ -29,12 +29,12 @@ use Rattle.fr_seen_runs.proofs.WorkedVerdict.{none_offending, on_faults, on_rows
 
 -- how a double cycle stands by its own numbers
 unfoldable pub on_numbers : ⊤
-unfolding standing_told standing_of standing_faults known_seen known_next known_faults judged_faults most_beyond first_unseen last_of
+unfolding standing_told standing_of standing_faults moving_faults term_faults known_seen known_next known_apart known_missing judged_skews judged_terms most_beyond first_unseen last_of
 on_numbers = tt
 
 -- and the whole of it
 unfoldable pub on_doubles : ⊤
-unfolding verdict_by progress_of progress_told sync_told own_told faults_told known_told obstacle_told double_at
+unfolding verdict_by progress_of progress_told sync_told own_told faults_told known_told moving_told obstacle_told double_at
 on_doubles = tt
 
 -- ---- its sightings

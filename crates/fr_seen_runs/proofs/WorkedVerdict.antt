@@ -15,9 +15,9 @@ use Rattle.fr_sightings.specs.Senders.{course_in, delays_in, first_stamp, seen_b
 use Rattle.fr_sightings.specs.Judging.{judgement_of}
 use Rattle.fr_sightings.specs.Sightings.{OffendingFrames, fate_of, fates_from, irregular_of, offending_frames_of, sightings_of, untimely_of}
 use Rattle.fr_sightings.specs.declared.sighting.Sighting.{Sighting}
-use Rattle.fr_findings.specs.Verdict.{Basis, double_at, faults_told, known_told, log_basis, log_progress, own_told, progress_of, progress_told, standing_told, sync_told, verdict_by, verdict_of}
+use Rattle.fr_findings.specs.Verdict.{Basis, double_at, faults_told, known_told, log_basis, log_progress, moving_told, own_told, progress_of, progress_told, standing_told, sync_told, verdict_by, verdict_of}
 use Rattle.fr_judging.specs.Coverables.{coverable_of, first_failing}
-use Rattle.fr_judging.specs.Knowing.{known_next, standing_faults, standing_of}
+use Rattle.fr_judging.specs.Knowing.{judged_terms, known_missing, known_next, moving_faults, standing_faults, standing_of, term_faults}
 use Rattle.fr_findings.specs.declared.verdict.Verdict.{Verdict}
 use Rattle.fr_judging.specs.declared.coverable.Coverable.TheVariants as coverable
 use Rattle.fr_findings.specs.declared.verdict.Verdict.TheVariants as verdict
@@ -85,11 +85,11 @@ abbrev within_to_2 : Verdict
 within_to_2 = verdict.Within (record { from = 0; to = 2 })
 
 plain_progress : verdict_by (log_progress (seen_basis None false) seen_sightings none_offending) ≡ within_to_2
-unfolding verdict_by progress_of progress_told sync_told own_told faults_told known_told known_next standing_told standing_of standing_faults double_at on_senders on_faults on_rows
+unfolding verdict_by progress_of progress_told sync_told own_told faults_told known_told moving_told known_next standing_told standing_of standing_faults moving_faults term_faults judged_terms known_missing double_at on_senders on_faults on_rows
 plain_progress = refl
 
 stated_progress : verdict_by (log_progress (seen_basis (Some 0) true) seen_sightings none_offending) ≡ within_to_2
-unfolding verdict_by progress_of progress_told sync_told own_told faults_told known_told known_next standing_told standing_of standing_faults double_at on_senders on_faults on_rows
+unfolding verdict_by progress_of progress_told sync_told own_told faults_told known_told moving_told known_next standing_told standing_of standing_faults moving_faults term_faults judged_terms known_missing double_at on_senders on_faults on_rows
 stated_progress = refl
 
 verdict_is :

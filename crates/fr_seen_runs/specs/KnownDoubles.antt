@@ -13,7 +13,7 @@ use Rattle.fr_sightings.specs.Senders.{sightings_in}
 use Rattle.fr_sightings.specs.Sightings.{sightings_of}
 use Rattle.fr_sightings.specs.declared.sighting.Sighting.{Sighting}
 use Rattle.fr_observe.specs.Faults.{beyond_fault, length_beyond, missing_frames, skew_fault}
-use Rattle.fr_judging.specs.Knowing.{known_faults, known_seen}
+use Rattle.fr_judging.specs.Knowing.{known_apart, known_missing, known_seen}
 use Rattle.fr_observe.specs.Observing.{courses_of, even_high, even_low, odd_high, odd_low, seen_doubles}
 use Rattle.fr_observe.specs.declared.fault.Fault.{Fault}
 use Rattle.fr_observe.specs.declared.fault.FaultKind.TheVariants.{Lengths, Start}
@@ -77,9 +77,12 @@ NoKnownFault =
     (before : List Sighting) (double : ℕ) (known : Known)
     → IsObservedRun x h base delays clock l → NamesArbitrary x l → (l.whole ≡ true → MissesNone x h base l)
     → IsKnownAt x h (run_double base double) known → EachHasRow x h (run_double base double)
-    → known_faults x.params (reading_scale l.drift x.params) l (log_span (sightings_of x.params l)) before
-    (sightings_in (sightings_of x.params l) double) double (log_senders x l double) (Some known)
+    → (known_apart x.params (reading_scale l.drift x.params) double (log_senders x l double) (Some known) ≡ [])
+    × (
+    known_missing x.params l (log_span (sightings_of x.params l)) before (sightings_in (sightings_of x.params l) double)
+    double (Some known)
     ≡ []
+    )
 
 -- ---- skew
 

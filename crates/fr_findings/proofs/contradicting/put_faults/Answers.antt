@@ -8,9 +8,9 @@ use Rattle.fr_judging.specs.Obstacles.{farther}
 use Rattle.fr_observe.specs.declared.fault.Fault.{Fault}
 use Rattle.fr_observe.proofs.Told.{clean-is, told_cut}
 use Rattle.fr_findings.specs.Ground.{basis_in, double_in}
-use Rattle.fr_findings.specs.Verdict.{by_heard, faults_told, in_sync_told, known_next_told, known_told, obstacle_told, own_told, sync_told}
+use Rattle.fr_findings.specs.Verdict.{by_heard, faults_told, in_sync_told, known_next_told, known_told, moving_told, obstacle_told, own_told, sync_told}
 use Rattle.fr_judging.specs.Coverables.{is_coverable}
-use Rattle.fr_findings.proofs.Printing.{first-of-all, known-is, told-apart, told_failed}
+use Rattle.fr_findings.proofs.Printing.{first-of-all, known-is, moving-cut, moving-is, moving-then, told-apart, told_failed}
 use Rattle.fr_findings.proofs.contradicting.put_faults.Goals as goal
 
 pub returns-in_err-put_where_synced-clause-puts : goal.returns-in_err-put_where_synced-clause-puts
@@ -23,24 +23,34 @@ returns-in_err-put_where_synced-clause-puts g c =
     (λ i. faults_in_sync (is_coverable b.covered) (c.sync_of-sync.ensures.sync i) (in_sync_told b d) ++ known)
     (told_cut result known c.in_err-put_where_synced.ensures c.from_residual.ensures.0).puts
 
-pub returns-in_err-put_standing_faults-clause-puts : goal.returns-in_err-put_standing_faults-clause-puts
-returns-in_err-put_standing_faults-clause-puts g c =
+pub returns-in_err-put_moving_faults-clause-puts : goal.returns-in_err-put_moving_faults-clause-puts
+returns-in_err-put_moving_faults-clause-puts g c =
     let b = basis_in c.args.ground.now in
     let d = double_in c.args.double.now in
-    let result = c.from_residual-in_err-put_standing_faults.result in
-    let known = known-is c.args.ground.now c.args.double.now c.scene_of.result c.args.standing.now c.args.progress.now.known c.scene_of.ensures.value c.requires.standing in
-    subst (λ (faults : List Fault). Puts result (g.O.Sink.state c.args.out.now) (g.O.Sink.state c.put_standing_faults.new.out) (flat_map fault_row faults))
+    let result = c.from_residual-in_err-put_moving_faults.result in
+    let known = known-is c.args.ground.now c.args.double.now c.scene_of-scene.result c.args.standing.now c.args.progress.now.known c.scene_of-scene.ensures.value c.requires.standing in
+    subst (λ (faults : List Fault). Puts result (g.O.Sink.state c.args.out.now) (g.O.Sink.state c.put_moving_faults.new.out) (flat_map fault_row faults))
     (λ i. faults_in_sync (is_coverable b.covered) (c.sync_of-sync.ensures.sync i) (in_sync_told b d) ++ known i)
-    (told-apart result c.in_ok-put_where_synced.ensures (told_failed result c.in_err-put_standing_faults.ensures c.from_residual-in_err-put_standing_faults.ensures.0))
+    (told-apart result c.in_ok-put_where_synced.ensures (moving-cut c.scene_of-scene.result c.args.standing.now result c.in_err-put_moving_faults.ensures c.from_residual-in_err-put_moving_faults.ensures.0))
+
+pub returns-in_err-put_term_faults-clause-puts : goal.returns-in_err-put_term_faults-clause-puts
+returns-in_err-put_term_faults-clause-puts g c =
+    let b = basis_in c.args.ground.now in
+    let d = double_in c.args.double.now in
+    let result = c.from_residual-in_err-put_term_faults.result in
+    let known = known-is c.args.ground.now c.args.double.now c.scene_of-scene.result c.args.standing.now c.args.progress.now.known c.scene_of-scene.ensures.value c.requires.standing in
+    subst (λ (faults : List Fault). Puts result (g.O.Sink.state c.args.out.now) (g.O.Sink.state c.put_term_faults.new.out) (flat_map fault_row faults))
+    (λ i. faults_in_sync (is_coverable b.covered) (c.sync_of-sync.ensures.sync i) (in_sync_told b d) ++ known i)
+    (told-apart result c.in_ok-put_where_synced.ensures (told_failed result (moving-then c.scene_of-scene.result c.args.standing.now _ c.in_ok-put_moving_faults.ensures c.in_err-put_term_faults.ensures) c.from_residual-in_err-put_term_faults.ensures.0))
 
 pub returns-clause-puts : goal.returns-clause-puts
 returns-clause-puts g c =
     let b = basis_in c.args.ground.now in
     let d = double_in c.args.double.now in
-    let known = known-is c.args.ground.now c.args.double.now c.scene_of.result c.args.standing.now c.args.progress.now.known c.scene_of.ensures.value c.requires.standing in
-    subst (λ (faults : List Fault). Puts (Ok tt) (g.O.Sink.state c.args.out.now) (g.O.Sink.state c.put_standing_faults.new.out) (flat_map fault_row faults))
+    let known = known-is c.args.ground.now c.args.double.now c.scene_of-scene.result c.args.standing.now c.args.progress.now.known c.scene_of-scene.ensures.value c.requires.standing in
+    subst (λ (faults : List Fault). Puts (Ok tt) (g.O.Sink.state c.args.out.now) (g.O.Sink.state c.put_term_faults.new.out) (flat_map fault_row faults))
     (λ i. faults_in_sync (is_coverable b.covered) (c.sync_of-sync.ensures.sync i) (in_sync_told b d) ++ known i)
-    (told-apart (Ok tt) c.in_ok-put_where_synced.ensures c.in_ok-put_standing_faults.ensures)
+    (told-apart (Ok tt) c.in_ok-put_where_synced.ensures (moving-then c.scene_of-scene.result c.args.standing.now (Ok tt) c.in_ok-put_moving_faults.ensures c.in_ok-put_term_faults.ensures))
 
 pub returns-clause-progress : goal.returns-clause-progress
 unfolding faults_told obstacle_told
@@ -50,10 +60,14 @@ returns-clause-progress g c =
     let progress = c.args.progress.now in
     let own : List Fault = own_told b d in
     let synced : List Fault = faults_in_sync (is_coverable b.covered) c.sync_of-sync.result.0 (in_sync_told b d) in
-    let known = known-is c.args.ground.now c.args.double.now c.scene_of.result c.args.standing.now progress.known c.scene_of.ensures.value c.requires.standing in
-    let against : c.put_standing_faults.new.first ≡ first_of_faults (known_told b d progress.known) = c.in_ok-put_standing_faults.ensures.first ∙ ap first_of_faults known in
-    let none : c.is_none.result ≡ is_none c.put_standing_faults.new.first = search rules in
-    let clear : c.is_none.result ≡ is_nil (known_told b d progress.known) = none ∙ ap is_none against ∙ clean-is (known_told b d progress.known) in
+    let known = known-is c.args.ground.now c.args.double.now c.scene_of-scene.result c.args.standing.now progress.known c.scene_of-scene.ensures.value c.requires.standing in
+    let moving =
+    moving-is c.args.ground.now c.args.double.now c.scene_of-scene.result c.args.standing.now progress.known c.scene_of-scene.ensures.value c.requires.standing in
+    let moved : c.put_moving_faults.new.first ≡ first_of_faults (moving_told b d progress.known) = c.in_ok-put_moving_faults.ensures.first ∙ ap first_of_faults moving in
+    let against : c.put_term_faults.new.first ≡ first_of_faults (known_told b d progress.known) =
+    (moving-then c.scene_of-scene.result c.args.standing.now (Ok tt) c.in_ok-put_moving_faults.ensures c.in_ok-put_term_faults.ensures).first ∙ ap first_of_faults known in
+    let none : c.is_none.result ≡ is_none c.put_moving_faults.new.first = search rules in
+    let clear : c.is_none.result ≡ is_nil (moving_told b d progress.known) = none ∙ ap is_none moved ∙ clean-is (moving_told b d progress.known) in
     let next : c.known_next-progress.result ≡ known_next_told b d progress.known =
     c.known_next-progress.ensures ∙ (λ i. known_next b.params (c.requires.standing i) (clear i)) in
     let before : c.earlier-before.result ≡ option_or progress.first (first_of_faults own) = c.earlier-before.ensures ∙ ap (option_or progress.first) c.requires.told in
