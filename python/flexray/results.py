@@ -464,7 +464,7 @@ class ObservedSpread:
 
 @dataclass(frozen=True)
 class Observation:
-    """What a log tells of the clocks. `precision` is that of the parameters, in ticks, as the skews of `cycles` are;
+    """What a log tells of the clocks. `precision` is that of the first line, in ticks, as the skews of `cycles` are;
     `nodes` has each sender of each double cycle. `first` and `last` are the numbers of the first and the last of
     `cycles`, None where there are none, and `within`, `over` and `open` how many of them say so. `faults` are what
     contradicts the rules, `senders` which frames are there; `covered`, `numbers`, `sync` and `verdict` have the fields of

@@ -85,6 +85,17 @@ class Params:
         self.room = max(self.rate_out * self.shortest - 2 * self.micros * self.rate_bound, 0)
         self.last_action = self.action_point(max([1] + [key for _, key, _, _ in self.nodes if key]))
 
+    def yardstick(self, heard):
+        """The precision of its rows: where double cycles are judged by their own numbers, the sharper one."""
+        if not heard:
+            return self.precision
+        lengths = self.corrected[heard]
+        if heard == "clean":
+            starts = lengths + 2 * self.step + 2 * self.arrival + 3 * self.longest
+        else:
+            starts = 3 * lengths + 4 * self.step + 4 * self.arrival + 7 * self.longest
+        return starts + lengths + self.odd(lengths) + 2 * self.longest
+
     def odd(self, lengths):
         """How far lengths of odd cycles lie apart, where those of even ones lie so far apart."""
         return lengths + 2 * self.step
@@ -588,8 +599,7 @@ class Double:
                 for odd in (0, 1) for channel in channels
                 if self.ends[0] < even + odd < self.ends[1] and (node, channel, odd) not in self.here.stamps]
 
-    def lines(self):
-        limit = self.params.precision
+    def lines(self, limit):
         lines = [["cycle", 2 * self.double + odd, len(self.active), low, "-" if high is None else high,
                   says(limit, low, high)] for odd, (low, high) in enumerate(self.skews)]
         for node, course, onward in self.active:
@@ -654,11 +664,12 @@ class Progress:
         self.params, self.log, self.gap, self.sync, self.first, self.over, self.why = params, log, coverable(params, log), None, None, [], None
         # What nodes hear of each other, where double cycles are judged by their own numbers.
         self.heard = hearing(params, log) if self.gap and self.gap[0] == "check" else None
+        self.limit = params.yardstick(self.heard)
         self.doubles, self.judged, self.gaps, self.known = 0, [], 0, None
 
     def pass_double(self, double):
         """Its lines with those of its contradictions and of its own numbers."""
-        lines, own = double.lines(), double.own()
+        lines, own = double.lines(self.limit), double.own()
         self.doubles += 1
         if self.sync is None and self.log.since is not None and self.log.since <= 2 * double.double:
             self.sync = self.log.since // 2, "stated"
@@ -722,7 +733,8 @@ class Progress:
 def observe(params, log):
     """The lines of the text, each a list of its fields, without the empty ones at its end."""
     clock, (seen, tally, untimely, irregular) = Clock(params, log), sightings(params, log)
-    lines, doubles, offending, progress = [["precision", params.precision]], {}, {}, Progress(params, log)
+    doubles, offending, progress = {}, {}, Progress(params, log)
+    lines = [["precision", progress.limit]]
     for one in seen:
         doubles.setdefault(one[0] // 2, []).append(one)
     for one in untimely + irregular:

@@ -286,7 +286,7 @@ class Logs(Bench):
                       "frame comes within half a cycle of the schedule is taken for granted: it is sure of clocks of a covered cluster alone "
                       "Judged 12 of 12 double cycles, by what is seen of them, from double cycle 0 on; no macroticks of these lie further "
                       "apart than", page)
-        self.assertIn("within the precision, which nothing promises of this cluster", page)
+        self.assertIn("within the precision, which is promised only in sync and under its own checks", page)
         self.flexlab("observe", "-o", "seen", "--require", "judged=12", path, "net.toml")
         found = json.loads(self.flexlab("observe", "--json", "-o", "seen", path, "net.toml")[0])
         self.assertEqual([row["double_cycle"] for row in found["spreads"]], list(range(12)))

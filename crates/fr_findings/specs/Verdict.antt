@@ -3,14 +3,13 @@
 use Rattle.std.specs.Prelude.{ℕ, zero, suc, ◌+◌, ◌-◌, ◌*◌, ◌==◌, ◌&&◌, ◌||◌, ℤ, pos, Bool, true, false, List, [], ◌∷◌, ◌++◌, length, Option, Some, None, is_some, slice_get, if◌then◌else◌}
 use Rattle.std.specs.List.{flat_map}
 use Rattle.std.specs.Option.{option_or}
-use Rattle.fr_bound.specs.Bounds.{precision_of}
 use Rattle.fr_bound.specs.declared.judging.Heard.{Heard}
 use Rattle.fr_bound.specs.declared.judging.Known.{Known}
 use Rattle.fr_cluster.specs.Values.{Values}
 use Rattle.fr_log.specs.View.{LogView}
 use Rattle.fr_course.specs.Readings.{reading_scale}
 use Rattle.fr_course.specs.declared.scales.Scale.{Scale}
-use Rattle.fr_judging.specs.Coverables.{coverable_of, heard_by, is_coverable, uncoverable}
+use Rattle.fr_judging.specs.Coverables.{coverable_of, heard_by, is_coverable, uncoverable, yardstick}
 use Rattle.fr_observe.specs.Faults.{before_in_sync, fault_row, faults_in_sync, first_of_faults, is_nil, is_sync_seen, own_faults, slot_faults, sync_behind, sync_faults}
 use Rattle.fr_judging.specs.Knowing.{known_next, known_obstacle, moving_faults, spread_told, standing_faults, standing_of}
 use Rattle.fr_findings.specs.Counting.{counted, no_cycles_told}
@@ -63,7 +62,7 @@ log_span seen =
 abbrev pub basis_with : Values → LogView → List Sighting → Coverable → Basis
 basis_with p l seen covered =
     record {
-      precision = pos (precision_of p);
+      precision = pos (yardstick p (heard_by p l covered));
       scale = reading_scale l.drift p;
       params = p;
       log = l;

@@ -21,10 +21,10 @@ use crate::progress::Progress;
 use crate::verdict::Verdict;
 use crate::writing::put_doubles;
 use fr_base::{PutFault, Sink};
-use fr_bound::{Heard, bounds};
+use fr_bound::Heard;
 use fr_cluster::Params;
 use fr_course::Scale;
-use fr_judging::Coverable;
+use fr_judging::{Coverable, yardstick};
 use fr_log::Log;
 use fr_observe::{LogSpan, precision_row};
 use fr_sightings::{Sighting, SightingList, Tally, are_numbers_sure};
@@ -196,14 +196,15 @@ fn put_told<O: Sink>(
 {
     let scale = scale_of(params, log);
     let covered = Coverable::of(params, log);
+    let heard = covered.heard(params, log);
     let ground = Ground {
-        precision: bounds(params).precision,
+        precision: yardstick(params, heard),
         scale: &scale,
         params,
         log,
         span: log_span(seen),
         covered,
-        heard: covered.heard(params, log),
+        heard,
     };
     put_whole(&ground, seen, offending, tally, covered, out)
 }

@@ -3,12 +3,15 @@
 use Rattle.std.specs.Prelude.{ℕ, zero, suc, ◌==◌, ◌&&◌, ◌||◌, nat_le, pos, Bool, true, false, Option, Some, None, if◌then◌else◌}
 use Rattle.std.specs.List.{count_by}
 use Rattle.std.specs.Option.{option_or}
+use Rattle.fr_bound.specs.Bounds.{precision_of}
 use Rattle.fr_bound.specs.Checks.{holds_of, left_of, right_of}
+use Rattle.fr_bound.specs.SharpBounds.{sharp_precision}
 use Rattle.fr_bound.specs.declared.judging.Heard.{Heard}
-use Rattle.fr_bound.specs.declared.judging.Heard.TheVariants.{Clean, Meeting}
+use Rattle.fr_bound.specs.declared.judging.Heard.TheVariants.{Clean, Meeting, Poor}
 use Rattle.fr_cluster.specs.Values.{Values}
 use Rattle.fr_log.specs.View.{LogView}
 use Rattle.fr_sightings.specs.Sure.{is_sync_as}
+use Rattle.fr_judging.specs.Knowing.{stated_flutter}
 use Rattle.fr_judging.specs.declared.coverable.Coverable.{Coverable}
 use Rattle.fr_judging.specs.declared.coverable.Coverable.TheVariants as coverable
 use Rattle.fr_judging.specs.declared.obstacle.Obstacle.{Obstacle}
@@ -55,6 +58,17 @@ heard_by p l (coverable.Count correct arbitrary) = None
 
 abbrev pub log_heard : Values → LogView → Option Heard
 log_heard p l = heard_by p l (coverable_of p l)
+
+-- the precision that rows of skews are told by: the classical one; where double cycles are judged by their own numbers, the sharper
+-- one, with delays that keep within what is stated of them
+abbrev pub yardstick : Values → Option Heard → ℕ
+yardstick p None = precision_of p
+yardstick p (Some Clean) = sharp_precision false p (stated_flutter p)
+yardstick p (Some Meeting) = sharp_precision true p (stated_flutter p)
+yardstick p (Some Poor) = sharp_precision true p (stated_flutter p)
+
+abbrev pub log_precision : Values → LogView → ℕ
+log_precision p l = yardstick p (log_heard p l)
 
 -- else none of its double cycles is judged: where a check fails too, the correct sync nodes do not suffice
 abbrev pub too_few : Obstacle

@@ -1,10 +1,11 @@
 ghost use Rattle.std.specs.Prelude.{◌≡◌, ◌≤◌, count_by, length, pos};
 ghost use Rattle.fr_bound.specs.Checks.{FirstFailing, left_of, right_of};
 ghost use Rattle.fr_sightings.specs.Sure.{is_sync_as};
-ghost use Rattle.fr_judging.specs.Coverables.{are_enough, coverable_of, coverable_with, heard_by, heard_with, is_coverable, too_few, uncoverable};
+ghost use Rattle.fr_judging.specs.Coverables.{are_enough, coverable_of, coverable_with, heard_by, heard_with, is_coverable, too_few, uncoverable, yardstick};
 
 use crate::obstacle::{Obstacle, ObstacleKind};
-use fr_bound::{Heard, checks, side};
+use crate::standings::stated_flutter;
+use fr_bound::{Heard, bounds, checks, sharp_bounds, side};
 use fr_cluster::{NodeList, Params};
 use fr_log::Log;
 use fr_sightings::is_sync_as;
@@ -66,6 +67,20 @@ impl Coverable {
         match self {
             Coverable::Open => None,
             Coverable::Check { .. } | Coverable::Count { .. } => Some(too_few()),
+        }
+    }
+}
+
+/// The precision that rows of skews are told by, in ticks, by what the nodes of a log hear of each other: the classical one
+/// where that is not told, else the sharper one, with delays that keep within what is stated of them.
+pub fn yardstick(params: &Params, heard: Option<Heard>) -> i64
+    ensures { result ≡ pos (yardstick params.now heard) }
+{
+    match heard {
+        None => bounds(params).precision,
+        Some(Heard::Clean) => sharp_bounds(params, false, stated_flutter(params)).precision,
+        Some(Heard::Meeting | Heard::Poor) => {
+            sharp_bounds(params, true, stated_flutter(params)).precision
         }
     }
 }

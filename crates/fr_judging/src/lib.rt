@@ -9,7 +9,7 @@ mod standing_faults;
 mod standings;
 mod synced;
 
-pub use coverable::Coverable;
+pub use coverable::{Coverable, yardstick};
 pub use knowing::Standing;
 pub use obstacle::{Obstacle, ObstacleKind};
 pub use standing_faults::{put_moving_faults, put_spread, put_term_faults};

@@ -39,13 +39,13 @@ use Rattle.fr_observe.specs.Faults.{asks_own_slots, asks_sync, before_in_sync, b
 use Rattle.fr_course.specs.Spread.{lengths_apart, starts_apart}
 use Rattle.fr_observe.specs.declared.fault.FaultKind.TheVariants.{Lengths, Start}
 use Rattle.fr_findings.specs.Verdict.{Basis, DoubleCycle, double_at, faults_told, in_sync_told, known_next_told, known_told, log_basis, log_progress, log_span, moving_told, no_progress, own_told, progress_behind, progress_told, sightings_before, standing_told, sync_told, verdict_by, verdict_of, verdict_with}
-use Rattle.fr_judging.specs.Coverables.{is_coverable, log_heard}
+use Rattle.fr_judging.specs.Coverables.{coverable_of, is_coverable, log_heard, yardstick}
 use Rattle.fr_findings.specs.declared.progress.Progress.{Progress}
 use Rattle.fr_sightings.specs.Sightings.{OffendingFrames, irregular_of, offending_frames_of}
 use Rattle.fr_findings.specs.declared.verdict.Verdict.TheVariants as verdict
 use Rattle.fr_seen_runs.proofs.SyncKinds.{AsksOwnSlots, AsksSync, slot_faults_ask, standing_faults_ask, sync_faults_ask}
 use Rattle.fr_seen_runs.proofs.OwnFaults.{slot_faults_are_none, sync_is_seen}
-use Rattle.fr_seen_runs.proofs.Progressing.{AreInTurn, faults_left, first_is, seen_in_turn, told_all}
+use Rattle.fr_seen_runs.proofs.Progressing.{AreInTurn, faults_left, first_is, seen_in_turn, told_all, unheard}
 use Rattle.fr_seen_runs.proofs.ToldVerdicts.{fault_is_first}
 
 -- ---- the laws of sync
@@ -183,9 +183,11 @@ module _ (x : Setting) (h : Cycles) (base : ℕ) (delays : ℕ → Channel → D
         ap (λ z. z ++ b ++ c ++ d ++ e ++ f ++ g ++ k) a0 ∙ ap (λ z. z ++ c ++ d ++ e ++ f ++ g ++ k) b0 ∙ ap (λ z. z ++ d ++ e ++ f ++ g ++ k) c0
         ∙ ap (λ z. z ++ e ++ f ++ g ++ k) d0 ∙ ap (λ z. z ++ f ++ g ++ k) e0 ∙ ap (λ z. z ++ g ++ k) f0 ∙ ap (λ z. z ++ k) g0 ∙ k0
 
-    in_sync_none : (double : ℕ) (from : SyncFrom) → Contains (seen_doubles Seen) double → IsSyncFrom double from → in_sync_told Log (At double) from ≡ []
+    -- by the classical precision
+    classical_none : (double : ℕ) (from : SyncFrom) → Contains (seen_doubles Seen) double → IsSyncFrom double from
+        → sync_faults (pos (precision_of x.params)) x.params Log.scale l Log.span (before_in_sync from (At double).number (At double).before) (At double).here (At double).number (At double).senders ≡ []
     unfolding sync_faults double_at senders_of
-    in_sync_none double from among sync =
+    classical_none double from among sync =
         let p = x.params in
         let precision = pos (precision_of p) in
         let senders = Senders double in
@@ -206,11 +208,18 @@ module _ (x : Setting) (h : Cycles) (base : ℕ) (delays : ℕ → Channel → D
         (kept.rate x h base delays clock l from double run stated sync.there sync.before among)
         (kept.missing x h base delays clock l from double run stated sync.there sync.before among)
 
-    told_none : (covered : Bool) (double : ℕ) (sync : Option SyncFrom) → Contains (seen_doubles Seen) double → IfSome sync (IsSyncFrom double)
-        → faults_in_sync covered sync (in_sync_told Log (At double)) ≡ []
-    told_none covered double None among is = refl
-    told_none false double (Some from) among is = refl
-    told_none true double (Some from) among is = in_sync_none double from among is
+    -- that is the one which is told, where a run can be covered
+    in_sync_none : is_coverable Log.covered ≡ true → (double : ℕ) (from : SyncFrom) → Contains (seen_doubles Seen) double → IsSyncFrom double from → in_sync_told Log (At double) from ≡ []
+    in_sync_none covers double from among sync =
+        subst
+        (λ heard.
+        sync_faults (pos (yardstick x.params heard)) x.params Log.scale l Log.span (before_in_sync from (At double).number (At double).before) (At double).here (At double).number (At double).senders ≡ [])
+        (sym (unheard x.params l (coverable_of x.params l) covers)) (classical_none double from among sync)
+
+    told_none : is_coverable Log.covered ≡ true → (double : ℕ) (sync : Option SyncFrom) → Contains (seen_doubles Seen) double → IfSome sync (IsSyncFrom double)
+        → faults_in_sync true sync (in_sync_told Log (At double)) ≡ []
+    told_none covers double None among is = refl
+    told_none covers double (Some from) among is = in_sync_none covers double from among is
 
     -- sync that is stated, or seen
     stated_there : (double : ℕ) (since : Option ℕ) → IfSome since (λ cycle. IsUnfollowedSyncAt x.params h (run_double base (cycle / 2)))
@@ -265,12 +274,12 @@ module _ (x : Setting) (h : Cycles) (base : ℕ) (delays : ℕ → Channel → D
         more : (a b : ℕ) → a ≤ b → a ≤ suc b
         more a b le = omega (arith, le)
 
-    sync_behind_is : (double : ℕ) (progress : Progress) → Contains (seen_doubles Seen) double → IfSome progress.sync (IsSyncFrom double)
+    sync_behind_is : is_coverable Log.covered ≡ true → (double : ℕ) (progress : Progress) → Contains (seen_doubles Seen) double → IfSome progress.sync (IsSyncFrom double)
         → (faults_in_sync true (sync_told Log (At double) progress.sync) (in_sync_told Log (At double)) ≡ []) × IfSome (sync_told Log (At double) progress.sync) (IsSyncFrom (suc double))
-    sync_behind_is double progress among before =
+    sync_behind_is covers double progress among before =
         let sync = sync_told Log (At double) progress.sync in
         let is = sync_there double progress.sync among before in
-        (told_none true double sync among is, later double sync is)
+        (told_none covers double sync among is, later double sync is)
 
   -- ---- by sync where the checks hold, and by its own numbers where one fails
 
@@ -284,7 +293,7 @@ module _ (x : Setting) (h : Cycles) (base : ℕ) (delays : ℕ → Channel → D
 
     in_sync_none_where : (double : ℕ) (progress : Progress) (covered : Bool) → is_coverable Log.covered ≡ covered → Contains (seen_doubles Seen) double → SyncWhere double progress.sync
         → faults_in_sync covered (sync_told Log (At double) progress.sync) (in_sync_told Log (At double)) ≡ []
-    in_sync_none_where double progress true covers among before = (sync_behind_is (states.synced covers) kept double progress among (before covers)).0
+    in_sync_none_where double progress true covers among before = (sync_behind_is (states.synced covers) kept covers double progress among (before covers)).0
     in_sync_none_where double progress false covers among before = uncovered (sync_told Log (At double) progress.sync)
       where
         uncovered : (sync : Option SyncFrom) → faults_in_sync false sync (in_sync_told Log (At double)) ≡ []
@@ -292,7 +301,7 @@ module _ (x : Setting) (h : Cycles) (base : ℕ) (delays : ℕ → Channel → D
         uncovered (Some from) = refl
 
     sync_where : (double : ℕ) (progress : Progress) → Contains (seen_doubles Seen) double → SyncWhere double progress.sync → SyncWhere (suc double) (sync_told Log (At double) progress.sync)
-    sync_where double progress among before covers = (sync_behind_is (states.synced covers) kept double progress among (before covers)).1
+    sync_where double progress among before covers = (sync_behind_is (states.synced covers) kept covers double progress among (before covers)).1
 
     -- what is known, by what its nodes hear
     standing_by : (double : ℕ) (heard : Option Heard) (known : Option Known) → Standing

@@ -7,7 +7,7 @@ use Rattle.std.specs.Option.{option_or, option_to_list}
 use Rattle.std.proofs.lemmas.Int.{ints}
 use Rattle.std.proofs.lemmas.List.Elements.{All-append, All-cons, All-nil}
 use Rattle.fr_base.specs.declared.channel.Channel.{Channel}
-use Rattle.fr_bound.specs.Bounds.{precision_of}
+use Rattle.fr_judging.specs.Coverables.{log_precision}
 use Rattle.fr_cluster.specs.Setting.{Setting}
 use Rattle.fr_cluster.proofs.Elements.{Contains-here, Contains-there}
 use Rattle.fr_history.specs.Cycles.{Cycle, Cycles}
@@ -187,10 +187,10 @@ module _ (x : Setting) (h : Cycles) (base : ℕ) (delays : ℕ → Channel → D
       (observed_rows_hold x h base delays clock l d even odd run.timed run.log run.seen has).cycles.odd_from
 
   even_over : (double : ℕ) → Contains (seen_doubles (sightings_of x.params l)) double
-      → says_of (pos (precision_of x.params)) (even_low (reading_scale l.drift x.params) (log_senders x l double)) (even_high (reading_scale l.drift x.params) (log_senders x l double)) ≡ Over
+      → says_of (pos (log_precision x.params l)) (even_low (reading_scale l.drift x.params) (log_senders x l double)) (even_high (reading_scale l.drift x.params) (log_senders x l double)) ≡ Over
       → RowIsOver x h base l (record { cycle = 2 * double; low = even_low (reading_scale l.drift x.params) (log_senders x l double) })
   even_over double among says = record {
-    above = over_above (pos (precision_of x.params)) (even_low Scaled (Senders double)) (even_high Scaled (Senders double)) says;
+    above = over_above (pos (log_precision x.params l)) (even_low Scaled (Senders double)) (even_high Scaled (Senders double)) says;
     there = there_at double (2 * double) (half double) among;
     skew = λ d even odd has.
         record { in_even = λ same. even_from double d even odd (alike double d same) has; in_odd = λ same. absurd (unlike double d same) };
@@ -206,10 +206,10 @@ module _ (x : Setting) (h : Cycles) (base : ℕ) (delays : ℕ → Channel → D
       unlike a b is = omega (arith, is)
 
   odd_over : (double : ℕ) → Contains (seen_doubles (sightings_of x.params l)) double
-      → says_of (pos (precision_of x.params)) (odd_low (reading_scale l.drift x.params) (log_senders x l double)) (odd_high (reading_scale l.drift x.params) (log_senders x l double)) ≡ Over
+      → says_of (pos (log_precision x.params l)) (odd_low (reading_scale l.drift x.params) (log_senders x l double)) (odd_high (reading_scale l.drift x.params) (log_senders x l double)) ≡ Over
       → RowIsOver x h base l (record { cycle = 2 * double + 1; low = odd_low (reading_scale l.drift x.params) (log_senders x l double) })
   odd_over double among says = record {
-    above = over_above (pos (precision_of x.params)) (odd_low Scaled (Senders double)) (odd_high Scaled (Senders double)) says;
+    above = over_above (pos (log_precision x.params l)) (odd_low Scaled (Senders double)) (odd_high Scaled (Senders double)) says;
     there = there_at double (2 * double + 1) (half double) among;
     skew = λ d even odd has.
         record { in_even = λ same. absurd (unlike double d same); in_odd = λ same. odd_from double d even odd (alike double d same) has };
@@ -228,8 +228,8 @@ module _ (x : Setting) (h : Cycles) (base : ℕ) (delays : ℕ → Channel → D
   unfolding double_at senders_of
   over_at_is_so double among =
       let b = log_basis x.params l in
-      let even = says_of (pos (precision_of x.params)) (even_low Scaled (Senders double)) (even_high Scaled (Senders double)) in
-      let odd = says_of (pos (precision_of x.params)) (odd_low Scaled (Senders double)) (odd_high Scaled (Senders double)) in
+      let even = says_of (pos (log_precision x.params l)) (even_low Scaled (Senders double)) (even_high Scaled (Senders double)) in
+      let odd = says_of (pos (log_precision x.params l)) (odd_low Scaled (Senders double)) (odd_high Scaled (Senders double)) in
       All-append (RowIsOver x h base l) (option_to_list (over_row (2 * double) (even_low Scaled (Senders double)) even))
       (option_to_list (over_row (2 * double + 1) (odd_low Scaled (Senders double)) odd))
       (all_row (RowIsOver x h base l) (2 * double) (even_low Scaled (Senders double)) even (even_over double among))

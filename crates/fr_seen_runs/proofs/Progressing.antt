@@ -1,11 +1,12 @@
 -- What holds behind some double cycles of a log, one after the other.
-use Rattle.std.proofs.Common.{◌≡◌, ℕ, zero, suc, ◌+◌, ◌-◌, Option, Some, None, List, [], ◌∷◌, ◌++◌, length, refl, ap, sym, ◌∙◌, subst, arith}
+use Rattle.std.proofs.Common.{◌≡◌, ℕ, zero, suc, ◌+◌, ◌-◌, true, Option, Some, None, List, [], ◌∷◌, ◌++◌, length, refl, ap, sym, ◌∙◌, subst, arith}
 use Rattle.std.specs.Prelude.{Contains, slice_get}
 use Rattle.std.specs.List.{range_with_len}
 use Rattle.std.specs.Option.{option_or}
 use Rattle.fr_base.specs.declared.channel.Channel.{Channel}
 use Rattle.fr_bound.specs.declared.judging.Known.{Known}
 use Rattle.fr_cluster.specs.Setting.{Setting}
+use Rattle.fr_cluster.specs.Values.{Values}
 use Rattle.fr_cluster.proofs.Elements.{Contains-here, Contains-there}
 use Rattle.fr_history.specs.Cycles.{Cycles}
 use Rattle.fr_log.specs.View.{LogView}
@@ -20,11 +21,19 @@ use Rattle.fr_observe.specs.declared.fault.SyncFrom.{SyncFrom}
 use Rattle.fr_observe.specs.declared.fault.Fault.{Fault}
 use Rattle.fr_observe.specs.Faults.{faults_in_sync, first_of_faults, slot_faults}
 use Rattle.fr_findings.specs.Verdict.{Basis, DoubleCycle, double_at, double_faults, faults_told, in_sync_told, known_told, log_basis, own_told, progress_behind, progress_of, progress_told, sync_told}
-use Rattle.fr_judging.specs.Coverables.{is_coverable}
+use Rattle.fr_judging.specs.Coverables.{heard_by, is_coverable}
+use Rattle.fr_judging.specs.declared.coverable.Coverable.{Coverable}
+use Rattle.fr_judging.specs.declared.coverable.Coverable.TheVariants as coverable
 use Rattle.fr_findings.specs.declared.progress.Progress.{Progress}
 use Rattle.fr_sightings.specs.Sightings.{OffendingFrames, irregular_of, offending_frames_of}
 use Rattle.fr_seen_runs.specs.ToldFaults.{faults_from}
 use Rattle.fr_seen_runs.proofs.OwnFaults.{own_faults_are_none}
+
+-- where a run can be covered, double cycles are judged by sync alone
+pub unheard : (p : Values) (l : LogView) (c : Coverable) → is_coverable c ≡ true → heard_by p l c ≡ None
+unheard p l coverable.Open is = refl
+unheard p l (coverable.Check number left right) is = absurd (cc is)
+unheard p l (coverable.Count correct arbitrary) is = absurd (cc is)
 
 -- ---- double cycles
 

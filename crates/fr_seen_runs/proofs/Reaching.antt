@@ -4,7 +4,6 @@ use Rattle.std.specs.Prelude.{Contains, IfSome, int_lt, is_some, if◌then◌els
 use Rattle.std.specs.Option.{option_map, option_or}
 use Rattle.std.proofs.lemmas.List.Elements.{All-head}
 use Rattle.fr_base.specs.declared.channel.Channel.{Channel}
-use Rattle.fr_bound.specs.Bounds.{precision_of}
 use Rattle.fr_bound.specs.declared.judging.Heard.{Heard}
 use Rattle.fr_cluster.specs.Setting.{Setting}
 use Rattle.fr_history.specs.Cycles.{Cycles}
@@ -30,16 +29,14 @@ use Rattle.fr_seen_runs.specs.NotContradicted.{WithinIsInSync, WithinIsSo, Withi
 use Rattle.fr_observe.specs.declared.fault.SyncFrom.{SyncFrom}
 use Rattle.fr_observe.specs.Faults.{is_sync_seen, seen_sync, stated_sync, sync_behind}
 use Rattle.fr_findings.specs.Verdict.{Basis, DoubleCycle, by_heard, double_at, even_says, further_within, is_judged, judged_by, log_basis, log_progress, no_progress, odd_says, own_told, progress_behind, progress_told, reach_behind, reach_behind_both, reach_by, reach_where, standing_told, sync_told, verdict_of}
-use Rattle.fr_judging.specs.Coverables.{coverable_of, heard_by, is_coverable}
-use Rattle.fr_judging.specs.declared.coverable.Coverable.{Coverable}
-use Rattle.fr_judging.specs.declared.coverable.Coverable.TheVariants as coverable
+use Rattle.fr_judging.specs.Coverables.{coverable_of, is_coverable, log_precision}
 use Rattle.fr_findings.specs.declared.progress.Judged.{Judged}
 use Rattle.fr_findings.specs.declared.progress.Progress.{Progress}
 use Rattle.fr_findings.specs.declared.progress.Reach.{Reach}
 use Rattle.fr_sightings.specs.Sightings.{OffendingFrames, offending_frames_of}
 use Rattle.fr_seen_runs.proofs.OwnSightings.{here_there, next_there}
 use Rattle.fr_seen_runs.proofs.OwnFaults.{sync_is_seen}
-use Rattle.fr_seen_runs.proofs.Progressing.{behind_all, seen_in_turn}
+use Rattle.fr_seen_runs.proofs.Progressing.{behind_all, seen_in_turn, unheard}
 use Rattle.fr_seen_runs.proofs.ToldVerdicts.{within_told}
 
 -- ---- the reach of what cycles say
@@ -255,11 +252,11 @@ module _ (x : Setting) (h : Cycles) (base : ℕ) (delays : ℕ → Channel → D
   unfolding cycle_by double_at senders_of
   says_there double true is =
       let senders = log_senders x l double in
-      let most = says_some (pos (precision_of x.params)) (even_low Scaled senders) (even_high Scaled senders) is in
+      let most = says_some (pos (log_precision x.params l)) (even_low Scaled senders) (even_high Scaled senders) is in
       some_even double senders (here_there x h base delays clock l run double) most.0 most.1
   says_there double false is =
       let senders = log_senders x l double in
-      let most = says_some (pos (precision_of x.params)) (odd_low Scaled senders) (odd_high Scaled senders) is in
+      let most = says_some (pos (log_precision x.params l)) (odd_low Scaled senders) (odd_high Scaled senders) is in
       some_odd double senders (here_there x h base delays clock l run double) most.0 most.1
 
   pub cycle_there : (cycle : ℕ) → cycle_says cycle ≡ Within → IsDoubleThere h (run_double base (cycle / 2))
@@ -283,12 +280,6 @@ module _ (x : Setting) (h : Cycles) (base : ℕ) (delays : ℕ → Channel → D
   -- ---- from the first cycle on
 
   module _ (named : NamesArbitrary x l) (unstated : l.since ≡ None) (covers : is_coverable (coverable_of x.params l) ≡ true) where
-    -- by sync alone
-    unheard : (c : Coverable) → is_coverable c ≡ true → heard_by x.params l c ≡ None
-    unheard coverable.Open is = refl
-    unheard (coverable.Check number left right) is = absurd (cc is)
-    unheard (coverable.Count correct arbitrary) is = absurd (cc is)
-
     -- the reach begins with the first cycle in sync
     pub record IsFromFirst (first : ℕ) (reach : Option Reach) (is_ended : Bool) : Type 0 where
       pub begins : IfSome reach (λ r. r.from ≡ first)
@@ -389,7 +380,7 @@ module _ (x : Setting) (h : Cycles) (base : ℕ) (delays : ℕ → Channel → D
         let now = (standing_told Log (At double) progress.known).is_judged in
         let Is : Option Heard → Type 0 = λ heard. Begins sync (Passed heard sync now progress.judged.span double (even_says Log (At double)) (odd_says Log (At double)) reach).0
         (Passed heard sync now progress.judged.span double (even_says Log (At double)) (odd_says Log (At double)) reach).1 in
-        subst Is (sym (unheard (coverable_of x.params l) covers))
+        subst Is (sym (unheard x.params l (coverable_of x.params l) covers))
         (begins_step progress.sync double (IsSeen double) (even_says Log (At double)) (odd_says Log (At double)) progress.reach progress.is_ended (is_seen double among) before)
 
     pub begun : Begins (log_progress Log Seen Offending).sync (log_progress Log Seen Offending).reach (log_progress Log Seen Offending).is_ended
@@ -414,7 +405,7 @@ module _ (x : Setting) (h : Cycles) (base : ℕ) (delays : ℕ → Channel → D
 pub within_is_so : WithinIsSo
 unfolding verdict_of double_at senders_of
 within_is_so x h base delays clock l r double even odd run is has =
-    let precision = pos (precision_of x.params) in
+    let precision = pos (log_precision x.params l) in
     let scale = reading_scale l.drift x.params in
     let senders = log_senders x l double in
     let progress = log_progress (log_basis x.params l) (sightings_of x.params l) (offending_frames_of x.params l) in

@@ -20,7 +20,7 @@ use Rattle.fr_judging.specs.declared.coverable.Coverable.TheVariants as coverabl
 use Rattle.fr_findings.specs.declared.verdict.Verdict.TheVariants as verdict
 use Rattle.fr_seen_runs.specs.NotContradicted.{NoRunIsContradicted}
 use Rattle.fr_seen_runs.specs.WorkedFaults.{late_log, offset_told}
-use Rattle.fr_seen_runs.specs.WorkedJudged.{IsSeenOfNoneAsStated, JudgedLog, JudgedOffsetIsTold, MissedLog, first_met, judged_by_numbers, judged_cluster, judged_log, log_stands, log_tells_next, missed_log, second_known, second_met}
+use Rattle.fr_seen_runs.specs.WorkedJudged.{IsSeenOfNoneAsStated, JudgedLog, JudgedOffsetIsTold, MissedLog, first_met, judged_by_numbers, judged_cluster, judged_log, log_stands, log_tells_next, missed_log, missed_partly, second_known, second_met}
 use Rattle.fr_seen_runs.specs.WorkedLog.{entry_sighting, of_each, seen_sightings}
 use Rattle.fr_seen_runs.proofs.WorkedFaults.{late_sighting}
 use Rattle.fr_seen_runs.proofs.WorkedVerdict.{none_offending, on_faults, on_rows, on_senders}
@@ -65,7 +65,7 @@ missed_sightings =
 -- what the log is judged by besides its sightings
 abbrev judged_basis : LogView → Basis
 judged_basis l = record {
-  precision = pos 252_043_600;
+  precision = pos 45_007_594;
   scale = reading_scale 0 judged_cluster;
   params = judged_cluster;
   log = l;
@@ -165,12 +165,11 @@ missed_row_is : spread_told judged_cluster 1 (judged_by_numbers (Some second_kno
 unfolding spread_told spread_row digits
 missed_row_is = refl
 
-missed_progress :
-    verdict_by (log_progress (judged_basis missed_log) missed_sightings none_offending) ≡ verdict.Within (record { from = 0; to = 2 })
+missed_progress : verdict_by (log_progress (judged_basis missed_log) missed_sightings none_offending) ≡ missed_partly
 unfolding on_numbers on_doubles on_senders on_faults on_rows
 missed_progress = refl
 
-missed_verdict_is : verdict_of judged_cluster missed_log ≡ verdict.Within (record { from = 0; to = 2 })
+missed_verdict_is : verdict_of judged_cluster missed_log ≡ missed_partly
 unfolding verdict_of
 missed_verdict_is = Prim.rw (missed_basis_is, missed_sightings_are, missed_offending) missed_progress
 

@@ -1,7 +1,6 @@
 -- That no run contradicts a log that is seen of it: what its faults exclude, when it is in sync, and what its verdict says.
 use Rattle.std.specs.Prelude.{◌≡◌, ◌+◌, ◌*◌, ◌/◌, ◌≤◌, ℕ, suc, pos, true, false, List, [], Contains, None, Some}
 use Rattle.fr_base.specs.declared.channel.Channel.{Channel}
-use Rattle.fr_bound.specs.Bounds.{precision_of}
 use Rattle.fr_cluster.specs.Setting.{Setting}
 use Rattle.fr_cluster.specs.Values.{Values}
 use Rattle.fr_history.specs.Cycles.{Cycle, Cycles}
@@ -24,7 +23,7 @@ use Rattle.fr_observe.specs.Faults.{asks_own_slots, asks_sync, is_sync_seen, own
 use Rattle.fr_findings.specs.Counting.{last_row_cycle}
 use Rattle.fr_findings.specs.declared.progress.Reach.{Reach}
 use Rattle.fr_sightings.specs.Sightings.{irregular_of, untimely_of}
-use Rattle.fr_judging.specs.Coverables.{coverable_of, is_coverable}
+use Rattle.fr_judging.specs.Coverables.{coverable_of, is_coverable, log_precision}
 use Rattle.fr_findings.specs.Verdict.{verdict_of}
 use Rattle.fr_findings.specs.declared.verdict.Verdict.TheVariants as verdict
 
@@ -80,10 +79,10 @@ NoRunHasOwnFaults =
 pub record IsWithinReach (x : Setting) (l : LogView) (reach : Reach) (double : ℕ) (even odd : Cycle) : Type 0 where
   pub in_even :
       reach.from ≤ 2 * double → 2 * double ≤ reach.to
-      → StaysWithin x.params false (sender_rows even (log_senders x l double)) (pos (precision_of x.params))
+      → StaysWithin x.params false (sender_rows even (log_senders x l double)) (pos (log_precision x.params l))
   pub in_odd :
       reach.from ≤ suc (2 * double) → suc (2 * double) ≤ reach.to
-      → StaysWithin x.params true (sender_rows odd (log_senders x l double)) (pos (precision_of x.params))
+      → StaysWithin x.params true (sender_rows odd (log_senders x l double)) (pos (log_precision x.params l))
 
 -- where the verdict is within, each of its cycles is one of a double cycle that each run has that the log is seen of
 abbrev pub WithinIsThere : Type 0

@@ -3,7 +3,6 @@ use Rattle.std.specs.Prelude.{◌≡◌, ◌+◌, ◌*◌, ◌/◌, ◌<ℤ◌, 
 use Rattle.std.specs.List.{flat_map}
 use Rattle.std.specs.Option.{option_to_list}
 use Rattle.fr_base.specs.declared.channel.Channel.{Channel}
-use Rattle.fr_bound.specs.Bounds.{precision_of}
 use Rattle.fr_cluster.specs.Setting.{Setting}
 use Rattle.fr_cluster.specs.Values.{Values}
 use Rattle.fr_history.specs.Cycles.{Cycle, Cycles}
@@ -12,6 +11,7 @@ use Rattle.fr_log.specs.View.{LogView}
 use Rattle.fr_course.specs.declared.stamps.Delays.{Delays}
 use Rattle.fr_observe.specs.Observing.{even_low, odd_low, seen_doubles}
 use Rattle.fr_sightings.specs.Sightings.{offending_frames_of, sightings_of}
+use Rattle.fr_judging.specs.Coverables.{log_precision}
 use Rattle.fr_findings.specs.Verdict.{Basis, DoubleCycle, double_at, even_says, log_basis, odd_says, over_row, verdict_of}
 use Rattle.fr_findings.specs.declared.progress.OverRow.{OverRow}
 use Rattle.fr_findings.specs.declared.verdict.Verdict.TheVariants as verdict
@@ -48,7 +48,7 @@ pub record HasOver (x : Setting) (l : LogView) (row : OverRow) (double : ℕ) (e
 
 -- that is above the precision; and the run has the double cycle
 pub record RowIsOver (x : Setting) (h : Cycles) (base : ℕ) (l : LogView) (row : OverRow) : Type 0 where
-  pub above : pos (precision_of x.params) <ℤ row.low
+  pub above : pos (log_precision x.params l) <ℤ row.low
   pub there : IsDoubleThere h (run_double base (row.cycle / 2))
   pub skew :
       (double : ℕ) (even odd : Cycle) → HasDouble h (run_double base double) even odd → HasOver x l row double even odd

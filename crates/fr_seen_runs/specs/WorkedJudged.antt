@@ -16,6 +16,7 @@ use Rattle.fr_judging.specs.declared.knowing.Standing.{Standing}
 use Rattle.fr_judging.specs.Coverables.{coverable_of, log_heard}
 use Rattle.fr_findings.specs.Verdict.{Basis, double_at, known_next_told, log_basis, standing_told, verdict_of}
 use Rattle.fr_judging.specs.declared.coverable.Coverable.TheVariants as coverable
+use Rattle.fr_findings.specs.declared.verdict.Verdict.{Verdict}
 use Rattle.fr_findings.specs.declared.verdict.Verdict.TheVariants as verdict
 use Rattle.fr_seen.specs.Clocks.{StraightClock}
 use Rattle.fr_seen_runs.specs.Contradictions.{IsAsLogStates, IsObservedRun}
@@ -90,13 +91,17 @@ missed_log =
           seen_entry 1 0 ∷ seen_entry 2 0 ∷ seen_entry 1 1 ∷ seen_entry 2 1 ∷ seen_entry 2 2 ∷ seen_entry 1 3 ∷ seen_entry 2 3 ∷ [];
     }
 
+-- both are judged; but where the frame is missed, stamps leave the skew open
+abbrev pub missed_partly : Verdict
+missed_partly = verdict.Partly (record { span = record { from = 0; to = 3 }; within = 1; neither = 3; judged = 2; doubles = 2 })
+
 pub record MissedLog : Type 0 where
   pub next : log_tells_next judged_cluster missed_log 0 None ≡ Some second_known
   pub second : log_stands judged_cluster missed_log 1 (Some second_known) ≡ judged_by_numbers (Some second_known) second_known
   pub second_row :
       spread_told judged_cluster 1 (log_stands judged_cluster missed_log 1 (Some second_known))
       ≡ codes "spread,1,4080600,13002198,0,32085396,,\n"
-  pub verdict : verdict_of judged_cluster missed_log ≡ verdict.Within (record { from = 0; to = 2 })
+  pub verdict : verdict_of judged_cluster missed_log ≡ missed_partly
 
 -- where the frames of node 2 come ten microticks later from cycle 2 on, its offset term contradicts the first double cycle
 abbrev pub JudgedOffsetIsTold : Type 0

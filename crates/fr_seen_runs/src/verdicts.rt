@@ -15,7 +15,7 @@ pub fn no_run_is_contradicted()
 /// cycles, and in these the skew of the senders, in ticks, is no greater than the precision; and where no check of the
 /// cluster fails, and the log states no cycle of sync and names the arbitrary nodes of the run, the run is in sync from the
 /// first of these cycles on. The last of them is the last cycle but one that has a row. Where a check fails, the precision
-/// is a yardstick that nothing promises.
+/// is the sharper one, a yardstick that is promised in sharp sync under its own checks alone.
 pub fn within_is_so()
     ensures there { WithinIsThere }
     ensures within { WithinIsSo }

@@ -51,8 +51,9 @@ pub fn worked_strangers()
 /// A law: the same log, read of a cluster whose offset limit is 20 microticks, so that a check fails. Both of its double
 /// cycles are judged by their own numbers, and the verdict is within, in cycles 0 to 2. The log is seen of a run of this
 /// cluster that is as it states: so what is asked of such runs can be met. Without the frame of node 1 in cycle 2, the
-/// second double cycle is judged by what is known of it from the first. If the frames of node 2 come 250 ns later from
-/// cycle 2 on, the verdict is no, by its offset term. That log is seen of no such run.
+/// second double cycle is judged by what is known of it from the first, and the verdict is partly: within in one cycle. If
+/// the frames of node 2 come 250 ns later from cycle 2 on, the verdict is no, by its offset term. That log is seen of no
+/// such run.
 pub fn worked_judged_contradictions()
     ensures plain { JudgedLog }
     ensures run { JudgedRun }
