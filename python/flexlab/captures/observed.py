@@ -215,7 +215,7 @@ def sync_lines(cluster: Cluster, told: Observation) -> list[str]:
 def verdict_text(cluster: Cluster, told: Observation) -> str:
     """The verdict in words."""
     verdict, clocks, is_own = told.verdict, "the clocks of the nodes that sent lay", is_by_numbers(told)
-    unpromised = ", which is promised only in sync and under its own checks" if is_own else ", which nothing promises of this cluster"
+    unpromised = ", the sharp one, which is a yardstick here" if is_own else ", which nothing promises of this cluster"
     if verdict[0] == "within":
         return f"in cycles {verdict[1]} to {verdict[2]} {clocks} within the precision" + (unpromised if is_own else "")
     if verdict[0] == "no":
