@@ -2,14 +2,11 @@
 use Rattle.std.specs.Prelude.{ℕ, ◌+◌, ◌<◌, ◌≤◌, Bool, All, List, [], ◌∷◌, ◌++◌, length, Option}
 use Rattle.std.specs.Option.{option_or}
 use Rattle.fr_log.specs.View.{LogView}
-use Rattle.fr_observe.specs.Faults.{faults_in_sync, first_of_faults}
+use Rattle.fr_observe.specs.Faults.{first_of_faults}
 use Rattle.fr_judging.specs.Obstacles.{farther}
 use Rattle.fr_observe.specs.Skews.{AreSkews}
 use Rattle.fr_findings.specs.Counting.{AreFewCycles, counted}
-use Rattle.fr_bound.specs.declared.judging.Heard.{Heard}
-use Rattle.fr_bound.specs.declared.judging.Known.{Known}
-use Rattle.fr_findings.specs.Verdict.{Basis, DoubleCycle, by_heard, double_with, faults_told, in_sync_told, judged_by, known_next_told, known_told, obstacle_told, reach_behind_both, reach_where, sync_told}
-use Rattle.fr_judging.specs.Coverables.{is_coverable}
+use Rattle.fr_findings.specs.Verdict.{Basis, DoubleCycle, double_with, faults_told, judged_by, known_next_told, obstacle_told, reach_where}
 use Rattle.fr_findings.specs.declared.ground.Around.{Around}
 use Rattle.fr_findings.specs.declared.ground.Double.{Double}
 use Rattle.fr_findings.specs.declared.ground.Ground.{Ground}
@@ -17,8 +14,6 @@ use Rattle.fr_findings.specs.declared.ground.Offending.{Offending}
 use Rattle.fr_findings.specs.declared.progress.OverRow.{OverRow}
 use Rattle.fr_findings.specs.declared.progress.Progress.{Progress}
 use Rattle.fr_findings.specs.declared.progress.Reach.{Reach}
-use Rattle.fr_observe.specs.declared.fault.Fault.{Fault}
-use Rattle.fr_observe.specs.declared.fault.SyncFrom.{SyncFrom}
 use Rattle.fr_observe.specs.declared.says.Says.{Says}
 use Rattle.fr_observe.specs.declared.scene.Scene.{Scene}
 use Rattle.fr_sightings.specs.Ranges.{AreLogStamps, AreNumbered, AreSeenFrom, DoublesAscend, IsProperSender, IsScaleOf}
@@ -33,7 +28,6 @@ basis_in g =
       params = g.params.now;
       log = g.log.now;
       span = g.span;
-      covered = g.covered;
       heard = g.heard;
     }
 
@@ -110,25 +104,17 @@ pub record AreWalked (g : Ground) (double : ℕ) (seen : List Sighting) : Type 0
 
 -- ---- what is known behind a double cycle, step by step
 
--- what contradicts it beside what contradicts any run
-abbrev pub further_told : Basis → DoubleCycle → Option SyncFrom → Option Known → List Fault
-further_told b d sync known =
-    faults_in_sync (is_coverable b.covered) sync (in_sync_told b d) ++ known_told b d known
-
 abbrev pub with_faults : Basis → DoubleCycle → Progress → Progress
 with_faults b d progress =
     record progress {
-      sync = sync_told b d progress.sync;
       known = known_next_told b d progress.known;
-      first = option_or progress.first (first_of_faults (faults_told b d (sync_told b d progress.sync) progress.known));
-      obstacle = farther progress.obstacle (obstacle_told b d (sync_told b d progress.sync) progress.known);
+      first = option_or progress.first (first_of_faults (faults_told b d progress.known));
+      obstacle = farther progress.obstacle (obstacle_told b d progress.known);
     }
 
--- by sync, or by its own numbers
-abbrev pub reach_passed : Option Heard → Progress → ℕ → Bool → Says → Says → (Option Reach × Bool)
-reach_passed heard progress double is_judged even odd =
-    by_heard heard (reach_behind_both progress.sync double even odd (progress.reach, progress.is_ended))
-    (reach_where is_judged progress.judged.span double even odd (progress.reach, progress.is_ended))
+abbrev pub reach_passed : Progress → ℕ → Bool → Says → Says → (Option Reach × Bool)
+reach_passed progress double is_judged even odd =
+    reach_where is_judged progress.judged.span double even odd (progress.reach, progress.is_ended)
 
 abbrev pub with_both : Progress → ℕ → Bool → Says → Says → (Option Reach × Bool) → Option OverRow → Progress
 with_both progress double is_judged even odd reach over =

@@ -1,6 +1,6 @@
--- What the rows of a log come to: from which double cycle on the cluster is certainly in sync, what contradicts what, which
--- double cycles are judged and why others are not, what the rows say of the skew, and the verdict.
-use Rattle.std.specs.Prelude.{ℕ, zero, suc, ◌+◌, ◌-◌, ◌*◌, ◌==◌, ◌&&◌, ◌||◌, ℤ, pos, Bool, true, false, List, [], ◌∷◌, ◌++◌, length, Option, Some, None, is_some, slice_get, if◌then◌else◌}
+-- What the rows of a log come to: which double cycles are judged and why others are not, what contradicts them, what the rows say of
+-- the skew, and the verdict.
+use Rattle.std.specs.Prelude.{ℕ, zero, suc, ◌+◌, ◌-◌, ◌*◌, ◌==◌, ◌&&◌, ℤ, pos, Bool, true, false, List, [], ◌∷◌, ◌++◌, length, Option, Some, None, slice_get, if◌then◌else◌}
 use Rattle.std.specs.List.{flat_map}
 use Rattle.std.specs.Option.{option_or}
 use Rattle.fr_bound.specs.declared.judging.Heard.{Heard}
@@ -9,15 +9,15 @@ use Rattle.fr_cluster.specs.Values.{Values}
 use Rattle.fr_log.specs.View.{LogView}
 use Rattle.fr_course.specs.Readings.{reading_scale}
 use Rattle.fr_course.specs.declared.scales.Scale.{Scale}
-use Rattle.fr_judging.specs.Coverables.{coverable_of, heard_by, is_coverable, uncoverable, yardstick}
-use Rattle.fr_observe.specs.Faults.{before_in_sync, fault_row, faults_in_sync, first_of_faults, is_nil, is_sync_seen, own_faults, slot_faults, sync_behind, sync_faults}
+use Rattle.fr_judging.specs.Hearing.{log_heard, yardstick}
+use Rattle.fr_observe.specs.Faults.{fault_row, first_of_faults, is_nil, own_faults, slot_faults}
 use Rattle.fr_judging.specs.Knowing.{known_next, known_obstacle, moving_faults, spread_told, standing_faults, standing_of}
+use Rattle.fr_judging.specs.Missing.{missed_told}
 use Rattle.fr_findings.specs.Counting.{counted, no_cycles_told}
 use Rattle.fr_observe.specs.Observing.{both_say, double_rows, even_high, even_low, odd_high, odd_low, says_of, seen_doubles}
-use Rattle.fr_judging.specs.Obstacles.{farther, sync_obstacle}
+use Rattle.fr_judging.specs.Obstacles.{farther}
 use Rattle.fr_sightings.specs.Senders.{seen_senders, sightings_in}
 use Rattle.fr_sightings.specs.Sightings.{OffendingFrames, offending_frames_of, sightings_of}
-use Rattle.fr_judging.specs.declared.coverable.Coverable.{Coverable}
 use Rattle.fr_observe.specs.declared.fault.Fault.{Fault}
 use Rattle.fr_observe.specs.declared.fault.LogSpan.{LogSpan}
 use Rattle.fr_judging.specs.declared.knowing.Standing.{Standing}
@@ -31,7 +31,6 @@ use Rattle.fr_observe.specs.declared.says.Says.{Says}
 use Rattle.fr_observe.specs.declared.says.Says.TheVariants.{Over, Within, Open}
 use Rattle.fr_sightings.specs.declared.sender.Sender.{Sender}
 use Rattle.fr_sightings.specs.declared.sighting.Sighting.{Sighting}
-use Rattle.fr_observe.specs.declared.fault.SyncFrom.{SyncFrom}
 use Rattle.fr_findings.specs.declared.verdict.Partly.{Partly}
 use Rattle.fr_findings.specs.declared.verdict.Verdict.{Verdict}
 use Rattle.fr_findings.specs.declared.verdict.Verdict.TheVariants as verdict
@@ -44,7 +43,6 @@ pub record Basis : Type 0 where
   pub params : Values
   pub log : LogView
   pub span : LogSpan
-  pub covered : Coverable
   pub heard : Option Heard
 
 -- the numbers of the first and the last sighting
@@ -59,20 +57,19 @@ log_span seen =
       last = number_or_none (slice_get seen (length seen - 1));
     }
 
-abbrev pub basis_with : Values → LogView → List Sighting → Coverable → Basis
-basis_with p l seen covered =
+abbrev pub basis_with : Values → LogView → List Sighting → Option Heard → Basis
+basis_with p l seen heard =
     record {
-      precision = pos (yardstick p (heard_by p l covered));
+      precision = pos (yardstick p l heard);
       scale = reading_scale l.drift p;
       params = p;
       log = l;
       span = log_span seen;
-      covered = covered;
-      heard = heard_by p l covered;
+      heard = heard;
     }
 
 abbrev pub log_basis : Values → LogView → Basis
-log_basis p l = basis_with p l (sightings_of p l) (coverable_of p l)
+log_basis p l = basis_with p l (sightings_of p l) (log_heard p l)
 
 -- ---- a double cycle
 
@@ -120,17 +117,7 @@ own_told b d =
     own_faults b.params b.scale b.log d.here d.offending.untimely d.number d.senders
     ++ slot_faults b.params d.offending.irregular
 
--- from which double cycle on the cluster is in sync, as it is known behind this one
-unfoldable pub sync_told : Basis → DoubleCycle → Option SyncFrom → Option SyncFrom
-sync_told b d sync =
-    sync_behind b.log d.number (is_sync_seen b.params b.scale b.log d.here d.number d.senders (own_told b d)) sync
-
--- what contradicts a covered run that is in sync
-abbrev pub in_sync_told : Basis → DoubleCycle → SyncFrom → List Fault
-in_sync_told b d from =
-    sync_faults b.precision b.params b.scale b.log b.span (before_in_sync from d.number d.before) d.here d.number d.senders
-
--- how it stands by its own numbers, with what is known of it from the one before, and what contradicts these
+-- how it stands, with what is known of it from the one before, and what contradicts that
 unfoldable pub standing_told : Basis → DoubleCycle → Option Known → Standing
 standing_told b d known =
     standing_of b.params b.scale b.log d.here d.number d.senders b.heard known (first_of_faults (own_told b d))
@@ -141,42 +128,20 @@ known_told b d known =
 
 -- those of its skews, starts and lengths
 unfoldable pub moving_told : Basis → DoubleCycle → Option Known → List Fault
-moving_told b d known = moving_faults b.params b.scale d.number d.senders (standing_told b d known)
+moving_told b d known = moving_faults b.params b.log b.scale d.number d.senders (standing_told b d known)
 
 -- what is known of the next one, where there are none of these
 abbrev pub known_next_told : Basis → DoubleCycle → Option Known → Option Known
-known_next_told b d known = known_next b.params (standing_told b d known) (is_nil (moving_told b d known))
+known_next_told b d known = known_next b.params b.log (standing_told b d known) (is_nil (moving_told b d known))
 
--- all faults of it, where the cluster is in sync from there on, and so much is known of it
-unfoldable pub faults_told : Basis → DoubleCycle → Option SyncFrom → Option Known → List Fault
-faults_told b d sync known =
-    own_told b d ++ (faults_in_sync (is_coverable b.covered) sync (in_sync_told b d) ++ known_told b d known)
+-- all faults of it, where so much is known of it
+unfoldable pub faults_told : Basis → DoubleCycle → Option Known → List Fault
+faults_told b d known = own_told b d ++ known_told b d known
 
--- it is judged where a run can be covered and the cluster is in sync, or by its own numbers
-abbrev pub is_judged : Basis → DoubleCycle → Option SyncFrom → Option Known → Bool
-is_judged b d sync known = (is_coverable b.covered && is_some sync) || (standing_told b d known).is_judged
-
--- what keeps it from that else
-abbrev pub unless_synced : Option SyncFrom → Option Obstacle → Option Obstacle
-unless_synced None why = why
-unless_synced (Some from) why = None
-
-abbrev pub unsynced_told : Basis → DoubleCycle → Option SyncFrom → Option Obstacle
-unsynced_told b d sync =
-    option_or (uncoverable b.covered)
-    (
-    unless_synced sync
-    (sync_obstacle b.params b.scale b.log d.here d.number d.senders (first_of_faults (own_told b d)))
-    )
-
-abbrev pub by_heard : {X : Type 0} → Option Heard → X → X → X
-by_heard None by_sync by_numbers = by_sync
-by_heard (Some what) by_sync by_numbers = by_numbers
-
-unfoldable pub obstacle_told : Basis → DoubleCycle → Option SyncFrom → Option Known → Option Obstacle
-obstacle_told b d sync known =
-    by_heard b.heard (unsynced_told b d sync)
-    (known_obstacle b.params b.log d.here d.number (standing_told b d known) (first_of_faults (own_told b d)))
+-- what keeps it from being judged
+unfoldable pub obstacle_told : Basis → DoubleCycle → Option Known → Option Obstacle
+obstacle_told b d known =
+    known_obstacle b.params b.log d.here d.number (standing_told b d known) (first_of_faults (own_told b d))
 
 -- ---- what is known behind it
 
@@ -186,7 +151,6 @@ none_judged = record { doubles = 0; said = no_cycles_told; span = None }
 abbrev pub no_progress : Progress
 no_progress =
     record {
-      sync = None;
       known = None;
       first = None;
       counts = no_cycles_told;
@@ -198,7 +162,7 @@ no_progress =
       obstacle = None;
     }
 
--- how far the rows of cycles in sync say within without a gap; `ended` where one of them said something else
+-- how far the rows of judged cycles say within without a gap; `ended` where one of them said something else
 abbrev pub further_within : Option Reach → ℕ → Reach
 further_within None cycle = record { from = cycle; to = cycle }
 further_within (Some reach) cycle = record { from = reach.from; to = cycle }
@@ -211,12 +175,7 @@ reach_by reach cycle Open = (reach, true)
 abbrev pub reach_behind : (Option Reach × Bool) → ℕ → Says → (Option Reach × Bool)
 reach_behind reach cycle says = if reach.1 then reach else reach_by reach.0 cycle says
 
--- behind both of its cycles, where the cluster is in sync
-abbrev pub reach_behind_both : Option SyncFrom → ℕ → Says → Says → (Option Reach × Bool) → (Option Reach × Bool)
-reach_behind_both None double even odd reach = reach
-reach_behind_both (Some from) double even odd reach = reach_behind (reach_behind reach (2 * double) even) (2 * double + 1) odd
-
--- the same where double cycles are judged by their own numbers: one that is not, behind one that is, is a gap
+-- behind both of its cycles; one that is not judged, behind one that is, is a gap
 abbrev pub reach_where : Bool → Option Reach → ℕ → Says → Says → (Option Reach × Bool) → (Option Reach × Bool)
 reach_where true span double even odd reach = reach_behind (reach_behind reach (2 * double) even) (2 * double + 1) odd
 reach_where false None double even odd reach = reach
@@ -228,13 +187,10 @@ even_says b d = says_of b.precision (even_low b.scale d.senders) (even_high b.sc
 abbrev pub odd_says : Basis → DoubleCycle → Says
 odd_says b d = says_of b.precision (odd_low b.scale d.senders) (odd_high b.scale d.senders)
 
-abbrev pub reach_told : Basis → DoubleCycle → Option SyncFrom → Progress → (Option Reach × Bool)
-reach_told b d sync progress =
-    by_heard b.heard (reach_behind_both sync d.number (even_says b d) (odd_says b d) (progress.reach, progress.is_ended))
-    (
+abbrev pub reach_told : Basis → DoubleCycle → Progress → (Option Reach × Bool)
+reach_told b d progress =
     reach_where (standing_told b d progress.known).is_judged progress.judged.span d.number (even_says b d) (odd_says b d)
     (progress.reach, progress.is_ended)
-    )
 
 -- the first row that says over
 abbrev pub over_row : ℕ → ℤ → Says → Option OverRow
@@ -264,32 +220,35 @@ judged_by true judged double said =
 unfoldable pub progress_told : Basis → DoubleCycle → Progress → Progress
 progress_told b d progress =
     record {
-      sync = sync_told b d progress.sync;
       known = known_next_told b d progress.known;
-      first = option_or progress.first (first_of_faults (faults_told b d (sync_told b d progress.sync) progress.known));
+      first = option_or progress.first (first_of_faults (faults_told b d progress.known));
       counts = counted progress.counts (both_say b.precision b.scale d.senders);
-      reach = (reach_told b d (sync_told b d progress.sync) progress).0;
-      is_ended = (reach_told b d (sync_told b d progress.sync) progress).1;
+      reach = (reach_told b d progress).0;
+      is_ended = (reach_told b d progress).1;
       over = option_or progress.over (over_told b d);
       doubles = progress.doubles + 1;
       judged =
-          judged_by (is_judged b d (sync_told b d progress.sync) progress.known) progress.judged d.number
-          (both_say b.precision b.scale d.senders);
-      obstacle = farther progress.obstacle (obstacle_told b d (sync_told b d progress.sync) progress.known);
+          judged_by (standing_told b d progress.known).is_judged progress.judged d.number (both_say b.precision b.scale d.senders);
+      obstacle = farther progress.obstacle (obstacle_told b d progress.known);
     }
 
--- its rows, behind them those of its faults, and then its own numbers, where it is judged by them
+-- its rows, behind them those of its faults, then how many senders its nodes must have missed, and then the numbers that it is judged by
 unfoldable pub double_told : Basis → DoubleCycle → Progress → List ℕ
 double_told b d progress =
     double_rows b.precision b.scale d.number d.senders
-    ++ (flat_map fault_row (faults_told b d (sync_told b d progress.sync) progress.known)
-    ++ spread_told b.params d.number (standing_told b d progress.known))
+    ++ (
+    flat_map fault_row (faults_told b d progress.known)
+    ++ (
+    missed_told b.params b.log b.scale d.number d.senders (standing_told b d progress.known)
+    ++ spread_told b.params b.log d.number (standing_told b d progress.known)
+    )
+    )
 
 -- ---- a log
 
--- the faults of a double cycle, where the cluster is in sync from there on, and so much is known of it
-abbrev pub double_faults : Basis → List Sighting → OffendingFrames → ℕ → Option SyncFrom → Option Known → List Fault
-double_faults b seen offending double sync known = faults_told b (double_at b seen offending double) sync known
+-- the faults of a double cycle, where so much is known of it
+abbrev pub double_faults : Basis → List Sighting → OffendingFrames → ℕ → Option Known → List Fault
+double_faults b seen offending double known = faults_told b (double_at b seen offending double) known
 
 abbrev pub progress_behind : Basis → List Sighting → OffendingFrames → ℕ → Progress → Progress
 progress_behind b seen offending double progress = progress_told b (double_at b seen offending double) progress

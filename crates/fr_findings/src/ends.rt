@@ -3,15 +3,14 @@ ghost use Rattle.fr_text.specs.Pieces.{Spells};
 ghost use Rattle.fr_time.specs.Cycles.{double_cycle_of};
 ghost use Rattle.fr_observe.specs.Observing.{known_count};
 ghost use Rattle.fr_findings.specs.Counting.{cycles_told, first_row_cycle, last_row_cycle, log_row};
-ghost use Rattle.fr_findings.specs.Text.{covered_row, first_judged, from_word, numbers_row, sure_with, sure_word, sync_double, sync_of, sync_row, sync_word, verdict_row, why_cycle, why_node, why_unjudged, why_word};
+ghost use Rattle.fr_findings.specs.Text.{first_judged, numbers_row, sure_word, sync_row, sync_word, verdict_row, why_cycle, why_node, why_unjudged, why_word};
 
 use crate::counts::Counts;
 use crate::progress::{OverRow, Progress, Reach};
 use crate::verdict::{Partly, Verdict, or_none_seen};
 use fr_base::NodeId;
-use fr_bound::Heard;
-use fr_judging::{Coverable, Obstacle};
-use fr_observe::{Fault, SyncFrom, known_node};
+use fr_judging::Obstacle;
+use fr_observe::{Fault, known_node};
 use fr_sightings::{Sighting, Tally};
 use fr_text::Piece::{Natural, Signed, Word};
 use fr_text::{Line, Piece, row_of};
@@ -92,68 +91,6 @@ pub(crate) fn cycles_told(seen: &[Sighting], counts: &Counts) -> Line
     )
 }
 
-// A check that fails, with both of its sides.
-fn check_row(number: u8, left: i64, right: i64) -> Line
-    ensures { result ≡ covered_row (Coverable.Check number left right) }
-{
-    row_of(
-        b"covered",
-        &[
-            Word(b"no"),
-            Word(b"check"),
-            Natural(u64::from(number)),
-            Signed(left),
-            Signed(right),
-            Word(b""),
-            Word(b""),
-        ],
-    )
-}
-
-// So many correct and arbitrary sync nodes that the correct ones do not suffice.
-fn count_row(correct: u64, arbitrary: u64) -> Line
-    ensures { result ≡ covered_row (Coverable.Count correct arbitrary) }
-{
-    row_of(
-        b"covered",
-        &[
-            Word(b"no"),
-            Word(b"count"),
-            Natural(correct),
-            Natural(arbitrary),
-            Word(b""),
-            Word(b""),
-            Word(b""),
-        ],
-    )
-}
-
-// Whether a run can be covered.
-pub(crate) fn covered_row(coverable: Coverable) -> Line
-    ensures { result ≡ covered_row coverable }
-{
-    match coverable {
-        Coverable::Open => row_of(
-            b"covered",
-            &[
-                Word(b"open"),
-                Word(b""),
-                Word(b""),
-                Word(b""),
-                Word(b""),
-                Word(b""),
-                Word(b""),
-            ],
-        ),
-        Coverable::Check {
-            number,
-            left,
-            right,
-        } => check_row(number, left, right),
-        Coverable::Count { correct, arbitrary } => count_row(correct, arbitrary),
-    }
-}
-
 fn sure_word(sure: bool) -> &'static [u8]
     ensures text { result.now ≡ sure_word sure }
     ensures short { length result.now ≤ 7 }
@@ -161,18 +98,7 @@ fn sure_word(sure: bool) -> &'static [u8]
     if sure { b"sure" } else { b"premise" }
 }
 
-// Whether it is sure that frames come in time, where this is so of runs in sync: never where a check fails.
-pub(crate) fn sure_with(covered: Coverable, sure: bool) -> bool
-    ensures { result ≡ sure_with covered sure }
-{
-    match covered {
-        Coverable::Open => sure,
-        Coverable::Check { .. } => false,
-        Coverable::Count { .. } => sure,
-    }
-}
-
-// The same as a row.
+// Whether it is sure that frames come in time.
 pub(crate) fn numbers_row(sure: bool) -> Line
     ensures { result ≡ numbers_row sure }
 {
@@ -190,40 +116,21 @@ pub(crate) fn numbers_row(sure: bool) -> Line
     )
 }
 
-fn sync_double(sync: Option<SyncFrom>) -> Piece<'static>
-    ensures { Spells result (known_count (sync_double sync)) 20 }
-{
-    match sync {
-        None => Word(b"-"),
-        Some(from) => Natural(u64::from(from.double)),
-    }
-}
-
-fn from_word(heard: Option<Heard>, from: SyncFrom) -> &'static [u8]
-    ensures text { result.now ≡ from_word heard from }
+fn sync_word(first: Option<u64>) -> &'static [u8]
+    ensures text { result.now ≡ sync_word first }
     ensures short { length result.now ≤ 6 }
 {
-    match heard {
-        None => { if from.is_stated { b"stated" } else { b"seen" } }
+    match first {
+        None => b"open",
         Some(_) => b"judged",
     }
 }
 
-fn sync_word(heard: Option<Heard>, sync: Option<SyncFrom>) -> &'static [u8]
-    ensures text { result.now ≡ sync_word heard sync }
-    ensures short { length result.now ≤ 6 }
-{
-    match sync {
-        None => b"open",
-        Some(from) => from_word(heard, from),
-    }
-}
-
 // What is told of why a double cycle is not judged, if there is one.
-fn why_unjudged(sync: Option<SyncFrom>, why: Option<Obstacle>) -> Option<Obstacle>
-    ensures { result ≡ why_unjudged sync why }
+fn why_unjudged(first: Option<u64>, why: Option<Obstacle>) -> Option<Obstacle>
+    ensures { result ≡ why_unjudged first why }
 {
-    match sync {
+    match first {
         None => Some(or_none_seen(why)),
         Some(_) => why,
     }
@@ -267,40 +174,27 @@ fn why_node(why: &Option<Obstacle>) -> Option<NodeId>
     }
 }
 
-// Where double cycles are judged by their own numbers, the first of these.
-fn first_judged(span: Option<Reach>) -> Option<SyncFrom>
+// The first double cycle that is judged.
+fn first_judged(span: Option<Reach>) -> Option<u64>
     ensures { result ≡ first_judged span }
 {
     match span {
         None => None,
-        Some(span) => Some(SyncFrom {
-            double: span.from / 2,
-            is_stated: false,
-        }),
+        Some(span) => Some(u64::from(span.from / 2)),
     }
 }
 
-fn sync_of(heard: Option<Heard>, progress: &Progress) -> Option<SyncFrom>
-    ensures { result ≡ sync_of heard progress.now }
+// The same, how many are judged, and why others are not.
+pub(crate) fn sync_row(progress: &Progress) -> Line
+    ensures { result ≡ sync_row progress.now }
 {
-    match heard {
-        None => progress.sync,
-        Some(_) => first_judged(progress.judged.span),
-    }
-}
-
-// From which double cycle on a cluster is in sync, or which is the first that is judged by its own numbers; how many are
-// judged, and why others are not.
-pub(crate) fn sync_row(heard: Option<Heard>, progress: &Progress) -> Line
-    ensures { result ≡ sync_row heard progress.now }
-{
-    let sync = sync_of(heard, progress);
-    let why = why_unjudged(sync, progress.obstacle);
+    let first = first_judged(progress.judged.span);
+    let why = why_unjudged(first, progress.obstacle);
     row_of(
         b"sync",
         &[
-            sync_double(sync),
-            Word(sync_word(heard, sync)),
+            known_count(first),
+            Word(sync_word(first)),
             Natural(progress.judged.doubles),
             Natural(progress.doubles),
             Word(why_word(&why)),

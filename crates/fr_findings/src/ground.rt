@@ -1,14 +1,12 @@
 use fr_bound::Heard;
 use fr_cluster::Params;
 use fr_course::Scale;
-use fr_judging::Coverable;
 use fr_log::Log;
 use fr_observe::{LogSpan, Skews};
 use fr_sightings::{Sender, Sighting};
 
 // What stays the same over a log: the precision of its cluster in ticks, the cluster's numbers as readings, both files,
-// the cycles from the first sighting to the last, and whether a run can be covered. Where double cycles are judged by
-// their own numbers, it has what their nodes hear of each other.
+// the cycles from the first sighting to the last, and what nodes hear of each other, if that is told.
 #[derive(Clone, Copy)]
 pub(crate) struct Ground<'a> {
     pub(crate) precision: i64,
@@ -16,7 +14,6 @@ pub(crate) struct Ground<'a> {
     pub(crate) params: &'a Params,
     pub(crate) log: &'a Log,
     pub(crate) span: LogSpan,
-    pub(crate) covered: Coverable,
     pub(crate) heard: Option<Heard>,
 }
 

@@ -8,25 +8,21 @@ ghost use Rattle.fr_findings.specs.Ground.{ComeInOrder, IsGround, OffendInOrder,
 ghost use Rattle.fr_observe.specs.Observing.{seen_doubles};
 ghost use Rattle.fr_sightings.specs.Sure.{are_numbers_sure};
 ghost use Rattle.fr_findings.specs.Text.{AreGathered, all_told, end_told, observe_text, text_with, whole_told};
-ghost use Rattle.fr_judging.specs.Coverables.{coverable_of};
 ghost use Rattle.fr_findings.specs.Verdict.{log_span, no_progress, number_or_none, progress_of, told_of_doubles};
 ghost use Rattle.fr_sightings.specs.Ranges.{IsScaleOf};
 
 use crate::census::put_census;
-use crate::ends::{
-    covered_row, cycles_told, log_row, numbers_row, sure_with, sync_row, verdict_row,
-};
+use crate::ends::{cycles_told, log_row, numbers_row, sync_row, verdict_row};
 use crate::ground::{Ground, Offending};
 use crate::progress::Progress;
 use crate::verdict::Verdict;
 use crate::writing::put_doubles;
 use fr_base::{PutFault, Sink};
-use fr_bound::Heard;
 use fr_cluster::Params;
 use fr_course::Scale;
-use fr_judging::{Coverable, yardstick};
+use fr_judging::{heard, yardstick};
 use fr_log::Log;
-use fr_observe::{LogSpan, precision_row};
+use fr_observe::{LogSpan, precision_row, stated_flutter};
 use fr_sightings::{Sighting, SightingList, Tally, are_numbers_sure};
 use fr_text::{Line, put_line, put_lines};
 
@@ -99,18 +95,15 @@ fn put_all<O: Sink>(
 fn end_lines(
     seen: &[Sighting],
     tally: &Tally,
-    covered: Coverable,
-    heard: Option<Heard>,
     sure: bool,
     progress: &Progress,
-) -> [Option<Line>; 6]
-    ensures { joined_lines result ≡ end_told seen.now tally.now covered heard sure progress.now }
+) -> [Option<Line>; 5]
+    ensures { joined_lines result ≡ end_told seen.now tally.now sure progress.now }
 {
     [
         Some(log_row(tally)),
-        Some(covered_row(covered)),
-        Some(numbers_row(sure_with(covered, sure))),
-        Some(sync_row(heard, progress)),
+        Some(numbers_row(sure)),
+        Some(sync_row(progress)),
         Some(cycles_told(seen, &progress.counts)),
         Some(verdict_row(Verdict::of(progress))),
     ]
@@ -121,22 +114,17 @@ fn put_end<O: Sink>(
     ground: &Ground<'_>,
     seen: &[Sighting],
     tally: &Tally,
-    covered: Coverable,
     progress: &Progress,
     out: &mut O,
 ) -> Result<(), PutFault>
     requires { ComeInOrder ground.now.log.now seen.now }
     ensures { Puts result (O.state out.old) (O.state out.new)
         (census_text ground.now.params.now ground.now.log.now seen.now
-        ++ end_told seen.now tally.now covered ground.now.heard
-        (are_numbers_sure ground.now.params.now ground.now.log.now) progress.now) }
+        ++ end_told seen.now tally.now (are_numbers_sure ground.now.params.now ground.now.log.now) progress.now) }
 {
     let sure = are_numbers_sure(ground.params, ground.log);
     put_census(ground.params, ground.log, seen, out)?;
-    put_lines(
-        &end_lines(seen, tally, covered, ground.heard, sure, progress),
-        out,
-    )
+    put_lines(&end_lines(seen, tally, sure, progress), out)
 }
 
 // All behind the precision.
@@ -146,18 +134,17 @@ fn put_rest<O: Sink>(
     seen: &[Sighting],
     offending: &Offending<'_>,
     tally: &Tally,
-    covered: Coverable,
     out: &mut O,
 ) -> Result<(), PutFault>
     requires ground { IsGround ground.now }
     requires seen { ComeInOrder ground.now.log.now seen.now }
     requires offending { OffendInOrder ground.now.log.now (offending_given offending.now) }
     ensures { Puts result (O.state out.old) (O.state out.new)
-        (all_told (basis_in ground.now) seen.now (offending_given offending.now) tally.now covered) }
+        (all_told (basis_in ground.now) seen.now (offending_given offending.now) tally.now) }
 {
     let mut progress = Progress::none();
     put_all(ground, seen, offending, &mut progress, out)?;
-    put_end(ground, seen, tally, covered, &progress, out)
+    put_end(ground, seen, tally, &progress, out)
 }
 
 #[tactic(auto, unfolding(crate::specs::Text::whole_told))]
@@ -166,17 +153,20 @@ fn put_whole<O: Sink>(
     seen: &[Sighting],
     offending: &Offending<'_>,
     tally: &Tally,
-    covered: Coverable,
     out: &mut O,
 ) -> Result<(), PutFault>
     requires ground { IsGround ground.now }
     requires seen { ComeInOrder ground.now.log.now seen.now }
     requires offending { OffendInOrder ground.now.log.now (offending_given offending.now) }
     ensures { Puts result (O.state out.old) (O.state out.new)
-        (whole_told (basis_in ground.now) seen.now (offending_given offending.now) tally.now covered) }
+        (whole_told (basis_in ground.now) seen.now (offending_given offending.now) tally.now) }
 {
-    put_line(&precision_row(ground.precision), out)?;
-    put_rest(ground, seen, offending, tally, covered, out)
+    let flutter = stated_flutter(ground.params, ground.log);
+    put_line(
+        &precision_row(ground.precision, flutter, ground.log.lost()),
+        out,
+    )?;
+    put_rest(ground, seen, offending, tally, out)
 }
 
 // What these sightings of a log tell, its offending frames, and what became of its entries.
@@ -191,22 +181,19 @@ fn put_told<O: Sink>(
     requires seen { ComeInOrder log.now seen.now }
     requires offending { OffendInOrder log.now (offending_given offending.now) }
     ensures { Puts result (O.state out.old) (O.state out.new)
-        (text_with params.now log.now seen.now (offending_given offending.now) tally.now
-        (coverable_of params.now log.now)) }
+        (text_with params.now log.now seen.now (offending_given offending.now) tally.now) }
 {
     let scale = scale_of(params, log);
-    let covered = Coverable::of(params, log);
-    let heard = covered.heard(params, log);
+    let heard = heard(params, log);
     let ground = Ground {
-        precision: yardstick(params, heard),
+        precision: yardstick(params, log, heard),
         scale: &scale,
         params,
         log,
         span: log_span(seen),
-        covered,
         heard,
     };
-    put_whole(&ground, seen, offending, tally, covered, out)
+    put_whole(&ground, seen, offending, tally, out)
 }
 
 /// Writes what a log tells of a cluster's clocks, what contradicts it, and its verdict, by its sightings: records of

@@ -1,12 +1,12 @@
 ghost use Rattle.std.specs.Prelude.{◌≡◌, ◌≤◌, ◌<◌, ◌∷◌, [], true};
 ghost use Rattle.fr_findings.specs.Ground.{CountsFew, reach_passed, with_both};
 ghost use Rattle.fr_findings.specs.Counting.{AreFewCycles, counted};
-ghost use Rattle.fr_findings.specs.Verdict.{further_within, judged_by, no_progress, none_judged, reach_behind, reach_behind_both, reach_by, reach_where, span_to};
+ghost use Rattle.fr_findings.specs.Verdict.{further_within, judged_by, no_progress, none_judged, reach_behind, reach_by, reach_where, span_to};
 
 use crate::counts::Counts;
-use fr_bound::{Heard, Known};
+use fr_bound::Known;
 use fr_judging::Obstacle;
-use fr_observe::{Fault, Says, SyncFrom};
+use fr_observe::{Fault, Says};
 
 /// Cycles all of whose rows say that the skew is within the precision.
 #[derive(Clone, Copy, Debug, PartialEq, Eq)]
@@ -26,9 +26,8 @@ pub struct OverRow {
     pub low: i64,
 }
 
-/// The double cycles that are judged: those in which more is held against the log than what contradicts any run. Where a
-/// run can be covered, that is what no covered run in sync gives. Where a check fails, it is what the double cycle's own
-/// numbers exclude.
+/// The double cycles that are judged: those in which more is held against the log than what contradicts any run, which is what
+/// their own numbers exclude.
 #[derive(Clone, Copy, Debug, PartialEq, Eq)]
 pub struct Judged {
     /// How many they are.
@@ -42,17 +41,14 @@ pub struct Judged {
 /// What is known of a log behind some of its double cycles.
 #[derive(Clone, Copy, Debug, PartialEq, Eq)]
 pub struct Progress {
-    /// From when on the cluster is in sync, if that is known. Where a run cannot be covered, no fault asks for it.
-    pub sync: Option<SyncFrom>,
-    /// What is known of the clocks in the next double cycle, in ticks: where the last one is judged by its own numbers, and
-    /// nothing contradicts these.
+    /// What is known of the clocks in the next double cycle, in ticks: where the last one is judged, and nothing contradicts its
+    /// numbers.
     pub known: Option<Known>,
     /// The first contradiction.
     pub first: Option<Fault>,
     /// How many cycles say what.
     pub counts: Counts,
-    /// From the first cycle in sync on, those that say within without a gap. Where double cycles are judged by their own
-    /// numbers, from the first one that is judged on; none behind one that is not.
+    /// From the first judged cycle on, those that say within without a gap; none behind a double cycle that is not judged.
     pub reach: Option<Reach>,
     /// Whether one of them said something else, or was not judged.
     pub is_ended: bool,
@@ -97,7 +93,6 @@ impl Progress {
         ensures { result ≡ no_progress }
     {
         Progress {
-            sync: None,
             known: None,
             first: None,
             counts: Counts::new(),
@@ -111,22 +106,18 @@ impl Progress {
     }
 
     // How far rows say within, and whether one of them said something else, behind a double cycle whose even and odd cycle
-    // say this: by sync, or, where it is told what nodes hear of each other, by whether it is judged by its own numbers.
+    // say this.
     pub(crate) fn reach_passed(
         &self,
-        heard: Option<Heard>,
         double: u32,
         is_judged: bool,
         said: (Says, Says),
     ) -> (Option<Reach>, bool)
         requires { double < 1_000_000 }
-        ensures { result ≡ reach_passed heard self.now double is_judged said.0 said.1 }
+        ensures { result ≡ reach_passed self.now double is_judged said.0 said.1 }
     {
         let reach = (self.reach, self.is_ended);
-        match heard {
-            None => behind_both(self.sync, double, said, reach),
-            Some(_) => behind_judged(is_judged, self.judged.span, double, said, reach),
-        }
+        behind_judged(is_judged, self.judged.span, double, said, reach)
     }
 
     // Behind a double cycle whose even and odd cycle say this, the first row of which that says over is this one, and behind
@@ -203,7 +194,7 @@ fn further(reach: Option<Reach>, cycle: u32) -> Reach
     }
 }
 
-// How far the rows of cycles in sync say within, and whether one of them said something else: behind one that says this.
+// How far the rows of judged cycles say within, and whether one of them said something else: behind one that says this.
 fn behind_one(reach: Option<Reach>, cycle: u32, says: Says) -> (Option<Reach>, bool)
     ensures { result ≡ reach_by reach cycle says }
 {
@@ -223,23 +214,7 @@ fn behind(reach: (Option<Reach>, bool), cycle: u32, says: Says) -> (Option<Reach
     }
 }
 
-// The same behind both cycles of a double cycle, where the cluster is in sync.
-fn behind_both(
-    sync: Option<SyncFrom>,
-    double: u32,
-    said: (Says, Says),
-    reach: (Option<Reach>, bool),
-) -> (Option<Reach>, bool)
-    requires { double < 1_000_000 }
-    ensures { result ≡ reach_behind_both sync double said.0 said.1 reach }
-{
-    match sync {
-        None => reach,
-        Some(_) => behind(behind(reach, 2 * double, said.0), 2 * double + 1, said.1),
-    }
-}
-
-// The same where double cycles are judged by their own numbers, these so far: one that is not is a gap behind them.
+// The same behind both cycles of a double cycle; one that is not judged is a gap behind those that are.
 fn behind_judged(
     is_judged: bool,
     span: Option<Reach>,

@@ -1,4 +1,4 @@
-ghost use Rattle.std.specs.Prelude.{◌≡◌, ◌+◌, ◌-◌, ◌*◌, ◌≤◌, ◌<◌, ◌&&◌, ◌||◌, All, OnOk, is_some};
+ghost use Rattle.std.specs.Prelude.{◌≡◌, ◌+◌, ◌-◌, ◌*◌, ◌≤◌, ◌<◌, All, OnOk};
 ghost use Rattle.std.specs.List.{flat_map, range_with_len};
 ghost use Rattle.std.specs.Option.{option_or};
 ghost use Rattle.fr_base.specs.Device.{Puts};
@@ -7,16 +7,14 @@ ghost use Rattle.fr_findings.specs.Ground.{AreWalked, CountsFew, IsAround, IsDou
 ghost use Rattle.fr_observe.specs.Observing.{cycles_text, double_rows, node_row};
 ghost use Rattle.fr_observe.specs.Skews.{AreSkews};
 ghost use Rattle.fr_findings.specs.Verdict.{double_told, even_says, no_progress, odd_says, over_row, progress_of, progress_told, told_of_doubles};
-ghost use Rattle.fr_judging.specs.Coverables.{is_coverable};
 ghost use Rattle.fr_sightings.specs.Ranges.{IsProperSender};
 
-use crate::contradicting::{put_faults, put_own, standing_of};
+use crate::contradicting::{put_faults, put_numbers, put_own, standing_of};
 use crate::ground::{Around, Double, Ground, Offending};
 use crate::progress::{OverRow, Progress};
 use fr_base::{PutFault, Sink};
 use fr_course::Scale;
-use fr_judging::{Standing, put_spread};
-use fr_observe::{Says, Skews, SyncFrom, cycle_row, node_row, skews_of};
+use fr_observe::{Says, Skews, cycle_row, node_row, skews_of};
 use fr_sightings::{Sender, Sighting, look_at, look_from, seen_senders};
 use fr_text::put_line;
 
@@ -126,14 +124,8 @@ fn over_row(cycle: u32, low: i64, says: Says) -> Option<OverRow>
     }
 }
 
-// Whether a double cycle is judged: by sync, where this is known of it behind the double cycle, or by its own numbers.
-fn is_judged(ground: &Ground<'_>, standing: &Standing, sync: Option<SyncFrom>) -> bool
-    ensures { result ≡ ((is_coverable ground.now.covered && is_some sync) || standing.now.is_judged) }
-{
-    (ground.covered.is_open() && sync.is_some()) || standing.is_judged
-}
-
-// A double cycle: its rows, behind them those of its faults, and then its own numbers, where it is judged by them.
+// A double cycle: its rows, behind them those of its faults, how many senders its nodes must have missed, and the numbers that it
+// is judged by.
 #[tactic(auto, unfolding(crate::specs::Verdict::double_told, crate::specs::Verdict::progress_told))]
 fn put_double<'a, O: Sink>(
     ground: &'a Ground<'a>,
@@ -156,12 +148,11 @@ fn put_double<'a, O: Sink>(
     put_own(ground, double, &mut told, out)?;
     let standing = standing_of(ground, double, progress.known, &told);
     put_faults(ground, double, &standing, &told, progress, out)?;
-    put_spread(ground.params, double.number, &standing, out)?;
+    put_numbers(ground, double, &standing, out)?;
     let said = both_say(ground, double, skews);
     let over = first_over(double.number, skews, said.0, said.1);
-    let judged = is_judged(ground, &standing, progress.sync);
-    let reach = progress.reach_passed(ground.heard, double.number, standing.is_judged, said);
-    progress.pass(double.number, judged, said, reach, over);
+    let reach = progress.reach_passed(double.number, standing.is_judged, said);
+    progress.pass(double.number, standing.is_judged, said, reach, over);
     Ok(())
 }
 

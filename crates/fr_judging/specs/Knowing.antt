@@ -1,7 +1,7 @@
 -- What a log tells of how far the clocks of a cluster lie apart in a double cycle, in ticks: by what is seen of it, and by what is known
--- of it from the one before. No bound of the cluster is asked for. Which double cycles are judged by such numbers, and what
+-- of it from the one before, or as the log states. No bound of the cluster is asked for. Which double cycles are judged by such numbers, and what
 -- contradicts them.
-use Rattle.std.specs.Prelude.{ℕ, ◌+◌, ◌*◌, ℤ, pos, ◌-ℤ◌, max, ◌&&◌, Bool, false, List, [], ◌∷◌, ◌++◌, codes, filter_map, Option, Some, None, IfSome, is_none, if◌then◌else◌}
+use Rattle.std.specs.Prelude.{ℕ, ◌+◌, ◌*◌, ◌==◌, ℤ, pos, ◌-ℤ◌, max, ◌&&◌, Bool, false, List, [], ◌∷◌, ◌++◌, codes, filter_map, Option, Some, None, IfSome, is_none, if◌then◌else◌}
 use Rattle.std.specs.Fmt.{decimal}
 use Rattle.std.specs.Int.{int_max}
 use Rattle.std.specs.Option.{option_map, option_or, option_to_list}
@@ -9,17 +9,17 @@ use Rattle.fr_bound.specs.Judged.{all_but_first_hold, apart_through, from_none, 
 use Rattle.fr_bound.specs.SharpSpreads.{sharply_near_in}
 use Rattle.fr_bound.specs.declared.judging.Heard.{Heard}
 use Rattle.fr_bound.specs.declared.judging.Known.{Known}
-use Rattle.fr_cluster.specs.Values.{Values, amount}
-use Rattle.fr_cluster.specs.declared.names.ParamName.TheVariants as name
+use Rattle.fr_cluster.specs.Values.{Values}
 use Rattle.fr_log.specs.View.{LogView}
 use Rattle.fr_course.specs.Computed.{length_ticks}
 use Rattle.fr_course.specs.Spread.{lengths_apart, starts_apart}
 use Rattle.fr_course.specs.declared.scales.Scale.{Scale}
 use Rattle.fr_sightings.specs.declared.sender.Sender.{Sender}
 use Rattle.fr_sightings.specs.declared.sighting.Sighting.{Sighting}
-use Rattle.fr_observe.specs.Faults.{beyond_fault, length_beyond, longest_cycle_of, missing_frames, offset_fault, rate_fault, shortest_cycle_of, skew_fault}
+use Rattle.fr_observe.specs.Faults.{beyond_fault, length_beyond, longest_cycle_of, missing_frames, offset_fault, rate_fault, shortest_cycle_of, skew_fault, stated_flutter}
 use Rattle.fr_observe.specs.Observing.{courses_of, even_high, even_low, odd_high, odd_low, row}
-use Rattle.fr_judging.specs.Obstacles.{faulty, first_unseen, of_several}
+use Rattle.fr_judging.specs.Hearing.{synced_with}
+use Rattle.fr_judging.specs.Obstacles.{faulty, first_unseen, of_several, too_few}
 use Rattle.fr_observe.specs.declared.fault.Fault.{Fault}
 use Rattle.fr_observe.specs.declared.fault.FaultKind.TheVariants.{Lengths, Start}
 use Rattle.fr_observe.specs.declared.fault.LogSpan.{LogSpan}
@@ -57,25 +57,33 @@ unfoldable pub known_seen : Values → Scale → LogView → List Sighting → �
 known_seen p scale l here double senders told =
     if is_none told && is_none (first_unseen l here double p.nodes) then Some (known_by p scale senders) else None
 
+-- ---- what the log states
+
+-- whether it states that the cluster is in sync in a double cycle
+abbrev pub is_stated_at : Option ℕ → ℕ → Bool
+is_stated_at None double = false
+is_stated_at (Some cycle) double = cycle == 2 * double
+
+-- then so much is known of that
+abbrev pub known_as_stated : Values → LogView → Heard → ℕ → Option Known
+known_as_stated p l what double = if is_stated_at l.since double then Some (synced_with p l what) else None
+
 -- ---- whether it is judged
 
--- delays that keep within what is stated of them flutter by no more
-abbrev pub stated_flutter : Values → ℕ
-stated_flutter p = 2 * amount p name.xDelayError
+abbrev pub is_judged_by : Values → LogView → Option Known → Bool
+is_judged_by p l None = false
+is_judged_by p l (Some met) = is_judged_double p (stated_flutter p l) met
 
-abbrev pub is_judged_by : Values → Option Known → Bool
-is_judged_by p None = false
-is_judged_by p (Some met) = is_judged_double p (stated_flutter p) met
-
--- how a double cycle stands: what is known of it from the one before, that met with what is seen of it, and whether it is judged by
--- this. Where it is not told what its nodes hear, nothing is known
-abbrev pub standing_with : Values → Option Heard → Option Known → Option Known → Standing
-standing_with p heard known met = record { heard = heard; known = known; met = met; is_judged = is_judged_by p met }
+-- how a double cycle stands: what is known of it from the one before and by what the log states, that met with what is seen of it, and
+-- whether it is judged by this. Where it is not told what its nodes hear, nothing is known
+abbrev pub standing_with : Values → LogView → Option Heard → Option Known → Option Known → Standing
+standing_with p l heard known met = record { heard = heard; known = known; met = met; is_judged = is_judged_by p l met }
 
 unfoldable pub standing_of : Values → Scale → LogView → List Sighting → ℕ → List Sender → Option Heard → Option Known → Option Fault → Standing
 standing_of p scale l here double senders None known told = record { heard = None; known = None; met = None; is_judged = false }
 standing_of p scale l here double senders (Some what) known told =
-    standing_with p (Some what) known (met_with known (known_seen p scale l here double senders told))
+    standing_with p l (Some what) (met_with known (known_as_stated p l what double))
+    (met_with (met_with known (known_as_stated p l what double)) (known_seen p scale l here double senders told))
 
 -- the numbers that it is judged by
 abbrev pub judged_met : Standing → Option Known
@@ -86,43 +94,47 @@ abbrev pub JudgedBySmall : Standing → Type 0
 JudgedBySmall st = IfSome (judged_met st) IsSmall
 
 -- what is known of the next one, where this one is clear: neither its skews nor its starts and lengths contradict its numbers
-abbrev pub known_next_by : Values → Option Heard → Option Known → Option Known
-known_next_by p None judged = None
-known_next_by p (Some what) judged = option_map (known_after what p (stated_flutter p)) judged
+abbrev pub known_next_by : Values → LogView → Option Heard → Option Known → Option Known
+known_next_by p l None judged = None
+known_next_by p l (Some what) judged = option_map (known_after what p (stated_flutter p l)) judged
 
-unfoldable pub known_next : Values → Standing → Bool → Option Known
-known_next p st is_clear = if is_clear then known_next_by p st.heard (judged_met st) else None
+unfoldable pub known_next : Values → LogView → Standing → Bool → Option Known
+known_next p l st is_clear = if is_clear then known_next_by p l st.heard (judged_met st) else None
 
 -- what keeps it from being judged: a check but the first fails with its starts and lengths, or these are too much for the rate limit
-abbrev pub unfit : Values → ℕ → Option Known → Option Obstacle
-unfit p double None = None
-unfit p double (Some met) =
-    if all_but_first_hold (stated_flutter p) (sharply_near_in p met.spread) p
+abbrev pub unfit : Values → LogView → ℕ → Option Known → Option Obstacle
+unfit p l double None = None
+unfit p l double (Some met) =
+    if all_but_first_hold (stated_flutter p l) (sharply_near_in p met.spread) p
     then of_several obstacle.Drift double
     else of_several obstacle.Reach double
 
--- first a node that was not seen, then a fault, then its numbers
-unfoldable pub known_obstacle : Values → LogView → List Sighting → ℕ → Standing → Option Fault → Option Obstacle
-known_obstacle p l here double st told =
+-- first that it is not told what its nodes hear, then a node that was not seen, then a fault, then its numbers
+abbrev pub unjudged_by : Values → LogView → List Sighting → ℕ → Standing → Option Fault → Option Heard → Option Obstacle
+unjudged_by p l here double st told None = Some too_few
+unjudged_by p l here double st told (Some what) =
     if st.is_judged then None
-    else option_or (option_or (first_unseen l here double p.nodes) (faulty told)) (unfit p double st.met)
+    else option_or (option_or (first_unseen l here double p.nodes) (faulty told)) (unfit p l double st.met)
+
+unfoldable pub known_obstacle : Values → LogView → List Sighting → ℕ → Standing → Option Fault → Option Obstacle
+known_obstacle p l here double st told = unjudged_by p l here double st told st.heard
 
 -- ---- what contradicts it
 
 -- its skews, where it is judged by its own numbers
-unfoldable pub judged_skews : Values → Scale → ℕ → List Sender → Heard → Option Known → List Fault
-judged_skews p scale double senders what None = []
-judged_skews p scale double senders what (Some met) =
+unfoldable pub judged_skews : Values → LogView → Scale → ℕ → List Sender → Heard → Option Known → List Fault
+judged_skews p l scale double senders what None = []
+judged_skews p l scale double senders what (Some met) =
     option_to_list
     (
-    skew_fault (pos (apart_through what p (stated_flutter p) met)) (2 * double) (even_low scale senders) (even_high scale senders)
+    skew_fault (pos (apart_through what p (stated_flutter p l) met)) (2 * double) (even_low scale senders) (even_high scale senders)
     )
     ++ option_to_list
     (
-    skew_fault (pos (apart_through what p (stated_flutter p) met)) (2 * double + 1) (odd_low scale senders) (odd_high scale senders)
+    skew_fault (pos (apart_through what p (stated_flutter p l) met)) (2 * double + 1) (odd_low scale senders) (odd_high scale senders)
     )
 
--- its starts and lengths, where they are known from the one before, which was judged
+-- its starts and lengths, where something is known of them from the one before, which was judged, or as the log states
 unfoldable pub known_apart : Values → Scale → ℕ → List Sender → Option Known → List Fault
 known_apart p scale double senders None = []
 known_apart p scale double senders (Some known) =
@@ -131,21 +143,21 @@ known_apart p scale double senders (Some known) =
     ++ filter_map (length_beyond p scale known.beyond double) senders
 
 -- both: behind one of these nothing is known of the next double cycle
-abbrev pub moving_heard : Values → Scale → ℕ → List Sender → Standing → Option Heard → List Fault
-moving_heard p scale double senders st None = []
-moving_heard p scale double senders st (Some what) =
-    judged_skews p scale double senders what (judged_met st) ++ known_apart p scale double senders st.known
+abbrev pub moving_heard : Values → LogView → Scale → ℕ → List Sender → Standing → Option Heard → List Fault
+moving_heard p l scale double senders st None = []
+moving_heard p l scale double senders st (Some what) =
+    judged_skews p l scale double senders what (judged_met st) ++ known_apart p scale double senders st.known
 
-unfoldable pub moving_faults : Values → Scale → ℕ → List Sender → Standing → List Fault
-moving_faults p scale double senders st = moving_heard p scale double senders st st.heard
+unfoldable pub moving_faults : Values → LogView → Scale → ℕ → List Sender → Standing → List Fault
+moving_faults p l scale double senders st = moving_heard p l scale double senders st st.heard
 
--- its terms, where it is judged
-unfoldable pub judged_terms : Values → Scale → ℕ → List Sender → Option Known → List Fault
-judged_terms p scale double senders None = []
-judged_terms p scale double senders (Some met) =
-    filter_map (offset_fault p scale double senders) senders ++ filter_map (rate_fault p scale double senders) senders
+-- its terms, where it is judged: by so many senders that each node may have missed
+unfoldable pub judged_terms : Values → LogView → Scale → ℕ → List Sender → Option Known → List Fault
+judged_terms p l scale double senders None = []
+judged_terms p l scale double senders (Some met) =
+    filter_map (offset_fault p l scale double senders l.lost) senders ++ filter_map (rate_fault p l scale double senders l.lost) senders
 
--- frames that are missing, where something is known from the one before; `before` are the sightings of that
+-- frames that are missing, where something is known of it beside what is seen; `before` are the sightings of the one before
 unfoldable pub known_missing : Values → LogView → LogSpan → List Sighting → List Sighting → ℕ → Option Known → List Fault
 known_missing p l span before here double None = []
 known_missing p l span before here double (Some known) = missing_frames p l span before here double
@@ -153,29 +165,29 @@ known_missing p l span before here double (Some known) = missing_frames p l span
 -- both: these end nothing that is known
 unfoldable pub term_faults : Values → Scale → LogView → LogSpan → List Sighting → List Sighting → ℕ → List Sender → Standing → List Fault
 term_faults p scale l span before here double senders st =
-    judged_terms p scale double senders (judged_met st) ++ known_missing p l span before here double st.known
+    judged_terms p l scale double senders (judged_met st) ++ known_missing p l span before here double st.known
 
 -- all
 unfoldable pub standing_faults : Values → Scale → LogView → LogSpan → List Sighting → List Sighting → ℕ → List Sender → Standing → List Fault
 standing_faults p scale l span before here double senders st =
-    moving_faults p scale double senders st ++ term_faults p scale l span before here double senders st
+    moving_faults p l scale double senders st ++ term_faults p scale l span before here double senders st
 
 -- ---- as a record
 
 -- of one that is judged: how far starts and lengths lie apart in it, how far these lie beyond their range, and how far macroticks lie
 -- apart, all at most
-unfoldable pub spread_row : Values → Heard → ℕ → Known → List ℕ
-spread_row p what double known =
+unfoldable pub spread_row : Values → LogView → Heard → ℕ → Known → List ℕ
+spread_row p l what double known =
     row (codes "spread")
     (
     decimal double ∷ decimal known.spread.starts ∷ decimal known.spread.lengths ∷ decimal known.beyond
-    ∷ decimal (apart_through what p (stated_flutter p) known) ∷ [] ∷ [] ∷ []
+    ∷ decimal (apart_through what p (stated_flutter p l) known) ∷ [] ∷ [] ∷ []
     )
 
-abbrev pub spread_heard : Values → ℕ → Option Heard → Option Known → List ℕ
-spread_heard p double None judged = []
-spread_heard p double (Some what) None = []
-spread_heard p double (Some what) (Some known) = spread_row p what double known
+abbrev pub spread_heard : Values → LogView → ℕ → Option Heard → Option Known → List ℕ
+spread_heard p l double None judged = []
+spread_heard p l double (Some what) None = []
+spread_heard p l double (Some what) (Some known) = spread_row p l what double known
 
-unfoldable pub spread_told : Values → ℕ → Standing → List ℕ
-spread_told p double st = spread_heard p double st.heard (judged_met st)
+unfoldable pub spread_told : Values → LogView → ℕ → Standing → List ℕ
+spread_told p l double st = spread_heard p l double st.heard (judged_met st)

@@ -1,4 +1,5 @@
 -- what the public contract cites
-pub mod Coverables
+pub mod Hearing
 pub mod Obstacles
 pub mod Knowing
+pub mod Missing

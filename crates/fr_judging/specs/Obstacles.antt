@@ -1,19 +1,13 @@
--- Why a double cycle of a log is not judged, in the order of how far it came: too few sync nodes, or what keeps it from being seen
--- in sync.
-use Rattle.std.specs.Prelude.{ℕ, ◌+◌, ◌*◌, nat_lt, pos, int_le, ◌&&◌, List, codes, Option, Some, None, is_some, if◌then◌else◌}
-use Rattle.std.specs.List.{fold, list_all}
+-- Why a double cycle of a log is not judged, in the order of how far it came: too few sync nodes, or what keeps it from being judged by
+-- its own numbers.
+use Rattle.std.specs.Prelude.{ℕ, ◌+◌, ◌*◌, nat_lt, List, codes, Option, Some, None, is_some, if◌then◌else◌}
+use Rattle.std.specs.List.{fold}
 use Rattle.std.specs.Option.{option_or}
-use Rattle.fr_bound.specs.Bounds.{lambda_of, pi_of}
-use Rattle.fr_cluster.specs.Values.{Values}
 use Rattle.fr_cluster.specs.declared.nodes.NodeSpec.{NodeSpec}
 use Rattle.fr_log.specs.View.{LogView}
-use Rattle.fr_course.specs.Spread.{lengths_apart, starts_apart}
-use Rattle.fr_course.specs.declared.scales.Scale.{Scale}
 use Rattle.fr_sightings.specs.Senders.{seen_box}
-use Rattle.fr_sightings.specs.declared.sender.Sender.{Sender}
 use Rattle.fr_sightings.specs.declared.sighting.Sighting.{Sighting}
-use Rattle.fr_observe.specs.Faults.{has_proper_length, is_seen_whole}
-use Rattle.fr_observe.specs.Observing.{courses_of}
+use Rattle.fr_observe.specs.Faults.{is_seen_whole}
 use Rattle.fr_observe.specs.declared.fault.Fault.{Fault}
 use Rattle.fr_judging.specs.declared.obstacle.Obstacle.{Obstacle}
 use Rattle.fr_judging.specs.declared.obstacle.ObstacleKind.{ObstacleKind}
@@ -58,22 +52,13 @@ abbrev pub faulty : Option Fault → Option Obstacle
 faulty None = None
 faulty (Some fault) = Some (record { kind = obstacle.Fault; cycle = Some fault.cycle; node = fault.node })
 
--- its starts, or the lengths of its cycles, may lie further apart than in sync; or these may be none of oscillators within their
--- bounds
+-- its starts and lengths may lie so far apart that a check fails, or so far beyond their range that the rate limit can't follow
 abbrev pub of_several : ObstacleKind → ℕ → Option Obstacle
 of_several why double = Some (record { kind = why; cycle = Some (2 * double); node = None })
 
-abbrev pub unlike_sync : Values → Scale → ℕ → List Sender → Option Obstacle
-unlike_sync p scale double senders =
-    if int_le (starts_apart scale (courses_of senders)).high (pos (pi_of p))
-    && int_le (lengths_apart scale (courses_of senders)).high (pos (lambda_of p))
-    then (if list_all (has_proper_length p scale) senders then None else of_several obstacle.Drift double)
-    else of_several obstacle.Reach double
-
--- what keeps it from being seen in sync, where `told` is the first fault in it that is told always; none where it is seen so
-unfoldable pub sync_obstacle : Values → Scale → LogView → List Sighting → ℕ → List Sender → Option Fault → Option Obstacle
-sync_obstacle p scale l here double senders told =
-    option_or (option_or (first_unseen l here double p.nodes) (faulty told)) (unlike_sync p scale double senders)
+-- of a whole log: the correct sync nodes do not suffice
+abbrev pub too_few : Obstacle
+too_few = record { kind = obstacle.Count; cycle = None; node = None }
 
 -- ---- as records
 

@@ -3,12 +3,12 @@ ghost use Rattle.fr_judging.specs.Knowing.{judged_met};
 
 use fr_bound::{Heard, Known};
 
-/// How a double cycle of a log stands that is judged by its own numbers.
+/// How a double cycle of a log stands.
 #[derive(Clone, Copy, Debug, PartialEq, Eq)]
 pub struct Standing {
     /// What its nodes hear of each other, where that is told by the counts of sync nodes.
     pub heard: Option<Heard>,
-    /// What is known of it from the double cycle before, in ticks, where that was judged.
+    /// What is known of it from the double cycle before, where that was judged, and by what the log states, in ticks.
     pub known: Option<Known>,
     /// That, met with what is seen of it.
     pub met: Option<Known>,

@@ -1,17 +1,18 @@
-//! How the double cycles of a log are judged: whether a run can be covered and whether one is certainly in sync; and, where a check
-//! fails, what is known of a double cycle by its own numbers and what contradicts it.
+//! How the double cycles of a log are judged: what its nodes hear of each other, what is known of a double cycle by its own numbers,
+//! what contradicts it, and how many senders a node must have missed in it.
 #![tactic(auto)]
 
-mod coverable;
+mod hearing;
 mod knowing;
+mod missed;
 mod obstacle;
 mod standing_faults;
 mod standings;
-mod synced;
+mod unseen;
 
-pub use coverable::{Coverable, yardstick};
+pub use hearing::{heard, yardstick};
 pub use knowing::Standing;
+pub use missed::{Missed, Term, put_missed};
 pub use obstacle::{Obstacle, ObstacleKind};
 pub use standing_faults::{put_moving_faults, put_spread, put_term_faults};
 pub use standings::{known_next, known_obstacle, standing};
-pub use synced::{sync_behind, sync_obstacle};

@@ -6,17 +6,15 @@ use fr_base::NodeId;
 /// Why a double cycle is not judged, in the order of how far it came; the first is so of a whole log.
 #[derive(Clone, Copy, Debug, PartialEq, Eq)]
 pub enum ObstacleKind {
-    /// The correct nodes with a key slot do not outweigh the arbitrary ones.
+    /// The correct nodes with a key slot do not outweigh the arbitrary ones, or frames may be lost beside arbitrary ones.
     Count,
     /// The node was not seen.
     Unseen,
     /// Something contradicts any run.
     Fault,
-    /// Starts, or lengths of cycles, may lie further apart than in sync. Where a check fails, they may lie so far apart that
-    /// one of checks 2 to 5 fails with them.
+    /// Starts and lengths of cycles may lie so far apart that one of checks 2 to 5 fails with them.
     Reach,
-    /// Cycles may be longer or shorter than oscillators within their bounds make them. Where a check fails, they may be so by
-    /// more than the rate limit can follow.
+    /// Cycles may be longer or shorter than oscillators within their bounds make them by more than the rate limit can follow.
     Drift,
 }
 

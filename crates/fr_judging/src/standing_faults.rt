@@ -7,11 +7,13 @@ ghost use Rattle.fr_observe.specs.Scenes.{IsScene};
 ghost use Rattle.fr_observe.specs.Telling.{TellsFaults, apart_faults, skew_faults};
 
 use crate::knowing::{Standing, judged_met};
-use crate::standings::stated_flutter;
 use fr_base::{PutFault, Sink};
 use fr_bound::{Heard, Known, apart_through};
 use fr_cluster::Params;
-use fr_observe::{Asked, Fault, Scene, put_apart, put_missing, put_of_senders, put_skews};
+use fr_log::Log;
+use fr_observe::{
+    Asked, Fault, Scene, put_apart, put_missing, put_of_senders, put_skews, stated_flutter,
+};
 use fr_text::Piece::{Natural, Word};
 use fr_text::{Line, put_line, row_of};
 
@@ -41,12 +43,13 @@ fn put_judged_skews<O: Sink>(
     requires scene { IsScene scene.now }
     requires small { IfSome met IsSmall }
     ensures { TellsFaults result (O.state out.old) (O.state out.new) first.old first.new
-        (judged_skews scene.now.params.now scene.now.scale.now scene.now.number scene.now.senders.now what met) }
+        (judged_skews scene.now.params.now scene.now.log.now scene.now.scale.now scene.now.number
+        scene.now.senders.now what met) }
 {
     match met {
         None => Ok(()),
         Some(met) => {
-            let flutter = stated_flutter(scene.params);
+            let flutter = stated_flutter(scene.params, scene.log);
             let apart = apart_through(scene.params, what, flutter, met);
             put_skews_by(apart, scene, first, out)
         }
@@ -64,14 +67,6 @@ fn put_apart_by<O: Sink>(
     ensures { TellsFaults result (O.state out.old) (O.state out.new) first.old first.new
         (known_apart scene.now.params.now scene.now.scale.now scene.now.number scene.now.senders.now (Some known)) }
 {
-    let Scene {
-        params,
-        scale,
-        number,
-        senders,
-        ..
-    } = *scene;
-    let asked = Asked::Beyond(known.beyond);
     put_apart(
         i128::from(known.spread.starts),
         i128::from(known.spread.lengths),
@@ -79,7 +74,7 @@ fn put_apart_by<O: Sink>(
         first,
         out,
     )?;
-    put_of_senders(asked, scale, params, number, senders, first, out)
+    put_of_senders(Asked::Length(known.beyond), scene, first, out)
 }
 
 #[tactic(auto, unfolding(crate::specs::Knowing::known_apart))]
@@ -110,15 +105,15 @@ fn put_moving_heard<O: Sink>(
     requires scene { IsScene scene.now }
     requires small { JudgedBySmall standing.now }
     ensures { TellsFaults result (O.state out.old) (O.state out.new) first.old first.new
-        (moving_heard scene.now.params.now scene.now.scale.now scene.now.number scene.now.senders.now standing.now
-        (Some what)) }
+        (moving_heard scene.now.params.now scene.now.log.now scene.now.scale.now scene.now.number
+        scene.now.senders.now standing.now (Some what)) }
 {
     put_judged_skews(scene, what, judged_met(standing), first, out)?;
     put_known_apart(scene, standing.known, first, out)
 }
 
 /// Tells which skews, starts and lengths contradict a double cycle that stands so: skews by the numbers that it is judged by,
-/// starts and lengths by what is known of it from the one before. Behind one of these nothing is known of the next double
+/// starts and lengths by what is known of it beside what is seen. Behind one of these nothing is known of the next double
 /// cycle. Each is one put, and the first one of all that were told is kept.
 #[tactic(auto, unfolding(crate::specs::Knowing::moving_faults))]
 pub fn put_moving_faults<O: Sink>(
@@ -130,7 +125,8 @@ pub fn put_moving_faults<O: Sink>(
     requires scene { IsScene scene.now }
     requires small { JudgedBySmall standing.now }
     ensures { TellsFaults result (O.state out.old) (O.state out.new) first.old first.new
-        (moving_faults scene.now.params.now scene.now.scale.now scene.now.number scene.now.senders.now standing.now) }
+        (moving_faults scene.now.params.now scene.now.log.now scene.now.scale.now scene.now.number
+        scene.now.senders.now standing.now) }
 {
     match standing.heard {
         None => Ok(()),
@@ -138,7 +134,7 @@ pub fn put_moving_faults<O: Sink>(
     }
 }
 
-// The terms that are not those that nodes must have computed.
+// The terms that are not those that nodes must have computed, where each may have missed so many senders as the log states.
 fn put_terms<O: Sink>(
     scene: &Scene<'_>,
     first: &mut Option<Fault>,
@@ -146,20 +142,14 @@ fn put_terms<O: Sink>(
 ) -> Result<(), PutFault>
     requires { IsScene scene.now }
     ensures { TellsFaults result (O.state out.old) (O.state out.new) first.old first.new
-        (filter_map (offset_fault scene.now.params.now scene.now.scale.now scene.now.number scene.now.senders.now)
-        scene.now.senders.now
-        ++ filter_map (rate_fault scene.now.params.now scene.now.scale.now scene.now.number scene.now.senders.now)
-        scene.now.senders.now) }
+        (filter_map (offset_fault scene.now.params.now scene.now.log.now scene.now.scale.now scene.now.number
+        scene.now.senders.now scene.now.log.now.lost) scene.now.senders.now
+        ++ filter_map (rate_fault scene.now.params.now scene.now.log.now scene.now.scale.now scene.now.number
+        scene.now.senders.now scene.now.log.now.lost) scene.now.senders.now) }
 {
-    let Scene {
-        params,
-        scale,
-        number,
-        senders,
-        ..
-    } = *scene;
-    put_of_senders(Asked::Offset, scale, params, number, senders, first, out)?;
-    put_of_senders(Asked::Rate, scale, params, number, senders, first, out)
+    let lost = scene.log.lost() as usize;
+    put_of_senders(Asked::Offset(lost), scene, first, out)?;
+    put_of_senders(Asked::Rate(lost), scene, first, out)
 }
 
 #[tactic(auto, unfolding(crate::specs::Knowing::judged_terms))]
@@ -171,7 +161,8 @@ fn put_judged_terms<O: Sink>(
 ) -> Result<(), PutFault>
     requires { IsScene scene.now }
     ensures { TellsFaults result (O.state out.old) (O.state out.new) first.old first.new
-        (judged_terms scene.now.params.now scene.now.scale.now scene.now.number scene.now.senders.now met) }
+        (judged_terms scene.now.params.now scene.now.log.now scene.now.scale.now scene.now.number
+        scene.now.senders.now met) }
 {
     match met {
         None => Ok(()),
@@ -221,7 +212,7 @@ fn put_known_missing<O: Sink>(
 }
 
 /// Tells which terms of a double cycle that stands so are not those that its nodes must have computed, where it is judged, and
-/// which frames are missing, where something is known of it from the one before. They end nothing that is known. Each is one
+/// which frames are missing, where something is known of it beside what is seen. They end nothing that is known. Each is one
 /// put, and the first one of all that were told is kept.
 #[tactic(auto, unfolding(crate::specs::Knowing::term_faults))]
 pub fn put_term_faults<O: Sink>(
@@ -241,11 +232,11 @@ pub fn put_term_faults<O: Sink>(
 
 // The numbers that it is judged by as a record, and how far macroticks may lie apart in it, in ticks.
 #[tactic(auto, unfolding(crate::specs::Knowing::spread_row))]
-fn spread_row(params: &Params, what: Heard, number: u32, known: Known) -> Line
+fn spread_row(params: &Params, log: &Log, what: Heard, number: u32, known: Known) -> Line
     requires { IsSmall known }
-    ensures { result ≡ spread_row params.now what number known }
+    ensures { result ≡ spread_row params.now log.now what number known }
 {
-    let apart = apart_through(params, what, stated_flutter(params), known);
+    let apart = apart_through(params, what, stated_flutter(params, log), known);
     row_of(
         b"spread",
         &[
@@ -261,34 +252,37 @@ fn spread_row(params: &Params, what: Heard, number: u32, known: Known) -> Line
 }
 
 fn put_spread_by<O: Sink>(
-    params: &Params,
+    scene: &Scene<'_>,
     what: Heard,
-    number: u32,
     judged: Option<Known>,
     out: &mut O,
 ) -> Result<(), PutFault>
     requires { IfSome judged IsSmall }
-    ensures { Puts result (O.state out.old) (O.state out.new) (spread_heard params.now number (Some what) judged) }
+    ensures { Puts result (O.state out.old) (O.state out.new)
+        (spread_heard scene.now.params.now scene.now.log.now scene.now.number (Some what) judged) }
 {
     match judged {
         None => Ok(()),
-        Some(known) => put_line(&spread_row(params, what, number, known), out),
+        Some(known) => {
+            let row = spread_row(scene.params, scene.log, what, scene.number, known);
+            put_line(&row, out)
+        }
     }
 }
 
 /// Puts the numbers that a double cycle is judged by as a record, in one put; nothing of one that is not judged.
 #[tactic(auto, unfolding(crate::specs::Knowing::spread_told))]
 pub fn put_spread<O: Sink>(
-    params: &Params,
-    number: u32,
+    scene: &Scene<'_>,
     standing: &Standing,
     out: &mut O,
 ) -> Result<(), PutFault>
     requires { JudgedBySmall standing.now }
-    ensures { Puts result (O.state out.old) (O.state out.new) (spread_told params.now number standing.now) }
+    ensures { Puts result (O.state out.old) (O.state out.new)
+        (spread_told scene.now.params.now scene.now.log.now scene.now.number standing.now) }
 {
     match standing.heard {
         None => Ok(()),
-        Some(what) => put_spread_by(params, what, number, judged_met(standing), out),
+        Some(what) => put_spread_by(scene, what, judged_met(standing), out),
     }
 }

@@ -8,20 +8,23 @@ ghost use Rattle.fr_bound.specs.SharpChecks.{sharp_holds_of};
 ghost use Rattle.fr_bound.specs.SharpSpreads.{sharply_near_in};
 ghost use Rattle.fr_course.specs.Near.{EndWithin, IsReadingScale};
 ghost use Rattle.fr_sightings.specs.Ranges.{IsProperSender};
-ghost use Rattle.fr_judging.specs.Knowing.{JudgedBySmall, beyond_of, is_judged_by, known_by, known_next, known_next_by, known_obstacle, known_seen, most_beyond, standing_of, standing_with, stated_flutter, unfit};
+ghost use Rattle.fr_observe.specs.Faults.{stated_flutter};
+ghost use Rattle.fr_judging.specs.Knowing.{JudgedBySmall, beyond_of, is_judged_by, is_stated_at, known_as_stated, known_by, known_next, known_next_by, known_obstacle, known_seen, most_beyond, standing_of, standing_with, unfit, unjudged_by};
 ghost use Rattle.fr_judging.specs.Obstacles.{first_unseen};
 ghost use Rattle.fr_observe.specs.Scenes.{IsScene};
 
+use crate::hearing::synced_with;
 use crate::knowing::{Standing, judged_met};
 use crate::obstacle::{Obstacle, ObstacleKind};
-use crate::synced::{faulty, first_unseen, of_several};
+use crate::unseen::{faulty, first_unseen, of_several, too_few};
 use fr_bound::{
     Heard, Known, Spread, is_judged, known_after, met_with, near_by, sharp_side_within,
     shortest_microtick,
 };
 use fr_cluster::{ParamName, Params};
 use fr_course::{Interval, Scale, length_ticks, lengths_apart, starts_apart};
-use fr_observe::{Fault, Scene, courses_of, proper_lengths};
+use fr_log::Log;
+use fr_observe::{Fault, Scene, courses_of, proper_lengths, stated_flutter};
 use fr_sightings::Sender;
 
 // ---- what is seen
@@ -118,44 +121,60 @@ fn known_seen(scene: &Scene<'_>, told: Option<Fault>) -> Option<Known>
 
 // ---- whether it is judged
 
-// By how much delays flutter that keep within what is stated of them, at most, in ticks.
-pub(crate) fn stated_flutter(params: &Params) -> u64
-    ensures value { result ≡ stated_flutter params.now }
-    ensures most { result ≤ 20_000_000 }
-{
-    2 * params.natural(ParamName::xDelayError)
-}
-
-fn is_judged_by(params: &Params, met: Option<Known>) -> bool
-    ensures value { result ≡ is_judged_by params.now met }
+fn is_judged_by(params: &Params, log: &Log, met: Option<Known>) -> bool
+    ensures value { result ≡ is_judged_by params.now log.now met }
     ensures small { result ≡ true → IfSome met IsSmall }
 {
     match met {
         None => false,
-        Some(met) => is_judged(params, stated_flutter(params), met),
+        Some(met) => is_judged(params, stated_flutter(params, log), met),
+    }
+}
+
+// Whether the log states that the cluster is in sync in a double cycle.
+fn is_stated_at(since: Option<u32>, double: u32) -> bool
+    requires { double < 1_000_000 }
+    ensures { result ≡ is_stated_at since double }
+{
+    match since {
+        None => false,
+        Some(cycle) => cycle == 2 * double,
+    }
+}
+
+// What is then known of that.
+fn known_as_stated(params: &Params, log: &Log, heard: Heard, double: u32) -> Option<Known>
+    requires { double < 1_000_000 }
+    ensures { result ≡ known_as_stated params.now log.now heard double }
+{
+    if is_stated_at(log.since(), double) {
+        Some(synced_with(params, log, heard))
+    } else {
+        None
     }
 }
 
 fn standing_with(
     params: &Params,
+    log: &Log,
     heard: Heard,
     known: Option<Known>,
     met: Option<Known>,
 ) -> Standing
-    ensures value { result ≡ standing_with params.now (Some heard) known met }
+    ensures value { result ≡ standing_with params.now log.now (Some heard) known met }
     ensures small { JudgedBySmall result }
 {
     Standing {
         heard: Some(heard),
         known,
         met,
-        is_judged: is_judged_by(params, met),
+        is_judged: is_judged_by(params, log, met),
     }
 }
 
-/// How a double cycle stands, by what its nodes hear of each other, by what is known of it from the one before, and by what is
-/// seen of it, where this is the first fault in it that contradicts any run. Where it is not told what is heard, nothing is known
-/// of it and it is not judged.
+/// How a double cycle stands, by what its nodes hear of each other, by what is known of it from the one before and by what the log
+/// states, and by what is seen of it, where this is the first fault in it that contradicts any run. Where it is not told what is
+/// heard, nothing is known of it and it is not judged.
 #[tactic(auto, unfolding(crate::specs::Knowing::standing_of))]
 pub fn standing(
     scene: &Scene<'_>,
@@ -175,24 +194,29 @@ pub fn standing(
             met: None,
             is_judged: false,
         },
-        Some(what) => standing_with(
-            scene.params,
-            what,
-            known,
-            met_with(known, known_seen(scene, told)),
-        ),
+        Some(what) => {
+            let stated = known_as_stated(scene.params, scene.log, what, scene.number);
+            let known = met_with(known, stated);
+            let met = met_with(known, known_seen(scene, told));
+            standing_with(scene.params, scene.log, what, known, met)
+        }
     }
 }
 
-fn known_next_by(params: &Params, heard: Option<Heard>, judged: Option<Known>) -> Option<Known>
+fn known_next_by(
+    params: &Params,
+    log: &Log,
+    heard: Option<Heard>,
+    judged: Option<Known>,
+) -> Option<Known>
     requires small { IfSome judged IsSmall }
-    ensures { result ≡ known_next_by params.now heard judged }
+    ensures { result ≡ known_next_by params.now log.now heard judged }
 {
     match heard {
         None => None,
         Some(what) => match judged {
             None => None,
-            Some(met) => Some(known_after(params, what, stated_flutter(params), met)),
+            Some(met) => Some(known_after(params, what, stated_flutter(params, log), met)),
         },
     }
 }
@@ -200,12 +224,17 @@ fn known_next_by(params: &Params, heard: Option<Heard>, judged: Option<Known>) -
 /// What is known of the next double cycle behind one that stands so, where it is clear: neither its skews nor its starts and
 /// lengths contradict its numbers. None behind one that is not judged.
 #[tactic(auto, unfolding(crate::specs::Knowing::known_next))]
-pub fn known_next(params: &Params, standing: &Standing, is_clear: bool) -> Option<Known>
+pub fn known_next(
+    params: &Params,
+    log: &Log,
+    standing: &Standing,
+    is_clear: bool,
+) -> Option<Known>
     requires small { JudgedBySmall standing.now }
-    ensures { result ≡ known_next params.now standing.now is_clear }
+    ensures { result ≡ known_next params.now log.now standing.now is_clear }
 {
     if is_clear {
-        known_next_by(params, standing.heard, judged_met(standing))
+        known_next_by(params, log, standing.heard, judged_met(standing))
     } else {
         None
     }
@@ -234,32 +263,47 @@ fn checks_hold(params: &Params, flutter: u64, reach: u64) -> bool
 }
 
 // They do with the reach of such a spread.
-fn is_near(params: &Params, spread: Spread) -> bool
-    ensures { result ≡ all_but_first_hold (stated_flutter params.now) (sharply_near_in params.now spread) params.now }
+fn is_near(params: &Params, log: &Log, spread: Spread) -> bool
+    ensures { result ≡ all_but_first_hold (stated_flutter params.now log.now) (sharply_near_in params.now spread)
+        params.now }
 {
     let limit = params.natural(ParamName::pOffsetCorrectionOut) * shortest_microtick(params);
     if spread.starts <= limit && spread.lengths <= limit {
         let reach = near_by(params, spread.starts, spread.lengths);
-        checks_hold(params, stated_flutter(params), reach)
+        checks_hold(params, stated_flutter(params, log), reach)
     } else {
         false
     }
 }
 
-fn unfit(params: &Params, double: u32, met: Option<Known>) -> Option<Obstacle>
+fn unfit(params: &Params, log: &Log, double: u32, met: Option<Known>) -> Option<Obstacle>
     requires { double < 1_000_000 }
-    ensures { result ≡ unfit params.now double met }
+    ensures { result ≡ unfit params.now log.now double met }
 {
     match met {
         None => None,
         Some(met) => {
-            if is_near(params, met.spread) {
+            if is_near(params, log, met.spread) {
                 of_several(ObstacleKind::Drift, double)
             } else {
                 of_several(ObstacleKind::Reach, double)
             }
         }
     }
+}
+
+// What keeps it from that, where it is told what its nodes hear.
+fn unjudged(scene: &Scene<'_>, standing: &Standing, told: Option<Fault>) -> Option<Obstacle>
+    requires scene { IsScene scene.now }
+    ensures { (what : Heard) → result ≡ unjudged_by scene.now.params.now scene.now.log.now scene.now.here.now
+        scene.now.number standing.now told (Some what) }
+{
+    if standing.is_judged {
+        return None;
+    }
+    first_unseen(scene.params, scene.log, scene.here, scene.number)
+        .or(faulty(told))
+        .or(unfit(scene.params, scene.log, scene.number, standing.met))
 }
 
 /// What keeps a double cycle that stands so from being judged, where this is the first fault in it that contradicts any run; none
@@ -274,10 +318,8 @@ pub fn known_obstacle(
     ensures { result ≡ known_obstacle scene.now.params.now scene.now.log.now scene.now.here.now scene.now.number
         standing.now told }
 {
-    if standing.is_judged {
-        return None;
+    match standing.heard {
+        None => Some(too_few()),
+        Some(_) => unjudged(scene, standing, told),
     }
-    first_unseen(scene.params, scene.log, scene.here, scene.number)
-        .or(faulty(told))
-        .or(unfit(scene.params, scene.number, standing.met))
 }

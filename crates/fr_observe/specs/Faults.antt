@@ -1,13 +1,13 @@
 -- Contradictions of a log: what no lawful run can have given of which the log is seen, with oscillators within what is stated;
--- and what none can have given that is covered and in sync.
+-- and what none can have given that is as the log states, in a double cycle that is judged.
 use Rattle.std.specs.Prelude.{◌≡◌, ℕ, ◌+◌, ◌-◌, ◌*◌, ◌/◌, ◌==◌, ◌&&◌, ◌||◌, not, nat_le, nat_lt, ℤ, pos, neg_ℤ, ◌+ℤ◌, ◌-ℤ◌, int_le, int_lt, Bool, true, false, List, [], ◌∷◌, ◌++◌, codes, length, map, filter_map, count_by, Option, Some, None, is_some, if◌then◌else◌}
 use Rattle.std.specs.Fmt.{decimal}
-use Rattle.std.specs.List.{filter, flat_map, list_all, list_any}
-use Rattle.std.specs.Option.{option_and_then, option_map, option_or, option_to_list}
+use Rattle.std.specs.List.{filter, flat_map, list_any}
+use Rattle.std.specs.Option.{option_and_then, option_map, option_to_list}
 use Rattle.fr_base.specs.Channels.{letter}
 use Rattle.fr_base.specs.declared.channel.Channel.{Channel}
 use Rattle.fr_base.specs.declared.channel.Channel.TheVariants as channel
-use Rattle.fr_bound.specs.Bounds.{lambda_of, longest_micro, pi_of, shortest_micro}
+use Rattle.fr_bound.specs.Bounds.{longest_micro, shortest_micro}
 use Rattle.fr_cluster.specs.Questions.{has_channel, node_of}
 use Rattle.fr_cluster.specs.Values.{Values, amount}
 use Rattle.fr_cluster.specs.declared.names.ParamName.TheVariants as name
@@ -15,7 +15,6 @@ use Rattle.fr_cluster.specs.declared.nodes.NodeSpec.{NodeSpec}
 use Rattle.fr_log.specs.View.{LogView, is_arbitrary_in}
 use Rattle.fr_course.specs.Computed.{length_ticks, measuring_of, offset_computed, rate_computed}
 use Rattle.fr_course.specs.Course.{apart_by, is_empty, seen_apart}
-use Rattle.fr_course.specs.Spread.{lengths_apart, starts_apart}
 use Rattle.fr_course.specs.Terms.{rate_step_seen}
 use Rattle.fr_course.specs.declared.courses.Course.{Course}
 use Rattle.fr_course.specs.declared.intervals.Interval.{Interval}
@@ -23,29 +22,28 @@ use Rattle.fr_course.specs.declared.scales.Scale.{Scale}
 use Rattle.fr_sightings.specs.Senders.{first_stamp, own_slot, seen_box, seen_span}
 use Rattle.fr_sightings.specs.declared.sender.Sender.{Sender}
 use Rattle.fr_sightings.specs.declared.sighting.Sighting.{Sighting}
-use Rattle.fr_observe.specs.Observing.{courses_of, even_high, even_low, known, known_count, odd_high, odd_low, row, terms_of}
+use Rattle.fr_observe.specs.Observing.{courses_of, known, known_count, row, terms_of}
 use Rattle.fr_observe.specs.declared.fault.Fault.{Fault}
 use Rattle.fr_observe.specs.declared.fault.FaultKind.{FaultKind}
 use Rattle.fr_observe.specs.declared.fault.FaultKind.TheVariants.{Channels, Limit, Correction, Twice, Cycle, Stranger, Form, Skew, Start, Lengths, Length, Offset, Rate, Missing}
 use Rattle.fr_observe.specs.declared.fault.LogSpan.{LogSpan}
-use Rattle.fr_observe.specs.declared.fault.SyncFrom.{SyncFrom}
 
--- whether a kind is a contradiction only of covered runs in sync
-abbrev pub asks_sync : FaultKind → Bool
-asks_sync Channels = false
-asks_sync Limit = false
-asks_sync Correction = false
-asks_sync Twice = false
-asks_sync Cycle = false
-asks_sync Stranger = false
-asks_sync Form = false
-asks_sync Skew = true
-asks_sync Start = true
-asks_sync Lengths = true
-asks_sync Length = true
-asks_sync Offset = true
-asks_sync Rate = true
-asks_sync Missing = true
+-- whether a kind is a contradiction only of runs that are as the log states
+abbrev pub asks_judged : FaultKind → Bool
+asks_judged Channels = false
+asks_judged Limit = false
+asks_judged Correction = false
+asks_judged Twice = false
+asks_judged Cycle = false
+asks_judged Stranger = false
+asks_judged Form = false
+asks_judged Skew = true
+asks_judged Start = true
+asks_judged Lengths = true
+asks_judged Length = true
+asks_judged Offset = true
+asks_judged Rate = true
+asks_judged Missing = true
 
 -- whether a kind is a contradiction only where each whole frame in the slot of a node is one that it sends
 abbrev pub asks_own_slots : FaultKind → Bool
@@ -196,7 +194,7 @@ own_faults p scale l here late double senders =
     ++ filter_map (twice_fault here) here
     ++ map cycle_fault late
 
--- ---- in sync
+-- ---- in a double cycle that is judged
 
 -- a node is arbitrary, or was seen in both cycles
 abbrev pub is_seen_whole : LogView → List Sighting → ℕ → NodeSpec → Bool
@@ -213,39 +211,15 @@ shortest_cycle_of p = pos (amount p name.pMicroPerCycle * shortest_micro p)
 abbrev pub longest_cycle_of : Values → ℤ
 longest_cycle_of p = pos (amount p name.pMicroPerCycle * longest_micro p)
 
-abbrev pub has_proper_length : Values → Scale → Sender → Bool
-has_proper_length p scale s =
-    int_le (shortest_cycle_of p) (length_ticks scale s.course).low
-    && int_le (length_ticks scale s.course).high (longest_cycle_of p)
+-- by how much delays flutter between both cycles of a double cycle: as the log says, or no more than delays that keep within what the
+-- parameters say of them
+abbrev pub stated_flutter : Values → LogView → ℕ
+stated_flutter p l = unwrap_or l.flutter (2 * amount p name.xDelayError)
 
--- a double cycle is certainly in sync: nothing contradicts it, all nodes that are not arbitrary were seen in both of its cycles,
--- and their starts and lengths certainly lie within the bounds of the cluster
-unfoldable pub is_sync_seen : Values → Scale → LogView → List Sighting → ℕ → List Sender → List Fault → Bool
-is_sync_seen p scale l here double senders faults =
-    is_nil faults && list_all (is_seen_whole l here double) p.nodes
-    && int_le (starts_apart scale (courses_of senders)).high (pos (pi_of p))
-    && int_le (lengths_apart scale (courses_of senders)).high (pos (lambda_of p))
-    && list_all (has_proper_length p scale) senders
-
--- from which double cycle on the cluster is in sync: as seen, or as the log states
-abbrev pub stated_sync : Option ℕ → ℕ → Option SyncFrom
-stated_sync None double = None
-stated_sync (Some cycle) double = if nat_le cycle (2 * double) then Some (record { double = cycle / 2; is_stated = true }) else None
-
-abbrev pub seen_sync : Bool → ℕ → Option SyncFrom
-seen_sync true double = Some (record { double = double; is_stated = false })
-seen_sync false double = None
-
-abbrev pub sync_behind : LogView → ℕ → Bool → Option SyncFrom → Option SyncFrom
-sync_behind l double seen None = option_or (stated_sync l.since double) (seen_sync seen double)
-sync_behind l double seen (Some from) = Some from
-
--- ---- of a covered run in sync
-
--- the skew was certainly greater than the precision
+-- the skew was certainly greater than a bound
 abbrev pub skew_fault : ℤ → ℕ → ℤ → Option ℤ → Option Fault
-skew_fault precision cycle low high =
-    if int_lt precision low then Some (plain_fault cycle None Skew (Some low) high None (Some precision)) else None
+skew_fault bound cycle low high =
+    if int_lt bound low then Some (plain_fault cycle None Skew (Some low) high None (Some bound)) else None
 
 -- starts, or lengths, certainly lay further apart than a bound
 abbrev pub beyond_fault : FaultKind → ℕ → ℤ → Interval → Option Fault
@@ -260,10 +234,6 @@ length_fault_by cycle node least most long =
     if int_lt most long.low || int_lt long.high least
     then Some (plain_fault cycle (Some node) Length (Some long.low) (Some long.high) (Some least) (Some most))
     else None
-
-abbrev pub length_fault : Values → Scale → ℕ → Sender → Option Fault
-length_fault p scale double s =
-    length_fault_by (2 * double) s.node (shortest_cycle_of p) (longest_cycle_of p) (length_ticks scale s.course)
 
 -- a length is certainly none of an oscillator within its bounds that walked so far beyond its range
 abbrev pub length_beyond : Values → Scale → ℕ → ℕ → Sender → Option Fault
@@ -291,18 +261,27 @@ other_courses senders node = courses_of (filter (λ s. not (s.node == node)) sen
 abbrev pub further_of : Values → List Sender → ℕ
 further_of p senders = count_by (λ node. is_some node.key) p.nodes - length senders
 
-abbrev pub offset_fault : Values → Scale → ℕ → List Sender → Sender → Option Fault
-offset_fault p scale double senders s =
-    unlike_fault Offset (2 * double + 1) s.node (terms_of scale s)
-    (offset_computed scale (measuring_of p) s.course (other_courses senders s.node) (further_of p senders))
+-- which offset term a sender must have computed, and by how much its rate term must have grown, where it missed at most so many of the
+-- others
+abbrev pub offset_by : Values → LogView → Scale → List Sender → ℕ → Sender → Option Interval
+offset_by p l scale senders lost s =
+    offset_computed scale (measuring_of p (stated_flutter p l)) s.course (other_courses senders s.node) (further_of p senders) lost
 
-abbrev pub rate_fault : Values → Scale → ℕ → List Sender → Sender → Option Fault
-rate_fault p scale double senders s =
-    unlike_fault Rate (2 * double + 1) s.node (option_map (rate_step_seen scale s.course) s.next)
-    (rate_computed scale (measuring_of p) s.course (other_courses senders s.node) (further_of p senders))
+abbrev pub rate_by : Values → LogView → Scale → List Sender → ℕ → Sender → Option Interval
+rate_by p l scale senders lost s =
+    rate_computed scale (measuring_of p (stated_flutter p l)) s.course (other_courses senders s.node) (further_of p senders) lost
 
--- no frame of a node is there that must have been: it sent in the double cycle before, in sync, and the observer missed none
--- between the first and the last sighting of the log
+-- neither was seen so
+abbrev pub offset_fault : Values → LogView → Scale → ℕ → List Sender → ℕ → Sender → Option Fault
+offset_fault p l scale double senders lost s =
+    unlike_fault Offset (2 * double + 1) s.node (terms_of scale s) (offset_by p l scale senders lost s)
+
+abbrev pub rate_fault : Values → LogView → Scale → ℕ → List Sender → ℕ → Sender → Option Fault
+rate_fault p l scale double senders lost s =
+    unlike_fault Rate (2 * double + 1) s.node (option_map (rate_step_seen scale s.course) s.next) (rate_by p l scale senders lost s)
+
+-- no frame of a node is there that must have been: it sent in the double cycle before, and the observer missed none between the first
+-- and the last sighting of the log
 abbrev pub is_inside : LogSpan → ℕ → Bool
 is_inside span cycle = nat_lt span.first cycle && nat_lt cycle span.last
 
@@ -345,27 +324,6 @@ node_missing l span before here double node =
 
 abbrev pub missing_frames : Values → LogView → LogSpan → List Sighting → List Sighting → ℕ → List Fault
 missing_frames p l span before here double = if l.whole then flat_map (node_missing l span before here double) p.nodes else []
-
--- what contradicts a covered run in sync
-unfoldable pub sync_faults : ℤ → Values → Scale → LogView → LogSpan → List Sighting → List Sighting → ℕ → List Sender → List Fault
-sync_faults precision p scale l span before here double senders =
-    option_to_list (skew_fault precision (2 * double) (even_low scale senders) (even_high scale senders))
-    ++ option_to_list (skew_fault precision (2 * double + 1) (odd_low scale senders) (odd_high scale senders))
-    ++ option_to_list (beyond_fault Start (2 * double) (pos (pi_of p)) (starts_apart scale (courses_of senders)))
-    ++ option_to_list (beyond_fault Lengths (2 * double) (pos (lambda_of p)) (lengths_apart scale (courses_of senders)))
-    ++ filter_map (length_fault p scale double) senders
-    ++ filter_map (offset_fault p scale double senders) senders
-    ++ filter_map (rate_fault p scale double senders) senders
-    ++ missing_frames p l span before here double
-
--- told where sync is known and nothing keeps a run from being covered; the double cycle before counts from that of sync on
-abbrev pub before_in_sync : SyncFrom → ℕ → List Sighting → List Sighting
-before_in_sync from double before = if nat_lt from.double double then before else []
-
-abbrev pub faults_in_sync : Bool → Option SyncFrom → (SyncFrom → List Fault) → List Fault
-faults_in_sync may_be_covered None faults = []
-faults_in_sync false (Some from) faults = []
-faults_in_sync true (Some from) faults = faults from
 
 -- ---- as records
 

@@ -136,5 +136,7 @@ unfoldable pub senders_of : Scale → Values → LogView → List Sighting → �
 senders_of scale p l seen double =
     seen_senders scale p l (sightings_in seen double) (sightings_in seen (double + 1)) double
 
-abbrev pub precision_row : ℤ → List ℕ
-precision_row precision = row (codes "precision") (signed_decimal precision ∷ [] ∷ [] ∷ [] ∷ [] ∷ [] ∷ [] ∷ [])
+-- the precision, and what it and double cycles are judged by: how far delays flutter, in ticks, and how many senders a node may miss
+abbrev pub precision_row : ℤ → ℕ → ℕ → List ℕ
+precision_row precision flutter lost =
+    row (codes "precision") (signed_decimal precision ∷ decimal flutter ∷ decimal lost ∷ [] ∷ [] ∷ [] ∷ [] ∷ [])

@@ -1,14 +1,15 @@
 -- Contradictions as they are told, one after the other.
-use Rattle.std.specs.Prelude.{◌≡◌, ℕ, ◌+◌, ◌*◌, ℤ, List, ◌++◌, Option, Result, OnOk}
+use Rattle.std.specs.Prelude.{◌≡◌, ◌≤◌, ℕ, ◌+◌, ◌*◌, ℤ, List, ◌++◌, Option, Result, OnOk}
 use Rattle.std.specs.List.{flat_map}
 use Rattle.std.specs.Option.{option_or, option_to_list}
 use Rattle.fr_base.specs.Device.{Puts, Sunk}
 use Rattle.fr_base.specs.declared.sink.PutFault.{PutFault}
 use Rattle.fr_cluster.specs.Values.{Values}
+use Rattle.fr_log.specs.View.{LogView}
 use Rattle.fr_course.specs.Spread.{lengths_apart, starts_apart}
 use Rattle.fr_course.specs.declared.scales.Scale.{Scale}
 use Rattle.fr_sightings.specs.declared.sender.Sender.{Sender}
-use Rattle.fr_observe.specs.Faults.{beyond_fault, correction_fault, fault_row, first_of_faults, length_beyond, length_fault, offset_fault, rate_fault, skew_fault}
+use Rattle.fr_observe.specs.Faults.{beyond_fault, correction_fault, fault_row, first_of_faults, length_beyond, offset_fault, rate_fault, skew_fault}
 use Rattle.fr_observe.specs.Observing.{courses_of, even_high, even_low, odd_high, odd_low}
 use Rattle.fr_observe.specs.declared.fault.Fault.{Fault}
 use Rattle.fr_observe.specs.declared.fault.FaultKind.TheVariants.{Lengths, Start}
@@ -21,12 +22,18 @@ pub record TellsFaults (result : Result (Unit {0}) PutFault) (before now : Sunk)
   pub first : OnOk result (kept ≡ option_or earlier (first_of_faults faults))
 
 -- what is asked of a sender
-abbrev pub sender_fault : Asked → Values → Scale → ℕ → List Sender → Sender → Option Fault
-sender_fault asked.Correction p scale double senders s = correction_fault p scale double s
-sender_fault asked.Length p scale double senders s = length_fault p scale double s
-sender_fault (asked.Beyond beyond) p scale double senders s = length_beyond p scale beyond double s
-sender_fault asked.Offset p scale double senders s = offset_fault p scale double senders s
-sender_fault asked.Rate p scale double senders s = rate_fault p scale double senders s
+abbrev pub sender_fault : Asked → Values → LogView → Scale → ℕ → List Sender → Sender → Option Fault
+sender_fault asked.Correction p l scale double senders s = correction_fault p scale double s
+sender_fault (asked.Length beyond) p l scale double senders s = length_beyond p scale beyond double s
+sender_fault (asked.Offset lost) p l scale double senders s = offset_fault p l scale double senders lost s
+sender_fault (asked.Rate lost) p l scale double senders s = rate_fault p l scale double senders lost s
+
+-- so many senders may have been missed at most
+abbrev pub IsFewAsked : Asked → Type 0
+IsFewAsked asked.Correction = Unit {0}
+IsFewAsked (asked.Length beyond) = Unit {0}
+IsFewAsked (asked.Offset lost) = lost ≤ 64
+IsFewAsked (asked.Rate lost) = lost ≤ 64
 
 -- both skews of a double cycle were certainly greater than a bound
 abbrev pub skew_faults : ℤ → Scale → ℕ → List Sender → List Fault

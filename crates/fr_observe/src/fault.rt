@@ -13,7 +13,8 @@ use fr_text::{Line, Piece, letter_of, row_of};
 
 /// What a contradiction in a log is of, with what its four numbers are. The first five contradict that the log is seen of any
 /// lawful run whose oscillators keep within their bounds (`Cycle` that its frames come in time, which that asks for), and the
-/// next two that each whole frame in the slot of a node is one that the node sends; the others contradict covered runs in sync.
+/// next two that each whole frame in the slot of a node is one that the node sends; the others contradict runs that are as the log
+/// states.
 #[derive(Clone, Copy, Debug, PartialEq, Eq)]
 pub enum FaultKind {
     /// By the frames of both channels an action point lies nowhere: it was seen from `low` to `high`, a greater and a
@@ -35,13 +36,14 @@ pub enum FaultKind {
     /// A frame on `channel` with the stamp `high`, in units of the log, is in the node's slot `from`, and its payload length or
     /// its sync or startup indicator is not that of the node's frames there; the cycle is that of the sighting before it.
     Form,
-    /// The skew is `low` to `high`, `high` where it is known, and the precision is `to`, in ticks.
+    /// The skew is `low` to `high`, `high` where it is known, and at most `to` by the numbers of the double cycle, in ticks.
     Skew,
-    /// Starts of even cycles lie `low` to `high` apart, and at most `to` in sync, in ticks.
+    /// Starts of even cycles lie `low` to `high` apart, and at most `to` by what is known of the double cycle, in ticks.
     Start,
-    /// Lengths of cycles before correction lie `low` to `high` apart, and at most `to` in sync, in ticks.
+    /// Lengths of cycles before correction lie `low` to `high` apart, and at most `to` by what is known of the double cycle, in
+    /// ticks.
     Lengths,
-    /// Cycles before correction are `low` to `high` long, and `from` to `to` in sync, in ticks.
+    /// Cycles before correction are `low` to `high` long, and `from` to `to` by what is known of the double cycle, in ticks.
     Length,
     /// The offset term is `low` to `high`, and by the rules it is `from` to `to`, in microticks.
     Offset,
@@ -158,15 +160,6 @@ pub struct LogSpan {
     pub first: u32,
     /// That of the last one.
     pub last: u32,
-}
-
-/// From when on a cluster is in sync.
-#[derive(Clone, Copy, Debug, PartialEq, Eq)]
-pub struct SyncFrom {
-    /// The number of the double cycle in the log.
-    pub double: u32,
-    /// Whether the log states it; else it was seen.
-    pub is_stated: bool,
 }
 
 /// The node of a contradiction as a field of a record, if it is of one.

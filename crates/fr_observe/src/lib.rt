@@ -2,6 +2,7 @@
 //! lengths and terms, and what contradicts lawful runs.
 #![tactic(auto)]
 
+mod apart_faults;
 mod fault;
 mod missing;
 mod own_faults;
@@ -11,16 +12,15 @@ mod scene;
 mod sender_faults;
 mod skews;
 mod slot_faults;
-mod sync_faults;
 mod telling;
 
-pub use fault::{Fault, FaultKind, LogSpan, SyncFrom, known_node};
+pub use apart_faults::{put_apart, put_skews};
+pub use fault::{Fault, FaultKind, LogSpan, known_node};
 pub use missing::put_missing;
 pub use own_faults::put_own_faults;
 pub use rows::{cycle_row, node_row, precision_row};
 pub use says::Says;
 pub use scene::Scene;
-pub use sender_faults::{Asked, proper_lengths, put_of_senders};
+pub use sender_faults::{Asked, proper_lengths, put_of_senders, sender_fault, stated_flutter};
 pub use skews::{Skews, courses_of, skews_of};
 pub use slot_faults::put_slot_faults;
-pub use sync_faults::{put_apart, put_skews, put_sync_faults};

@@ -3,12 +3,14 @@ ghost use Rattle.std.specs.List.{flat_map};
 ghost use Rattle.fr_course.specs.Course.{apart_by};
 ghost use Rattle.fr_course.specs.Near.{EndWithin, IsBox, IsReadingScale, IsSpan};
 ghost use Rattle.fr_log.specs.Rows.{last_stamp};
-ghost use Rattle.fr_sightings.specs.Ranges.{AreLogStamps, IsProperSender};
+ghost use Rattle.fr_sightings.specs.Ranges.{AreLogStamps};
 ghost use Rattle.fr_sightings.specs.Senders.{first_stamp};
 ghost use Rattle.fr_observe.specs.Faults.{IsFirst, box_fault, clock_faults, cycle_fault, limit_fault, limit_with, node_faults, own_faults, twice_by, twice_fault};
+ghost use Rattle.fr_observe.specs.Scenes.{IsScene};
 ghost use Rattle.fr_observe.specs.Telling.{TellsFaults};
 
 use crate::fault::{Fault, FaultKind, printed};
+use crate::scene::Scene;
 use crate::sender_faults::{Asked, put_of_senders};
 use crate::telling::{tell, tell_one};
 use fr_base::{NodeId, PutFault, Sink};
@@ -16,7 +18,7 @@ use fr_cluster::{NodeSpec, Params};
 use fr_course::{Interval, Scale, allowed, between, is_empty, meet, meet_if, seen_apart};
 use fr_log::Log;
 use fr_sightings::{
-    FirstList, Sender, Sighting, first_stamp, is_judged, node_at, node_count, seen_box, seen_span,
+    FirstList, Sighting, first_stamp, is_judged, node_at, node_count, seen_box, seen_span,
 };
 
 // By its frames on both channels an action point of a node lies nowhere.
@@ -341,39 +343,31 @@ fn put_late<O: Sink>(
     Ok(())
 }
 
-/// Tells what in a double cycle contradicts any run of which the log is seen, by its sightings, its untimely frames and its
-/// senders: each in one put, and the first one of all that were told is kept.
+/// Tells what in a double cycle contradicts any run of which the log is seen; `late` are its untimely frames. Each in one put, and
+/// the first one of all that were told is kept.
 #[tactic(auto, unfolding(crate::specs::Faults::own_faults))]
 pub fn put_own_faults<O: Sink>(
-    scale: &Scale,
-    params: &Params,
-    log: &Log,
-    here: &[Sighting],
+    scene: &Scene<'_>,
     late: &[Sighting],
-    double: u32,
-    senders: &[Sender],
     first: &mut Option<Fault>,
     out: &mut O,
 ) -> Result<(), PutFault>
-    requires scale { IsReadingScale scale.now }
-    requires here { AreLogStamps log.now here.now }
-    requires late { AreLogStamps log.now late.now }
-    requires double { double < 1_000_000 }
-    requires few { length senders.now ≤ 64 }
-    requires senders { All (IsProperSender scale.now) senders.now }
+    requires scene { IsScene scene.now }
+    requires late { AreLogStamps scene.now.log.now late.now }
     ensures { TellsFaults result (O.state out.old) (O.state out.new) first.old first.new
-        (own_faults params.now scale.now log.now here.now late.now double senders.now) }
+        (own_faults scene.now.params.now scene.now.scale.now scene.now.log.now scene.now.here.now late.now
+        scene.now.number scene.now.senders.now) }
 {
-    put_clocks(scale, params, log, here, double, first, out)?;
-    put_of_senders(
-        Asked::Correction,
-        scale,
+    let Scene {
         params,
-        double,
-        senders,
-        first,
-        out,
-    )?;
+        scale,
+        log,
+        here,
+        number,
+        ..
+    } = *scene;
+    put_clocks(scale, params, log, here, number, first, out)?;
+    put_of_senders(Asked::Correction, scene, first, out)?;
     put_twice(log, here, first, out)?;
     put_late(log, late, first, out)
 }

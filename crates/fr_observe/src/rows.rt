@@ -23,16 +23,17 @@ pub(crate) fn known(number: Option<i64>) -> Piece<'static>
     }
 }
 
-/// The precision, in ticks, as a record.
-pub fn precision_row(precision: i64) -> Line
-    ensures { result ≡ precision_row precision }
+/// The precision, in ticks, as a record, with what it and double cycles are judged by: how far delays flutter, in ticks, and how
+/// many senders a node may miss.
+pub fn precision_row(precision: i64, flutter: u64, lost: u64) -> Line
+    ensures { result ≡ precision_row precision flutter lost }
 {
     row_of(
         b"precision",
         &[
             Signed(precision),
-            Word(b""),
-            Word(b""),
+            Natural(flutter),
+            Natural(lost),
             Word(b""),
             Word(b""),
             Word(b""),

@@ -2,21 +2,25 @@ ghost use Rattle.std.specs.Prelude.{◌≡◌, ◌≤◌, ◌<◌, ◌||◌, ◌
 ghost use Rattle.std.specs.List.{Contains};
 ghost use Rattle.std.specs.Option.{option_map};
 ghost use Rattle.fr_base.specs.Within.{IsBetween};
-ghost use Rattle.fr_course.specs.Computed.{measuring_of, offset_computed, rate_computed};
+ghost use Rattle.fr_course.specs.Computed.{measuring_of};
 ghost use Rattle.fr_course.specs.Course.{is_empty};
-ghost use Rattle.fr_course.specs.Near.{EndWithin, IsReadingScale};
+ghost use Rattle.fr_bound.specs.SharpBounds.{most_flutter};
+ghost use Rattle.fr_course.specs.Near.{EndWithin, IsMeasuring, IsReadingScale};
 ghost use Rattle.fr_course.specs.Terms.{rate_step_seen};
 ghost use Rattle.fr_sightings.specs.Ranges.{IsProperSender};
-ghost use Rattle.fr_observe.specs.Faults.{correction_fault, further_of, length_beyond, length_fault, length_fault_by, longest_cycle_of, offset_fault, other_courses, rate_fault, shortest_cycle_of, term_fault, unlike_fault};
-ghost use Rattle.fr_observe.specs.Telling.{TellsFaults, sender_fault};
+ghost use Rattle.fr_observe.specs.Faults.{correction_fault, further_of, length_beyond, length_fault_by, longest_cycle_of, offset_by, offset_fault, rate_by, rate_fault, shortest_cycle_of, stated_flutter, term_fault, unlike_fault};
+ghost use Rattle.fr_observe.specs.Scenes.{IsScene};
+ghost use Rattle.fr_observe.specs.Telling.{IsFewAsked, TellsFaults, sender_fault};
 
 use crate::fault::{Fault, FaultKind};
 use crate::rows::terms_of;
+use crate::scene::Scene;
 use crate::telling::tell;
 use fr_base::{NodeId, PutFault, Sink};
 use fr_bound::{longest_microtick, shortest_microtick};
 use fr_cluster::{ParamName, Params};
 use fr_course::{Interval, Measuring, Scale, is_empty, length_ticks, rate_step_seen};
+use fr_log::Log;
 use fr_sightings::{Sender, keyed_count, offset_computed, rate_computed};
 
 /// What is asked of a sender.
@@ -24,14 +28,12 @@ use fr_sightings::{Sender, keyed_count, offset_computed, rate_computed};
 pub enum Asked {
     /// Whether the limits allow its offset term.
     Correction,
-    /// Whether the lengths of its cycles are proper ones.
-    Length,
-    /// Whether they lie at most so far beyond these, in ticks.
-    Beyond(u64),
-    /// Whether its offset term is the one that it must have computed.
-    Offset,
-    /// Whether its rate term grew by the step that it must have computed.
-    Rate,
+    /// Whether the lengths of its cycles lie at most so far beyond proper ones, in ticks.
+    Length(u64),
+    /// Whether its offset term is one that it must have computed, where it missed at most so many of the other senders.
+    Offset(usize),
+    /// Whether its rate term grew by a step that it must have computed, where it missed at most so many of them.
+    Rate(usize),
 }
 
 // The limit of offset terms, in microticks.
@@ -87,7 +89,7 @@ fn correction_fault(params: &Params, scale: &Scale, double: u32, sender: &Sender
     }
 }
 
-/// The lengths of cycles in sync, before correction, in ticks.
+/// The lengths of cycles of oscillators within their bounds, before correction, in ticks.
 pub fn proper_lengths(params: &Params) -> Interval
     ensures low { result.low ≡ shortest_cycle_of params.now }
     ensures high { result.high ≡ longest_cycle_of params.now }
@@ -162,16 +164,6 @@ fn length_beyond(
     )
 }
 
-// They are without leaving the range of proper ones.
-fn length_fault(params: &Params, scale: &Scale, double: u32, sender: &Sender) -> Option<Fault>
-    requires scale { IsReadingScale scale.now }
-    requires double { double < 1_000_000 }
-    requires sender { IsProperSender scale.now sender.now }
-    ensures { result ≡ length_fault params.now scale.now double sender.now }
-{
-    length_beyond(params, scale, 0, double, sender)
-}
-
 fn unlike_by(
     kind: FaultKind,
     cycle: u32,
@@ -219,72 +211,80 @@ fn further_of(params: &Params, senders: &[Sender]) -> usize
     keyed_count(params).saturating_sub(senders.len())
 }
 
-// What a sender must have computed of its offset term.
-fn offset_by(
-    params: &Params,
-    scale: &Scale,
-    senders: &[Sender],
-    sender: &Sender,
-) -> Option<Interval>
-    requires scale { IsReadingScale scale.now }
-    requires few { length senders.now ≤ 64 }
-    requires senders { All (IsProperSender scale.now) senders.now }
-    requires among { Contains senders.now sender.now }
-    requires sender { IsProperSender scale.now sender.now }
-    ensures value { result ≡ offset_computed scale.now (measuring_of params.now) sender.now.course
-        (other_courses senders.now sender.now.node) (further_of params.now senders.now) }
+/// By how much delays flutter between both cycles of a double cycle, in ticks: as the log says, or no more than delays that keep
+/// within what the parameters say of them.
+pub fn stated_flutter(params: &Params, log: &Log) -> u64
+    ensures value { result ≡ stated_flutter params.now log.now }
+    ensures most { result ≤ most_flutter }
+{
+    match log.flutter() {
+        None => 2 * params.natural(ParamName::xDelayError),
+        Some(flutter) => flutter,
+    }
+}
+
+// How the nodes measure where delays flutter by no more.
+fn measuring_of(scene: &Scene<'_>) -> Measuring
+    ensures value { result ≡ measuring_of scene.now.params.now (stated_flutter scene.now.params.now scene.now.log.now) }
+    ensures sane { IsMeasuring result }
+{
+    Measuring::of(scene.params, stated_flutter(scene.params, scene.log))
+}
+
+// What a sender must have computed of its offset term, where it missed at most so many of the others.
+fn offset_by(scene: &Scene<'_>, lost: usize, sender: &Sender) -> Option<Interval>
+    requires scene { IsScene scene.now }
+    requires lost { lost ≤ 64 }
+    requires among { Contains scene.now.senders.now sender.now }
+    requires sender { IsProperSender scene.now.scale.now sender.now }
+    ensures value { result ≡ offset_by scene.now.params.now scene.now.log.now scene.now.scale.now scene.now.senders.now
+        lost sender.now }
     ensures near { IfSome result (EndWithin (pos 22_000_000_000_000)) }
 {
     offset_computed(
-        scale,
-        &Measuring::of(params),
-        senders,
+        scene.scale,
+        &measuring_of(scene),
+        scene.senders,
         sender,
-        further_of(params, senders),
+        further_of(scene.params, scene.senders),
+        lost,
     )
 }
 
 // And of the step of its rate term.
-fn rate_by(params: &Params, scale: &Scale, senders: &[Sender], sender: &Sender) -> Option<Interval>
-    requires scale { IsReadingScale scale.now }
-    requires few { length senders.now ≤ 64 }
-    requires senders { All (IsProperSender scale.now) senders.now }
-    requires among { Contains senders.now sender.now }
-    requires sender { IsProperSender scale.now sender.now }
-    ensures value { result ≡ rate_computed scale.now (measuring_of params.now) sender.now.course
-        (other_courses senders.now sender.now.node) (further_of params.now senders.now) }
+fn rate_by(scene: &Scene<'_>, lost: usize, sender: &Sender) -> Option<Interval>
+    requires scene { IsScene scene.now }
+    requires lost { lost ≤ 64 }
+    requires among { Contains scene.now.senders.now sender.now }
+    requires sender { IsProperSender scene.now.scale.now sender.now }
+    ensures value { result ≡ rate_by scene.now.params.now scene.now.log.now scene.now.scale.now scene.now.senders.now
+        lost sender.now }
     ensures near { IfSome result (EndWithin (pos 22_000_000_000_000)) }
 {
     rate_computed(
-        scale,
-        &Measuring::of(params),
-        senders,
+        scene.scale,
+        &measuring_of(scene),
+        scene.senders,
         sender,
-        further_of(params, senders),
+        further_of(scene.params, scene.senders),
+        lost,
     )
 }
 
-fn offset_fault(
-    params: &Params,
-    scale: &Scale,
-    double: u32,
-    senders: &[Sender],
-    sender: &Sender,
-) -> Option<Fault>
-    requires scale { IsReadingScale scale.now }
-    requires double { double < 1_000_000 }
-    requires few { length senders.now ≤ 64 }
-    requires senders { All (IsProperSender scale.now) senders.now }
-    requires among { Contains senders.now sender.now }
-    requires sender { IsProperSender scale.now sender.now }
-    ensures { result ≡ offset_fault params.now scale.now double senders.now sender.now }
+fn offset_fault(scene: &Scene<'_>, lost: usize, sender: &Sender) -> Option<Fault>
+    requires scene { IsScene scene.now }
+    requires lost { lost ≤ 64 }
+    requires among { Contains scene.now.senders.now sender.now }
+    requires sender { IsProperSender scene.now.scale.now sender.now }
+    ensures { result ≡ offset_fault scene.now.params.now scene.now.log.now scene.now.scale.now scene.now.number
+        scene.now.senders.now lost sender.now }
 {
     unlike_fault(
         FaultKind::Offset,
-        2 * double + 1,
+        2 * scene.number + 1,
         sender.node,
-        terms_of(scale, sender),
-        offset_by(params, scale, senders, sender),
+        terms_of(scene.scale, sender),
+        offset_by(scene, lost, sender),
     )
 }
 
@@ -301,52 +301,39 @@ fn step_of(scale: &Scale, sender: &Sender) -> Option<Interval>
     }
 }
 
-fn rate_fault(
-    params: &Params,
-    scale: &Scale,
-    double: u32,
-    senders: &[Sender],
-    sender: &Sender,
-) -> Option<Fault>
-    requires scale { IsReadingScale scale.now }
-    requires double { double < 1_000_000 }
-    requires few { length senders.now ≤ 64 }
-    requires senders { All (IsProperSender scale.now) senders.now }
-    requires among { Contains senders.now sender.now }
-    requires sender { IsProperSender scale.now sender.now }
-    ensures { result ≡ rate_fault params.now scale.now double senders.now sender.now }
+fn rate_fault(scene: &Scene<'_>, lost: usize, sender: &Sender) -> Option<Fault>
+    requires scene { IsScene scene.now }
+    requires lost { lost ≤ 64 }
+    requires among { Contains scene.now.senders.now sender.now }
+    requires sender { IsProperSender scene.now.scale.now sender.now }
+    ensures { result ≡ rate_fault scene.now.params.now scene.now.log.now scene.now.scale.now scene.now.number
+        scene.now.senders.now lost sender.now }
 {
     unlike_fault(
         FaultKind::Rate,
-        2 * double + 1,
+        2 * scene.number + 1,
         sender.node,
-        step_of(scale, sender),
-        rate_by(params, scale, senders, sender),
+        step_of(scene.scale, sender),
+        rate_by(scene, lost, sender),
     )
 }
 
-fn sender_fault(
-    asked: Asked,
-    params: &Params,
-    scale: &Scale,
-    double: u32,
-    senders: &[Sender],
-    sender: &Sender,
-) -> Option<Fault>
-    requires scale { IsReadingScale scale.now }
-    requires double { double < 1_000_000 }
-    requires few { length senders.now ≤ 64 }
-    requires senders { All (IsProperSender scale.now) senders.now }
-    requires among { Contains senders.now sender.now }
-    requires sender { IsProperSender scale.now sender.now }
-    ensures { result ≡ sender_fault asked params.now scale.now double senders.now sender.now }
+/// What contradicts a run by this of a sender of a double cycle.
+pub fn sender_fault(asked: Asked, scene: &Scene<'_>, sender: &Sender) -> Option<Fault>
+    requires scene { IsScene scene.now }
+    requires few { IsFewAsked asked }
+    requires among { Contains scene.now.senders.now sender.now }
+    requires sender { IsProperSender scene.now.scale.now sender.now }
+    ensures { result ≡ sender_fault asked scene.now.params.now scene.now.log.now scene.now.scale.now scene.now.number
+        scene.now.senders.now sender.now }
 {
     match asked {
-        Asked::Correction => correction_fault(params, scale, double, sender),
-        Asked::Length => length_fault(params, scale, double, sender),
-        Asked::Beyond(beyond) => length_beyond(params, scale, beyond, double, sender),
-        Asked::Offset => offset_fault(params, scale, double, senders, sender),
-        Asked::Rate => rate_fault(params, scale, double, senders, sender),
+        Asked::Correction => correction_fault(scene.params, scene.scale, scene.number, sender),
+        Asked::Length(beyond) => {
+            length_beyond(scene.params, scene.scale, beyond, scene.number, sender)
+        }
+        Asked::Offset(lost) => offset_fault(scene, lost, sender),
+        Asked::Rate(lost) => rate_fault(scene, lost, sender),
     }
 }
 
@@ -354,26 +341,18 @@ fn sender_fault(
 /// is kept.
 pub fn put_of_senders<O: Sink>(
     asked: Asked,
-    scale: &Scale,
-    params: &Params,
-    double: u32,
-    senders: &[Sender],
+    scene: &Scene<'_>,
     first: &mut Option<Fault>,
     out: &mut O,
 ) -> Result<(), PutFault>
-    requires scale { IsReadingScale scale.now }
-    requires double { double < 1_000_000 }
-    requires few { length senders.now ≤ 64 }
-    requires senders { All (IsProperSender scale.now) senders.now }
+    requires scene { IsScene scene.now }
+    requires few { IsFewAsked asked }
     ensures { TellsFaults result (O.state out.old) (O.state out.new) first.old first.new
-        (filter_map (sender_fault asked params.now scale.now double senders.now) senders.now) }
+        (filter_map (sender_fault asked scene.now.params.now scene.now.log.now scene.now.scale.now scene.now.number
+        scene.now.senders.now) scene.now.senders.now) }
 {
-    for sender in senders {
-        tell(
-            sender_fault(asked, params, scale, double, senders, sender),
-            first,
-            out,
-        )?;
+    for sender in scene.senders {
+        tell(sender_fault(asked, scene, sender), first, out)?;
     }
     Ok(())
 }

@@ -2,7 +2,7 @@ use Rattle.std.proofs.Common.{◌≡◌, ◌+◌, ◌*◌, rules}
 use Rattle.fr_observe.specs.Faults.{skew_fault}
 use Rattle.fr_observe.specs.Observing.{even_high, even_low, odd_high, odd_low}
 use Rattle.fr_observe.proofs.Told.{told_cut, told_is, told_then}
-use Rattle.fr_observe.proofs.sync_faults.put_skews.Goals as goal
+use Rattle.fr_observe.proofs.apart_faults.put_skews.Goals as goal
 
 pub returns-in_err-tell : goal.returns-in_err-tell
 returns-in_err-tell g c =

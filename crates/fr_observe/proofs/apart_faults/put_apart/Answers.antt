@@ -5,7 +5,7 @@ use Rattle.fr_observe.specs.Faults.{beyond_fault}
 use Rattle.fr_observe.specs.Observing.{courses_of}
 use Rattle.fr_observe.specs.declared.fault.FaultKind.TheVariants.{Lengths, Start}
 use Rattle.fr_observe.proofs.Told.{told_cut, told_is, told_then}
-use Rattle.fr_observe.proofs.sync_faults.put_apart.Goals as goal
+use Rattle.fr_observe.proofs.apart_faults.put_apart.Goals as goal
 
 pub returns-in_err-tell : goal.returns-in_err-tell
 returns-in_err-tell g c =

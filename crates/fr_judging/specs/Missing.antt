@@ -1,0 +1,61 @@
+-- How many senders a node must have missed in a double cycle to have computed what was seen of its terms.
+use Rattle.std.specs.Prelude.{ℕ, ◌+◌, ◌*◌, List, [], ◌∷◌, ◌++◌, codes, filter_map, length, Option, Some, None, is_none, is_some, if◌then◌else◌}
+use Rattle.std.specs.Fmt.{decimal}
+use Rattle.std.specs.List.{find, flat_map, range_with_len}
+use Rattle.fr_bound.specs.declared.judging.Known.{Known}
+use Rattle.fr_cluster.specs.Values.{Values}
+use Rattle.fr_log.specs.View.{LogView}
+use Rattle.fr_course.specs.declared.scales.Scale.{Scale}
+use Rattle.fr_sightings.specs.declared.sender.Sender.{Sender}
+use Rattle.fr_observe.specs.Faults.{kind_word, offset_fault, rate_fault}
+use Rattle.fr_observe.specs.Observing.{known_count, row}
+use Rattle.fr_observe.specs.declared.fault.Fault.{Fault}
+use Rattle.fr_observe.specs.declared.fault.FaultKind.{FaultKind}
+use Rattle.fr_observe.specs.declared.fault.FaultKind.TheVariants.{Offset, Rate}
+use Rattle.fr_judging.specs.Knowing.{judged_met}
+use Rattle.fr_judging.specs.declared.knowing.Standing.{Standing}
+use Rattle.fr_judging.specs.declared.missed.Missed.{Missed}
+use Rattle.fr_judging.specs.declared.missed.Term.{Term}
+use Rattle.fr_judging.specs.declared.missed.Term.TheVariants as term
+
+-- what contradicts a term of a sender that missed at most so many of the others
+abbrev pub term_fault : Term → Values → LogView → Scale → ℕ → List Sender → Sender → ℕ → Option Fault
+term_fault term.OffsetTerm p l scale double senders s lost = offset_fault p l scale double senders lost s
+term_fault term.RateTerm p l scale double senders s lost = rate_fault p l scale double senders lost s
+
+-- the least number that nothing contradicts, none where each is contradicted: it can't have missed more than all others
+abbrev pub least_missed : Term → Values → LogView → Scale → ℕ → List Sender → Sender → Option ℕ
+least_missed what p l scale double senders s =
+    find (λ lost. is_none (term_fault what p l scale double senders s lost)) (range_with_len 0 (length senders))
+
+abbrev pub missed_with : Term → ℕ → ℕ → Option ℕ → Missed
+missed_with what double node least = record { cycle = 2 * double + 1; node = node; term = what; least = least }
+
+-- told where it must have missed one at least
+abbrev pub missed_by : Term → Values → LogView → Scale → ℕ → List Sender → Sender → Option Missed
+missed_by what p l scale double senders s =
+    if is_some (term_fault what p l scale double senders s 0)
+    then Some (missed_with what double s.node (least_missed what p l scale double senders s))
+    else None
+
+-- of all senders of a double cycle that is judged
+abbrev pub missed_of : Term → Values → LogView → Scale → ℕ → List Sender → List Missed
+missed_of what p l scale double senders = filter_map (missed_by what p l scale double senders) senders
+
+abbrev pub all_missed : Values → LogView → Scale → ℕ → List Sender → Option Known → List Missed
+all_missed p l scale double senders None = []
+all_missed p l scale double senders (Some met) =
+    missed_of term.OffsetTerm p l scale double senders ++ missed_of term.RateTerm p l scale double senders
+
+-- as records
+abbrev pub term_kind : Term → FaultKind
+term_kind term.OffsetTerm = Offset
+term_kind term.RateTerm = Rate
+
+unfoldable pub missed_row : Missed → List ℕ
+missed_row m =
+    row (codes "missed")
+    (decimal m.cycle ∷ decimal m.node ∷ kind_word (term_kind m.term) ∷ known_count m.least ∷ [] ∷ [] ∷ [] ∷ [])
+
+unfoldable pub missed_told : Values → LogView → Scale → ℕ → List Sender → Standing → List ℕ
+missed_told p l scale double senders st = flat_map missed_row (all_missed p l scale double senders (judged_met st))

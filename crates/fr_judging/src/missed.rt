@@ -1,0 +1,170 @@
+ghost use Rattle.std.specs.Prelude.{◌≡◌, ◌≤◌, ◌++◌};
+ghost use Rattle.std.specs.List.{Contains, flat_map};
+ghost use Rattle.fr_base.specs.Device.{Puts};
+ghost use Rattle.fr_sightings.specs.Ranges.{IsProperSender};
+ghost use Rattle.std.specs.Option.{option_to_list};
+ghost use Rattle.fr_text.specs.Pieces.{Spells};
+ghost use Rattle.fr_observe.specs.Observing.{known_count};
+ghost use Rattle.fr_observe.specs.Scenes.{IsScene};
+ghost use Rattle.fr_judging.specs.Missing.{least_missed, missed_by, missed_of, missed_row, missed_told, term_fault, term_kind};
+
+use crate::knowing::{Standing, judged_met};
+use fr_base::{NodeId, PutFault, Sink};
+use fr_observe::{Asked, Fault, FaultKind, Scene, sender_fault};
+use fr_sightings::Sender;
+use fr_text::Piece::{Natural, Word};
+use fr_text::{Line, Piece, put_line, row_of};
+
+/// A correction term.
+#[derive(Clone, Copy, Debug, PartialEq, Eq)]
+pub enum Term {
+    OffsetTerm,
+    RateTerm,
+}
+
+/// How many senders a node must have missed in a double cycle.
+#[derive(Clone, Copy, Debug, PartialEq, Eq)]
+pub struct Missed {
+    /// The number of the odd cycle in the log.
+    pub cycle: u32,
+    pub node: NodeId,
+    /// The term that says it.
+    pub term: Term,
+    /// So many at least; none where it can't have computed what was seen whatever it missed.
+    pub least: Option<u64>,
+}
+
+// What contradicts a term of a sender that missed at most so many of the others.
+fn term_fault(term: Term, scene: &Scene<'_>, sender: &Sender, lost: usize) -> Option<Fault>
+    requires scene { IsScene scene.now }
+    requires lost { lost ≤ 64 }
+    requires among { Contains scene.now.senders.now sender.now }
+    requires sender { IsProperSender scene.now.scale.now sender.now }
+    ensures { result ≡ term_fault term scene.now.params.now scene.now.log.now scene.now.scale.now scene.now.number
+        scene.now.senders.now sender.now lost }
+{
+    match term {
+        Term::OffsetTerm => sender_fault(Asked::Offset(lost), scene, sender),
+        Term::RateTerm => sender_fault(Asked::Rate(lost), scene, sender),
+    }
+}
+
+// The least number that nothing contradicts.
+fn least_missed(term: Term, scene: &Scene<'_>, sender: &Sender) -> Option<u64>
+    requires scene { IsScene scene.now }
+    requires among { Contains scene.now.senders.now sender.now }
+    requires sender { IsProperSender scene.now.scale.now sender.now }
+    ensures { result ≡ least_missed term scene.now.params.now scene.now.log.now scene.now.scale.now scene.now.number
+        scene.now.senders.now sender.now }
+{
+    for lost in 0..scene.senders.len() {
+        if term_fault(term, scene, sender, lost).is_none() {
+            return Some(lost as u64);
+        }
+    }
+    None
+}
+
+fn missed_by(term: Term, scene: &Scene<'_>, sender: &Sender) -> Option<Missed>
+    requires scene { IsScene scene.now }
+    requires among { Contains scene.now.senders.now sender.now }
+    requires sender { IsProperSender scene.now.scale.now sender.now }
+    ensures { result ≡ missed_by term scene.now.params.now scene.now.log.now scene.now.scale.now scene.now.number
+        scene.now.senders.now sender.now }
+{
+    if term_fault(term, scene, sender, 0).is_some() {
+        Some(Missed {
+            cycle: 2 * scene.number + 1,
+            node: sender.node,
+            term,
+            least: least_missed(term, scene, sender),
+        })
+    } else {
+        None
+    }
+}
+
+fn term_kind(term: Term) -> FaultKind
+    ensures { result ≡ term_kind term }
+{
+    match term {
+        Term::OffsetTerm => FaultKind::Offset,
+        Term::RateTerm => FaultKind::Rate,
+    }
+}
+
+fn known_number(number: Option<u64>) -> Piece<'static>
+    ensures { Spells result (known_count number) 20 }
+{
+    match number {
+        None => Word(b"-"),
+        Some(number) => Natural(number),
+    }
+}
+
+#[tactic(auto, unfolding(crate::specs::Missing::missed_row))]
+fn missed_row(missed: &Missed) -> Line
+    ensures { result ≡ missed_row missed.now }
+{
+    row_of(
+        b"missed",
+        &[
+            Natural(u64::from(missed.cycle)),
+            Natural(u64::from(missed.node.0)),
+            Word(term_kind(missed.term).word()),
+            known_number(missed.least),
+            Word(b""),
+            Word(b""),
+            Word(b""),
+        ],
+    )
+}
+
+fn put_one<O: Sink>(missed: Option<Missed>, out: &mut O) -> Result<(), PutFault>
+    ensures { Puts result (O.state out.old) (O.state out.new) (flat_map missed_row (option_to_list missed)) }
+{
+    match missed {
+        None => Ok(()),
+        Some(missed) => put_line(&missed_row(&missed), out),
+    }
+}
+
+fn put_of_term<O: Sink>(term: Term, scene: &Scene<'_>, out: &mut O) -> Result<(), PutFault>
+    requires { IsScene scene.now }
+    ensures { Puts result (O.state out.old) (O.state out.new) (flat_map missed_row (missed_of term scene.now.params.now
+        scene.now.log.now scene.now.scale.now scene.now.number scene.now.senders.now)) }
+{
+    for sender in scene.senders {
+        put_one(missed_by(term, scene, sender), out)?;
+    }
+    Ok(())
+}
+
+fn put_both<O: Sink>(scene: &Scene<'_>, out: &mut O) -> Result<(), PutFault>
+    requires { IsScene scene.now }
+    ensures { Puts result (O.state out.old) (O.state out.new) (flat_map missed_row (missed_of Term.OffsetTerm
+        scene.now.params.now scene.now.log.now scene.now.scale.now scene.now.number scene.now.senders.now
+        ++ missed_of Term.RateTerm scene.now.params.now scene.now.log.now scene.now.scale.now scene.now.number
+        scene.now.senders.now)) }
+{
+    put_of_term(Term::OffsetTerm, scene, out)?;
+    put_of_term(Term::RateTerm, scene, out)
+}
+
+/// Puts how many senders a node of a double cycle that stands so must have missed, in which it is judged, where it must have
+/// missed one at least: each as a record, in one put.
+#[tactic(auto, unfolding(crate::specs::Missing::missed_told))]
+pub fn put_missed<O: Sink>(
+    scene: &Scene<'_>,
+    standing: &Standing,
+    out: &mut O,
+) -> Result<(), PutFault>
+    requires { IsScene scene.now }
+    ensures { Puts result (O.state out.old) (O.state out.new) (missed_told scene.now.params.now scene.now.log.now
+        scene.now.scale.now scene.now.number scene.now.senders.now standing.now) }
+{
+    match judged_met(standing) {
+        None => Ok(()),
+        Some(_) => put_both(scene, out),
+    }
+}
