@@ -5,7 +5,8 @@ use mir.Syntax.{w128}
 use Rattle.std.proofs.lemmas.Int.{ints}
 use Rattle.fr_base.specs.Within.{IsBetween, IsWithin}
 use Rattle.fr_time.specs.Position.{floor_of}
-use Rattle.fr_course.proofs.Limits.{floor_within}
+use Rattle.fr_course.specs.Readings.{ceiling_of}
+use Rattle.fr_course.proofs.Limits.{ceiling_within, floor_within}
 
 pub values_fit : {ticks : ℤ} → IsWithin (pos 20_000_000_000_000_000_000) ticks → FitsSigned w128 ticks
 values_fit near = omega (arith, ints, near.low, near.high)
@@ -20,3 +21,7 @@ enough ticks micro about near = record { low = omega (arith, ints, about.low, ne
 pub values_near : (ticks micro : ℤ) → IsBetween (pos 998_500) (pos 1_001_500) micro → IsWithin (pos 20_000_000_000_000_000_000) ticks
     → IsWithin (pos 21_000_000_000_000) (floor_of ticks micro)
 values_near ticks micro about near = floor_within ticks micro (pos 21_000_000_000_000) (some about) (enough ticks micro about near)
+
+pub rounded_near : (ticks micro : ℤ) → IsBetween (pos 998_500) (pos 1_001_500) micro → IsWithin (pos 20_000_000_000_000_000_000) ticks
+    → IsWithin (pos 21_000_000_000_000) (ceiling_of ticks micro)
+rounded_near ticks micro about near = ceiling_within ticks micro (pos 21_000_000_000_000) (some about) (enough ticks micro about near)

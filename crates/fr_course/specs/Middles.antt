@@ -1,6 +1,6 @@
 -- Between which numbers the midpoint of some values lies, where each of a number of values that are known to be there lies in
--- an interval, and a number of further values, of any size, may be there too.
-use Rattle.std.specs.Prelude.{ℕ, zero, suc, ◌+◌, ◌-◌, ◌≤◌, nat_lt, ℤ, pos, List, ◌++◌, length, map, find, Option, Some, None, unwrap_or, IfSome, IsPermutation, if◌then◌else◌}
+-- an interval, some of these may have been missed, and a number of further values, of any size, may be there too.
+use Rattle.std.specs.Prelude.{ℕ, zero, suc, ◌+◌, ◌-◌, ◌≤◌, nat_lt, ℤ, pos, List, ◌++◌, length, map, find, filter_map, count_by, Option, Some, None, is_none, unwrap_or, IfSome, IsPermutation, if◌then◌else◌}
 use Rattle.std.specs.Int.{int_max, int_min}
 use Rattle.std.specs.List.{AllZip}
 use Rattle.fr_base.specs.Within.{IsBetween}
@@ -21,25 +21,26 @@ lows_of known = map (λ interval. interval.low) known
 abbrev pub highs_of : List Interval → List ℤ
 highs_of known = map (λ interval. interval.high) known
 
--- where so many are discarded at each end, and further values lie below all others, these are so many fewer of the others at
--- the low end: the midpoint is no less; and mirrored no greater
-abbrev pub least_middle : ℕ → ℕ → List Interval → ℤ
-least_middle further ends known = half_of_sum (least_left (ends - further) (lows_of known)) (greatest_left ends (lows_of known))
+-- where so many are discarded at each end: further values lie below all others, and so many of the greatest of the others were
+-- missed; the midpoint is no less, and mirrored no greater
+abbrev pub least_middle : ℕ → ℕ → ℕ → List Interval → ℤ
+least_middle further missed ends known =
+    half_of_sum (least_left (ends - further) (lows_of known)) (greatest_left (ends + missed) (lows_of known))
 
-abbrev pub greatest_middle : ℕ → ℕ → List Interval → ℤ
-greatest_middle further ends known =
-    half_of_sum (least_left ends (highs_of known)) (greatest_left (ends - further) (highs_of known))
+abbrev pub greatest_middle : ℕ → ℕ → ℕ → List Interval → ℤ
+greatest_middle further missed ends known =
+    half_of_sum (least_left (ends + missed) (highs_of known)) (greatest_left (ends - further) (highs_of known))
 
 -- with so many further values; where they are more than are discarded at an end, one of them may be left, and nothing limits
 -- the midpoint
-abbrev pub middle_where : ℕ → ℕ → List Interval → Option Interval
-middle_where further ends known =
+abbrev pub middle_where : ℕ → ℕ → ℕ → List Interval → Option Interval
+middle_where further missed ends known =
     if nat_lt ends further
     then None
-    else Some (record { low = least_middle further ends known; high = greatest_middle further ends known })
+    else Some (record { low = least_middle further missed ends known; high = greatest_middle further missed ends known })
 
-abbrev pub middle_with : ℕ → List Interval → Option Interval
-middle_with further known = middle_where further (discarded (length known + further)) known
+abbrev pub middle_with : ℕ → ℕ → List Interval → Option Interval
+middle_with further missed known = middle_where further missed (discarded ((length known - missed) + further)) known
 
 -- what lies in one interval, in the other, or between both; no limits where one has none
 abbrev pub joined : Interval → Interval → Interval
@@ -50,15 +51,33 @@ hull None other = None
 hull (Some one) None = None
 hull (Some one) (Some other) = Some (joined one other)
 
--- with at most so many
-unfoldable pub middle : ℕ → List Interval → Option Interval
-middle zero known = middle_with zero known
-middle (suc further) known = hull (middle further known) (middle_with (suc further) known)
+-- so many of the known ones are missed, and at most so many further ones are there
+unfoldable pub middle_missing : ℕ → ℕ → List Interval → Option Interval
+middle_missing zero missed known = middle_with zero missed known
+middle_missing (suc further) missed known =
+    hull (middle_missing further missed known) (middle_with (suc further) missed known)
 
--- the midpoint of values of which one lies in each of the intervals, and of which at most so many are further ones
+-- at most so many are missed, and never all of them
+unfoldable pub middle : ℕ → ℕ → List Interval → Option Interval
+middle further zero known = middle_missing further 0 known
+middle further (suc lost) known =
+    if nat_lt (suc lost) (length known)
+    then hull (middle further lost known) (middle_missing further (suc lost) known)
+    else middle further lost known
+
+-- the midpoint of values of which one lies in each of the intervals, but for at most so many that were missed, and of which at
+-- most so many are further ones
 abbrev pub MiddlesHold : Type 0
 MiddlesHold =
-    (further : ℕ) (known : List Interval) (said extra values : List ℤ) (mid : ℤ)
-    → IsPermutation (said ++ extra) values → AllZip (λ interval value. IsBetween interval.low interval.high value) known said
-    → length extra ≤ further → 1 ≤ length known → IsMidpoint values mid
-    → IfSome (middle further known) (λ middle. IsBetween middle.low middle.high mid)
+    (further lost : ℕ) (known : List Interval) (said : List (Option ℤ)) (extra values : List ℤ) (mid : ℤ)
+    → IsPermutation (filter_map (λ value. value) said ++ extra) values
+    → AllZip (λ interval value. IfSome value (λ v. IsBetween interval.low interval.high v)) known said
+    → count_by is_none said ≤ lost → length extra ≤ further → 1 ≤ length (filter_map (λ value. value) said)
+    → IsMidpoint values mid → IfSome (middle further lost known) (λ middle. IsBetween middle.low middle.high mid)
+
+-- where more may have been missed, a midpoint that was limited still lies there
+abbrev pub MissingMiddlesWiden : Type 0
+MissingMiddlesWiden =
+    (further lost more : ℕ) (known : List Interval) (mid : ℤ) → lost ≤ more
+    → IfSome (middle further lost known) (λ less. IsBetween less.low less.high mid)
+    → IfSome (middle further more known) (λ wide. IsBetween wide.low wide.high mid)

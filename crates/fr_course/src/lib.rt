@@ -21,7 +21,7 @@ pub use corners::{even_start, even_turn, odd_start, odd_turn};
 pub use corrections::{offset_seen, rate_step_seen};
 pub use courses::{Course, allowed, between, course_from, is_there, seen_apart};
 pub use intervals::{Interval, is_empty, meet, meet_all, meet_if};
-pub use laws::{middles_hold, values_are_counted};
+pub use laws::{middles_hold, missing_middles_widen, values_are_counted, values_are_placed};
 pub use measuring::{Measuring, undamped};
 pub use middles::middle;
 pub use scales::Scale;

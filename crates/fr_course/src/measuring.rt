@@ -1,13 +1,14 @@
-ghost use Rattle.std.specs.Prelude.{◌≡◌, ◌+ℤ◌, ℤ, pos, int_lt, if◌then◌else◌, IfSome};
+ghost use Rattle.std.specs.Prelude.{◌≡◌, ◌≤◌, ◌+ℤ◌, ℤ, pos, int_lt, if◌then◌else◌, IfSome};
 ghost use Rattle.std.specs.Option.{option_map};
 ghost use Rattle.fr_base.specs.Within.{IsBetween, IsWithin};
-ghost use Rattle.fr_course.specs.Computed.{further_by, measuring_of, values_from, counted_in, values_to};
+ghost use Rattle.fr_bound.specs.SharpBounds.{most_flutter};
+ghost use Rattle.fr_course.specs.Computed.{further_by, measuring_of, placed_from, placed_in, values_from, counted_in, values_to};
 ghost use Rattle.fr_course.specs.Near.{EndWithin, IsMeasuring};
 
 use crate::intervals::Interval;
-use crate::quotients::floor;
+use crate::quotients::{ceiling, floor};
 use crate::scales::{longest_micro, shortest_micro};
-use fr_bound::{arrival_error, bounds};
+use fr_bound::{arrival_error, steady_error};
 use fr_cluster::{ParamName, Params};
 
 /// How the nodes of a cluster measure.
@@ -15,7 +16,7 @@ use fr_cluster::{ParamName, Params};
 pub struct Measuring {
     /// The error of an arrival, in ticks.
     pub arrival_error: i128,
-    /// How far a rate value may place the length of a sender's cycle from the true one, in ticks.
+    /// How far a rate value may place a sender's action points from their true distance, in ticks.
     pub rate_error: i128,
     /// The shortest microtick, in ticks.
     pub shortest: i128,
@@ -26,14 +27,15 @@ pub struct Measuring {
 }
 
 impl Measuring {
-    /// How the nodes of these parameters measure.
-    pub fn of(params: &Params) -> Measuring
-        ensures value { result ≡ measuring_of params.now }
+    /// How the nodes of these parameters measure, where delays flutter by no more than so many ticks, 0 to 1,000,000,000.
+    pub fn of(params: &Params, flutter: u64) -> Measuring
+        requires { flutter ≤ most_flutter }
+        ensures value { result ≡ measuring_of params.now flutter }
         ensures sane { IsMeasuring result }
     {
         Measuring {
             arrival_error: arrival_error(params) as i128,
-            rate_error: bounds(params).y1 as i128,
+            rate_error: steady_error(params, flutter) as i128,
             shortest: shortest_micro(params),
             longest: longest_micro(params),
             damping: params.natural(ParamName::pClusterDriftDamping) as i128,
@@ -52,6 +54,21 @@ pub(crate) fn counted_in(measuring: &Measuring, error: i128, ticks: &Interval) -
     let off = further_by(error, ticks);
     Interval {
         low: values_from(measuring, off.low),
+        high: values_to(measuring, off.high),
+    }
+}
+
+// How many of a receiver's microticks can give so many ticks, with an error: from the least to the greatest number.
+pub(crate) fn placed_in(measuring: &Measuring, error: i128, ticks: &Interval) -> Interval
+    requires measuring { IsMeasuring measuring.now }
+    requires error { IsBetween (pos 0) (pos 10_000_000_000_000_000_000) error }
+    requires ticks { EndWithin (pos 6_200_000_000_000_000_000) ticks.now }
+    ensures value { result ≡ placed_in measuring.now error ticks.now }
+    ensures near { EndWithin (pos 21_000_000_000_000) result }
+{
+    let off = further_by(error, ticks);
+    Interval {
+        low: placed_from(measuring, off.low),
         high: values_to(measuring, off.high),
     }
 }
@@ -100,6 +117,16 @@ fn values_to(measuring: &Measuring, ticks: i128) -> i128
     ensures within { IsWithin (pos 21_000_000_000_000) result }
 {
     floor(ticks, inner_measure(measuring, ticks))
+}
+
+// The least number of them that gives so many ticks, rounded up.
+fn placed_from(measuring: &Measuring, ticks: i128) -> i128
+    requires measuring { IsMeasuring measuring.now }
+    requires ticks { IsWithin (pos 20_000_000_000_000_000_000) ticks }
+    ensures value { result ≡ placed_from measuring.now ticks }
+    ensures within { IsWithin (pos 21_000_000_000_000) result }
+{
+    ceiling(ticks, outer_measure(measuring, ticks))
 }
 
 // The microtick of which so many ticks are the least number.

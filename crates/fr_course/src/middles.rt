@@ -1,8 +1,8 @@
-ghost use Rattle.std.specs.Prelude.{◌≡◌, ◌≤◌, ◌<◌, ◌∷◌, [], ◌++◌, if◌then◌else◌, List, ℤ, pos, All, IfSome, length, map};
+ghost use Rattle.std.specs.Prelude.{◌≡◌, ◌≤◌, ◌<◌, ◌-◌, ◌∷◌, [], ◌++◌, min, if◌then◌else◌, List, ℤ, pos, All, IfSome, length, map};
 ghost use Rattle.fr_base.specs.Within.{IsWithin};
 ghost use Rattle.fr_midpoint.specs.Midpoint.{discarded, half_of_sum};
 ghost use Rattle.fr_course.specs.Ends.{interval_end, AreRanked};
-ghost use Rattle.fr_course.specs.Middles.{greatest_left, highs_of, hull, joined, least_left, lows_of, middle, middle_where, middle_with};
+ghost use Rattle.fr_course.specs.Middles.{greatest_left, highs_of, hull, joined, least_left, lows_of, middle, middle_missing, middle_where, middle_with};
 ghost use Rattle.fr_course.specs.Near.{EndWithin};
 ghost use Rattle.fr_course.specs.Readings.{Interval as Known};
 
@@ -72,20 +72,47 @@ impl EndList {
 }
 
 /// Between which numbers the fault-tolerant midpoint of some values (section 8.6.1) lies, where each of the intervals
-/// has one of them, and at most so many further ones may be there, of any size; none where nothing limits it.
-pub fn middle(further: usize, known: &[Interval]) -> Option<Interval>
+/// has one of them, but at most so many were lost and never all, and at most so many further ones may be there, of any
+/// size; in the unit of the intervals, none where nothing limits it.
+pub fn middle(further: usize, lost: usize, known: &[Interval]) -> Option<Interval>
     requires further { further ≤ 64 }
+    requires lost { lost ≤ 64 }
     requires few { length known.now ≤ 64 }
     requires known { All (EndWithin (pos 21_000_000_000_000)) known.now }
-    ensures value { result ≡ middle further known.now }
+    ensures value { result ≡ middle further lost known.now }
     ensures near { IfSome result (EndWithin (pos 21_000_000_000_000)) }
 {
     let low_ends = ranked(End::Low, known);
     let high_ends = ranked(End::High, known);
     let (lows, highs) = (low_ends.as_slice(), high_ends.as_slice());
-    let mut all = middle_with(0, lows, highs);
+    let mut all = middle_missing(further, 0, lows, highs);
+    for missed in 0..most_missed(lost, known.len()) {
+        all = hull(all, middle_missing(further, missed + 1, lows, highs));
+    }
+    all
+}
+
+// How many of so many values are missed at most, where at most so many are lost: never all of them.
+fn most_missed(lost: usize, count: usize) -> usize
+    ensures { result ≡ min lost (count - 1) }
+{
+    lost.min(count.saturating_sub(1))
+}
+
+// With just so many that are missed.
+fn middle_missing(further: usize, missed: usize, lows: &[i64], highs: &[i64]) -> Option<Interval>
+    requires further { further ≤ 64 }
+    requires missed { missed ≤ 64 }
+    requires lows { All (IsWithin (pos 21_000_000_000_000)) lows.now }
+    requires highs { All (IsWithin (pos 21_000_000_000_000)) highs.now }
+    requires few { length lows.now ≤ 64 }
+    ensures value { (known : List Known) → AreRanked (lows_of known) lows.now →
+        AreRanked (highs_of known) highs.now → result ≡ middle_missing further missed known }
+    ensures near { IfSome result (EndWithin (pos 21_000_000_000_000)) }
+{
+    let mut all = middle_with(0, missed, lows, highs);
     for less in 0..further {
-        all = hull(all, middle_with(less + 1, lows, highs));
+        all = hull(all, middle_with(less + 1, missed, lows, highs));
     }
     all
 }
@@ -130,33 +157,46 @@ fn joined(one: &Interval, other: &Interval) -> Interval
 }
 
 // With just so many further values, by the ends of the others in ascending order.
-fn middle_with(further: usize, lows: &[i64], highs: &[i64]) -> Option<Interval>
+fn middle_with(further: usize, missed: usize, lows: &[i64], highs: &[i64]) -> Option<Interval>
     requires further { further ≤ 64 }
+    requires missed { missed ≤ 64 }
     requires lows { All (IsWithin (pos 21_000_000_000_000)) lows.now }
     requires highs { All (IsWithin (pos 21_000_000_000_000)) highs.now }
     requires few { length lows.now ≤ 64 }
     ensures value { (known : List Known) → AreRanked (lows_of known) lows.now →
-        AreRanked (highs_of known) highs.now → result ≡ middle_with further known }
+        AreRanked (highs_of known) highs.now → result ≡ middle_with further missed known }
     ensures near { IfSome result (EndWithin (pos 21_000_000_000_000)) }
 {
-    middle_where(further, discarded_of(lows.len() + further), lows, highs)
+    let ends = discarded_of(lows.len().saturating_sub(missed) + further);
+    middle_where(further, missed, ends, lows, highs)
 }
 
 // Where so many are discarded at each end.
-fn middle_where(further: usize, ends: usize, lows: &[i64], highs: &[i64]) -> Option<Interval>
+fn middle_where(
+    further: usize,
+    missed: usize,
+    ends: usize,
+    lows: &[i64],
+    highs: &[i64],
+) -> Option<Interval>
+    requires missed { missed ≤ 64 }
+    requires ends { ends ≤ 2 }
     requires lows { All (IsWithin (pos 21_000_000_000_000)) lows.now }
     requires highs { All (IsWithin (pos 21_000_000_000_000)) highs.now }
     ensures value { (known : List Known) → AreRanked (lows_of known) lows.now →
-        AreRanked (highs_of known) highs.now → result ≡ middle_where further ends known }
+        AreRanked (highs_of known) highs.now → result ≡ middle_where further missed ends known }
     ensures near { IfSome result (EndWithin (pos 21_000_000_000_000)) }
 {
     if ends < further {
         return None;
     }
     Some(Interval {
-        low: half_sum(least_left(lows, ends - further), greatest_left(lows, ends)),
+        low: half_sum(
+            least_left(lows, ends - further),
+            greatest_left(lows, ends + missed),
+        ),
         high: half_sum(
-            least_left(highs, ends),
+            least_left(highs, ends + missed),
             greatest_left(highs, ends - further),
         ),
     })
@@ -164,7 +204,8 @@ fn middle_where(further: usize, ends: usize, lows: &[i64], highs: &[i64]) -> Opt
 
 // How many values of so many are discarded at each end.
 fn discarded_of(count: usize) -> usize
-    ensures { result ≡ discarded count }
+    ensures value { result ≡ discarded count }
+    ensures few { result ≤ 2 }
 {
     if count < 3 {
         0

@@ -5,7 +5,7 @@ ghost use Rattle.fr_course.specs.Near.{EndWithin, IsMeasuring, IsNearCourse, IsR
 use crate::corners::odd_macrotick;
 use crate::courses::{Course, between};
 use crate::intervals::Interval;
-use crate::measuring::{Measuring, counted_in};
+use crate::measuring::{Measuring, counted_in, placed_in};
 use crate::readings::{least_ticks, most_ticks};
 use crate::scales::Scale;
 
@@ -38,7 +38,8 @@ pub fn deviation_seen(
     counted_in(measuring, measuring.arrival_error, &late)
 }
 
-/// The rate value that it can have of the sender (section 8.6.3), in microticks.
+/// The rate value that it can have of the sender (section 8.6.3), by how far the sender's action points lie apart; in
+/// microticks.
 pub fn rate_value_seen(
     scale: &Scale,
     measuring: &Measuring,
@@ -52,8 +53,8 @@ pub fn rate_value_seen(
     ensures value { result ≡ rate_value_seen scale.now measuring.now receiver.now sender.now }
     ensures near { EndWithin (pos 21_000_000_000_000) result }
 {
-    let longer = ticks_in(scale, &between(&receiver.length, &sender.length));
-    counted_in(measuring, measuring.rate_error, &longer)
+    let longer = ticks_in(scale, &between(&receiver.length, &sender.apart));
+    placed_in(measuring, measuring.rate_error, &longer)
 }
 
 // Readings as ticks.

@@ -1,4 +1,4 @@
-use Rattle.std.proofs.Common.{◌∙◌, ℕ, ◌-◌, ◌<◌, ◌≤◌, pos, get_or, length, sym, arith}
+use Rattle.std.proofs.Common.{◌∙◌, ℕ, ◌<◌, ◌≤◌, pos, get_or, length, sym, arith}
 use Rattle.fr_course.proofs.Fits.{end_read}
 use Rattle.fr_course.proofs.Ranked.{least_left-none, least_left-ranked}
 use Rattle.fr_course.proofs.middles.least_left.Goals as goal

@@ -15,12 +15,12 @@ returns-clause-value c = λ known lows highs.
     let few : nat_lt c.args.ends c.args.further ≡ false = grind (arith, nat_tests) in
     let l : FitsSigned w128 c.half_sum.result = search rules in
     let h : FitsSigned w128 c.half_sum-2.result = search rules in
-    let low : c.half_sum.result ≡ least_middle c.args.further c.args.ends known =
+    let low : c.half_sum.result ≡ least_middle c.args.further c.args.missed c.args.ends known =
     c.half_sum.ensures.value
     ∙ ap₂ half_of_sum (end_read c.least_left.result c.least_left.ensures.within ∙ c.least_left.ensures.value (lows_of known) lows) (end_read c.greatest_left.result c.greatest_left.ensures.within ∙ c.greatest_left.ensures.value (lows_of known) lows) in
-    let high : c.half_sum-2.result ≡ greatest_middle c.args.further c.args.ends known =
+    let high : c.half_sum-2.result ≡ greatest_middle c.args.further c.args.missed c.args.ends known =
     c.half_sum-2.ensures.value
     ∙ ap₂ half_of_sum (end_read c.least_left-2.result c.least_left-2.ensures.within ∙ c.least_left-2.ensures.value (highs_of known) highs) (end_read c.greatest_left-2.result c.greatest_left-2.ensures.within ∙ c.greatest_left-2.ensures.value (highs_of known) highs) in
     let pair : ℤ → ℤ → Option Interval = λ x y. Some (record { low = x; high = y }) in
     ap₂ pair (to_z-of_z w128 c.half_sum.result l ∙ low) (to_z-of_z w128 c.half_sum-2.result h ∙ high)
-    ∙ sym (middle_where-some c.args.further c.args.ends known few)
+    ∙ sym (middle_where-some c.args.further c.args.missed c.args.ends known few)

@@ -1,4 +1,4 @@
-use Rattle.std.proofs.Common.{◌≡◌, ◌∙◌, ℕ, ◌+◌, length, ap}
+use Rattle.std.proofs.Common.{◌≡◌, ◌∙◌, ℕ, ◌+◌, ◌-◌, length, ap}
 use Rattle.std.proofs.lemmas.List.{length-map}
 use Rattle.std.proofs.lemmas.List.Sorted.{length_permutation}
 use Rattle.fr_midpoint.specs.Midpoint.{discarded}
@@ -10,4 +10,5 @@ pub returns-clause-value : goal.returns-clause-value
 returns-clause-value c = λ known lows highs.
     let count : length c.args.lows.now ≡ length known = length_permutation (lows_of known) c.args.lows.now lows.same ∙ length-map known (λ (interval : Interval). interval.low) in
     c.middle_where.ensures.value known lows highs
-    ∙ ap (λ (n : ℕ). middle_where c.args.further n known) (c.discarded_of.ensures ∙ ap (λ (n : ℕ). discarded (n + c.args.further)) count)
+    ∙ ap (λ (n : ℕ). middle_where c.args.further c.args.missed n known)
+    (c.discarded_of-ends.ensures.value ∙ ap (λ (n : ℕ). discarded (n + c.args.further)) c.saturating_sub.ensures ∙ ap (λ (n : ℕ). discarded ((n - c.args.missed) + c.args.further)) count)

@@ -2,14 +2,14 @@ use Rattle.std.proofs.Common.{◌≡◌, ◌∙◌, FitsSigned, ℤ, ap, arith}
 use mir.Syntax.{w128}
 use Rattle.std.proofs.lemmas.Int.{ints, to_z-of_z}
 use Rattle.fr_course.specs.Course.{between}
-use Rattle.fr_course.specs.Computed.{ticks_in, counted_in}
+use Rattle.fr_course.specs.Computed.{ticks_in, placed_in}
 use Rattle.fr_course.proofs.values.rate_value_seen.Goals as goal
 
 pub returns-clause-value : goal.returns-clause-value
 returns-clause-value c =
     let e : FitsSigned w128 c.args.measuring.now.rate_error = omega (arith, ints, c.requires.measuring.rate_error) in
-    let gap : c.between.result ≡ between c.args.receiver.now.length c.args.sender.now.length = c.between.ensures.value in
-    let longer : c.ticks_in-longer.result ≡ ticks_in c.args.scale.now (between c.args.receiver.now.length c.args.sender.now.length) = c.ticks_in-longer.ensures.value ∙ ap (ticks_in c.args.scale.now) gap in
-    c.counted_in.ensures.value
-    ∙ ap (λ (x : ℤ). counted_in c.args.measuring.now x c.ticks_in-longer.result) (to_z-of_z w128 c.args.measuring.now.rate_error e)
-    ∙ ap (counted_in c.args.measuring.now c.args.measuring.now.rate_error) longer
+    let gap : c.between.result ≡ between c.args.receiver.now.length c.args.sender.now.apart = c.between.ensures.value in
+    let longer : c.ticks_in-longer.result ≡ ticks_in c.args.scale.now (between c.args.receiver.now.length c.args.sender.now.apart) = c.ticks_in-longer.ensures.value ∙ ap (ticks_in c.args.scale.now) gap in
+    c.placed_in.ensures.value
+    ∙ ap (λ (x : ℤ). placed_in c.args.measuring.now x c.ticks_in-longer.result) (to_z-of_z w128 c.args.measuring.now.rate_error e)
+    ∙ ap (placed_in c.args.measuring.now c.args.measuring.now.rate_error) longer
