@@ -31,6 +31,10 @@ error-number : (o : Option ℕ) → IfSome o (IsTakenNumber head.Error) → IsHe
 error-number None h = record { from = omega arith; to = omega arith }
 error-number (Some n) h = h.range
 
+lost-number : (o : Option ℕ) → IfSome o (IsTakenNumber head.Lost) → IsHeadNumber head.Lost (unwrap_or o 0)
+lost-number None h = record { from = omega arith; to = omega arith }
+lost-number (Some n) h = h.range
+
 even-of : (n : ℕ) → (n % 2 == 1) ≡ false → n % 2 ≡ 0
 even-of n h =
     let below = mod_below n 2 (omega arith) in
@@ -50,6 +54,8 @@ log-proper d done unit drift h is_unit is_drift = record {
   drift = said-number d done head.Drift drift h is_drift;
   error = error-number (number_in_table d.numbers head.Error) (h.proper.numbers head.Error);
   jitter = IfSome_then (number_in_table d.numbers head.Jitter) (h.proper.numbers head.Jitter) (λ n taken. taken.range);
+  flutter = IfSome_then (number_in_table d.numbers head.Flutter) (h.proper.numbers head.Flutter) (λ n taken. taken.range);
+  lost = lost-number (number_in_table d.numbers head.Lost) (h.proper.numbers head.Lost);
   since = IfSome_then (number_in_table d.numbers head.Since) (h.proper.numbers head.Since) even-cycle;
   arbitrary_long = h.arbitrary_long;
   on_a_long = h.on_a_long;
@@ -69,6 +75,8 @@ log-stands d done unit drift h is_unit is_drift = record {
   drift = sym (h.numbers head.Drift) ∙ is_drift;
   error = ap (λ (o : Option ℕ). unwrap_or o 0) (h.numbers head.Error);
   jitter = h.numbers head.Jitter;
+  flutter = h.numbers head.Flutter;
+  lost = ap (λ (o : Option ℕ). unwrap_or o 0) (h.numbers head.Lost);
   since = h.numbers head.Since;
   whole = h.whole;
   arbitrary_long = h.arbitrary_long;

@@ -37,7 +37,7 @@ or-true false = refl
 
 -- what is new in tables that take one row more
 pub record IsWith (old new : Draft) (x : Result Row Reason) : Type 0 where
-  pub numbers_long : length new.numbers ≡ 5
+  pub numbers_long : length new.numbers ≡ 7
   pub arbitrary_long : length new.arbitrary ≡ 65
   pub on_a_long : length new.on_a ≡ 65
   pub on_b_long : length new.on_b ≡ 65
@@ -90,11 +90,11 @@ nobody-named k h = get_or-replicate 65 k false false (omega arith)
 if-none : {A : Type 0} (P : A → Type 0) (o : Option A) → o ≡ None → IfSome o P
 if-none P o e = rw e tt
 
-pub draft-nil : (d : Draft) → d.numbers ≡ replicate 5 None → d.whole ≡ false → d.arbitrary ≡ replicate 65 false → d.on_a ≡ replicate 65 None → d.on_b ≡ replicate 65 None → d.each ≡ None
+pub draft-nil : (d : Draft) → d.numbers ≡ replicate 7 None → d.whole ≡ false → d.arbitrary ≡ replicate 65 false → d.on_a ≡ replicate 65 None → d.on_b ≡ replicate 65 None → d.each ≡ None
     → d.entries.items ≡ [] → IsLogDraft d []
 unfolding entries_by
 draft-nil d numbers whole arbitrary on_a on_b each entries = record {
-  numbers_long = ap length numbers ∙ length-replicate 5 no-number;
+  numbers_long = ap length numbers ∙ length-replicate 7 no-number;
   arbitrary_long = ap length arbitrary ∙ length-replicate 65 false;
   on_a_long = ap length on_a ∙ length-replicate 65 no-limits;
   on_b_long = ap length on_b ∙ length-replicate 65 no-limits;
@@ -122,7 +122,7 @@ draft-nil d numbers whole arbitrary on_a on_b each entries = record {
     no-limits = None
 
     none-number : (name : HeadNumber) → number_in_table d.numbers name ≡ None
-    none-number name = ap (λ (xs : List (Option ℕ)). number_in_table xs name) numbers ∙ nothing-said 5 (head_place name)
+    none-number name = ap (λ (xs : List (Option ℕ)). number_in_table xs name) numbers ∙ nothing-said 7 (head_place name)
 
     none-a : (node : ℕ) → slice_index_or d.on_a node None ≡ None
     none-a node = ap (λ (xs : List (Option DelayLimits)). slice_index_or xs node None) on_a ∙ nothing-said 65 node
@@ -178,7 +178,9 @@ name_at zero = head.Unit
 name_at (suc zero) = head.Drift
 name_at (suc (suc zero)) = head.Error
 name_at (suc (suc (suc zero))) = head.Jitter
-name_at _ = head.Since
+name_at (suc (suc (suc (suc zero)))) = head.Since
+name_at (suc (suc (suc (suc (suc zero))))) = head.Flutter
+name_at _ = head.Lost
 
 name-back : (name : HeadNumber) → name_at (head_place name) ≡ name
 unfolding name_at
@@ -187,16 +189,20 @@ name-back head.Drift = refl
 name-back head.Error = refl
 name-back head.Jitter = refl
 name-back head.Since = refl
+name-back head.Flutter = refl
+name-back head.Lost = refl
 
 name-one : (a b : HeadNumber) → head_place a ≡ head_place b → a ≡ b
 name-one a b e = sym (name-back a) ∙ ap name_at e ∙ name-back b
 
-place-low : (name : HeadNumber) → head_place name < 5
+place-low : (name : HeadNumber) → head_place name < 7
 place-low head.Unit = omega arith
 place-low head.Drift = omega arith
 place-low head.Error = omega arith
 place-low head.Jitter = omega arith
 place-low head.Since = omega arith
+place-low head.Flutter = omega arith
+place-low head.Lost = omega arith
 
 -- no entry yet
 no-entry : (entries : List Entry) → is_some_entry entries ≡ false → entries ≡ []

@@ -38,7 +38,7 @@ pub record AreProperTables (draft : Draft) : Type 0 where
 
 -- the tables hold what the records say, and nothing out of range
 pub record IsLogDraft (draft : Draft) (records : List FileRecord) : Type 0 where
-  pub numbers_long : length draft.numbers ≡ 5
+  pub numbers_long : length draft.numbers ≡ 7
   pub arbitrary_long : length draft.arbitrary ≡ 65
   pub on_a_long : length draft.on_a ≡ 65
   pub on_b_long : length draft.on_b ≡ 65
@@ -67,6 +67,8 @@ log_drafted draft unit drift = record {
   drift = drift;
   error = unwrap_or (number_in_table draft.numbers head.Error) 0;
   jitter = number_in_table draft.numbers head.Jitter;
+  flutter = number_in_table draft.numbers head.Flutter;
+  lost = unwrap_or (number_in_table draft.numbers head.Lost) 0;
   since = number_in_table draft.numbers head.Since;
   whole = draft.whole;
   arbitrary = draft.arbitrary;

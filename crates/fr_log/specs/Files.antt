@@ -16,14 +16,16 @@ use Rattle.fr_log.specs.declared.fault.LogFault.{LogFault}
 use Rattle.fr_log.specs.declared.fault.LogFault.TheVariants as fault
 use Rattle.fr_log.specs.declared.rows.HeadNumber.TheVariants as head
 
--- the log is what the records say: its numbers are those of their rows, the error 0 where none says it, a node is arbitrary
--- where a record names it, the limits of delays are those of their rows, and its entries are those of the records, in
+-- the log is what the records say: its numbers are those of their rows, the error and what may be lost 0 where none says it, a
+-- node is arbitrary where a record names it, the limits of delays are those of their rows, and its entries are those of the records, in
 -- their order
 pub record LogStandsFor (l : LogView) (records : List FileRecord) : Type 0 where
   pub unit : number_by head.Unit records ≡ Some l.unit
   pub drift : number_by head.Drift records ≡ Some l.drift
   pub error : l.error ≡ unwrap_or (number_by head.Error records) 0
   pub jitter : l.jitter ≡ number_by head.Jitter records
+  pub flutter : l.flutter ≡ number_by head.Flutter records
+  pub lost : l.lost ≡ unwrap_or (number_by head.Lost records) 0
   pub since : l.since ≡ number_by head.Since records
   pub whole : l.whole ≡ is_log_whole records
   pub arbitrary_long : length l.arbitrary ≡ 65

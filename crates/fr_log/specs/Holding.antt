@@ -18,7 +18,7 @@ use Rattle.fr_log.specs.declared.rows.HeadNumber.{HeadNumber}
 use Rattle.fr_log.specs.declared.rows.Row.{Row}
 use Rattle.fr_log.specs.declared.rows.Row.TheVariants as row
 
--- `unit,TICKS,,,`, `drift,PPM,,,`, `error,TICKS,,,`, `jitter,TICKS,,,`, `since,CYCLE,,,`
+-- `unit,TICKS,,,`, `drift,PPM,,,`, `error,TICKS,,,`, `jitter,TICKS,,,`, `since,CYCLE,,,`, `flutter,TICKS,,,`, `lost,COUNT,,,`
 abbrev pub number_form : HeadNumber → FileRecord → Form
 number_form name r = record {
   empty = field_of r 2 ∷ field_of r 3 ∷ field_of r 4 ∷ [];

@@ -12,6 +12,8 @@ head_number_of kind =
     else if bytes_eq kind (codes "error") then Some head.Error
     else if bytes_eq kind (codes "jitter") then Some head.Jitter
     else if bytes_eq kind (codes "since") then Some head.Since
+    else if bytes_eq kind (codes "flutter") then Some head.Flutter
+    else if bytes_eq kind (codes "lost") then Some head.Lost
     else None
 
 -- the least and the greatest that it may be
@@ -21,6 +23,8 @@ least_number head.Drift = 0
 least_number head.Error = 0
 least_number head.Jitter = 0
 least_number head.Since = 0
+least_number head.Flutter = 0
+least_number head.Lost = 0
 
 abbrev pub greatest_number : HeadNumber → ℕ
 greatest_number head.Unit = 1_000_000_000
@@ -28,6 +32,8 @@ greatest_number head.Drift = 1000
 greatest_number head.Error = 1_000_000_000
 greatest_number head.Jitter = 1_000_000_000
 greatest_number head.Since = 199_998
+greatest_number head.Flutter = 1_000_000_000
+greatest_number head.Lost = 14
 
 pub record IsHeadNumber (name : HeadNumber) (number : ℕ) : Type 0 where
   pub from : least_number name ≤ number
@@ -40,3 +46,5 @@ head_place head.Drift = 1
 head_place head.Error = 2
 head_place head.Jitter = 3
 head_place head.Since = 4
+head_place head.Flutter = 5
+head_place head.Lost = 6

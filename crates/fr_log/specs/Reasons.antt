@@ -129,6 +129,8 @@ is_misfit head.Drift n = false
 is_misfit head.Error n = false
 is_misfit head.Jitter n = false
 is_misfit head.Since n = n % 2 == 1
+is_misfit head.Flutter n = false
+is_misfit head.Lost n = false
 
 -- whether limits are in the wrong order
 abbrev pub are_crossed : DelayLimits → Bool

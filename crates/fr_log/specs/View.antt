@@ -11,14 +11,16 @@ use Rattle.fr_log.specs.declared.entry.Entry.{Entry}
 use Rattle.fr_log.specs.declared.rows.DelayLimits.{DelayLimits}
 use Rattle.fr_log.specs.declared.rows.HeadNumber.TheVariants as head
 
--- the numbers of its head, in ticks, the drift in parts per million, the cycle from which on the cluster is in sync; whether
--- no frame was missed; whether the node of each number is arbitrary; the limits of the delays of each node on each channel,
--- and of those that have no others; the entries in their order
+-- the numbers of its head, in ticks, the drift in parts per million, how many frames a node may miss, the even cycle in whose
+-- double cycle the cluster is in sync by the sharper bounds; whether no frame was missed; whether the node of each number is
+-- arbitrary; the limits of the delays of each node on each channel, and of those that have no others; the entries in their order
 pub record LogView : Type 0 where
   pub unit : ℕ
   pub drift : ℕ
   pub error : ℕ
   pub jitter : Option ℕ
+  pub flutter : Option ℕ
+  pub lost : ℕ
   pub since : Option ℕ
   pub whole : Bool
   pub arbitrary : List Bool
@@ -75,6 +77,8 @@ pub record IsLog (l : LogView) : Type 0 where
   pub drift : IsHeadNumber head.Drift l.drift
   pub error : IsHeadNumber head.Error l.error
   pub jitter : IfSome l.jitter (IsHeadNumber head.Jitter)
+  pub flutter : IfSome l.flutter (IsHeadNumber head.Flutter)
+  pub lost : IsHeadNumber head.Lost l.lost
   pub since : IfSome l.since IsEvenCycle
   pub arbitrary_long : length l.arbitrary ≡ 65
   pub on_a_long : length l.on_a ≡ 65

@@ -29,7 +29,7 @@ const LAST_TICK: u64 = 900_000_000_000_000_000;
 pub(crate) struct Draft<'a> {
     pub(crate) alloc: Global,
     pub(crate) params: &'a Params,
-    pub(crate) numbers: [Option<u64>; 5],
+    pub(crate) numbers: [Option<u64>; 7],
     pub(crate) whole: bool,
     pub(crate) arbitrary: [bool; 65],
     pub(crate) on_a: [Option<DelayLimits>; 65],
@@ -63,7 +63,7 @@ impl<'a> Draft<'a> {
         Draft {
             alloc,
             params,
-            numbers: [None; 5],
+            numbers: [None; 7],
             whole: false,
             arbitrary: [false; 65],
             on_a: [None; 65],
@@ -286,6 +286,8 @@ impl<'a> Draft<'a> {
             drift,
             error: numbers[2].unwrap_or(0),
             jitter: numbers[3],
+            flutter: numbers[5],
+            lost: numbers[6].unwrap_or(0),
             since: cycle_of(numbers[4]),
             whole,
             arbitrary,
@@ -340,7 +342,12 @@ fn is_misfit(name: HeadNumber, number: u64) -> bool
 {
     match name {
         HeadNumber::Since => number % 2 == 1,
-        HeadNumber::Unit | HeadNumber::Drift | HeadNumber::Error | HeadNumber::Jitter => false,
+        HeadNumber::Unit
+        | HeadNumber::Drift
+        | HeadNumber::Error
+        | HeadNumber::Jitter
+        | HeadNumber::Flutter
+        | HeadNumber::Lost => false,
     }
 }
 
@@ -373,7 +380,7 @@ fn has(node: &NodeSpec, channel: Channel) -> bool
 }
 
 // Notes a number of the head.
-fn note_number(numbers: &mut [Option<u64>; 5], name: HeadNumber, number: u64)
+fn note_number(numbers: &mut [Option<u64>; 7], name: HeadNumber, number: u64)
     ensures { numbers.new ≡ slice_set numbers.old (head_place name) (Some number) }
 {
     numbers[name.place()] = Some(number);

@@ -13,6 +13,8 @@ pub struct Log {
     pub(crate) drift: u64,
     pub(crate) error: u64,
     pub(crate) jitter: Option<u64>,
+    pub(crate) flutter: Option<u64>,
+    pub(crate) lost: u64,
     pub(crate) since: Option<u32>,
     pub(crate) whole: bool,
     pub(crate) arbitrary: [bool; 65],
@@ -42,6 +44,8 @@ impl Drop for Log {
             drift: _,
             error: _,
             jitter: _,
+            flutter: _,
+            lost: _,
             since: _,
             whole: _,
             arbitrary: _,
@@ -77,6 +81,23 @@ impl Log {
         ensures to { result ≤ 1_000_000_000 }
     {
         self.error
+    }
+
+    /// How far the delays of a correct sender's frames at a correct node on a channel differ at most between both
+    /// cycles of a double cycle, in ticks, where the log says it: else what is stated of delays suffices.
+    pub fn flutter(&self) -> Option<u64>
+        ensures value { result ≡ self.now.flutter }
+        ensures to { IfSome result (λ flutter. flutter ≤ 1_000_000_000) }
+    {
+        self.flutter
+    }
+
+    /// How many correct sync senders' frames a correct node may miss in a double cycle: 0 where no record says it.
+    pub fn lost(&self) -> u64
+        ensures value { result ≡ self.now.lost }
+        ensures to { result ≤ 14 }
+    {
+        self.lost
     }
 
     /// The limits of the delay of a node's frames on a channel to the observer, in ticks: those of its row, or those of
@@ -117,7 +138,8 @@ impl Log {
         self.whole
     }
 
-    /// The even cycle of the log from which on the cluster is in sync, where the log says one.
+    /// The even cycle of the log in whose double cycle the cluster is in sync by the sharper bounds, where the log says
+    /// one.
     pub fn since(&self) -> Option<u32>
         ensures value { result ≡ self.now.since }
         ensures proper { IfSome result IsEvenCycle }

@@ -31,8 +31,13 @@ pub enum HeadNumber {
     Error,
     /// How much two delays of one sender on one channel differ, in ticks.
     Jitter,
-    /// The even cycle of the log from which on the cluster is in sync.
+    /// The even cycle of the log in whose double cycle the cluster is in sync by the sharper bounds.
     Since,
+    /// How far the delays of a correct sender's frames at a correct node on a channel differ at most between both
+    /// cycles of a double cycle, in ticks.
+    Flutter,
+    /// How many correct sync senders' frames a correct node may miss in a double cycle.
+    Lost,
 }
 
 /// The limits of a delay, in ticks.
@@ -94,6 +99,10 @@ impl HeadNumber {
             Some(HeadNumber::Jitter)
         } else if kind == b"since".as_slice() {
             Some(HeadNumber::Since)
+        } else if kind == b"flutter".as_slice() {
+            Some(HeadNumber::Flutter)
+        } else if kind == b"lost".as_slice() {
+            Some(HeadNumber::Lost)
         } else {
             None
         }
@@ -112,13 +121,15 @@ impl HeadNumber {
             HeadNumber::Error => (0, 1_000_000_000),
             HeadNumber::Jitter => (0, 1_000_000_000),
             HeadNumber::Since => (0, 199_998),
+            HeadNumber::Flutter => (0, 1_000_000_000),
+            HeadNumber::Lost => (0, 14),
         }
     }
 
     // Its place in a table of these numbers.
     pub(crate) fn place(self) -> usize
         ensures value { result ≡ head_place self }
-        ensures low { result ≤ 4 }
+        ensures low { result ≤ 6 }
     {
         self as usize
     }
