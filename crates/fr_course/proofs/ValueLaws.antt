@@ -1,11 +1,12 @@
 -- Where a value lies that counts so many ticks with an error.
-use Rattle.std.proofs.Common.{◌≡◌, Bool, true, false, ℤ, pos, refl, arith}
-use Rattle.std.specs.Prelude.{◌+ℤ◌, ◌-ℤ◌, ◌*ℤ◌, ◌≤ℤ◌, ◌<ℤ◌, int_lt, if◌then◌else◌}
+use Rattle.std.proofs.Common.{◌≡◌, Bool, true, false, ℤ, pos, negsuc, refl, arith}
+use Rattle.std.specs.Prelude.{◌+ℤ◌, ◌-ℤ◌, ◌*ℤ◌, ◌≤ℤ◌, ◌<ℤ◌, neg_ℤ, int_lt, if◌then◌else◌}
 use Rattle.std.proofs.lemmas.Int.{ints, by_lt_z}
 use Rattle.fr_midpoint.proofs.Products.{addz-mulz, mulz-lez, mulz-lez_left}
 use Rattle.fr_time.specs.Position.{floor_of}
-use Rattle.fr_course.specs.Computed.{ValuesAreCounted}
-use Rattle.fr_course.proofs.Floors.{floor_above, floor_below, mulz-lez_down}
+use Rattle.fr_course.specs.Readings.{ceiling_of}
+use Rattle.fr_course.specs.Computed.{ValuesAreCounted, ValuesArePlaced}
+use Rattle.fr_course.proofs.Floors.{ceiling_below, floor_above, floor_below, mulz-lez_down}
 
 weak : (x y : ℤ) → x <ℤ y → x ≤ℤ y
 weak x y h = omega (arith, ints)
@@ -44,6 +45,19 @@ product_to v t to also = none (pos 0 *ℤ t) (v *ℤ t) (mulz-lez v (pos 0) t to
     none : (z p : ℤ) → p ≤ℤ z → z ≡ pos 0 → p ≤ℤ pos 0
     none z p h e = omega (arith, ints)
 
+product_under : (v t : ℤ) → v <ℤ pos 0 → pos 0 <ℤ t → (v *ℤ t) <ℤ pos 0
+product_under v t under also =
+    below (v *ℤ t) (negsuc 0 *ℤ t) t (mulz-lez v (negsuc 0) t (at_most v under) (weak (pos 0) t also)) (once t) also
+  where
+    at_most : (v : ℤ) → v <ℤ pos 0 → v ≤ℤ negsuc 0
+    at_most v h = omega (arith, ints)
+
+    once : (t : ℤ) → negsuc 0 *ℤ t ≡ neg_ℤ t
+    once t = omega (arith, ints)
+
+    below : (p q t : ℤ) → p ≤ℤ q → q ≡ neg_ℤ t → pos 0 <ℤ t → p <ℤ pos 0
+    below p q t le is also = omega (arith, ints)
+
 -- a number of microticks that are no longer than so many ticks
 module _ (v micro short long : ℤ) (lasts : pos 0 <ℤ short) (from : short ≤ℤ micro) (to : micro ≤ℤ long) where
   micro_lasts : pos 0 ≤ℤ micro
@@ -70,6 +84,27 @@ module _ (v micro short long : ℤ) (lasts : pos 0 <ℤ short) (from : short ≤
   to_lem : (h : ℤ) (b : Bool) → int_lt h (pos 0) ≡ b → (v *ℤ micro) ≤ℤ h → v ≤ℤ floor_of h (if b then long else short)
   to_lem h true under le = to_under h (is_under h under) le
   to_lem h false above le = to_from h (is_from h above) le
+
+-- a number of microticks that are no shorter than so many ticks
+module _ (v micro short long : ℤ) (lasts : pos 0 <ℤ short) (from : short ≤ℤ micro) (to : micro ≤ℤ long) where
+  up_under : (x : ℤ) → x <ℤ pos 0 → x ≤ℤ (v *ℤ micro) → ceiling_of x short ≤ℤ v
+  up_under x under le =
+      by_lt_z v (pos 0)
+      (λ less. ceiling_below x short v lasts (through x (v *ℤ micro) (v *ℤ short) le (mulz-lez_down short micro v from (weak v (pos 0) less))))
+      (λ more. ceiling_below x short v lasts (through x (pos 0) (v *ℤ short) (weak x (pos 0) under) (product_from v short more (weak (pos 0) short lasts))))
+
+  up_from : (x : ℤ) → pos 0 ≤ℤ x → x ≤ℤ (v *ℤ micro) → ceiling_of x long ≤ℤ v
+  up_from x above le =
+      by_lt_z v (pos 0)
+      (λ less. absurd (apart x (v *ℤ micro) above le (product_under v micro less (above_through (pos 0) short micro lasts from))))
+      (λ more. ceiling_below x long v (long_lasts v micro short long lasts from to) (through x (v *ℤ micro) (v *ℤ long) le (mulz-lez_left micro long v to more)))
+    where
+      apart : (x p : ℤ) → pos 0 ≤ℤ x → x ≤ℤ p → p <ℤ pos 0 → ⊥
+      apart x p a b c = omega (arith, ints)
+
+  up_lem : (x : ℤ) (b : Bool) → int_lt x (pos 0) ≡ b → x ≤ℤ (v *ℤ micro) → ceiling_of x (if b then short else long) ≤ℤ v
+  up_lem x true under le = up_under x (is_under x under) le
+  up_lem x false above le = up_from x (is_from x above) le
 
 -- a number whose microticks, with one more, are longer than so many ticks
 not_above : (x d v : ℤ) → pos 0 <ℤ d → x <ℤ ((v +ℤ pos 1) *ℤ d) → floor_of x d ≤ℤ v
@@ -121,6 +156,21 @@ values_are_counted_lem m ticks error micro apart value lasts near lies over unde
 
     after : (l a e t p w o : ℤ) → l ≤ℤ a → ((a -ℤ e) -ℤ t) <ℤ p → w ≡ p +ℤ o → o ≡ t → (l -ℤ e) <ℤ w
     after l a e t p w o lies over is one = omega (arith, ints)
+
+    before : (h a e p : ℤ) → a ≤ℤ h → p ≤ℤ (a +ℤ e) → p ≤ℤ (h +ℤ e)
+    before h a e p lies under = omega (arith, ints)
+
+pub values_are_placed_lem : ValuesArePlaced
+values_are_placed_lem m ticks error micro apart value lasts near lies placed =
+    record {
+      low = up_lem value micro m.shortest m.longest lasts near.low near.high (ticks.low -ℤ error) (int_lt (ticks.low -ℤ error) (pos 0)) refl
+          (after ticks.low apart error (value *ℤ micro) lies.low placed.low);
+      high = to_lem value micro m.shortest m.longest lasts near.low near.high (ticks.high +ℤ error) (int_lt (ticks.high +ℤ error) (pos 0)) refl
+          (before ticks.high apart error (value *ℤ micro) lies.high placed.high);
+    }
+  where
+    after : (l a e p : ℤ) → l ≤ℤ a → (a -ℤ e) ≤ℤ p → (l -ℤ e) ≤ℤ p
+    after l a e p lies over = omega (arith, ints)
 
     before : (h a e p : ℤ) → a ≤ℤ h → p ≤ℤ (a +ℤ e) → p ≤ℤ (h +ℤ e)
     before h a e p lies under = omega (arith, ints)

@@ -156,7 +156,7 @@ fn joined(one: &Interval, other: &Interval) -> Interval
     }
 }
 
-// With just so many further values, by the ends of the others in ascending order.
+// With just so many further values too, by the ends of the known ones in ascending order.
 fn middle_with(further: usize, missed: usize, lows: &[i64], highs: &[i64]) -> Option<Interval>
     requires further { further ≤ 64 }
     requires missed { missed ≤ 64 }
