@@ -1,5 +1,5 @@
 -- When a run can have given a log whole, and what the log may state of it.
-use Rattle.std.specs.Prelude.{◌≡◌, ◌+◌, ◌-◌, ◌*◌, ◌/◌, ◌<◌, ℕ, true, List, length, Contains, None, Some, IfSome, IsSome, slice_get}
+use Rattle.std.specs.Prelude.{◌≡◌, ◌+◌, ◌-◌, ◌*◌, ◌/◌, ◌<◌, ◌≤◌, ℕ, true, List, length, Contains, None, Some, IfSome, IsSome, slice_get}
 use Rattle.fr_base.specs.declared.channel.Channel.{Channel}
 use Rattle.fr_base.specs.declared.node_row.NodeRow.{NodeRow}
 use Rattle.fr_base.specs.declared.state.State.TheVariants.{Active}
@@ -9,6 +9,7 @@ use Rattle.fr_history.specs.Cycles.{Cycle, Cycles, cycle_at, some_joins}
 use Rattle.fr_history.specs.History.{row_of}
 use Rattle.fr_history.specs.Offers.{is_on}
 use Rattle.fr_history.specs.Unfollowed.{IsUnfollowedSyncAt}
+use Rattle.fr_runs.specs.Links.{IsCarried, IsLinked}
 use Rattle.fr_runs.specs.Supplied.{IsCovered, StartsBegin}
 use Rattle.fr_log.specs.View.{IsLog, LogView, is_arbitrary_in}
 use Rattle.fr_bound.specs.declared.judging.Heard.{Heard}
@@ -53,6 +54,15 @@ MissesNone x h base l =
     → IsInside (sightings_of x.params l) number → Contains (correct_nodes x) node → IsSome node.key
     → is_on x node.id channel ≡ true → cycle_at h (number + base) ≡ Some c → row_of c.told.rows node.id ≡ Some row
     → row.state ≡ Active → IsSome (first_stamp (sightings_of x.params l) node.id channel number)
+
+-- a correct node misses at most so many of the correct sync nodes in a double cycle: of each other one a channel that both have
+-- carries the frames of both cycles to it
+pub record MissesFew (x : Setting) (double lost : ℕ) (receiver : NodeSpec) : Type 0 where
+  pub missed : List ℕ
+  pub few : length missed ≤ lost
+  pub carried :
+      (sender : NodeSpec) (slot : ℕ) → IsLinked x sender receiver slot → (Contains missed sender.id → ⊥)
+      → IsCarried x sender receiver double
 
 -- what faults of sync ask of the run and of what the log states
 pub record IsAsStated (x : Setting) (h : Cycles) (base : ℕ) (l : LogView) : Type 0 where

@@ -15,7 +15,7 @@ mod verdicts;
 mod worked;
 
 pub use completeness::{corners_are_narrow, far_senders_are_told, near_senders_are_within};
-pub use computed::{nodes_apply_midpoints, term_faults_are_none, terms_are_computed};
+pub use computed::{missed_senders_are_so, nodes_apply_midpoints, terms_are_computed};
 pub use faults_in_sync::{missing_faults_are_none, skew_and_length_faults_are_none};
 pub use in_time::{a_worked_reading, no_run_in_sync_is_contradicted, sync_is_timely};
 pub use kept_in_sync::{
