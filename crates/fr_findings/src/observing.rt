@@ -92,12 +92,7 @@ fn put_all<O: Sink>(
 
 // What holds of the whole log.
 #[tactic(auto, unfolding(crate::specs::Text::end_told))]
-fn end_lines(
-    seen: &[Sighting],
-    tally: &Tally,
-    sure: bool,
-    progress: &Progress,
-) -> [Option<Line>; 5]
+fn end_lines(seen: &[Sighting], tally: &Tally, sure: bool, progress: &Progress) -> [Option<Line>; 5]
     ensures { joined_lines result ≡ end_told seen.now tally.now sure progress.now }
 {
     [

@@ -224,12 +224,7 @@ fn known_next_by(
 /// What is known of the next double cycle behind one that stands so, where it is clear: neither its skews nor its starts and
 /// lengths contradict its numbers. None behind one that is not judged.
 #[tactic(auto, unfolding(crate::specs::Knowing::known_next))]
-pub fn known_next(
-    params: &Params,
-    log: &Log,
-    standing: &Standing,
-    is_clear: bool,
-) -> Option<Known>
+pub fn known_next(params: &Params, log: &Log, standing: &Standing, is_clear: bool) -> Option<Known>
     requires small { JudgedBySmall standing.now }
     ensures { result ≡ known_next params.now log.now standing.now is_clear }
 {

@@ -9,7 +9,7 @@ use Rattle.fr_observe.proofs.sender_faults.put_of_senders.Goals as goal
 
 pub sender_fault-requires-clause-among : goal.sender_fault-requires-clause-among
 sender_fault-requires-clause-among g c =
-    let senders = c.args.senders.now in
+    let senders = c.args.scene.now.senders.now in
     let place = c.loop-sender.sender-index in
     let s = c.sender-item.result in
     let at : s ≡ get_or senders place s = search rules in
@@ -17,8 +17,8 @@ sender_fault-requires-clause-among g c =
 
 pub loop-sender-preserved : goal.loop-sender-preserved
 loop-sender-preserved g c = λ result after last rest.
-    let h : Sender → Option Fault = sender_fault c.args.asked c.args.params.now c.args.scale.now c.args.double c.args.senders.now in
-    let items = c.args.senders.now in
+    let h : Sender → Option Fault = sender_fault c.args.asked c.args.scene.now.params.now c.args.scene.now.log.now c.args.scene.now.scale.now c.args.scene.now.number c.args.scene.now.senders.now in
+    let items = c.args.scene.now.senders.now in
     let place = c.loop-sender.sender-index in
     let item = c.sender-item.result in
     let at : item ≡ get_or items place item = search rules in
@@ -29,8 +29,8 @@ loop-sender-preserved g c = λ result after last rest.
 
 pub returns-in_err-tell : goal.returns-in_err-tell
 returns-in_err-tell g c =
-    let h : Sender → Option Fault = sender_fault c.args.asked c.args.params.now c.args.scale.now c.args.double c.args.senders.now in
-    let items = c.args.senders.now in
+    let h : Sender → Option Fault = sender_fault c.args.asked c.args.scene.now.params.now c.args.scene.now.log.now c.args.scene.now.scale.now c.args.scene.now.number c.args.scene.now.senders.now in
+    let items = c.args.scene.now.senders.now in
     let place = c.loop-sender.sender-index in
     let item = c.sender-item.result in
     let at : item ≡ get_or items place item = search rules in
@@ -41,9 +41,9 @@ returns-in_err-tell g c =
 
 pub returns : goal.returns
 returns g c =
-    let h : Sender → Option Fault = sender_fault c.args.asked c.args.params.now c.args.scale.now c.args.double c.args.senders.now in
+    let h : Sender → Option Fault = sender_fault c.args.asked c.args.scene.now.params.now c.args.scene.now.log.now c.args.scene.now.scale.now c.args.scene.now.number c.args.scene.now.senders.now in
     c.loop-sender.invariant _ _ _
     (
-    told_end (λ x. option_to_list (h x)) (filter_map h) (may-step h) (g.O.Sink.state c.loop-sender.out) c.loop-sender.first c.args.senders.now c.loop-sender.sender-index refl
+    told_end (λ x. option_to_list (h x)) (filter_map h) (may-step h) (g.O.Sink.state c.loop-sender.out) c.loop-sender.first c.args.scene.now.senders.now c.loop-sender.sender-index refl
     (omega arith)
     )

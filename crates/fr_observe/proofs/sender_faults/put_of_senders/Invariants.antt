@@ -10,5 +10,5 @@ use Rattle.fr_observe.proofs.sender_faults.put_of_senders.Given as goal
 abbrev pub invariant-loop-sender : goal.invariant-loop-sender
 invariant-loop-sender g l =
     (result : Result (Unit {0}) PutFault) (after : Sunk) (last : Option Fault)
-    → TellsFaults result (g.O.Sink.state l.out) after l.first last (filter_map (sender_fault l.asked l.params l.scale l.double l.senders) (drop l.sender-index l.senders))
-    → TellsFaults result (g.O.Sink.state l.initial.out) after l.initial.first last (filter_map (sender_fault l.asked l.params l.scale l.double l.senders) l.senders)
+    → TellsFaults result (g.O.Sink.state l.out) after l.first last (filter_map (sender_fault l.asked l.scene.params.now l.scene.log.now l.scene.scale.now l.scene.number l.scene.senders.now) (drop l.sender-index l.scene.senders.now))
+    → TellsFaults result (g.O.Sink.state l.initial.out) after l.initial.first last (filter_map (sender_fault l.asked l.scene.params.now l.scene.log.now l.scene.scale.now l.scene.number l.scene.senders.now) l.scene.senders.now)
