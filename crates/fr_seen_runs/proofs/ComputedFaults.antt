@@ -45,7 +45,7 @@ use Rattle.fr_judging.specs.declared.missed.Term.{Term}
 use Rattle.fr_judging.specs.declared.missed.Term.TheVariants.{OffsetTerm, RateTerm}
 use Rattle.fr_seen_runs.specs.ComputedTerms.{IsNamedLog, OffsetIsComputed, RateIsComputed}
 use Rattle.fr_seen_runs.specs.JudgedTerms.{IsJudgedRun, MissedIsSo, OffsetsAreComputed, RatesAreComputed}
-use Rattle.fr_seen_runs.specs.KeptInSync.{IsDoubleThere}
+use Rattle.fr_seen_runs.specs.LogDoubles.{IsDoubleThere}
 use Rattle.fr_seen_runs.proofs.ComputedLists.{none_given}
 use Rattle.fr_seen_runs.proofs.ComputedSenders.{there_some}
 use Rattle.fr_seen_runs.proofs.StaysInSync.{doubles_to, sighting_within}
