@@ -138,9 +138,9 @@ among_or_not (y ∷ ys) x = by (same (y == x) refl) (among_or_not ys x)
       | inr more ↦ none more
     ])
 
-pub all_pass : (xs : List ℕ) → count_by (λ (n : ℕ). true) xs ≡ length xs
+pub all_pass : {X : Type 0} (xs : List X) → count_by (λ (x : X). true) xs ≡ length xs
 all_pass [] = refl
-all_pass (x ∷ xs) = let e = count_cons (λ (n : ℕ). true) x xs in let rest = all_pass xs in omega (arith, e, rest)
+all_pass {X = X} (x ∷ xs) = let e = count_cons (λ (y : X). true) x xs in let rest = all_pass xs in omega (arith, e, rest)
 
 -- different numbers at which nothing stands, each of which is among some or has something, are no more than those
 pub few_missing : (value : ℕ → Option ℤ) (nodes missed : List ℕ) → AllPairs (λ a b. a ≢ b) nodes
