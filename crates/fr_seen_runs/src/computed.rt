@@ -4,9 +4,9 @@ ghost use Rattle.fr_seen_runs.specs.JudgedTerms.{MissedIsSo, OffsetsAreComputed,
 use fr_course::{middles_hold, values_are_counted, values_are_placed};
 
 /// The law of midpoints: of a node with a row in a double cycle that is judged, whatever frames are lost on their way to it,
-/// the offset term is the midpoint of deviations, in microticks, 0 of itself, and one of each other node with a row and a key
-/// slot whose frames of both cycles one channel carries; so is, but for the damping, what its rate term grows by, of rate
-/// values (sections 8.6.2 to 8.6.4).
+/// the offset term is the midpoint of values of key slots, in microticks: 0 of itself, and of other nodes with rows
+/// deviations, and one of each whose frames of both cycles one channel carries. So is, but for the damping, what its
+/// rate term grows by, of rate values (sections 8.6.2 to 8.6.4).
 pub fn nodes_apply_midpoints()
     ensures offset { OffsetsAreMidpoints }
     ensures rate { RatesGrowByMidpoints }
