@@ -10,6 +10,7 @@ pub mod ComputedGaps
 pub mod ComputedSenders
 pub mod ComputedLaws
 pub mod ComputedFaults
+pub mod ComputedMissed
 pub mod JudgedRounds
 pub mod JudgedComputed
 pub mod SeenDoubles
