@@ -1,20 +1,22 @@
 -- When a run can have given a log whole, and what the log may state of it.
-use Rattle.std.specs.Prelude.{◌≡◌, ◌+◌, ◌-◌, ◌*◌, ◌/◌, ◌<◌, ℕ, true, List, length, Contains, None, Some, IfSome, IsSome, slice_get}
+use Rattle.std.specs.Prelude.{◌≡◌, ◌+◌, ◌-◌, ◌*◌, ◌/◌, ◌<◌, ◌≤◌, ℕ, true, List, length, Contains, None, Some, IfSome, IsSome, slice_get}
 use Rattle.fr_base.specs.declared.channel.Channel.{Channel}
 use Rattle.fr_base.specs.declared.node_row.NodeRow.{NodeRow}
 use Rattle.fr_base.specs.declared.state.State.TheVariants.{Active}
 use Rattle.fr_cluster.specs.Setting.{Setting, correct_nodes}
 use Rattle.fr_cluster.specs.declared.nodes.NodeSpec.{NodeSpec}
-use Rattle.fr_history.specs.Cycles.{Cycle, Cycles, cycle_at, some_joins}
+use Rattle.fr_history.specs.Cycles.{Cycle, Cycles, cycle_at}
 use Rattle.fr_history.specs.History.{row_of}
 use Rattle.fr_history.specs.Offers.{is_on}
-use Rattle.fr_history.specs.Unfollowed.{IsUnfollowedSyncAt}
-use Rattle.fr_runs.specs.Supplied.{IsCovered, StartsBegin}
+use Rattle.fr_runs.specs.Links.{IsCarried, IsLinked}
 use Rattle.fr_log.specs.View.{IsLog, LogView, is_arbitrary_in}
 use Rattle.fr_bound.specs.declared.judging.Heard.{Heard}
-use Rattle.fr_judging.specs.Knowing.{stated_flutter}
-use Rattle.fr_judging.specs.Coverables.{coverable_of, is_coverable, log_heard}
-use Rattle.fr_sharp.specs.SteadyRuns.{IsSteadySetting}
+use Rattle.fr_bound.specs.declared.judging.Heard.TheVariants as heard
+use Rattle.fr_observe.specs.Faults.{stated_flutter}
+use Rattle.fr_judging.specs.Hearing.{log_heard, synced_with}
+use Rattle.fr_sharp.specs.JudgedSteps.{EachHasRow, IsKnownAt}
+use Rattle.fr_sharp.specs.Losses.{NoneIsDeaf}
+use Rattle.fr_sharp.specs.SteadyRuns.{IsSteadySetting, IsTimedSetting}
 use Rattle.fr_course.specs.declared.stamps.Delays.{Delays}
 use Rattle.fr_sightings.specs.Senders.{first_stamp}
 use Rattle.fr_sightings.specs.Sightings.{sightings_of}
@@ -54,26 +56,36 @@ MissesNone x h base l =
     → is_on x node.id channel ≡ true → cycle_at h (number + base) ≡ Some c → row_of c.told.rows node.id ≡ Some row
     → row.state ≡ Active → IsSome (first_stamp (sightings_of x.params l) node.id channel number)
 
--- what faults of sync ask of the run and of what the log states
-pub record IsAsStated (x : Setting) (h : Cycles) (base : ℕ) (l : LogView) : Type 0 where
-  pub named : NamesArbitrary x l
-  pub covered : IsCovered x
-  pub starts : some_joins x ≡ true → StartsBegin x
-  pub since : IfSome l.since (λ cycle. IsUnfollowedSyncAt x.params h (run_double base (cycle / 2)))
-  pub unmissed : l.whole ≡ true → MissesNone x h base l
+-- a correct node misses at most so many of the correct sync nodes in a double cycle: of each other one a channel that both have
+-- carries the frames of both cycles to it
+pub record MissesFew (x : Setting) (double lost : ℕ) (receiver : NodeSpec) : Type 0 where
+  pub missed : List ℕ
+  pub few : length missed ≤ lost
+  pub carried :
+      (sender : NodeSpec) (slot : ℕ) → IsLinked x sender receiver slot → (Contains missed sender.id → ⊥)
+      → IsCarried x sender receiver double
 
--- what faults ask of the run and of what the log states: where the classical checks hold, as faults of sync do; where one fails, and
--- double cycles are judged by their own numbers, that the correct sync nodes that do not join outweigh the arbitrary ones, that
--- oscillators, their changes and delays keep within what is stated, and that of any two correct nodes one channel carries the
--- frames of both cycles of each double cycle of the run
+-- where the log states that the cluster is in sync in a double cycle, it is so by the sharper bounds, with lengths in their range, and
+-- each correct node has a row in it
+abbrev pub IsSyncedAsStated : Setting → Cycles → ℕ → LogView → Heard → ℕ → Type 0
+IsSyncedAsStated x h base l what cycle =
+    IsKnownAt x h (run_double base (cycle / 2)) (synced_with x.params l what) × EachHasRow x h (run_double base (cycle / 2))
+
+-- what faults ask of the run and of what the log states, where it is told what nodes hear: the correct sync nodes that do not join
+-- outweigh the arbitrary ones; oscillators, their changes and delays keep within what is stated; of each double cycle each correct node
+-- misses at most so many correct sync nodes as the log says, and where frames may be lost, none is left without any value
 pub record IsAsLogStates (x : Setting) (h : Cycles) (base : ℕ) (l : LogView) : Type 0 where
   pub named : NamesArbitrary x l
-  pub synced : is_coverable (coverable_of x.params l) ≡ true → IsAsStated x h base l
-  pub steady : (what : Heard) → log_heard x.params l ≡ Some what → IsSteadySetting x (stated_flutter x.params)
+  pub timed : (what : Heard) → log_heard x.params l ≡ Some what → IsTimedSetting x (stated_flutter x.params l)
+  pub missed :
+      (what : Heard) (double : ℕ) (node : NodeSpec) → log_heard x.params l ≡ Some what → double < x.doubles
+      → Contains (correct_nodes x) node → MissesFew x double l.lost node
+  pub none_deaf : (double : ℕ) → log_heard x.params l ≡ Some heard.Poor → double < x.doubles → NoneIsDeaf x double
+  pub since : (what : Heard) → log_heard x.params l ≡ Some what → IfSome l.since (IsSyncedAsStated x h base l what)
   pub unmissed : l.whole ≡ true → MissesNone x h base l
 
--- where double cycles are not judged so, nothing more is asked of a covered run
-abbrev pub CoveredIsAsLogStates : Type 0
-CoveredIsAsLogStates =
-    (x : Setting) (h : Cycles) (base : ℕ) (l : LogView)
-    → log_heard x.params l ≡ None → IsAsStated x h base l → IsAsLogStates x h base l
+-- a run of which all frames are carried misses none
+abbrev pub SteadyRunsMissNone : Type 0
+SteadyRunsMissNone =
+    (x : Setting) (flutter double lost : ℕ) (node : NodeSpec)
+    → IsSteadySetting x flutter → double < x.doubles → Contains (correct_nodes x) node → MissesFew x double lost node

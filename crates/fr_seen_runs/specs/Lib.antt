@@ -1,9 +1,8 @@
 -- what the public contract cites
 pub mod Contradictions
 pub mod Completeness
-pub mod KeptInSync
+pub mod LogDoubles
 pub mod Standings
-pub mod SyncFaults
 pub mod ComputedValues
 pub mod ComputedTerms
 pub mod JudgedTerms
@@ -11,7 +10,6 @@ pub mod ToldFaults
 pub mod NotContradicted
 pub mod OverRows
 pub mod InTime
-pub mod RowsTold
 pub mod KnownDoubles
 pub mod WorkedLog
 pub mod WorkedFaults

@@ -4,7 +4,6 @@ use Rattle.fr_base.specs.declared.channel.Channel.{Channel}
 use Rattle.fr_cluster.specs.Setting.{Setting}
 use Rattle.fr_cluster.specs.Values.{Values}
 use Rattle.fr_history.specs.Cycles.{Cycle, Cycles}
-use Rattle.fr_history.specs.Unfollowed.{IsUnfollowedSyncAt}
 use Rattle.fr_runs.specs.Numbers.{HasDouble}
 use Rattle.fr_log.specs.View.{LogView}
 use Rattle.fr_course.specs.Readings.{reading_scale}
@@ -16,14 +15,14 @@ use Rattle.fr_seen.specs.Clocks.{StraightClock}
 use Rattle.fr_seen.specs.LogSeen.{log_senders, run_double, sender_rows}
 use Rattle.fr_seen.specs.OwnSlots.{SlotsAreOwn}
 use Rattle.fr_seen.specs.Skews.{StaysWithin}
-use Rattle.fr_seen_runs.specs.Contradictions.{IsAsLogStates, IsObservedRun, NamesArbitrary}
-use Rattle.fr_seen_runs.specs.KeptInSync.{IsDoubleThere}
+use Rattle.fr_seen_runs.specs.Contradictions.{IsAsLogStates, IsObservedRun}
+use Rattle.fr_seen_runs.specs.LogDoubles.{IsDoubleThere}
 use Rattle.fr_observe.specs.declared.fault.Fault.{Fault}
-use Rattle.fr_observe.specs.Faults.{asks_own_slots, asks_sync, is_sync_seen, own_faults, slot_faults}
+use Rattle.fr_observe.specs.Faults.{asks_judged, asks_own_slots, own_faults, slot_faults}
 use Rattle.fr_findings.specs.Counting.{last_row_cycle}
 use Rattle.fr_findings.specs.declared.progress.Reach.{Reach}
 use Rattle.fr_sightings.specs.Sightings.{irregular_of, untimely_of}
-use Rattle.fr_judging.specs.Coverables.{coverable_of, is_coverable, log_precision}
+use Rattle.fr_judging.specs.Hearing.{log_precision}
 use Rattle.fr_findings.specs.Verdict.{verdict_of}
 use Rattle.fr_findings.specs.declared.verdict.Verdict.TheVariants as verdict
 
@@ -45,20 +44,9 @@ SlotFaultsAreNone =
     (x : Setting) (h : Cycles) (l : LogView) (double : ℕ)
     → SlotsAreOwn x h l → slot_faults x.params (sightings_in (irregular_of x.params l) double) ≡ []
 
--- one that is seen in sync is in sync in the run, and no node follows in it
-abbrev pub SyncIsSeen : Type 0
-SyncIsSeen =
-    (x : Setting) (h : Cycles) (base : ℕ) (delays : ℕ → Channel → Delays) (clock : ℕ → StraightClock) (l : LogView)
-    (double : ℕ) (faults : List Fault)
-    → IsObservedRun x h base delays clock l → NamesArbitrary x l → Contains (seen_doubles (sightings_of x.params l)) double
-    → is_sync_seen x.params (reading_scale l.drift x.params) l (sightings_in (sightings_of x.params l) double) double
-    (log_senders x l double) faults
-    ≡ true
-    → IsUnfollowedSyncAt x.params h (run_double base double)
-
 -- ---- the verdict
 
--- where the verdict is no, there is no run that is as the log states; and where the kind of the fault asks for no sync,
+-- where the verdict is no, there is no run that is as the log states; and where the kind of the fault does not ask for that,
 -- there is no run at all that the log is seen of. By a fault whose kind asks for own slots, this is said of runs where each whole
 -- frame in the slot of a node is one that the node sends
 abbrev pub NoRunIsContradicted : Type 0
@@ -73,7 +61,7 @@ NoRunHasOwnFaults =
     (x : Setting) (h : Cycles) (base : ℕ) (delays : ℕ → Channel → Delays) (clock : ℕ → StraightClock) (l : LogView)
     (fault : Fault)
     → IsObservedRun x h base delays clock l → (asks_own_slots fault.kind ≡ true → SlotsAreOwn x h l)
-    → verdict_of x.params l ≡ verdict.No fault → asks_sync fault.kind ≡ true
+    → verdict_of x.params l ≡ verdict.No fault → asks_judged fault.kind ≡ true
 
 -- the skew of the senders of a log stays within the precision in a cycle of the log
 pub record IsWithinReach (x : Setting) (l : LogView) (reach : Reach) (double : ℕ) (even odd : Cycle) : Type 0 where
@@ -92,22 +80,13 @@ WithinIsThere =
     → IsObservedRun x h base delays clock l → verdict_of x.params l ≡ verdict.Within reach → reach.from ≤ cycle
     → cycle ≤ reach.to → IsDoubleThere h (run_double base (cycle / 2))
 
--- where the verdict is within, it is so in each of its cycles, in each run that the log is seen of; and where the
--- checks hold, the log states no cycle of sync, and it names the arbitrary nodes of the run, the run is in sync from the
--- first of these cycles on
+-- where the verdict is within, it is so in each of its cycles, in each run that the log is seen of
 abbrev pub WithinIsSo : Type 0
 WithinIsSo =
     (x : Setting) (h : Cycles) (base : ℕ) (delays : ℕ → Channel → Delays) (clock : ℕ → StraightClock) (l : LogView)
     (reach : Reach) (double : ℕ) (even odd : Cycle)
     → IsObservedRun x h base delays clock l → verdict_of x.params l ≡ verdict.Within reach
     → HasDouble h (run_double base double) even odd → IsWithinReach x l reach double even odd
-
-abbrev pub WithinIsInSync : Type 0
-WithinIsInSync =
-    (x : Setting) (h : Cycles) (base : ℕ) (delays : ℕ → Channel → Delays) (clock : ℕ → StraightClock) (l : LogView)
-    (reach : Reach)
-    → IsObservedRun x h base delays clock l → NamesArbitrary x l → l.since ≡ None → is_coverable (coverable_of x.params l) ≡ true
-    → verdict_of x.params l ≡ verdict.Within reach → IsUnfollowedSyncAt x.params h (run_double base (reach.from / 2))
 
 -- and the last of its cycles is the last but one of those that have rows
 abbrev pub WithinReachesEnd : Type 0

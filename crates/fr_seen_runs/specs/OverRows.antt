@@ -11,7 +11,7 @@ use Rattle.fr_log.specs.View.{LogView}
 use Rattle.fr_course.specs.declared.stamps.Delays.{Delays}
 use Rattle.fr_observe.specs.Observing.{even_low, odd_low, seen_doubles}
 use Rattle.fr_sightings.specs.Sightings.{offending_frames_of, sightings_of}
-use Rattle.fr_judging.specs.Coverables.{log_precision}
+use Rattle.fr_judging.specs.Hearing.{log_precision}
 use Rattle.fr_findings.specs.Verdict.{Basis, DoubleCycle, double_at, even_says, log_basis, odd_says, over_row, verdict_of}
 use Rattle.fr_findings.specs.declared.progress.OverRow.{OverRow}
 use Rattle.fr_findings.specs.declared.verdict.Verdict.TheVariants as verdict
@@ -19,7 +19,7 @@ use Rattle.fr_seen.specs.Clocks.{StraightClock}
 use Rattle.fr_seen.specs.LogSeen.{log_senders, run_double, sender_rows}
 use Rattle.fr_seen.specs.Skews.{HasSkew}
 use Rattle.fr_seen_runs.specs.Contradictions.{IsObservedRun}
-use Rattle.fr_seen_runs.specs.KeptInSync.{IsDoubleThere}
+use Rattle.fr_seen_runs.specs.LogDoubles.{IsDoubleThere}
 
 -- those of a double cycle
 abbrev pub over_in : Basis → DoubleCycle → List OverRow

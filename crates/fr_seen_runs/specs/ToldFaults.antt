@@ -8,10 +8,10 @@ use Rattle.fr_log.specs.View.{LogView}
 use Rattle.fr_course.specs.declared.stamps.Delays.{Delays}
 use Rattle.fr_sightings.specs.Sightings.{OffendingFrames, offending_frames_of, sightings_of}
 use Rattle.fr_sightings.specs.declared.sighting.Sighting.{Sighting}
-use Rattle.fr_observe.specs.Faults.{asks_own_slots, asks_sync, first_of_faults}
+use Rattle.fr_observe.specs.Faults.{asks_judged, asks_own_slots, first_of_faults}
 use Rattle.fr_observe.specs.Observing.{seen_doubles}
 use Rattle.fr_observe.specs.declared.fault.Fault.{Fault}
-use Rattle.fr_findings.specs.Verdict.{Basis, double_at, double_faults, log_basis, no_progress, progress_behind, sync_told, verdict_of}
+use Rattle.fr_findings.specs.Verdict.{Basis, double_at, double_faults, log_basis, no_progress, progress_behind, verdict_of}
 use Rattle.fr_findings.specs.declared.progress.Progress.{Progress}
 use Rattle.fr_findings.specs.declared.verdict.Verdict.TheVariants as verdict
 use Rattle.fr_seen.specs.Clocks.{StraightClock}
@@ -22,7 +22,7 @@ use Rattle.fr_seen_runs.specs.Contradictions.{IsAsLogStates, IsObservedRun}
 unfoldable pub faults_from : Basis → List Sighting → OffendingFrames → Progress → List ℕ → List Fault
 faults_from b seen offending progress [] = []
 faults_from b seen offending progress (double ∷ doubles) =
-    double_faults b seen offending double (sync_told b (double_at b seen offending double) progress.sync) progress.known
+    double_faults b seen offending double progress.known
     ++ faults_from b seen offending (progress_behind b seen offending double progress) doubles
 
 -- of all of a log
@@ -43,19 +43,19 @@ ToldFaultsAskOwnSlots =
     → IsObservedRun x h base delays clock l → IsAsLogStates x h base l
     → All (λ fault. asks_own_slots fault.kind ≡ true) (log_faults x.params l)
 
--- one that is seen of any run has only such as ask for sync, where its slots are own; and wherever it is seen of one, only such
--- as ask for sync or for that
-abbrev pub ToldFaultsAskSync : Type 0
-ToldFaultsAskSync =
+-- one that is seen of any run has only such as ask for runs as the log states, where its slots are own; and wherever it is seen of
+-- one, only such as ask for these or for that
+abbrev pub ToldFaultsAskJudged : Type 0
+ToldFaultsAskJudged =
     (x : Setting) (h : Cycles) (base : ℕ) (delays : ℕ → Channel → Delays) (clock : ℕ → StraightClock) (l : LogView)
     → IsObservedRun x h base delays clock l → SlotsAreOwn x h l
-    → All (λ fault. asks_sync fault.kind ≡ true) (log_faults x.params l)
+    → All (λ fault. asks_judged fault.kind ≡ true) (log_faults x.params l)
 
 abbrev pub ToldFaultsAskEither : Type 0
 ToldFaultsAskEither =
     (x : Setting) (h : Cycles) (base : ℕ) (delays : ℕ → Channel → Delays) (clock : ℕ → StraightClock) (l : LogView)
     → IsObservedRun x h base delays clock l
-    → All (λ fault. (asks_sync fault.kind || asks_own_slots fault.kind) ≡ true) (log_faults x.params l)
+    → All (λ fault. (asks_judged fault.kind || asks_own_slots fault.kind) ≡ true) (log_faults x.params l)
 
 -- the verdict is no exactly where there is one, and tells the first
 abbrev pub VerdictTellsFirst : Type 0

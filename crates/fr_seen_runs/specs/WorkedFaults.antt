@@ -14,7 +14,7 @@ use Rattle.fr_findings.specs.Verdict.{verdict_of}
 use Rattle.fr_findings.specs.declared.verdict.Verdict.TheVariants as verdict
 use Rattle.fr_seen.specs.Clocks.{StraightClock}
 use Rattle.fr_seen.specs.OwnSlots.{SlotsAreOwn}
-use Rattle.fr_seen_runs.specs.Contradictions.{IsAsStated, IsObservedRun}
+use Rattle.fr_seen_runs.specs.Contradictions.{IsAsLogStates, IsObservedRun}
 use Rattle.fr_seen_runs.specs.WorkedLog.{by_double, no_delays, of_each, of_node, seen_cluster, seen_cycles, seen_entry, seen_log, seen_run, true_clock}
 
 -- an entry, so many units later where it is one of these
@@ -92,8 +92,8 @@ form_told = record {
   to = None;
 }
 
--- a log is seen of no run of its cluster at all, of none whose nodes send each whole frame in their slots, or of no covered one
--- that is as it states
+-- a log is seen of no run of its cluster at all, of none whose nodes send each whole frame in their slots, or of none that is as it
+-- states
 abbrev pub IsSeenOfNone : LogView → Type 0
 IsSeenOfNone l =
     (x : Setting) (h : Cycles) (base : ℕ) (delays : ℕ → Channel → Delays) (clock : ℕ → StraightClock)
@@ -104,10 +104,10 @@ IsSeenOfNoneWithOwnSlots l =
     (x : Setting) (h : Cycles) (base : ℕ) (delays : ℕ → Channel → Delays) (clock : ℕ → StraightClock)
     → x.params ≡ seen_cluster → IsObservedRun x h base delays clock l → SlotsAreOwn x h l → ⊥
 
-abbrev pub IsSeenOfNoCovered : LogView → Type 0
-IsSeenOfNoCovered l =
+abbrev pub IsSeenOfNoneStated : LogView → Type 0
+IsSeenOfNoneStated l =
     (x : Setting) (h : Cycles) (base : ℕ) (delays : ℕ → Channel → Delays) (clock : ℕ → StraightClock)
-    → x.params ≡ seen_cluster → IsObservedRun x h base delays clock l → IsAsStated x h base l → ⊥
+    → x.params ≡ seen_cluster → IsObservedRun x h base delays clock l → IsAsLogStates x h base l → ⊥
 
 -- a log is seen of the worked run
 abbrev pub IsSeenOfWorkedRun : LogView → Type 0

@@ -1,8 +1,8 @@
--- The worked log, read of a cluster whose offset limit is too small for its own precision: a check fails, and double cycles are
--- judged by their own numbers.
+-- The worked log, read of a cluster whose offset limit is too small for its own precision: a classical check fails. How its double cycles
+-- stand, and what a node must have missed.
 use Rattle.std.specs.Prelude.{◌≡◌, ℕ, codes, pos, true, false, [], ◌∷◌, None, Option, Some}
 use Rattle.fr_base.specs.declared.channel.Channel.{Channel}
-use Rattle.fr_bound.specs.declared.judging.Heard.TheVariants.{Clean}
+use Rattle.fr_bound.specs.declared.judging.Heard.TheVariants.{Clean, Poor}
 use Rattle.fr_bound.specs.declared.judging.Known.{Known}
 use Rattle.fr_cluster.specs.Setting.{Setting}
 use Rattle.fr_cluster.specs.Values.{Values}
@@ -10,12 +10,15 @@ use Rattle.fr_history.specs.Cycles.{Cycles}
 use Rattle.fr_history.specs.Next.{cycles_of}
 use Rattle.fr_log.specs.View.{LogView}
 use Rattle.fr_course.specs.declared.stamps.Delays.{Delays}
+use Rattle.fr_course.specs.Readings.{reading_scale}
+use Rattle.fr_observe.specs.Observing.{senders_of}
 use Rattle.fr_sightings.specs.Sightings.{offending_frames_of, sightings_of}
 use Rattle.fr_judging.specs.Knowing.{spread_told}
 use Rattle.fr_judging.specs.declared.knowing.Standing.{Standing}
-use Rattle.fr_judging.specs.Coverables.{coverable_of, log_heard}
+use Rattle.fr_bound.specs.Checks.{holds_of}
+use Rattle.fr_judging.specs.Hearing.{log_heard}
+use Rattle.fr_judging.specs.Missing.{missed_told}
 use Rattle.fr_findings.specs.Verdict.{Basis, double_at, known_next_told, log_basis, standing_told, verdict_of}
-use Rattle.fr_judging.specs.declared.coverable.Coverable.TheVariants as coverable
 use Rattle.fr_findings.specs.declared.verdict.Verdict.{Verdict}
 use Rattle.fr_findings.specs.declared.verdict.Verdict.TheVariants as verdict
 use Rattle.fr_seen.specs.Clocks.{StraightClock}
@@ -66,19 +69,19 @@ log_tells_next p l double known =
 
 -- ---- what is computed
 
--- no run of the cluster can be covered, and none is asked to be: both double cycles are judged by their own numbers, and the
--- senders are within the precision in cycles 0 to 2
+-- a classical check fails, and none is asked for: both double cycles are judged by their own numbers, and the senders are within the
+-- precision in cycles 0 to 2
 pub record JudgedLog : Type 0 where
-  pub check : coverable_of judged_cluster judged_log ≡ coverable.Check 3 (pos 19_996_000) (pos 253_543_800)
+  pub check : holds_of 3 judged_cluster ≡ false
   pub heard : log_heard judged_cluster judged_log ≡ Some Clean
   pub first : log_stands judged_cluster judged_log 0 None ≡ judged_by_numbers None first_met
   pub next : log_tells_next judged_cluster judged_log 0 None ≡ Some second_known
   pub second : log_stands judged_cluster judged_log 1 (Some second_known) ≡ judged_by_numbers (Some second_known) second_met
   pub first_row :
-      spread_told judged_cluster 0 (log_stands judged_cluster judged_log 0 None)
+      spread_told judged_cluster judged_log 0 (log_stands judged_cluster judged_log 0 None)
       ≡ codes "spread,0,3520552,80000,0,5680952,,\n"
   pub second_row :
-      spread_told judged_cluster 1 (log_stands judged_cluster judged_log 1 (Some second_known))
+      spread_told judged_cluster judged_log 1 (log_stands judged_cluster judged_log 1 (Some second_known))
       ≡ codes "spread,1,1520552,80000,0,5080800,,\n"
   pub verdict : verdict_of judged_cluster judged_log ≡ verdict.Within (record { from = 0; to = 2 })
 
@@ -99,13 +102,26 @@ pub record MissedLog : Type 0 where
   pub next : log_tells_next judged_cluster missed_log 0 None ≡ Some second_known
   pub second : log_stands judged_cluster missed_log 1 (Some second_known) ≡ judged_by_numbers (Some second_known) second_known
   pub second_row :
-      spread_told judged_cluster 1 (log_stands judged_cluster missed_log 1 (Some second_known))
+      spread_told judged_cluster missed_log 1 (log_stands judged_cluster missed_log 1 (Some second_known))
       ≡ codes "spread,1,4080600,13002198,0,32085396,,\n"
   pub verdict : verdict_of judged_cluster missed_log ≡ missed_partly
 
--- where the frames of node 2 come ten microticks later from cycle 2 on, its offset term contradicts the first double cycle
-abbrev pub JudgedOffsetIsTold : Type 0
-JudgedOffsetIsTold = verdict_of judged_cluster (late_log 250) ≡ verdict.No offset_told
+-- where the frames of node 2 come ten microticks later from cycle 2 on, its offset term contradicts the first double cycle, unless it
+-- missed so many senders as the row says
+pub record JudgedOffsetIsTold : Type 0 where
+  pub verdict : verdict_of judged_cluster (late_log 250) ≡ verdict.No offset_told
+  pub missed_row :
+      missed_told judged_cluster (late_log 250) (reading_scale 0 judged_cluster) 0
+      (senders_of (reading_scale 0 judged_cluster) judged_cluster (late_log 250) (sightings_of judged_cluster (late_log 250)) 0)
+      (log_stands judged_cluster (late_log 250) 0 None)
+      ≡ codes "missed,1,2,offset,-,,,\n"
+
+-- where the log says that a node may miss a sender, each may have missed the other one, and nothing contradicts it
+abbrev pub lost_log : LogView
+lost_log = let log : LogView = late_log 250 in record log { lost = 1 }
+
+pub record LostLog : Type 0 where
+  pub heard : log_heard judged_cluster lost_log ≡ Some Poor
 
 -- a log is seen of no run of the cluster that is as it states
 abbrev pub IsSeenOfNoneAsStated : LogView → Type 0

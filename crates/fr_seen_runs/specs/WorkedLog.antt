@@ -24,7 +24,7 @@ use Rattle.fr_seen.specs.Clocks.{StraightClock}
 use Rattle.fr_seen.specs.Observed.{SentFrame}
 use Rattle.fr_seen.specs.OwnSlots.{SlotsAreOwn}
 use Rattle.fr_seen.specs.WorkedStamps.{worked_delays, worked_values}
-use Rattle.fr_seen_runs.specs.Contradictions.{IsAsStated, IsObservedRun}
+use Rattle.fr_seen_runs.specs.Contradictions.{IsAsLogStates, IsObservedRun}
 
 -- ---- the run
 
@@ -114,6 +114,8 @@ seen_log since whole = record {
   drift = 0;
   error = 0;
   jitter = None;
+  flutter = None;
+  lost = 0;
   since = since;
   whole = whole;
   arbitrary = replicate 65 false;
@@ -161,7 +163,7 @@ true_clock double = record { ticks = pos 1; counts = pos 1; zero = pos 0 }
 pub record WorkedLog (since : Option ℕ) (whole : Bool) : Type 0 where
   pub cycles : cycles_of seen_run 4 ≡ seen_cycles
   pub observed : IsObservedRun seen_run seen_cycles 0 no_delays true_clock (seen_log since whole)
-  pub stated : IsAsStated seen_run seen_cycles 0 (seen_log since whole)
+  pub stated : IsAsLogStates seen_run seen_cycles 0 (seen_log since whole)
   pub slots : SlotsAreOwn seen_run seen_cycles (seen_log since whole)
   pub sightings : sightings_of seen_cluster (seen_log since whole) ≡ seen_sightings
   pub verdict : verdict_of seen_cluster (seen_log since whole) ≡ verdict.Within (record { from = 0; to = 2 })

@@ -1,5 +1,5 @@
 ghost use Rattle.fr_seen_runs.specs.KnownDoubles.{NoFaultBeyond, NoKnownFault, NoKnownFrameMissing, NoSkewFaultWithin, SeenIsKnown};
-ghost use Rattle.fr_seen_runs.specs.Standings.{SpreadsAreSo, StandingsAreSo};
+ghost use Rattle.fr_seen_runs.specs.Standings.{MissingsAreSo, SpreadsAreSo, StandingsAreSo};
 
 /// A law of what is seen of a double cycle in which all nodes that are not arbitrary were seen in both cycles. Its starts
 /// and even lengths lie no further apart, in ticks, than its courses tell, and these no further beyond their range. That is
@@ -22,10 +22,9 @@ pub fn skew_faults_within_are_none()
     ensures { NoSkewFaultWithin }
 {}
 
-/// The law of double cycles that are judged by their own numbers, where a check of the cluster fails: in a log that is seen of
-/// a run, as the log states, nothing contradicts how a double cycle stands; the numbers, in ticks, that it is judged by are
-/// so in the run, and what is known of the next one behind it. No check, and no sync, is asked of the run, and nodes may
-/// join it.
+/// The law of how double cycles stand: in a log that is seen of a run, as the log states, nothing contradicts how one does;
+/// the numbers, in ticks, that it is judged by are so in the run, and what is known of the next one behind it. No check, and
+/// no sync, is asked of the run, and nodes may join it.
 pub fn standings_are_so()
     ensures { StandingsAreSo }
 {}
@@ -35,4 +34,10 @@ pub fn standings_are_so()
 /// macroticks of it lie further apart than the row's last number.
 pub fn spreads_are_so()
     ensures { SpreadsAreSo }
+{}
+
+/// The law of the rows of what was missed: in each run that the log is seen of, as it states, the node of a row misses no
+/// fewer senders in its double cycle than the row says; and where the row says none, there is no such run.
+pub fn missings_are_so()
+    ensures { MissingsAreSo }
 {}

@@ -4,30 +4,24 @@
 
 mod completeness;
 mod computed;
-mod faults_in_sync;
 mod in_time;
-mod kept_in_sync;
 mod known;
+mod log_doubles;
 mod own;
-mod rows_told;
 mod told;
 mod verdicts;
 mod worked;
 
 pub use completeness::{corners_are_narrow, far_senders_are_told, near_senders_are_within};
-pub use computed::{nodes_apply_midpoints, term_faults_are_none, terms_are_computed};
-pub use faults_in_sync::{missing_faults_are_none, skew_and_length_faults_are_none};
-pub use in_time::{a_worked_reading, no_run_in_sync_is_contradicted, sync_is_timely};
-pub use kept_in_sync::{
-    doubles_are_there, key_frames_are_there, senders_lie_as_seen, senders_stay_in_sync,
-};
+pub use computed::{missed_senders_are_so, nodes_apply_midpoints, terms_are_computed};
+pub use in_time::{a_worked_reading, judged_is_near, near_is_timely, no_near_run_is_contradicted};
 pub use known::{
-    known_faults_are_none, seen_numbers_are_known, skew_faults_within_are_none, spreads_are_so,
-    standings_are_so,
+    known_faults_are_none, missings_are_so, seen_numbers_are_known, skew_faults_within_are_none,
+    spreads_are_so, standings_are_so,
 };
-pub use own::{own_faults_are_none, slot_faults_are_none, sync_is_seen};
-pub use rows_told::{covered_row_is_so, sync_row_is_so};
-pub use told::{covered_runs_are_as_logs_state, no_fault_is_told, verdict_tells_first};
+pub use log_doubles::{doubles_are_there, senders_lie_as_seen};
+pub use own::{own_faults_are_none, slot_faults_are_none};
+pub use told::{no_fault_is_told, steady_runs_miss_none, verdict_tells_first};
 pub use verdicts::{no_run_is_contradicted, over_is_so, within_is_so};
 pub use worked::{
     a_worked_log, worked_contradictions, worked_judged_contradictions, worked_strangers,

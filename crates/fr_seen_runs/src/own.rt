@@ -1,4 +1,4 @@
-ghost use Rattle.fr_seen_runs.specs.NotContradicted.{OwnFaultsAreNone, SlotFaultsAreNone, SyncIsSeen};
+ghost use Rattle.fr_seen_runs.specs.NotContradicted.{OwnFaultsAreNone, SlotFaultsAreNone};
 
 /// A law: in no double cycle of a log that is seen of a run, in sync or not, is there a fault that contradicts any run.
 pub fn own_faults_are_none()
@@ -9,10 +9,4 @@ pub fn own_faults_are_none()
 /// not name arbitrary is one that the node sends there in some cycle of the run.
 pub fn slot_faults_are_none()
     ensures { SlotFaultsAreNone }
-{}
-
-/// A law: a double cycle of a log that is seen of a run is in sync in the run where it is seen in sync, and no node
-/// follows in it, if the log names the arbitrary nodes of the run and no other.
-pub fn sync_is_seen()
-    ensures { SyncIsSeen }
 {}

@@ -1,8 +1,8 @@
 ghost use Rattle.std.specs.Prelude.{None, Some, false, true};
 ghost use Rattle.fr_log.specs.Files.{IsLogFile};
-ghost use Rattle.fr_seen_runs.specs.WorkedFaults.{IsSeenOfNoCovered, IsSeenOfNone, IsSeenOfNoneWithOwnSlots, IsSeenOfWorkedRun, TellsFault, correction_told, form_entry, form_told, last_log, late_log, offset_told, stranger_entry, stranger_told};
+ghost use Rattle.fr_seen_runs.specs.WorkedFaults.{IsSeenOfNoneStated, IsSeenOfNone, IsSeenOfNoneWithOwnSlots, IsSeenOfWorkedRun, TellsFault, correction_told, form_entry, form_told, last_log, late_log, offset_told, stranger_entry, stranger_told};
 ghost use Rattle.fr_seen_runs.specs.WorkedFile.{seen_file};
-ghost use Rattle.fr_seen_runs.specs.WorkedJudged.{IsSeenOfNoneAsStated, JudgedLog, JudgedOffsetIsTold, JudgedRun, MissedLog};
+ghost use Rattle.fr_seen_runs.specs.WorkedJudged.{IsSeenOfNoneAsStated, JudgedLog, JudgedOffsetIsTold, JudgedRun, LostLog, MissedLog};
 ghost use Rattle.fr_seen_runs.specs.WorkedLog.{WorkedLog, seen_cluster, seen_log};
 
 use crate::verdicts::no_run_is_contradicted;
@@ -10,7 +10,7 @@ use fr_history::one_lawful_run;
 
 /// A law: the file of a log of eight frames, stamped in whole nanoseconds, is accepted, and its log is seen of the cycles
 /// of a run of two nodes over two double cycles; so what the laws ask of a log and of a run that it is seen of can be met.
-/// The run is covered, and is as the log states: nothing, or that it is in sync from cycle 0 on and no frame was missed.
+/// The run is as the log states: nothing, or that it is in sync in cycle 0 and no frame was missed.
 /// Each whole frame in the slot of a node is one that the node sends there. The verdict is within, in cycles 0 to 2.
 pub fn a_worked_log()
     ensures file { IsLogFile seen_cluster (seen_log None false) seen_file }
@@ -21,14 +21,14 @@ pub fn a_worked_log()
 }
 
 /// A law: where from cycle 2 on the frames of node 2 come 250 ns later, the verdict of that log is no, by the offset term
-/// of node 2, and the log is seen of no covered run of this cluster that is as it states; where they come 7,500 ns later,
+/// of node 2, and the log is seen of no run of this cluster that is as it states; where they come 7,500 ns later,
 /// the term is beyond its limit, and the log is seen of no run of this cluster at all whose oscillators keep within what
 /// is stated. Where the last frame of node 2 comes on channel B, or lacks the indicators of sync and startup, the verdict
 /// is no, by this frame, and the log is seen of no such run in which each whole frame in the slot of a node is one that
 /// the node sends there.
 pub fn worked_contradictions()
     ensures offset { TellsFault (late_log 250) offset_told }
-    ensures of_no_covered { IsSeenOfNoCovered (late_log 250) }
+    ensures of_none_stated { IsSeenOfNoneStated (late_log 250) }
     ensures correction { TellsFault (late_log 7_500) correction_told }
     ensures of_none { IsSeenOfNone (late_log 7_500) }
     ensures stranger { TellsFault (last_log stranger_entry) stranger_told }
@@ -48,17 +48,19 @@ pub fn worked_strangers()
     one_lawful_run();
 }
 
-/// A law: the same log, read of a cluster whose offset limit is 20 microticks, so that a check fails. Both of its double
-/// cycles are judged by their own numbers, and the verdict is within, in cycles 0 to 2. The log is seen of a run of this
-/// cluster that is as it states: so what is asked of such runs can be met. Without the frame of node 1 in cycle 2, the
+/// A law: the same log, read of a cluster whose offset limit is 20 microticks, so that a classical check fails. Both of its
+/// double cycles are judged by their own numbers, and the verdict is within, in cycles 0 to 2. The log is seen of a run of
+/// this cluster that is as it states: so what is asked of such runs can be met. Without the frame of node 1 in cycle 2, the
 /// second double cycle is judged by what is known of it from the first, and the verdict is partly: within in one cycle. If
-/// the frames of node 2 come 250 ns later from cycle 2 on, the verdict is no, by its offset term. That log is seen of no
-/// such run.
+/// the frames of node 2 come 250 ns later from cycle 2 on, the verdict is no, by its offset term, and a row says how many
+/// senders it must have missed. That log is seen of no such run. Where it says that a node may miss a sender, what nodes hear
+/// is told by that.
 pub fn worked_judged_contradictions()
     ensures plain { JudgedLog }
     ensures run { JudgedRun }
     ensures missed { MissedLog }
     ensures offset { JudgedOffsetIsTold }
+    ensures lost { LostLog }
     ensures of_none { IsSeenOfNoneAsStated (late_log 250) }
 {
     one_lawful_run();
