@@ -43,7 +43,7 @@ use Rattle.fr_observe.specs.declared.fault.FaultKind.{FaultKind}
 use Rattle.fr_observe.specs.Faults.{further_of, offset_fault, other_courses, rate_fault, unlike_fault, unlike_with}
 use Rattle.fr_observe.specs.declared.fault.FaultKind.TheVariants.{Offset, Rate}
 use Rattle.fr_seen_runs.specs.ComputedTerms.{IsNamedLog, OffsetIsComputed, OffsetsAreComputed, RateIsComputed, RatesAreComputed}
-use Rattle.fr_seen_runs.specs.KeptInSync.{IsDoubleThere}
+use Rattle.fr_seen_runs.specs.LogDoubles.{IsDoubleThere}
 use Rattle.fr_seen_runs.specs.SyncFaults.{FromSyncOn, HasNoOffsetFault, HasNoRateFault}
 use Rattle.fr_seen_runs.proofs.ComputedLaws.{offset_is_computed, rate_is_computed}
 use Rattle.fr_seen_runs.proofs.ComputedRounds.{has_double}

@@ -1,7 +1,7 @@
 pub mod SendersApart
-pub mod StaysInSync
+pub mod SenderRows
 pub mod KeyFrames
-pub mod FaultsInSync
+pub mod MissingFrames
 pub mod ComputedLists
 pub mod ComputedCounts
 pub mod ComputedRounds
@@ -17,7 +17,7 @@ pub mod OwnOffsets
 pub mod SeenCourses
 pub mod OwnClocks
 pub mod OwnSightings
-pub mod SyncedNodes
+pub mod SeenNodes
 pub mod OwnFaults
 pub mod KnownDoubles
 pub mod KnownFaults
@@ -30,7 +30,6 @@ pub mod ReachesEnd
 pub mod OverLaws
 pub mod KnownKept
 pub mod Standings
-pub mod SyncKept
 pub mod RowsTold
 pub mod WorkedCycles
 pub mod WorkedSeen

@@ -38,7 +38,7 @@ use Rattle.fr_seen.specs.LogSeen.{log_senders, run_double}
 use Rattle.fr_seen_runs.specs.Contradictions.{CoveredIsAsLogStates, IsAsLogStates, IsObservedRun, NamesArbitrary}
 use Rattle.fr_seen_runs.specs.ComputedTerms.{IsNamedLog}
 use Rattle.fr_seen_runs.specs.JudgedTerms.{IsJudgedRun, OffsetsAreComputedWhereJudged, RatesAreComputedWhereJudged}
-use Rattle.fr_seen_runs.specs.KeptInSync.{IsDoubleThere}
+use Rattle.fr_seen_runs.specs.LogDoubles.{IsDoubleThere}
 use Rattle.fr_seen_runs.specs.KnownDoubles.{HasNoSkewAbove, NoKnownFault, NoSkewFaultWithin, SeenIsKnown}
 use Rattle.fr_seen_runs.specs.Standings.{IsKnownOfLog, SpreadIsSo, StandingsAreSo, log_standing, log_standing_faults}
 use Rattle.fr_seen_runs.proofs.ComputedFaults.{ComputeBoth, next_within, no_offset_fault_by, no_rate_fault_by}
