@@ -30,7 +30,6 @@ pub mod ReachesEnd
 pub mod OverLaws
 pub mod KnownKept
 pub mod Standings
-pub mod RowsTold
 pub mod WorkedCycles
 pub mod WorkedSeen
 pub mod WorkedSlots
