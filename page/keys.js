@@ -138,6 +138,8 @@ const TABLES = new Map([
     ["drift_ppm", { kind: "number", unit: "ppm", least: [0n, 1n, "ppm"], most: [1000n, 1n, "ppm"], other: null }],
     ["error_ns", { kind: "number", unit: "ns", least: [0n, 1n, "ns"], most: [1000000000n, 1n, "ticks"], other: [0n, 1n] }],
     ["jitter_ns", { kind: "number", unit: "ns", least: [0n, 1n, "ns"], most: [1000000000n, 1n, "ticks"], other: null }],
+    ["flutter_ns", { kind: "number", unit: "ns", least: [0n, 1n, "ns"], most: [1000000000n, 1n, "ticks"], other: null }],
+    ["lost", { kind: "whole number", unit: "", least: [0n, 1n, ""], most: [14n, 1n, ""], other: [0n, 1n] }],
     ["delay_from_ns", { kind: "number", unit: "ns", least: [0n, 1n, "ns"], most: [1000000000n, 1n, "ticks"], other: null }],
     ["delay_to_ns", { kind: "number", unit: "ns", least: [0n, 1n, "ns"], most: [1000000000n, 1n, "ticks"], other: null }],
     ["missed_none", { kind: "true or false", unit: "", least: null, most: null, other: false }],

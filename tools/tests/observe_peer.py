@@ -168,11 +168,11 @@ class Log:
     """A log file."""
 
     def __init__(self, rows):
-        self.unit = self.drift = self.jitter = self.since = self.each = None
-        self.error, self.whole, self.arbitrary, self.delays, self.entries = 0, False, set(), {}, []
+        self.unit = self.drift = self.jitter = self.flutter = self.since = self.each = None
+        self.error, self.lost, self.whole, self.arbitrary, self.delays, self.entries = 0, 0, False, set(), {}, []
         for row in rows:
             kind = row[0]
-            if kind in ("unit", "drift", "error", "jitter", "since"):
+            if kind in ("unit", "drift", "error", "jitter", "flutter", "lost", "since"):
                 setattr(self, kind, int(row[1]))
             elif kind == "whole":
                 self.whole = True

@@ -257,6 +257,9 @@ class Explain(Bench):
         head = "unit,40000,,,\ndrift,50,,,\ndelay,,,0,5\n"
         for text, line, told in (("unit,0,,,\n", "log: record 1: OutOfRange", "which is not from 1 to 1000000000 ticks"),
                                  ("since,3,,,\n", "log: record 1: Role", "CYCLE is 3, and it has to be even"),
+                                 ("flutter,,,,\n", "log: record 1: NotNumber", 'field 2 (TICKS) is ""'),
+                                 ("lost,15,,,\n", "log: record 1: OutOfRange", 'field 2 (COUNT) is "15", which is not from 0 to 14'),
+                                 ("lost,1,,,\nlost,1,,,\n", "log: record 2: Repeated", "line 1 is of the same"),
                                  ("delay,,A,0,5\n", "log: record 1: Shape", 'field 3 (to be left empty) is "A"'),
                                  ("delay,1,,0,5\n", "log: record 1: Shape", "NODE is there and CHANNEL is empty"),
                                  ("delay,1,A,6,5\n", "log: record 1: Role", "LOW is 6, above HIGH, 5"),

@@ -249,12 +249,13 @@ class Logs(Bench):
         self.assertIn("Precision       7.902 us\n", self.read("seen", "observed.txt"))
 
     def test_what_is_stated_of_the_analyzer(self):
-        path = self.sent(SHORT + OBSERVER + "error_ns = 2.5\njitter_ns = 5\n")
+        path = self.sent(SHORT + OBSERVER + "error_ns = 2.5\njitter_ns = 5\nflutter_ns = 12.5\nlost = 2\n")
         told = self.one_line(self.flexlab("log", "-o", "log.csv", path, "net.toml")[0])
         self.assertIn("stamps of 10 ns, off by 2.5 ns in all beside, its clock within 20 ppm, delays from 100 to 200 "
-                      "ns, those of a node within 5 ns", told)
+                      "ns, those of a node within 5 ns; a delay from node to node keeps within 12.5 ns in a double cycle; a node may miss 2 "
+                      "senders in each double cycle", told)
         # In units of 1 ns: 9 ns of the resolution are left, and the error.
-        wanted = ("unit,40000,,,\ndrift,20,,,\nerror,460000,,,\njitter,200000,,,\narbitrary,6,,,\n"
+        wanted = ("unit,40000,,,\ndrift,20,,,\nerror,460000,,,\njitter,200000,,,\nflutter,500000,,,\nlost,2,,,\narbitrary,6,,,\n"
                   "delay,1,A,4000000,8000000\n")
         self.assertEqual(self.read("log.csv")[:len(wanted)], wanted)
 

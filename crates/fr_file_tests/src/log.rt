@@ -18,6 +18,8 @@ drift,50,,,\n\
 unit,40000,,,\n\
 error,250000,,,\n\
 jitter,900,,,\n\
+lost,14,,,\n\
+flutter,1000000000,,,\n\
 since,6,,,\n\
 whole,,,,\n\
 arbitrary,4,,,\n\
@@ -40,12 +42,15 @@ delay,4,A,1,3\n\
 delay,4,B,2,3\n\
 ";
 
-// A log, its unit in ticks, its drift in parts per million, its error in ticks, the cycle from which on the cluster is in sync,
-// whether no frame was missed, and how many frames came.
+// A log, its unit in ticks, its drift in parts per million, its error in ticks, the cycle in whose double cycle the cluster is in
+// sync, whether no frame was missed, and how many frames came.
 const HEADS: &[(&str, u64, u64, u64, Option<u32>, bool, usize)] = &[
     (FULL, 40_000, 50, 250_000, Some(6), true, 3),
     (SHORT, 1, 0, 0, None, false, 0),
 ];
+
+// A log, how far delays differ between both cycles of a double cycle, where it says it, and how many frames a node may miss.
+const STEADY: &[(&str, Option<u64>, u64)] = &[(FULL, Some(1_000_000_000), 14), (SHORT, None, 0)];
 
 // A log, a node, and whether it is named arbitrary.
 const NAMED: &[(&str, u8, bool)] = &[
@@ -88,6 +93,8 @@ const REFUSED: &[(&str, u64, Reason)] = &[
     ("unit,1,,,,\n", 1, Reason::Shape),
     ("unit,0,A,,\n", 1, Reason::Shape),
     ("drift,0,,,1\n", 1, Reason::Shape),
+    ("flutter,0,,1,\n", 1, Reason::Shape),
+    ("lost,0,0,,\n", 1, Reason::Shape),
     ("whole,1,,,\n", 1, Reason::Shape),
     ("arbitrary,9,,1,\n", 1, Reason::Shape),
     ("delay,1,,0,1\n", 1, Reason::Shape),
@@ -95,7 +102,10 @@ const REFUSED: &[(&str, u64, Reason)] = &[
     ("frame,0,A,00,1\n", 1, Reason::Shape),
     ("unit,1,,,\nunits,1,,,\n", 2, Reason::UnknownName),
     ("Head,0,A,00,\n", 1, Reason::UnknownName),
+    ("Lost,0,,,\n", 1, Reason::UnknownName),
     ("unit,,,,\n", 1, Reason::NotNumber),
+    ("flutter,,,,\n", 1, Reason::NotNumber),
+    ("lost,1x,,,\n", 1, Reason::NotNumber),
     ("arbitrary,A,,,\n", 1, Reason::NotNumber),
     ("delay,0,A,x,1\n", 1, Reason::NotNumber),
     ("delay,,,0,\n", 1, Reason::NotNumber),
@@ -106,6 +116,9 @@ const REFUSED: &[(&str, u64, Reason)] = &[
     ("error,1000000001,,,\n", 1, Reason::OutOfRange),
     ("jitter,1000000001,,,\n", 1, Reason::OutOfRange),
     ("since,199999,,,\n", 1, Reason::OutOfRange),
+    ("flutter,1000000001,,,\n", 1, Reason::OutOfRange),
+    ("lost,15,,,\n", 1, Reason::OutOfRange),
+    ("lost,-1,,,\n", 1, Reason::OutOfRange),
     ("arbitrary,65,,,\n", 1, Reason::OutOfRange),
     ("delay,0,C,0,1\n", 1, Reason::OutOfRange),
     ("delay,1,A,0,1000000001\n", 1, Reason::OutOfRange),
@@ -132,6 +145,8 @@ const REFUSED: &[(&str, u64, Reason)] = &[
     ("unit,1,,,\nframe,1,A,,\nhead,0,B,0,\n", 3, Reason::Role),
     ("unit,1,,,\nframe,1,A,,\nunit,1,,,\n", 3, Reason::Role),
     ("unit,1,,,\nhead,1,A,,\nwhole,,,,\n", 3, Reason::Role),
+    ("unit,1,,,\nhead,1,A,,\nflutter,0,,,\n", 3, Reason::Role),
+    ("unit,1,,,\nhead,1,A,,\nlost,0,,,\n", 3, Reason::Role),
     ("unit,1,,,\nframe,1,A,,\narbitrary,4,,,\n", 3, Reason::Role),
     ("unit,1,,,\nframe,1,A,,\ndelay,1,B,0,1\n", 3, Reason::Role),
     ("unit,1,,,\nframe,1,A,,\ndelay,,,0,1\n", 3, Reason::Role),
@@ -139,6 +154,12 @@ const REFUSED: &[(&str, u64, Reason)] = &[
     ("unit,1,,,\nframe,0,A,0,\n", 2, Reason::NotHex),
     ("unit,1,,,\nhead,0,B,0g,\n", 2, Reason::NotHex),
     ("unit,1,,,\nunit,2,,,\n", 2, Reason::Repeated),
+    (
+        "flutter,5,,,\nlost,5,,,\nflutter,5,,,\n",
+        3,
+        Reason::Repeated,
+    ),
+    ("lost,1,,,\nlost,2,,,\n", 2, Reason::Repeated),
     ("whole,,,,\nwhole,,,,\n", 2, Reason::Repeated),
     ("arbitrary,4,,,\narbitrary,4,,,\n", 2, Reason::Repeated),
     ("delay,2,B,0,1\ndelay,2,B,0,2\n", 2, Reason::Repeated),
@@ -260,6 +281,16 @@ fn first_head(alloc: Global, params: &Params) -> Result<Option<usize>, Fail> {
     Ok(None)
 }
 
+fn first_steady(alloc: Global, params: &Params) -> Result<Option<usize>, Fail> {
+    for (place, (text, flutter, lost)) in STEADY.iter().enumerate() {
+        let log = log_of(alloc, params, text)?;
+        if log.flutter() != *flutter || log.lost() != *lost {
+            return Ok(Some(place));
+        }
+    }
+    Ok(None)
+}
+
 fn first_named(alloc: Global, params: &Params) -> Result<Option<usize>, Fail> {
     for (place, (text, number, named)) in NAMED.iter().enumerate() {
         if is_named(&log_of(alloc, params, text)?, *number) != Some(*named) {
@@ -352,6 +383,7 @@ fn first_line(params: &Params) -> Option<usize> {
 fn answers_what_the_file_says(rt: HostRuntime) -> Result<(), Fail> {
     let params = params_of(rt.alloc(), &[], NODES, &[])?;
     assert_eq!(rt; first_head(rt.alloc(), &params)?, None);
+    assert_eq!(rt; first_steady(rt.alloc(), &params)?, None);
     assert_eq!(rt; first_named(rt.alloc(), &params)?, None);
     assert_eq!(rt; first_limits(rt.alloc(), &params)?, None);
     assert_eq!(rt; first_entry(&log_of(rt.alloc(), &params, FULL)?), None);

@@ -45,7 +45,8 @@ use Rattle.fr_sharp.specs.SharpHistories.{KeepsApart}
 use Rattle.fr_seen_runs.specs.Contradictions.{IsObservedRun, MissesNone, NamesArbitrary}
 use Rattle.fr_seen_runs.specs.LogDoubles.{IsAsLong, LieAsSeen}
 use Rattle.fr_seen_runs.specs.KnownDoubles.{HasNoFaultBeyond, HasNoSkewAbove, NoFaultBeyond, NoKnownFault, NoKnownFrameMissing, NoSkewFaultWithin}
-use Rattle.fr_seen_runs.proofs.MissingFrames.{none_given, none_missing, none_of, not_less}
+use Rattle.fr_seen_runs.proofs.ComputedLists.{none_given}
+use Rattle.fr_seen_runs.proofs.MissingFrames.{none_missing, none_of, not_less}
 use Rattle.fr_seen_runs.proofs.KeyFrames.{correct_by, frames_by, is_sync}
 use Rattle.fr_seen_runs.proofs.SendersApart.{lie_as_seen}
 use Rattle.fr_seen_runs.proofs.SenderRows.{natural, run_among, sender_row, senders_among, skew_by, some_within, trans}

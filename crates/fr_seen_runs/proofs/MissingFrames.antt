@@ -30,11 +30,6 @@ from_less a b is = grind arith
 
 -- ---- lists
 
-pub none_given : {X Y : Type 0} (f : X → Option Y) (xs : List X) → ((x : X) → Contains xs x → f x ≡ None) → filter_map f xs ≡ []
-none_given f [] none = refl
-none_given f (x ∷ xs) none =
-    ap (λ o. cons_option o (filter_map f xs)) (none x (Contains-here x xs)) ∙ none_given f xs (λ y there. none y (Contains-there x xs y there))
-
 none_mapped : {X Y : Type 0} (f : X → List Y) (xs : List X) → ((x : X) → Contains xs x → f x ≡ []) → flat_map f xs ≡ []
 none_mapped f [] none = refl
 none_mapped f (x ∷ xs) none =

@@ -46,9 +46,9 @@ use Rattle.fr_seen_runs.specs.JudgedTerms.{IsJudgedRun, MissedIsSo}
 use Rattle.fr_seen_runs.specs.LogDoubles.{IsDoubleThere}
 use Rattle.fr_seen_runs.specs.KnownDoubles.{HasNoSkewAbove, NoKnownFault, NoSkewFaultWithin, SeenIsKnown}
 use Rattle.fr_seen_runs.specs.Standings.{IsKnownOfLog, SpreadIsSo, StandingsAreSo, log_standing, log_standing_faults}
+use Rattle.fr_seen_runs.proofs.ComputedLists.{none_given}
 use Rattle.fr_seen_runs.proofs.ComputedSenders.{IsLogSender, are_log_senders}
 use Rattle.fr_seen_runs.proofs.KeyFrames.{correct_by}
-use Rattle.fr_seen_runs.proofs.MissingFrames.{none_given}
 use Rattle.fr_seen_runs.proofs.SeenDoubles.{seen_double_there}
 
 -- ---- what its nodes hear

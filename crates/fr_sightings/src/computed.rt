@@ -19,13 +19,15 @@ pub(crate) enum Measured {
 }
 
 /// Which offset terms a sender must have computed in a double cycle (sections 8.6.1 and 8.6.2), by its course and those of
-/// the other senders, which it heard, and where it heard at most so many further nodes; in microticks, none without limits.
+/// the other senders, where it heard at most so many further nodes and missed at most so many of the senders; in
+/// microticks, none without limits.
 pub fn offset_computed(
     scale: &Scale,
     measuring: &Measuring,
     senders: &[Sender],
     sender: &Sender,
     further: usize,
+    lost: usize,
 ) -> Option<Interval>
     requires scale { IsReadingScale scale.now }
     requires measuring { IsMeasuring measuring.now }
@@ -34,12 +36,13 @@ pub fn offset_computed(
     requires among { Contains senders.now sender.now }
     requires sender { IsProperSender scale.now sender.now }
     requires further { further ≤ 64 }
+    requires lost { lost ≤ 64 }
     ensures value { result ≡ offset_computed scale.now measuring.now sender.now.course
-        (heard_courses senders.now sender.now.node) further }
+        (heard_courses senders.now sender.now.node) further lost }
     ensures near { IfSome result (EndWithin (pos 21_000_000_000_000)) }
 {
     let known = values_seen(Measured::Deviation, scale, measuring, senders, sender);
-    middle(further, known.as_slice())
+    middle(further, lost, known.as_slice())
 }
 
 /// By how much its rate term must have grown (sections 8.6.1 and 8.6.3); in microticks, none without limits.
@@ -49,6 +52,7 @@ pub fn rate_computed(
     senders: &[Sender],
     sender: &Sender,
     further: usize,
+    lost: usize,
 ) -> Option<Interval>
     requires scale { IsReadingScale scale.now }
     requires measuring { IsMeasuring measuring.now }
@@ -57,12 +61,13 @@ pub fn rate_computed(
     requires among { Contains senders.now sender.now }
     requires sender { IsProperSender scale.now sender.now }
     requires further { further ≤ 64 }
+    requires lost { lost ≤ 64 }
     ensures value { result ≡ rate_computed scale.now measuring.now sender.now.course
-        (heard_courses senders.now sender.now.node) further }
+        (heard_courses senders.now sender.now.node) further lost }
     ensures near { IfSome result (EndWithin (pos 22_000_000_000_000)) }
 {
     let known = values_seen(Measured::RateValue, scale, measuring, senders, sender);
-    undamped(measuring, middle(further, known.as_slice()))
+    undamped(measuring, middle(further, lost, known.as_slice()))
 }
 
 // The values of a sender: its own one, and one of each other sender.

@@ -1,6 +1,6 @@
-ghost use Rattle.std.specs.Prelude.{◌≡◌, ◌≤◌, ◌≤ℤ◌, ◌*◌, pos, Some, IfSome};
+ghost use Rattle.std.specs.Prelude.{◌≡◌, ◌≤◌, ◌*◌, Some, IfSome};
 ghost use Rattle.std.specs.List.{list_all};
-ghost use Rattle.fr_bound.specs.Bounds.{nominal};
+ghost use Rattle.fr_bound.specs.Bounds.{nominal, shortest_micro};
 ghost use Rattle.fr_cluster.specs.Values.{amount};
 ghost use Rattle.fr_cluster.specs.declared.names.ParamName.TheVariants as name;
 ghost use Rattle.fr_cluster.specs.Questions.{has_channel};
@@ -8,7 +8,7 @@ ghost use Rattle.fr_log.specs.View.{AreDelayLimits};
 ghost use Rattle.fr_sightings.specs.Sure.{are_numbers_sure, clocks_off, is_named_as, is_node_sure, is_sure_on, is_sure_within, is_sync_as, off_schedule, reading_off};
 
 use fr_base::Channel;
-use fr_bound::{bounds, longest_microtick};
+use fr_bound::{longest_microtick, shortest_microtick};
 use fr_cluster::{NodeList, NodeSpec, ParamName, Params};
 use fr_log::{DelayLimits, Log};
 
@@ -32,9 +32,10 @@ fn clocks_off(params: &Params) -> u64
     ensures most { result ≤ 400_000_000_000 }
 {
     let longest = longest_microtick(params);
-    let rate = params.natural(ParamName::pMicroPerCycle) * params.natural(ParamName::xRateBound);
+    let rate = params.natural(ParamName::pRateCorrectionOut) * longest;
+    let drift = params.natural(ParamName::pMicroPerCycle) * params.natural(ParamName::xRateBound);
     let offset = params.natural(ParamName::pOffsetCorrectionOut) * longest;
-    36 * rate + 16 * offset + 2 * longest
+    36 * (rate + drift) + 16 * offset + 2 * longest
 }
 
 // And a reading of the observer's clock.
@@ -46,21 +47,28 @@ fn reading_off(params: &Params, log: &Log) -> u64
     31 * drift + (log.unit() + log.error())
 }
 
-// How far off the schedule a frame comes at most, with a delay of so many ticks.
-fn off_schedule(params: &Params, log: &Log, delay: u64) -> i128
-    requires { delay ≤ 1_000_000_000 }
-    ensures value { result ≡ pos (off_schedule params.now log.now delay) }
-    ensures most { result ≤ℤ pos 20_000_000_000_000_000_000 }
+// How far apart the starts of two nodes lie at most: the offset limit at the shortest microtick, in ticks.
+fn starts_off(params: &Params) -> u64
+    ensures value { result ≡ amount params.now name.pOffsetCorrectionOut * shortest_micro params.now }
+    ensures most { result ≤ 20_000_000_000 }
 {
-    let clock = clocks_off(params) + delay + reading_off(params, log);
-    i128::from(clock) + i128::from(bounds(params).pi)
+    params.natural(ParamName::pOffsetCorrectionOut) * shortest_microtick(params)
+}
+
+// How far off the schedule a frame comes at most, with a delay of so many ticks.
+fn off_schedule(params: &Params, log: &Log, delay: u64) -> u64
+    requires { delay ≤ 1_000_000_000 }
+    ensures value { result ≡ off_schedule params.now log.now delay }
+    ensures most { result ≤ 1_000_000_000_000 }
+{
+    clocks_off(params) + delay + reading_off(params, log) + starts_off(params)
 }
 
 // A cycle at the nominal microtick, in ticks.
-fn nominal_cycle(params: &Params) -> i128
-    ensures { result ≡ pos (amount params.now name.pMicroPerCycle * nominal) }
+fn nominal_cycle(params: &Params) -> u64
+    ensures { result ≡ amount params.now name.pMicroPerCycle * nominal }
 {
-    i128::from(params.natural(ParamName::pMicroPerCycle) * 1_000_000)
+    params.natural(ParamName::pMicroPerCycle) * 1_000_000
 }
 
 // That is no more than half a cycle, with delays within limits.
@@ -114,8 +122,8 @@ fn are_all_sure(params: &Params, log: &Log, nodes: &NodeList) -> bool
     true
 }
 
-/// Whether the numbers of a cluster and of a log suffice for frames of clocks in sync to come in time: with the delays of all
-/// frames that are judged, each comes within half a cycle of the schedule.
+/// Whether the numbers of a cluster and of a log suffice for frames of clocks whose starts lie near each other to come in
+/// time: with the delays of all frames that are judged, each comes within half a cycle of the schedule.
 #[tactic(auto, unfolding(crate::specs::Sure::are_numbers_sure))]
 pub fn are_numbers_sure(params: &Params, log: &Log) -> bool
     ensures { result ≡ are_numbers_sure params.now log.now }

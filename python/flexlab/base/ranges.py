@@ -72,6 +72,8 @@ DOUBLE = (0, 99999)
 CYCLES = (0, 199999)
 LENGTH = (500000, 1500000)
 DELAY = (0, 1000000000)
+# How many senders a node may miss, of fifteen with key slots.
+LOST = (0, 14)
 START = (0, 1000000000000)
 POWER = (0, 16000000)
 SHIFT = (-1000000000000, 1000000000000)

@@ -80,7 +80,8 @@ class TableRow(NamedTuple):
 @dataclass
 class Observer:
     """What is stated of an analyzer, in ns and ppm; limits are the least and the greatest delay by node and channel;
-    whether it missed no frame; and the cycle of the log, even, from which on the cluster is in sync."""
+    whether it missed no frame; and the cycle of the log, even, from which on the cluster is in sync. Of the network: how much
+    a delay from node to node differs between both cycles of a double cycle, in ns, and how many senders a node may miss there."""
     resolution: Fraction
     drift: int
     error: Fraction
@@ -88,6 +89,8 @@ class Observer:
     limits: dict[End, Limits]
     is_whole: bool = False
     since: int | None = None
+    flutter: Fraction | None = None
+    lost: int = 0
 
 
 @dataclass
@@ -153,7 +156,8 @@ def read_observer(cluster: Cluster) -> Observer | None:
     resolution = table.number_of("resolution_ns", microtick_ns)
     drift = up(table.number_of("drift_ppm"))
     error = table.number_of("error_ns", microtick_ns)
-    jitter = table.number_of("jitter_ns", microtick_ns) if table.has("jitter_ns") else None
+    jitter, flutter = (table.number_of(name, microtick_ns) if table.has(name) else None for name in ("jitter_ns", "flutter_ns"))
+    lost = table.whole_of("lost")
     is_whole, since = table.flag("missed_none"), since_of(table)
     all_limits = limits_of(table, "delay_from_ns", "delay_to_ns", microtick_ns)
     found = {End(node.number, channel): all_limits for node in cluster.nodes.values() for channel in node.channels}
@@ -162,7 +166,7 @@ def read_observer(cluster: Cluster) -> Observer | None:
         channels = table.channels("channels")
         for node in table.nodes("nodes", cluster.nodes):
             found.update({End(node, channel): own for channel in cluster.nodes[node].channels if channel in channels})
-    return Observer(resolution, drift, error, jitter, found, is_whole, since)
+    return Observer(resolution, drift, error, jitter, found, is_whole, since, flutter, lost)
 
 
 def since_of(table: Table) -> int | None:
@@ -393,6 +397,10 @@ def head_lines(cluster: Cluster, observer: Observer, frames: Frames, unit: int, 
     yield from (f"unit,{unit},,,\n", f"drift,{observer.drift},,,\n", f"error,{error},,,\n")
     if observer.jitter is not None:
         yield f"jitter,{up(observer.jitter * size)},,,\n"
+    if observer.flutter is not None:
+        yield f"flutter,{up(observer.flutter * size)},,,\n"
+    if observer.lost:
+        yield f"lost,{observer.lost},,,\n"
     if observer.is_whole and not frames.is_torn:
         yield "whole,,,,\n"
     if observer.since is not None:
@@ -562,6 +570,10 @@ def analyzer_words(observer: Observer, frames: Frames) -> str:
     found += f", delays from {plain(low)} to {plain(high)} ns"
     if observer.jitter is not None:
         found += f", those of a node within {plain(observer.jitter)} ns"
+    if observer.flutter is not None:
+        found += f"; a delay from node to node keeps within {plain(observer.flutter)} ns in a double cycle"
+    if observer.lost:
+        found += f"; a node may miss {observer.lost} sender{'s' * (observer.lost > 1)} in each double cycle"
     if observer.is_whole:
         found += "; it missed no frame" + (", which is not taken where frames are damaged" if frames.is_torn else "")
     return found if observer.since is None else found + f"; the cluster is in sync from cycle {observer.since} on"

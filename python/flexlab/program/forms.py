@@ -86,6 +86,8 @@ FORMS: dict[str, Form] = {
         "drift": [number("PPM", 0, 1000, "parts per million"), EMPTY, EMPTY, EMPTY],
         "error": [number("TICKS", *ranges.DELAY, "ticks"), EMPTY, EMPTY, EMPTY],
         "jitter": [number("TICKS", *ranges.DELAY, "ticks"), EMPTY, EMPTY, EMPTY],
+        "flutter": [number("TICKS", *ranges.DELAY, "ticks"), EMPTY, EMPTY, EMPTY],
+        "lost": [number("COUNT", *ranges.LOST), EMPTY, EMPTY, EMPTY],
         "since": [number("CYCLE", 0, 199998), EMPTY, EMPTY, EMPTY],
         "whole": [EMPTY, EMPTY, EMPTY, EMPTY],
         "delay": [node(), CHANNEL, *LIMITS],

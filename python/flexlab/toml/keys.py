@@ -280,6 +280,9 @@ TABLES: Mapping[str, Entry] = {one.name: one for one in (
           number("observer", "drift_ppm", 0, 1000, "ppm", "the greatest distance of its clock from nominal, rounded up"),
           logged("observer", "error_ns", "what a stamp is off beside that, from the least to the most", default=0),
           logged("observer", "jitter_ns", "how much two delays of a node differ, at most; else all that the limits allow", optional=True),
+          logged("observer", "flutter_ns", "how much a delay from node to node differs between both cycles of a double cycle, at most; "
+                 "else all that the limits allow", optional=True),
+          whole("observer", "lost", ranges.LOST, "", "how many correct sync nodes a correct node may miss in a double cycle", default=0),
           logged("observer", "delay_from_ns", "the least delay from a node to its stamp"),
           logged("observer", "delay_to_ns", "the greatest one"),
           plain("observer", "missed_none", Kind.FLAG, "whether it missed no frame", default=False),
