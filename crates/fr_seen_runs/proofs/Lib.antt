@@ -21,13 +21,15 @@ pub mod SeenNodes
 pub mod OwnFaults
 pub mod KnownDoubles
 pub mod KnownFaults
-pub mod SyncKinds
+pub mod FaultKinds
 pub mod Progressing
 pub mod ToldVerdicts
 pub mod Contradicted
 pub mod Reaching
 pub mod ReachesEnd
 pub mod OverLaws
+pub mod MissingRows
+pub mod SteadyRuns
 pub mod KnownKept
 pub mod Standings
 pub mod WorkedCycles
