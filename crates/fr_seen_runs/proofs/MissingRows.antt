@@ -1,8 +1,9 @@
 -- The rows of what nodes missed: in each run that a log is seen of, as it states, a node of a row misses no fewer senders.
-use Rattle.std.proofs.Common.{◌≡◌, ◌∙◌, ℕ, zero, suc, ◌+◌, ◌-◌, ◌*◌, ◌==◌, ◌<◌, ◌≤◌, Bool, true, false, if◌then◌else◌, Option, Some, None, List, [], ◌∷◌, ◌++◌, All, length, map, refl, ap, sym, subst, arith}
+use Rattle.std.proofs.Common.{◌≡◌, ◌∙◌, ℕ, zero, suc, ◌+◌, ◌-◌, ◌*◌, ◌==◌, ◌<◌, ◌≤◌, Bool, true, false, if◌then◌else◌, Option, Some, None, List, [], ◌∷◌, ◌++◌, All, length, map, refl, ap, sym, subst, inl, inr, arith}
 use Rattle.std.specs.Prelude.{not, Contains, IfSome, filter, filter_map, find, is_none, is_some, nat_lt}
 use Rattle.std.specs.List.{range_with_len}
 use Rattle.std.specs.Option.{option_map}
+use Rattle.std.proofs.lemmas.List.{length-map}
 use Rattle.std.proofs.lemmas.List.Elements.{All-append, All-map, All-nil}
 use Rattle.fr_base.specs.declared.channel.Channel.{Channel}
 use Rattle.fr_bound.specs.declared.judging.Heard.{Heard}
@@ -61,33 +62,35 @@ module _ (at : ℕ → Option Fault) where
   abbrev Free : ℕ → Bool
   Free lost = is_none (at lost)
 
-  next : (n : ℕ) → suc n ≡ n + 1
-  next n = omega arith
+  same : (a b : ℕ) → (a == b) ≡ true → a ≡ b
+  same a b is = grind arith
+
+  later : (a b : ℕ) → a ≤ b → (a == b) ≡ false → a + 1 ≤ b
+  later a b le other = grind arith
+
+  -- the first one, or one behind it
+  first_or : (first lost : ℕ) → first ≤ lost → is_none (at first) ≡ false → (first + 1 ≤ lost → IsTold (at lost)) → IsTold (at lost)
+  first_or first lost from told behind = by (first == lost) refl
+    where
+      by : (b : Bool) → (first == lost) ≡ b → IsTold (at lost)
+      by true is = subst (λ n. IsTold (at n)) (same first lost is) (is_told (at first) told)
+      by false other = behind (later first lost from other)
 
   -- what comes before it is contradicted
   before_least : (count first least : ℕ) → find Free (range_with_len first count) ≡ Some least → (lost : ℕ) → first ≤ lost → lost < least → IsTold (at lost)
   before_least zero first least is lost from below = absurd (cc is)
-  before_least (suc count) first least is lost from below = by (is_none (at first)) refl is
+  before_least (suc count) first least is lost from below = by (is_none (at first)) refl is (λ rest behind. before_least count (first + 1) least rest lost behind below)
     where
-      later : (a b : ℕ) → a ≤ b → (a == b) ≡ false → a + 1 ≤ b
-      later a b le other = grind arith
-
-      same : (a b : ℕ) → (a == b) ≡ true → a ≡ b
-      same a b is = grind arith
-
       never : (a b c : ℕ) → a ≡ c → a ≤ b → b < c → ⊥
       never a b c is from below = omega (arith, is, from, below)
 
       found : (a b : ℕ) → Some a ≡ Some b → a ≡ b
       found a b is = cc is
 
-      here : (b : Bool) → (first == lost) ≡ b → is_none (at first) ≡ false → find Free (range_with_len (first + 1) count) ≡ Some least → IsTold (at lost)
-      here true is told rest = subst (λ n. IsTold (at n)) (same first lost is) (is_told (at first) told)
-      here false other told rest = before_least count (first + 1) least rest lost (later first lost from other) below
-
-      by : (b : Bool) → is_none (at first) ≡ b → (if b then Some first else find Free (range_with_len (first + 1) count)) ≡ Some least → IsTold (at lost)
-      by true free is = absurd (never first lost least (found first least is) from below)
-      by false told is = here (first == lost) refl told is
+      by : (b : Bool) → is_none (at first) ≡ b → (if b then Some first else find Free (range_with_len (first + 1) count)) ≡ Some least
+          → (find Free (range_with_len (first + 1) count) ≡ Some least → first + 1 ≤ lost → IsTold (at lost)) → IsTold (at lost)
+      by true free is more = absurd (never first lost least (found first least is) from below)
+      by false told is more = first_or first lost from told (more is)
 
   -- where there is none, each is
   without_least : (count first : ℕ) → find Free (range_with_len first count) ≡ None → (lost : ℕ) → first ≤ lost → lost < first + count → IsTold (at lost)
@@ -95,24 +98,15 @@ module _ (at : ℕ → Option Fault) where
     where
       never : (a b : ℕ) → a ≤ b → b < a + 0 → ⊥
       never a b from below = omega (arith, from, below)
-  without_least (suc count) first is lost from below = by (is_none (at first)) refl is
+  without_least (suc count) first is lost from below = by (is_none (at first)) refl is (λ rest behind. without_least count (first + 1) rest lost behind (short first lost count below))
     where
-      later : (a b : ℕ) → a ≤ b → (a == b) ≡ false → a + 1 ≤ b
-      later a b le other = grind arith
-
-      same : (a b : ℕ) → (a == b) ≡ true → a ≡ b
-      same a b is = grind arith
-
       short : (a b c : ℕ) → b < a + suc c → b < a + 1 + c
       short a b c below = omega (arith, below)
 
-      here : (b : Bool) → (first == lost) ≡ b → is_none (at first) ≡ false → find Free (range_with_len (first + 1) count) ≡ None → IsTold (at lost)
-      here true is told rest = subst (λ n. IsTold (at n)) (same first lost is) (is_told (at first) told)
-      here false other told rest = without_least count (first + 1) rest lost (later first lost from other) (short first lost count below)
-
-      by : (b : Bool) → is_none (at first) ≡ b → (if b then Some first else find Free (range_with_len (first + 1) count)) ≡ None → IsTold (at lost)
-      by true free is = absurd (cc is)
-      by false told is = here (first == lost) refl told is
+      by : (b : Bool) → is_none (at first) ≡ b → (if b then Some first else find Free (range_with_len (first + 1) count)) ≡ None
+          → (find Free (range_with_len (first + 1) count) ≡ None → first + 1 ≤ lost → IsTold (at lost)) → IsTold (at lost)
+      by true free is more = absurd (cc is)
+      by false told is more = first_or first lost from told (more is)
 
 -- ---- no more than all others
 
@@ -164,7 +158,7 @@ module _ (p : Values) (l : LogView) (scale : Scale) (double : ℕ) (senders : Li
   few_values value =
       let others = filter (λ (t : Sender). not (t.node == s.node)) senders in
       least (length others) (length (other_courses senders s.node)) (length (map value (other_courses senders s.node))) (length senders)
-      (left_out (λ (t : Sender). not (t.node == s.node)) senders s among (itself s.node)) (length-map (λ (t : Sender). t.course) others) (length-map value (other_courses senders s.node))
+      (left_out (λ (t : Sender). not (t.node == s.node)) senders s among (itself s.node)) (length-map others (λ (t : Sender). t.course)) (length-map (other_courses senders s.node) value)
     where
       itself : (n : ℕ) → not (n == n) ≡ false
       itself n = grind arith
@@ -262,25 +256,23 @@ module _
   abbrev IsSo : Missed → Type 0
   IsSo missed = MissingIsSo x base (record { number = double; missed = missed })
 
+  abbrev Row : Term → Sender → Missed
+  Row kind s = missed_with kind double s.node (least_missed kind x.params l (reading_scale l.drift x.params) double (log_senders x l double) s)
+
   sender_so : (met : Known) → IsJudged x h base delays clock l what double run states is among kept met → (kind : Term) (s : Sender) → Contains (log_senders x l double) s → (missed : Missed)
       → missed_by kind x.params l (reading_scale l.drift x.params) double (log_senders x l double) s ≡ Some missed → MissingIsSo x base (record { number = double; missed = missed })
   sender_so met j kind s there missed told = by (is_some (term_fault kind x.params l Scaled double Senders s 0)) told
     where
-      row : Missed
-      row = missed_with kind double s.node (least_missed kind x.params l Scaled double Senders s)
-
       same : (a b : Missed) → Some a ≡ Some b → a ≡ b
       same a b is = cc is
 
-      so : IsSo row
-      unfolding row
+      so : IsSo (Row kind s)
       so node lost correct number misses =
           no_less x.params l Scaled double Senders s there kind lost
           (λ fault contradicted. none_missed x h base delays clock l what double run states is among kept met j kind s node lost fault there correct number contradicted misses)
 
-      by : (b : Bool) → (if b then Some row else None) ≡ Some missed → IsSo missed
-      unfolding row
-      by true given = subst IsSo (same row missed given) so
+      by : (b : Bool) → (if b then Some (Row kind s) else None) ≡ Some missed → IsSo missed
+      by true given = subst IsSo (same (Row kind s) missed given) so
       by false given = absurd (cc given)
 
   missed_so : (judged : Option Known) → IfSome judged (IsJudged x h base delays clock l what double run states is among kept)

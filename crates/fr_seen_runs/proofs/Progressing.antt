@@ -97,7 +97,7 @@ module _ (b : Basis) (seen : List Sighting) (offending : OffendingFrames) where
 
 module _ (b : Basis) (seen : List Sighting) (offending : OffendingFrames) {X : Type 0} (told : ℕ → Progress → List X) where
   -- that of all, one after the other
-  pub told_from : Progress → List ℕ → List X
+  unfoldable pub told_from : Progress → List ℕ → List X
   told_from progress [] = []
   told_from progress (double ∷ doubles) = told double progress ++ told_from (progress_behind b seen offending double progress) doubles
 
