@@ -46,9 +46,8 @@ use Rattle.fr_judging.specs.declared.missed.Term.TheVariants.{OffsetTerm, RateTe
 use Rattle.fr_seen_runs.specs.ComputedTerms.{IsNamedLog, OffsetIsComputed, RateIsComputed}
 use Rattle.fr_seen_runs.specs.JudgedTerms.{IsJudgedRun, MissedIsSo, OffsetsAreComputed, RatesAreComputed}
 use Rattle.fr_seen_runs.specs.LogDoubles.{IsDoubleThere}
-use Rattle.fr_seen_runs.proofs.ComputedLists.{none_given}
 use Rattle.fr_seen_runs.proofs.ComputedSenders.{there_some}
-use Rattle.fr_seen_runs.proofs.StaysInSync.{doubles_to, sighting_within}
+use Rattle.fr_seen_runs.proofs.SeenDoubles.{doubles_to, sighting_within}
 
 -- ---- what was seen and what was computed have a number in common
 
@@ -211,23 +210,11 @@ module _ (x : Setting) (h : Cycles) (base : ℕ) (delays : ℕ → Channel → D
           )
           both.rate
 
-  -- ---- of all senders
-
-  pub no_offset_fault_by : (lost : ℕ) → ((s : Sender) → Contains (log_senders x l double) s → ComputesBoth lost s)
-      → filter_map (offset_fault x.params l (reading_scale l.drift x.params) double (log_senders x l double) lost) (log_senders x l double) ≡ []
-  no_offset_fault_by lost computes =
-      none_given (offset_fault x.params l (reading_scale l.drift x.params) double (log_senders x l double) lost) (log_senders x l double) (λ s among. offset_none lost s among (computes s among))
-
-  pub no_rate_fault_by : (lost : ℕ) → ((s : Sender) → Contains (log_senders x l double) s → ComputesBoth lost s)
-      → filter_map (rate_fault x.params l (reading_scale l.drift x.params) double (log_senders x l double) lost) (log_senders x l double) ≡ []
-  no_rate_fault_by lost computes =
-      none_given (rate_fault x.params l (reading_scale l.drift x.params) double (log_senders x l double) lost) (log_senders x l double) (λ s among. rate_none lost s among (computes s among))
-
   -- ---- the next double cycle
 
   seen_within : (d : ℕ) → IsSeenIn x.params l d → run_double base d < x.doubles
   seen_within d seen =
-      less seen.sighting.number base d x.doubles (length h) seen.is o.whole (sighting_within x h base delays clock l seen.sighting o seen.there) o.seen.seen.whole_base
+      less seen.sighting.number base d x.doubles (length h) seen.is o.whole (sighting_within x h base delays clock l o seen.sighting seen.there) o.seen.seen.whole_base
     where
       less : (n b d k long : ℕ) → n / 2 ≡ d → long ≡ 2 * k → n + b < long → b % 64 ≡ 0 → d + b / 2 < k
       less n b d k long half whole below base_is = omega (arith, half, whole, below, base_is)

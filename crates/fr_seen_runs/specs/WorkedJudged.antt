@@ -116,12 +116,18 @@ pub record JudgedOffsetIsTold : Type 0 where
       (log_stands judged_cluster (late_log 250) 0 None)
       ≡ codes "missed,1,2,offset,-,,,\n"
 
--- where the log says that a node may miss a sender, each may have missed the other one, and nothing contradicts it
+-- where the log says that a node may miss a sender, the verdict is the same: had it missed the other one, it would have applied none
 abbrev pub lost_log : LogView
 lost_log = let log : LogView = late_log 250 in record log { lost = 1 }
 
 pub record LostLog : Type 0 where
   pub heard : log_heard judged_cluster lost_log ≡ Some Poor
+  pub verdict : verdict_of judged_cluster lost_log ≡ verdict.No offset_told
+  pub missed_row :
+      missed_told judged_cluster lost_log (reading_scale 0 judged_cluster) 0
+      (senders_of (reading_scale 0 judged_cluster) judged_cluster lost_log (sightings_of judged_cluster lost_log) 0)
+      (log_stands judged_cluster lost_log 0 None)
+      ≡ codes "missed,1,2,offset,-,,,\n"
 
 -- a log is seen of no run of the cluster that is as it states
 abbrev pub IsSeenOfNoneAsStated : LogView → Type 0

@@ -1,10 +1,9 @@
 -- A double cycle of a log in both of whose cycles all nodes that are not arbitrary were seen: its rows in each run that the log is seen
 -- of are active ones, of senders, and no node follows in it. So one that is seen in sync is in sync in the run.
 use Rattle.std.proofs.Common.{◌≡◌, ℕ, suc, ◌+◌, ◌*◌, Bool, true, false, Option, Some, None, ℤ, pos, List, [], ◌∷◌, All, map, refl, ap, sym, ◌∙◌, subst, inl, inr, arith}
-use Rattle.std.specs.Prelude.{◌≤ℤ◌, ◌-ℤ◌, ◌&&◌, ◌||◌, not, Contains, filter_map, int_le, is_some}
+use Rattle.std.specs.Prelude.{◌≤ℤ◌, ◌-ℤ◌, ◌&&◌, ◌||◌, not, Contains, filter_map, is_some}
 use Rattle.std.specs.List.{cons_option, list_all}
 use Rattle.std.specs.Option.{option_and_then, option_map}
-use Rattle.std.proofs.lemmas.Int.{ints}
 use Rattle.std.proofs.lemmas.List.Elements.{All-contains, All-head, All-map, All-weaker, All-contains_itself}
 use Rattle.std.proofs.lemmas.List.Sums.{AllPass-from_list_all}
 use Rattle.fr_base.specs.Within.{LieWithin, IsBetween}
@@ -17,14 +16,11 @@ use Rattle.fr_cluster.specs.declared.nodes.NodeSpec.{NodeSpec}
 use Rattle.fr_cluster.proofs.Elements.{Contains-here, Contains-there}
 use Rattle.fr_cluster.proofs.KeyNodes.{Contains-cons_cases}
 use Rattle.fr_time.specs.Slots.{action_point_of}
-use Rattle.fr_bound.specs.Bounds.{lambda_of, pi_of}
-use Rattle.fr_bound.specs.Sync.{IsCycleLength, cycle_length_of}
+use Rattle.fr_bound.specs.Sync.{cycle_length_of}
 use Rattle.fr_history.specs.Cycles.{Cycle, Cycles, cycle_at}
 use Rattle.fr_history.specs.History.{AreRowsOf, row_for, row_of}
-use Rattle.fr_history.specs.Standing.{following_nodes, row_nodes}
-use Rattle.fr_history.specs.Unfollowed.{IsUnfollowedSyncAt}
-use Rattle.fr_runs.specs.Gathered.{CycleRuns}
-use Rattle.fr_runs.proofs.Courses.{is_correct_follower, is_correct_row, no_row}
+use Rattle.fr_history.specs.Standing.{row_nodes}
+use Rattle.fr_runs.proofs.Courses.{is_correct_row}
 use Rattle.fr_runs.proofs.Going.{rows_ascend}
 use Rattle.fr_runs.proofs.Nodes.{correct_node}
 use Rattle.fr_runs.proofs.Rows.{Ascend, all_rows, contains_map}
@@ -48,12 +44,11 @@ use Rattle.fr_seen.specs.LogSeen.{log_senders, run_double, sender_rows}
 use Rattle.fr_seen.proofs.RunLaws.{cut_at, two_at}
 use Rattle.fr_seen.proofs.SenderLaws.{box_meets, even_at, odd_at, own_is, senders_are_on_course}
 use Rattle.fr_seen_runs.specs.Contradictions.{IsObservedRun, NamesArbitrary}
-use Rattle.fr_seen_runs.specs.KeptInSync.{IsDoubleThere, LieAsSeen, IsAsLong}
-use Rattle.fr_observe.specs.declared.fault.Fault.{Fault}
-use Rattle.fr_observe.specs.Faults.{has_proper_length, is_nil, is_seen_whole, is_sync_seen, shortest_cycle_of, longest_cycle_of}
+use Rattle.fr_seen_runs.specs.LogDoubles.{IsDoubleThere, LieAsSeen, IsAsLong}
+use Rattle.fr_observe.specs.Faults.{is_seen_whole}
 use Rattle.fr_course.specs.Spread.{lengths_apart, starts_apart}
 use Rattle.fr_seen_runs.proofs.SeenDoubles.{frame_sent}
-use Rattle.fr_seen_runs.proofs.StaysInSync.{trans}
+use Rattle.fr_seen_runs.proofs.SenderRows.{trans}
 use Rattle.fr_seen_runs.proofs.SeenCourses.{course_there}
 use Rattle.fr_course.specs.Computed.{length_ticks}
 use Rattle.fr_seen_runs.proofs.SendersApart.{all_within, two_within, lie_as_seen}
@@ -74,13 +69,6 @@ given_contains {Y = Y} f (z ∷ xs) x y among is = elim (Contains-cons_cases z x
   there None more = more
   there (Some other) more = Contains-there other (filter_map f xs) y more
 
-none_among : {X : Type 0} (xs : List X) → ((x : X) → Contains xs x → ⊥) → xs ≡ []
-none_among [] none = refl
-none_among (x ∷ xs) none = absurd (none x (Contains-here x xs))
-
-le_from : (a b : ℤ) → int_le a b ≡ true → a ≤ℤ b
-le_from a b is = grind (arith, ints)
-
 -- ---- a node that was seen in a cycle
 
 -- its row is there and active
@@ -95,16 +83,13 @@ row_active c node is = rw is.has_row is.active
 
 -- ---- rows of nodes that were all seen
 
--- the rows of both cycles are active and those of senders, which lie as their courses tell; and no node follows
+-- the rows of both cycles are active, and the even ones those of senders, which lie as their courses tell
 pub record AreRowsSeen (x : Setting) (drift : ℕ) (even odd : Cycle) (senders : List Sender) : Type 0 where
-  pub each_active : (node : NodeSpec) → Contains (correct_nodes x) node → IsActiveIn even node.id × IsActiveIn odd node.id
+  pub each_active : (node : NodeSpec) → Contains (correct_nodes x) node → IsActiveIn even node.id
   pub active_even : All (λ (row : NodeRow). row.state ≡ Active) even.told.rows
   pub active_odd : All (λ (row : NodeRow). row.state ≡ Active) odd.told.rows
   pub even_among : All (Contains (sender_rows even senders)) even.told.rows
-  pub odd_among : All (Contains (sender_rows odd senders)) odd.told.rows
   pub lie : LieAsSeen x drift even odd senders
-  pub none_early : even.followers ≡ []
-  pub none_late : odd.followers ≡ []
 
 -- what any two of some numbers keep, any two of those among them do, and within what is no less
 near_by : (f : NodeRow → ℤ) (most bound : ℤ) (rows some : List NodeRow) → LieWithin most (map f some) → most ≤ℤ bound → All (Contains some) rows → LieWithin bound (map f rows)
@@ -122,32 +107,23 @@ module _ (x : Setting) (drift : ℕ) (even odd : Cycle) (senders : List Sender) 
       near_by (λ (row : NodeRow). row.start) (starts_apart (reading_scale drift x.params) (courses_of senders)).high bound even.told.rows (sender_rows even senders) seen.lie.starts_to le
       seen.even_among
 
-  pub lengths_near : (bound : ℤ) → (lengths_apart (reading_scale drift x.params) (courses_of senders)).high ≤ℤ bound
-      → LieWithin bound (map (cycle_length_of x.params) even.told.rows) × LieWithin bound (map (cycle_length_of x.params) odd.told.rows)
+  pub lengths_near : (bound : ℤ) → (lengths_apart (reading_scale drift x.params) (courses_of senders)).high ≤ℤ bound → LieWithin bound (map (cycle_length_of x.params) even.told.rows)
   lengths_near bound le =
-      let most = (lengths_apart (reading_scale drift x.params) (courses_of senders)).high in (
-        near_by (cycle_length_of x.params) most bound even.told.rows (sender_rows even senders) seen.lie.even_lengths_to le seen.even_among,
-        near_by (cycle_length_of x.params) most bound odd.told.rows (sender_rows odd senders) seen.lie.odd_lengths_to le seen.odd_among,
-      )
+      near_by (cycle_length_of x.params) (lengths_apart (reading_scale drift x.params) (courses_of senders)).high bound even.told.rows (sender_rows even senders) seen.lie.even_lengths_to le
+      seen.even_among
 
   -- what holds of each length that the course of a sender allows
   module _ (P : ℤ → Type 0) (each : (s : Sender) → Contains senders s → (ticks : ℤ) → IsBetween (Long s).low (Long s).high ticks → P ticks) where
-    of_rows : (c : Cycle) → ((s : Sender) → Contains senders s → P (cycle_length_of x.params (row_for c.told.rows s.node))) → All (Contains (sender_rows c senders)) c.told.rows
-        → All (λ (row : NodeRow). P (cycle_length_of x.params row)) c.told.rows
-    of_rows c holds among =
-        let Holds : NodeRow → Type 0 = λ row. P (cycle_length_of x.params row) in
-        let at : Sender → NodeRow = λ s. row_for c.told.rows s.node in
-        let all : All Holds (sender_rows c senders) = All-map Holds at senders (All-weaker (Contains senders) (λ (s : Sender). Holds (at s)) holds senders (All-contains_itself senders)) in
-        All-weaker (Contains (sender_rows c senders)) Holds (λ row there. All-contains Holds (sender_rows c senders) row all there) c.told.rows among
-
     long_as_seen : (s : Sender) → Contains senders s → IsAsLong x drift even odd s
     long_as_seen s among = All-contains (IsAsLong x drift even odd) senders s seen.lie.long among
 
     pub even_long : All (λ (row : NodeRow). P (cycle_length_of x.params row)) even.told.rows
-    even_long = of_rows even (λ s among. each s among (cycle_length_of x.params (row_for even.told.rows s.node)) (long_as_seen s among).even_long) seen.even_among
-
-    pub odd_long : All (λ (row : NodeRow). P (cycle_length_of x.params row)) odd.told.rows
-    odd_long = of_rows odd (λ s among. each s among (cycle_length_of x.params (row_for odd.told.rows s.node)) (long_as_seen s among).odd_long) seen.odd_among
+    even_long =
+        let Holds : NodeRow → Type 0 = λ row. P (cycle_length_of x.params row) in
+        let at : Sender → NodeRow = λ s. row_for even.told.rows s.node in
+        let holds : (s : Sender) → Contains senders s → Holds (at s) = λ s among. each s among (cycle_length_of x.params (at s)) (long_as_seen s among).even_long in
+        let all : All Holds (sender_rows even senders) = All-map Holds at senders (All-weaker (Contains senders) (λ (s : Sender). Holds (at s)) holds senders (All-contains_itself senders)) in
+        All-weaker (Contains (sender_rows even senders)) Holds (λ row there. All-contains Holds (sender_rows even senders) row all there) even.told.rows seen.even_among
 
 -- ---- the nodes of a log
 
@@ -285,21 +261,6 @@ module _ (x : Setting) (h : Cycles) (base : ℕ) (delays : ℕ → Channel → D
       rows_active : ((node : NodeSpec) → Contains (correct_nodes x) node → IsActiveIn c node.id) → All (λ (row : NodeRow). row.state ≡ Active) c.told.rows
       rows_active active = all_rows nodes c.told.rows (λ (row : NodeRow). row.state ≡ Active) ascend are (λ node among. row_active c node.id (active node (correct node among)))
 
-    no_followers : (earlier : Cycles) (c : Cycle) → CycleRuns x earlier c → ((node : NodeSpec) → Contains (correct_nodes x) node → IsActiveIn c node.id) → c.followers ≡ []
-    no_followers earlier c runs each =
-        rows_none (following_nodes x earlier) c.followers runs.followers.nodes
-        (none_among (following_nodes x earlier)
-        (λ node among.
-        let is = each node (is_correct_follower x earlier node among) in
-        some_none is.row (sym is.has_row ∙ no_row (following_nodes x earlier) c.told.rows c.followers node runs.followers.nodes among runs.apart)))
-      where
-        some_none : (row : NodeRow) → Some row ≡ None → ⊥
-        some_none row is = cc is
-
-        rows_none : (nodes : List NodeSpec) (rows : List NodeRow) → AreRowsOf nodes rows → nodes ≡ [] → rows ≡ []
-        rows_none nodes [] are none = refl
-        rows_none nodes (row ∷ rows) are none = absurd (let e = are ∙ ap (map (λ (node : NodeSpec). node.id)) none in cc e)
-
     pub rows_seen : AreRowsSeen x l.drift there.even there.odd (log_senders x l double)
     rows_seen =
         let cut = cut_at h At there.even there.odd there.has in
@@ -313,81 +274,11 @@ module _ (x : Setting) (h : Cycles) (base : ℕ) (delays : ℕ → Channel → D
         let in_even : (node : NodeSpec) → Contains (correct_nodes x) node → IsActiveIn there.even node.id = λ node correct. (node_seen node correct).in_even in
         let in_odd : (node : NodeSpec) → Contains (correct_nodes x) node → IsActiveIn there.odd node.id = λ node correct. (node_seen node correct).in_odd in
         record {
-          each_active = λ node correct. (in_even node correct, in_odd node correct);
+          each_active = in_even;
           active_even = rows_active there.even even_nodes even_ascend two.even_runs.0.rows.nodes even_correct in_even;
           active_odd = rows_active there.odd odd_nodes odd_ascend two.odd_runs.rows.nodes odd_correct in_odd;
           even_among = rows_among there.even even_nodes even_ascend two.even_runs.0.rows.nodes even_correct;
-          odd_among = rows_among there.odd odd_nodes odd_ascend two.odd_runs.rows.nodes odd_correct;
           lie =
               lie_as_seen x l.drift (clock At) there.even there.odd run.timed.sane (run.seen.seen.within_drift At) Senders
               (senders_are_on_course x h base delays clock l double there.even there.odd run.timed run.log run.seen there.has);
-          none_early = no_followers cut.earlier there.even two.even_runs.0 in_even;
-          none_late = no_followers (there.even ∷ cut.earlier) there.odd two.odd_runs in_odd;
         }
-
-  -- ---- a double cycle that is seen in sync
-
-  module _ (double : ℕ) (named : NamesArbitrary x l) (there : IsDoubleThere h (run_double base double)) (faults : List Fault)
-      (synced : is_sync_seen x.params Scaled l (Here double) double (log_senders x l double) faults ≡ true) where
-    record AreSeenSynced : Type 0 where
-      whole : list_all (is_seen_whole l (Here double) double) x.params.nodes ≡ true
-      starts : (starts_apart Scaled (courses_of (log_senders x l double))).high ≤ℤ pos (pi_of x.params)
-      lengths : (lengths_apart Scaled (courses_of (log_senders x l double))).high ≤ℤ pos (lambda_of x.params)
-      proper : list_all (has_proper_length x.params Scaled) (log_senders x l double) ≡ true
-
-    parts : AreSeenSynced
-    unfolding is_sync_seen
-    parts =
-        let senders = log_senders x l double in
-        let starts = int_le (starts_apart Scaled (courses_of senders)).high (pos (pi_of x.params)) in
-        let lengths = int_le (lengths_apart Scaled (courses_of senders)).high (pos (lambda_of x.params)) in
-        let whole = list_all (is_seen_whole l (Here double) double) x.params.nodes in
-        let proper = list_all (has_proper_length x.params Scaled) senders in
-        let one = both (is_nil faults && whole && starts && lengths) proper synced in
-        let two = both (is_nil faults && whole && starts) lengths one.0 in
-        let three = both (is_nil faults && whole) starts two.0 in
-        let four = both (is_nil faults) whole three.0 in
-        record {
-          whole = four.1;
-          starts = le_from (starts_apart Scaled (courses_of senders)).high (pos (pi_of x.params)) three.1;
-          lengths = le_from (lengths_apart Scaled (courses_of senders)).high (pos (lambda_of x.params)) two.1;
-          proper = one.1;
-        }
-
-    proper_by : (s : Sender) → Contains (log_senders x l double) s → (ticks : ℤ) → IsBetween (length_ticks Scaled s.course).low (length_ticks Scaled s.course).high ticks → IsCycleLength x.params ticks
-    proper_by s among ticks between =
-        let senders = log_senders x l double in
-        let shortest = shortest_cycle_of x.params in
-        let longest = longest_cycle_of x.params in
-        let long = length_ticks Scaled s.course in
-        let passes = All-contains (λ (s : Sender). has_proper_length x.params Scaled s ≡ true) senders s (AllPass-from_list_all (has_proper_length x.params Scaled) senders parts.proper) among in
-        let tests = both (int_le shortest long.low) (int_le long.high longest) passes in
-        (trans shortest long.low ticks (le_from shortest long.low tests.0) between.low, trans ticks long.high longest between.high (le_from long.high longest tests.1))
-
-    pub sync_is_seen_at : IsUnfollowedSyncAt x.params h (run_double base double)
-    sync_is_seen_at =
-        let senders = log_senders x l double in
-        let seen = rows_seen double named there parts.whole in
-        let lengths = lengths_near x l.drift there.even there.odd senders seen (pos (lambda_of x.params)) parts.lengths in
-        record {
-          synced = record {
-            even = there.even;
-            odd = there.odd;
-            has_even = there.has.has_even;
-            has_odd = subst (λ n. cycle_at h n ≡ Some there.odd) (later (2 * run_double base double)) there.has.has_odd;
-            in_sync = record {
-              active_even = seen.active_even;
-              active_odd = seen.active_odd;
-              starts = starts_near x l.drift there.even there.odd senders seen (pos (pi_of x.params)) parts.starts;
-              even_lengths = lengths.0;
-              odd_lengths = lengths.1;
-              even_proper = even_long x l.drift there.even there.odd senders seen (IsCycleLength x.params) proper_by;
-              odd_proper = odd_long x l.drift there.even there.odd senders seen (IsCycleLength x.params) proper_by;
-            };
-          };
-          none_early = seen.none_early;
-          none_late = seen.none_late;
-        }
-      where
-        later : (n : ℕ) → suc n ≡ n + 1
-        later n = omega arith
