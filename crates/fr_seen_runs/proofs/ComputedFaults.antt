@@ -38,9 +38,9 @@ use Rattle.fr_seen.proofs.SenderLaws.{all_given, mapped_some, senders_go_on}
 use Rattle.fr_seen.proofs.TermLaws.{rate_steps_are_seen}
 use Rattle.fr_seen_runs.specs.Contradictions.{IsObservedRun, MissesFew}
 use Rattle.fr_observe.specs.declared.fault.FaultKind.{FaultKind}
-use Rattle.fr_observe.specs.Faults.{offset_by, offset_fault, rate_by, rate_fault, stated_flutter, unlike_fault, unlike_with}
+use Rattle.fr_observe.specs.Faults.{offset_due, offset_fault, rate_due, rate_fault, stated_flutter, unlike_fault, unlike_with}
 use Rattle.fr_observe.specs.declared.fault.FaultKind.TheVariants.{Offset, Rate}
-use Rattle.fr_judging.specs.Missing.{term_fault}
+use Rattle.fr_judging.specs.Missing.{unlike_term}
 use Rattle.fr_judging.specs.declared.missed.Term.{Term}
 use Rattle.fr_judging.specs.declared.missed.Term.TheVariants.{OffsetTerm, RateTerm}
 use Rattle.fr_seen_runs.specs.ComputedTerms.{IsNamedLog, OffsetIsComputed, RateIsComputed}
@@ -174,7 +174,7 @@ module _ (x : Setting) (h : Cycles) (base : ℕ) (delays : ℕ → Channel → D
     where
       by : (next : Option Course) → s.next ≡ next
           → unlike_fault Offset (2 * double + 1) s.node (option_map (λ course. offset_seen (reading_scale l.drift x.params) s.course course s.onward) next)
-          (offset_by x.params l (reading_scale l.drift x.params) (log_senders x l double) lost s) ≡ None
+          (offset_due x.params l (reading_scale l.drift x.params) (log_senders x l double) lost s) ≡ None
       by None goes = refl
       by (Some next) goes =
           let both = computes next goes in
@@ -183,7 +183,7 @@ module _ (x : Setting) (h : Cycles) (base : ℕ) (delays : ℕ → Channel → D
           (observed_next_rows_hold x h base delays clock l double both.even both.odd both.next.even both.next.odd o.timed o.log o.seen both.has both.next.has).terms among in
           let Term : Option Course → Type 0 = λ n. IfSome (option_map (λ course. offset_seen (reading_scale l.drift x.params) s.course course s.onward) n) (λ i. IsBetween i.low i.high (row_for both.odd.told.rows s.node).offset) in
           unlike_none Offset (2 * double + 1) s.node (Some (offset_seen (reading_scale l.drift x.params) s.course next s.onward))
-          (offset_by x.params l (reading_scale l.drift x.params) (log_senders x l double) lost s) (row_for both.odd.told.rows s.node).offset (subst Term goes terms) both.offset
+          (offset_due x.params l (reading_scale l.drift x.params) (log_senders x l double) lost s) (row_for both.odd.told.rows s.node).offset (subst Term goes terms) both.offset
 
   -- ---- rates
 
@@ -193,7 +193,7 @@ module _ (x : Setting) (h : Cycles) (base : ℕ) (delays : ℕ → Channel → D
     where
       by : (next : Option Course) → s.next ≡ next
           → unlike_fault Rate (2 * double + 1) s.node (option_map (rate_step_seen (reading_scale l.drift x.params) s.course) next)
-          (rate_by x.params l (reading_scale l.drift x.params) (log_senders x l double) lost s) ≡ None
+          (rate_due x.params l (reading_scale l.drift x.params) (log_senders x l double) lost s) ≡ None
       by None goes = refl
       by (Some next) goes =
           let both = computes next goes in
@@ -203,7 +203,7 @@ module _ (x : Setting) (h : Cycles) (base : ℕ) (delays : ℕ → Channel → D
           let Goes : Option Course → Type 0 = λ n. IfSome n (GoesOnBy x l.drift (clock (run_double base double)) both.even both.odd both.next.even both.next.odd s) in
           let on = subst Goes goes goes_on in
           unlike_none Rate (2 * double + 1) s.node (Some (rate_step_seen (reading_scale l.drift x.params) s.course next))
-          (rate_by x.params l (reading_scale l.drift x.params) (log_senders x l double) lost s)
+          (rate_due x.params l (reading_scale l.drift x.params) (log_senders x l double) lost s)
           ((row_for both.next.even.told.rows s.node).rate -ℤ (row_for both.odd.told.rows s.node).rate)
           (
           rate_steps_are_seen x.params l.drift (clock (run_double base double)) (seen_twice both.even both.odd both.next.even both.next.odd s next) s.onward on.goes
@@ -258,7 +258,7 @@ module _
 
     pub term_none : OffsetsAreComputed → RatesAreComputed → (kind : Term) (lost : ℕ) (s : Sender) (node : NodeSpec) → Contains (log_senders x l double) s → Contains (correct_nodes x) node
         → node.id ≡ s.node → MissesFew x (run_double base double) lost node
-        → term_fault kind x.params l (reading_scale l.drift x.params) double (log_senders x l double) s lost ≡ None
+        → unlike_term kind x.params l (reading_scale l.drift x.params) double (log_senders x l double) s lost ≡ None
     term_none offsets rates OffsetTerm lost s node among correct same misses =
         offset_none x h base delays clock l double observed lost s among (computes_both offsets rates lost s node among correct same misses)
     term_none offsets rates RateTerm lost s node among correct same misses =

@@ -28,7 +28,7 @@ use Rattle.fr_sightings.specs.declared.sender.Sender.{Sender}
 use Rattle.fr_observe.specs.Faults.{further_of, other_courses, stated_flutter, unlike_fault}
 use Rattle.fr_observe.specs.Observing.{terms_of}
 use Rattle.fr_observe.specs.declared.fault.FaultKind.TheVariants.{Offset, Rate}
-use Rattle.fr_judging.specs.Missing.{least_missed, term_fault}
+use Rattle.fr_judging.specs.Missing.{least_missed, unlike_term}
 use Rattle.fr_judging.specs.declared.missed.Term.{Term}
 use Rattle.fr_judging.specs.declared.missed.Term.TheVariants.{OffsetTerm, RateTerm}
 use Rattle.fr_seen.specs.Clocks.{StraightClock}
@@ -105,7 +105,7 @@ module _ (p : Values) (l : LogView) (scale : Scale) (double : ℕ) (senders : Li
   long_with box = ap suc (length-map others box)
 
   -- so nothing changes beyond that
-  pub same_term : (kind : Term) (lost : ℕ) → term_fault kind p l scale double senders s (least_of_both lost) ≡ term_fault kind p l scale double senders s lost
+  pub same_term : (kind : Term) (lost : ℕ) → unlike_term kind p l scale double senders s (least_of_both lost) ≡ unlike_term kind p l scale double senders s lost
   same_term OffsetTerm lost =
       let box = deviation_seen scale (measuring_of p (stated_flutter p l)) s.course in
       ap (unlike_fault Offset (2 * double + 1) s.node (terms_of scale s)) (same_middle lost (own_value ∷ map box others) (long_with box))
@@ -136,7 +136,7 @@ pub missed_no_less : (what : Heard) (x : Setting) (h : Cycles) (base : ℕ) (del
 missed_no_less what x h base delays clock l double known offsets rates log j kind lost s node among correct same misses =
     let scale = reading_scale l.drift x.params in
     let senders = log_senders x l double in
-    let test : ℕ → Bool = λ n. is_none (term_fault kind x.params l scale double senders s n) in
+    let test : ℕ → Bool = λ n. is_none (unlike_term kind x.params l scale double senders s n) in
     least_no_less test (length senders) (length (other_courses senders s.node)) lost (fewer_others x.params l scale double senders s among)
     (ap is_none (same_term x.params l scale double senders s kind lost))
     (ap is_none (term_none what x h base delays clock l double known log j offsets rates kind lost s node among correct same misses))

@@ -17,7 +17,7 @@ use Rattle.fr_bound.specs.Judged.{apart_through}
 use Rattle.fr_bound.specs.declared.judging.Heard.{Heard}
 use Rattle.fr_bound.specs.declared.judging.Known.{Known}
 use Rattle.fr_judging.specs.Knowing.{judged_met, judged_skews, judged_terms, known_apart, known_missing, moving_faults, moving_heard, standing_faults, term_faults}
-use Rattle.fr_observe.specs.Faults.{asks_own_slots, asks_judged, beyond_fault, irregular_fault, is_inside, length_beyond, length_fault_by, longest_cycle_of, missing_by, missing_frames, missing_in, missing_of, missing_on, missing_with, node_missing, offset_fault, plain_fault, offset_by, rate_by, rate_fault, shortest_cycle_of, skew_fault, slot_faults, stated_flutter, unlike_fault, unlike_with, was_seen}
+use Rattle.fr_observe.specs.Faults.{asks_own_slots, asks_judged, beyond_fault, irregular_fault, is_inside, length_beyond, length_fault_by, longest_cycle_of, missing_by, missing_frames, missing_in, missing_of, missing_on, missing_with, node_missing, offset_fault, plain_fault, offset_due, rate_due, rate_fault, shortest_cycle_of, skew_fault, slot_faults, stated_flutter, unlike_fault, unlike_with, was_seen}
 use Rattle.fr_judging.specs.declared.knowing.Standing.{Standing}
 use Rattle.fr_observe.specs.Observing.{courses_of, even_high, even_low, odd_high, odd_low, terms_of}
 use Rattle.fr_sightings.specs.Senders.{first_stamp, own_slot}
@@ -112,9 +112,9 @@ judged_terms_ask p l scale double senders None = All-nil AsksJudged
 judged_terms_ask p l scale double senders (Some met) =
     All-append AsksJudged (filter_map (offset_fault p l scale double senders l.lost) senders) (filter_map (rate_fault p l scale double senders l.lost) senders)
     (given (offset_fault p l scale double senders l.lost) senders
-    (λ s. unlike_asks Offset (2 * double + 1) s.node refl (terms_of scale s) (offset_by p l scale senders l.lost s)))
+    (λ s. unlike_asks Offset (2 * double + 1) s.node refl (terms_of scale s) (offset_due p l scale senders l.lost s)))
     (given (rate_fault p l scale double senders l.lost) senders
-    (λ s. unlike_asks Rate (2 * double + 1) s.node refl (option_map (rate_step_seen scale s.course) s.next) (rate_by p l scale senders l.lost s)))
+    (λ s. unlike_asks Rate (2 * double + 1) s.node refl (option_map (rate_step_seen scale s.course) s.next) (rate_due p l scale senders l.lost s)))
 
 known_apart_ask : (p : Values) (scale : Scale) (double : ℕ) (senders : List Sender) (known : Option Known) → All AsksJudged (known_apart p scale double senders known)
 unfolding known_apart

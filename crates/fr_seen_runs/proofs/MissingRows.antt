@@ -32,7 +32,7 @@ use Rattle.fr_observe.specs.declared.fault.Fault.{Fault}
 use Rattle.fr_observe.specs.declared.fault.FaultKind.TheVariants.{Offset, Rate}
 use Rattle.fr_judging.specs.Hearing.{log_heard}
 use Rattle.fr_judging.specs.Knowing.{judged_met, standing_of}
-use Rattle.fr_judging.specs.Missing.{all_missed, least_missed, missed_by, missed_of, missed_with, term_fault}
+use Rattle.fr_judging.specs.Missing.{all_missed, least_missed, missed_where, missed_of_term, missed_with, unlike_term}
 use Rattle.fr_judging.specs.declared.knowing.Standing.{Standing}
 use Rattle.fr_judging.specs.declared.missed.Missed.{Missed}
 use Rattle.fr_judging.specs.declared.missed.Term.{Term}
@@ -43,7 +43,7 @@ use Rattle.fr_seen.specs.Clocks.{StraightClock}
 use Rattle.fr_seen.specs.LogSeen.{log_senders, run_double}
 use Rattle.fr_seen.proofs.SenderLaws.{all_given}
 use Rattle.fr_seen_runs.specs.Contradictions.{IsAsLogStates, IsObservedRun, MissesFew}
-use Rattle.fr_seen_runs.specs.Standings.{IsKnownOfLog, IsNoLess, Missing, MissingIsSo, MissingsAreSo, StandingsAreSo, log_missing, log_standing, missing_from, missing_of}
+use Rattle.fr_seen_runs.specs.Standings.{IsKnownOfLog, IsNoLess, Missing, MissingIsSo, MissingsAreSo, StandingsAreSo, log_missing, log_standing, missed_rows_from, missed_rows_of}
 use Rattle.fr_seen_runs.proofs.Contradicted.{known_step}
 use Rattle.fr_seen_runs.proofs.Progressing.{seen_in_turn, told_all, told_from}
 use Rattle.fr_seen_runs.proofs.Standings.{IsJudged, KnownIsKept, judged_is, none_missed}
@@ -166,7 +166,7 @@ module _ (p : Values) (l : LogView) (scale : Scale) (double : ℕ) (senders : Li
       least : (a b c d : ℕ) → suc a ≤ d → b ≡ a → c ≡ b → suc c ≤ d
       least a b c d le is also = omega (arith, le, is, also)
 
-  fault_stays : (kind : Term) (extra least : ℕ) → length senders ≤ suc least → term_fault kind p l scale double senders s (extra + least) ≡ term_fault kind p l scale double senders s least
+  fault_stays : (kind : Term) (extra least : ℕ) → length senders ≤ suc least → unlike_term kind p l scale double senders s (extra + least) ≡ unlike_term kind p l scale double senders s least
   fault_stays OffsetTerm extra least few =
       let value = deviation_seen scale (measuring_of p (stated_flutter p l)) s.course in
       let known = own_value ∷ map value (other_courses senders s.node) in
@@ -188,7 +188,7 @@ module _ (p : Values) (l : LogView) (scale : Scale) (double : ℕ) (senders : Li
   -- so where each number up to that of the others is contradicted, each is
   module _ (kind : Term) where
     abbrev Told : ℕ → Option Fault
-    Told lost = term_fault kind p l scale double senders s lost
+    Told lost = unlike_term kind p l scale double senders s lost
 
     each_told : ((lost : ℕ) → lost < length senders → IsTold (Told lost)) → (lost : ℕ) → IsTold (Told lost)
     each_told below lost = by (nat_lt lost (length senders)) refl
@@ -247,42 +247,42 @@ module _
     (x : Setting) (h : Cycles) (base : ℕ) (delays : ℕ → Channel → Delays) (clock : ℕ → StraightClock) (l : LogView) (what : Heard) (double : ℕ)
     (run : IsObservedRun x h base delays clock l) (states : IsAsLogStates x h base l) (is : log_heard x.params l ≡ Some what) (among : Contains (seen_doubles (sightings_of x.params l)) double) (kept : KnownIsKept)
   where
-  abbrev Scaled : Scale
-  Scaled = reading_scale l.drift x.params
+    abbrev Scaled : Scale
+    Scaled = reading_scale l.drift x.params
 
-  abbrev Senders : List Sender
-  Senders = log_senders x l double
+    abbrev Senders : List Sender
+    Senders = log_senders x l double
 
-  abbrev IsSo : Missed → Type 0
-  IsSo missed = MissingIsSo x base (record { number = double; missed = missed })
+    abbrev IsSo : Missed → Type 0
+    IsSo missed = MissingIsSo x base (record { number = double; missed = missed })
 
-  abbrev Row : Term → Sender → Missed
-  Row kind s = missed_with kind double s.node (least_missed kind x.params l (reading_scale l.drift x.params) double (log_senders x l double) s)
+    abbrev Row : Term → Sender → Missed
+    Row kind s = missed_with kind double s.node (least_missed kind x.params l (reading_scale l.drift x.params) double (log_senders x l double) s)
 
-  sender_so : (met : Known) → IsJudged x h base delays clock l what double run states is among kept met → (kind : Term) (s : Sender) → Contains (log_senders x l double) s → (missed : Missed)
-      → missed_by kind x.params l (reading_scale l.drift x.params) double (log_senders x l double) s ≡ Some missed → MissingIsSo x base (record { number = double; missed = missed })
-  sender_so met j kind s there missed told = by (is_some (term_fault kind x.params l Scaled double Senders s 0)) told
-    where
-      same : (a b : Missed) → Some a ≡ Some b → a ≡ b
-      same a b is = cc is
+    sender_so : (met : Known) → IsJudged x h base delays clock l what double run states is among kept met → (kind : Term) (s : Sender) → Contains (log_senders x l double) s → (missed : Missed)
+        → missed_where kind x.params l (reading_scale l.drift x.params) double (log_senders x l double) s ≡ Some missed → MissingIsSo x base (record { number = double; missed = missed })
+    sender_so met j kind s there missed told = by (is_some (unlike_term kind x.params l Scaled double Senders s 0)) told
+      where
+        same : (a b : Missed) → Some a ≡ Some b → a ≡ b
+        same a b is = cc is
 
-      so : IsSo (Row kind s)
-      so node lost correct number misses =
-          no_less x.params l Scaled double Senders s there kind lost
-          (λ fault contradicted. none_missed x h base delays clock l what double run states is among kept met j kind s node lost fault there correct number contradicted misses)
+        so : IsSo (Row kind s)
+        so node lost correct number misses =
+            no_less x.params l Scaled double Senders s there kind lost
+            (λ fault contradicted. none_missed x h base delays clock l what double run states is among kept met j kind s node lost fault there correct number contradicted misses)
 
-      by : (b : Bool) → (if b then Some (Row kind s) else None) ≡ Some missed → IsSo missed
-      by true given = subst IsSo (same (Row kind s) missed given) so
-      by false given = absurd (cc given)
+        by : (b : Bool) → (if b then Some (Row kind s) else None) ≡ Some missed → IsSo missed
+        by true given = subst IsSo (same (Row kind s) missed given) so
+        by false given = absurd (cc given)
 
-  missed_so : (judged : Option Known) → IfSome judged (IsJudged x h base delays clock l what double run states is among kept)
-      → All (λ missed. MissingIsSo x base (record { number = double; missed = missed })) (all_missed x.params l (reading_scale l.drift x.params) double (log_senders x l double) judged)
-  missed_so None none = All-nil IsSo
-  missed_so (Some met) j =
-      let p = x.params in
-      All-append IsSo (missed_of OffsetTerm p l Scaled double Senders) (missed_of RateTerm p l Scaled double Senders)
-      (all_given (missed_by OffsetTerm p l Scaled double Senders) IsSo Senders (sender_so met j OffsetTerm))
-      (all_given (missed_by RateTerm p l Scaled double Senders) IsSo Senders (sender_so met j RateTerm))
+    missed_so : (judged : Option Known) → IfSome judged (IsJudged x h base delays clock l what double run states is among kept)
+        → All (λ missed. MissingIsSo x base (record { number = double; missed = missed })) (all_missed x.params l (reading_scale l.drift x.params) double (log_senders x l double) judged)
+    missed_so None none = All-nil IsSo
+    missed_so (Some met) j =
+        let p = x.params in
+        All-append IsSo (missed_of_term OffsetTerm p l Scaled double Senders) (missed_of_term RateTerm p l Scaled double Senders)
+        (all_given (missed_where OffsetTerm p l Scaled double Senders) IsSo Senders (sender_so met j OffsetTerm))
+        (all_given (missed_where RateTerm p l Scaled double Senders) IsSo Senders (sender_so met j RateTerm))
 
 -- ---- a log
 
@@ -314,7 +314,7 @@ module _ (x : Setting) (h : Cycles) (base : ℕ) (delays : ℕ → Channel → D
       (judged_is x h base delays clock l what double run states is among kept known told before)
 
   missing_step : (double : ℕ) (progress : Progress) → Contains (seen_doubles Seen) double → IsKnownOfLog x h base double progress.known
-      → All (MissingIsSo x base) (missing_of Log Seen Offending progress double) × IsKnownOfLog x h base (suc double) (progress_behind Log Seen Offending double progress).known
+      → All (MissingIsSo x base) (missed_rows_of Log Seen Offending progress double) × IsKnownOfLog x h base (suc double) (progress_behind Log Seen Offending double progress).known
   unfolding standing_told standing_by
   missing_step double progress among before = (
     All-map (MissingIsSo x base) (λ missed. record { number = double; missed = missed }) (all_missed x.params l Log.scale double (At double).senders (judged_met (standing_told Log (At double) progress.known)))
@@ -322,18 +322,18 @@ module _ (x : Setting) (h : Cycles) (base : ℕ) (delays : ℕ → Channel → D
     (known_step x h base delays clock l run states stand (λ fault. ⊥) double progress among before).1,
   )
 
-  missing_are : (progress : Progress) (doubles : List ℕ) → told_from Log Seen Offending (λ double before. missing_of Log Seen Offending before double) progress doubles ≡ missing_from Log Seen Offending progress doubles
-  unfolding told_from missing_from
+  missing_are : (progress : Progress) (doubles : List ℕ) → told_from Log Seen Offending (λ double before. missed_rows_of Log Seen Offending before double) progress doubles ≡ missed_rows_from Log Seen Offending progress doubles
+  unfolding told_from missed_rows_from
   missing_are progress [] = refl
   missing_are progress (double ∷ doubles) =
-      ap (λ rows. missing_of Log Seen Offending progress double ++ rows) (missing_are (progress_behind Log Seen Offending double progress) doubles)
+      ap (λ rows. missed_rows_of Log Seen Offending progress double ++ rows) (missing_are (progress_behind Log Seen Offending double progress) doubles)
 
   pub missings_told : All (MissingIsSo x base) (log_missing x.params l)
   unfolding log_missing
   missings_told =
       subst (All (MissingIsSo x base)) (missing_are no_progress (seen_doubles Seen))
       (
-      told_all Log Seen Offending (λ double before. missing_of Log Seen Offending before double) (MissingIsSo x base)
+      told_all Log Seen Offending (λ double before. missed_rows_of Log Seen Offending before double) (MissingIsSo x base)
       (λ double progress. IsKnownOfLog x h base double progress.known) (seen_doubles Seen) no_progress (seen_in_turn Seen) missing_step (λ first. tt)
       )
 

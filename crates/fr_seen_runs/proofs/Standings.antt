@@ -26,7 +26,7 @@ use Rattle.fr_sightings.specs.Sure.{is_sync_as}
 use Rattle.fr_sightings.specs.declared.sender.Sender.{Sender}
 use Rattle.fr_sightings.specs.declared.sighting.Sighting.{Sighting}
 use Rattle.fr_judging.specs.Knowing.{is_judged_by, is_stated_at, judged_met, judged_skews, judged_terms, known_apart, known_as_stated, known_missing, known_next, known_seen, moving_faults, standing_faults, standing_of, term_faults}
-use Rattle.fr_judging.specs.Missing.{term_fault}
+use Rattle.fr_judging.specs.Missing.{unlike_term}
 use Rattle.fr_judging.specs.declared.missed.Term.{Term}
 use Rattle.fr_judging.specs.declared.missed.Term.TheVariants.{OffsetTerm, RateTerm}
 use Rattle.fr_observe.specs.Faults.{offset_fault, rate_fault, skew_fault, stated_flutter}
@@ -206,14 +206,14 @@ module _
 
       -- a node whose term is contradicted, if it missed at most so many senders, misses more
       pub none_missed : (kind : Term) (s : Sender) (node : NodeSpec) (lost : ℕ) (fault : Fault) → Contains (log_senders x l double) s → Contains (correct_nodes x) node → node.id ≡ s.node
-          → term_fault kind x.params l (reading_scale l.drift x.params) double (log_senders x l double) s lost ≡ Some fault → MissesFew x (run_double base double) lost node → ⊥
+          → unlike_term kind x.params l (reading_scale l.drift x.params) double (log_senders x l double) s lost ≡ Some fault → MissesFew x (run_double base double) lost node → ⊥
       none_missed kind s node lost fault there correct same told misses =
           kept.missed what kind x h base delays clock l double lost met s node fault named judged_run there correct same told misses
 
-      no_term_fault : (kind : Term) (s : Sender) → Contains (log_senders x l double) s → term_fault kind x.params l (reading_scale l.drift x.params) double (log_senders x l double) s l.lost ≡ None
-      no_term_fault kind s there = by (term_fault kind p l Scaled double Senders s l.lost) refl
+      no_term_fault : (kind : Term) (s : Sender) → Contains (log_senders x l double) s → unlike_term kind x.params l (reading_scale l.drift x.params) double (log_senders x l double) s l.lost ≡ None
+      no_term_fault kind s there = by (unlike_term kind p l Scaled double Senders s l.lost) refl
         where
-          by : (told : Option Fault) → term_fault kind p l Scaled double Senders s l.lost ≡ told → told ≡ None
+          by : (told : Option Fault) → unlike_term kind p l Scaled double Senders s l.lost ≡ told → told ≡ None
           by None told = refl
           by (Some fault) told =
               let of = sender_node s there in

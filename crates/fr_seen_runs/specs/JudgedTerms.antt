@@ -15,7 +15,7 @@ use Rattle.fr_course.specs.Readings.{reading_scale}
 use Rattle.fr_course.specs.declared.stamps.Delays.{Delays}
 use Rattle.fr_observe.specs.Faults.{stated_flutter}
 use Rattle.fr_observe.specs.declared.fault.Fault.{Fault}
-use Rattle.fr_judging.specs.Missing.{term_fault}
+use Rattle.fr_judging.specs.Missing.{unlike_term}
 use Rattle.fr_judging.specs.declared.missed.Term.{Term}
 use Rattle.fr_sightings.specs.declared.sender.Sender.{Sender}
 use Rattle.fr_seen.specs.Clocks.{StraightClock}
@@ -62,5 +62,5 @@ MissedIsSo =
     → IsNamedLog x h base delays clock l
     → IsJudgedRun what x (stated_flutter x.params l) h (run_double base double) known
     → Contains (log_senders x l double) s → Contains (correct_nodes x) node → node.id ≡ s.node
-    → term_fault kind x.params l (reading_scale l.drift x.params) double (log_senders x l double) s lost ≡ Some fault
+    → unlike_term kind x.params l (reading_scale l.drift x.params) double (log_senders x l double) s lost ≡ Some fault
     → MissesFew x (run_double base double) lost node → ⊥

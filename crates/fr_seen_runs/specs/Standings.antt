@@ -110,23 +110,23 @@ pub record Missing : Type 0 where
   pub number : ℕ
   pub missed : Missed
 
-abbrev pub missing_of : Basis → List Sighting → OffendingFrames → Progress → ℕ → List Missing
-missing_of b seen offending progress double =
+abbrev pub missed_rows_of : Basis → List Sighting → OffendingFrames → Progress → ℕ → List Missing
+missed_rows_of b seen offending progress double =
     map (λ missed. record { number = double; missed = missed })
     (
     all_missed b.params b.log b.scale double (double_at b seen offending double).senders
     (judged_met (standing_told b (double_at b seen offending double) progress.known))
     )
 
-unfoldable pub missing_from : Basis → List Sighting → OffendingFrames → Progress → List ℕ → List Missing
-missing_from b seen offending progress [] = []
-missing_from b seen offending progress (double ∷ doubles) =
-    missing_of b seen offending progress double
-    ++ missing_from b seen offending (progress_behind b seen offending double progress) doubles
+unfoldable pub missed_rows_from : Basis → List Sighting → OffendingFrames → Progress → List ℕ → List Missing
+missed_rows_from b seen offending progress [] = []
+missed_rows_from b seen offending progress (double ∷ doubles) =
+    missed_rows_of b seen offending progress double
+    ++ missed_rows_from b seen offending (progress_behind b seen offending double progress) doubles
 
 unfoldable pub log_missing : Values → LogView → List Missing
 log_missing p l =
-    missing_from (log_basis p l) (sightings_of p l) (offending_frames_of p l) no_progress (seen_doubles (sightings_of p l))
+    missed_rows_from (log_basis p l) (sightings_of p l) (offending_frames_of p l) no_progress (seen_doubles (sightings_of p l))
 
 -- in the run the node missed no fewer; where none is told, there is no such run
 abbrev pub IsNoLess : Option ℕ → ℕ → Type 0
