@@ -131,8 +131,8 @@ fn put_one<O: Sink>(missed: Option<Missed>, out: &mut O) -> Result<(), PutFault>
 
 fn put_of_term<O: Sink>(term: Term, scene: &Scene<'_>, out: &mut O) -> Result<(), PutFault>
     requires { IsScene scene.now }
-    ensures { Puts result (O.state out.old) (O.state out.new) (flat_map missed_row (missed_of_term term scene.now.params.now
-        scene.now.log.now scene.now.scale.now scene.now.number scene.now.senders.now)) }
+    ensures { Puts result (O.state out.old) (O.state out.new) (flat_map missed_row (missed_of_term term
+        scene.now.params.now scene.now.log.now scene.now.scale.now scene.now.number scene.now.senders.now)) }
 {
     for sender in scene.senders {
         put_one(missed_where(term, scene, sender), out)?;
