@@ -198,8 +198,8 @@ def judged_lines(cluster: Cluster, told: Observation) -> list[str]:
     if not told.spreads:
         return lines_of("Judged", f"0 of {told.doubles} double cycles, since {why_unjudged(cluster, told, why)}{advice(cluster, told, why)}")
     most, unit = max(told.spreads, key=lambda row: row.apart), cluster.microtick_ns
-    text = (f"{told.judged} of {told.doubles} double cycles, by what is seen of them, from double cycle {told.spreads[0].double} on; no "
-            f"macroticks of these lie further apart than {upper(us_of_ticks(most.apart, unit))} us (double cycle {most.double}), in every "
+    text = (f"{told.judged} of {told.doubles} double cycles, by what is seen and known of them, from double cycle {told.spreads[0].double} "
+            f"on; no macroticks of these lie further apart than {upper(us_of_ticks(most.apart, unit))} us (double cycle {most.double}), in every "
             f"run that keeps to what is stated and {kept(told)}")
     if why[0] != "-":
         text += f"; of the others the one that came farthest is not judged, since {why_unjudged(cluster, told, why)}"
