@@ -8,8 +8,8 @@ from typing import NamedTuple, overload
 
 __all__ = ["Check", "Bound", "SharpSide", "SharpBound", "LostBound", "Skew", "Sent", "Heard", "NodeEnd", "Report", "Losses",
            "SharpReport", "SeriesCycle", "SeriesCycles", "Series", "SharpSeries", "CycleRow", "Deviation", "Join", "Trace",
-           "Verdict", "Failing", "Failure", "ObservedCycle", "ObservedNode", "ObservedFault", "ObservedSender", "ObservedSpread",
-           "LogCounts", "Observation", "FailedCheck", "Settled", "SharpWay", "SharpSettled", "Lead", "Startup", "Frame",
+           "Verdict", "Failing", "Failure", "ObservedCycle", "ObservedNode", "ObservedFault", "ObservedMissed", "ObservedSender",
+           "ObservedSpread", "LogCounts", "Observation", "FailedCheck", "Settled", "SharpWay", "SharpSettled", "Lead", "Startup", "Frame",
            "CapturedFrame", "Capture", "Vector", "Vectors", "Upgraded"]
 
 
@@ -438,6 +438,17 @@ class ObservedFault:
 
 
 @dataclass(frozen=True)
+class ObservedMissed:
+    """What a node applied in a judged double cycle, an `offset` or a `rate` by its kind, can only be if it missed at least so many of the
+    other senders there; None where it can be in no way."""
+
+    cycle: int
+    node: int
+    kind: str
+    least: int | None
+
+
+@dataclass(frozen=True)
 class ObservedSender:
     """How many frames of a node are there on a channel, in which cycles the first and the last, and in how many none."""
 
@@ -451,9 +462,8 @@ class ObservedSender:
 
 @dataclass(frozen=True)
 class ObservedSpread:
-    """A double cycle that is judged by its own numbers, since a check of the cluster fails, in ticks: starts and even lengths of
-    correct nodes lie no further apart than `starts` and `lengths`, lengths no further `beyond` their range, and no macroticks of the
-    double cycle further `apart`."""
+    """A double cycle that is judged, in ticks: starts and even lengths of correct nodes lie no further apart than `starts` and
+    `lengths`, lengths no further `beyond` their range, and no macroticks of the double cycle further `apart`."""
 
     double: int
     starts: int
@@ -464,15 +474,17 @@ class ObservedSpread:
 
 @dataclass(frozen=True)
 class Observation:
-    """What a log tells of the clocks. `precision` is that of the first line, in ticks, as the skews of `cycles` are;
-    `nodes` has each sender of each double cycle. `first` and `last` are the numbers of the first and the last of
-    `cycles`, None where there are none, and `within`, `over` and `open` how many of them say so. `faults` are what
-    contradicts the rules, `senders` which frames are there; `covered`, `numbers`, `sync` and `verdict` have the fields of
-    these rows. `judged` is how many of the `doubles` double cycles are held against more than what contradicts any run: against the
-    rules of sync, or, where a check of the cluster fails, against their own numbers, which `spreads` has."""
+    """What a log tells of the clocks. `precision` is that of the first line, in ticks, as the skews of `cycles` and the `flutter` of
+    delays are that it is judged by; a node may miss so many senders of a double cycle as `lost` says. `nodes` has each sender of each
+    double cycle. `first` and `last` are the numbers of the first and the last of `cycles`, None where there are none, and `within`,
+    `over` and `open` how many of them say so. `faults` are what contradicts the rules, `missed` how many senders nodes must have
+    missed, `senders` which frames are there; `numbers`, `sync` and `verdict` have the fields of these rows. `judged` is how many of the
+    `doubles` double cycles are judged by their own numbers, which `spreads` has."""
 
     text: str = field(repr=False)
     precision: int
+    flutter: int
+    lost: int
     cycles: tuple[ObservedCycle, ...] = field(repr=False)
     nodes: tuple[ObservedNode, ...] = field(repr=False)
     log: LogCounts
@@ -483,12 +495,12 @@ class Observation:
     open: int
     faults: tuple[ObservedFault, ...]
     senders: tuple[ObservedSender, ...] = field(repr=False)
-    covered: tuple[str, ...]
     numbers: tuple[str, ...]
     sync: tuple[str, ...]
     verdict: tuple[str, ...]
     judged: int
     doubles: int
+    missed: tuple[ObservedMissed, ...]
     spreads: tuple[ObservedSpread, ...] = field(repr=False)
 
 

@@ -6,8 +6,8 @@ import re
 from collections.abc import Iterable, Iterator
 
 from .results import (Bound, Capture, CapturedFrame, Check, CycleRow, Deviation, FailedCheck, Failing, Failure, Frame, Heard,
-                      Join, Lead, LogCounts, Losses, LostBound, NodeEnd, Observation, ObservedCycle, ObservedFault, ObservedNode,
-                      ObservedSender, ObservedSpread, Report, Sent, Series, SeriesCycles, Settled, SharpBound, SharpReport, SharpSeries,
+                      Join, Lead, LogCounts, Losses, LostBound, NodeEnd, Observation, ObservedCycle, ObservedFault, ObservedMissed,
+                      ObservedNode, ObservedSender, ObservedSpread, Report, Sent, Series, SeriesCycles, Settled, SharpBound, SharpReport, SharpSeries,
                       SharpSettled, SharpSide, SharpWay, Skew, Startup, Trace, Upgraded, Vector, Vectors, Verdict)
 
 
@@ -367,6 +367,7 @@ KNOWN = r"(-|-?\d+)"
 OBSERVED_CYCLE = rf"cycle,(\d+),(\d+),{NUMBER},{KNOWN},(over|within|open),,"
 OBSERVED_NODE = rf"node,(\d+),(\d+),{NUMBER},{NUMBER},{KNOWN},{KNOWN},"
 OBSERVED_FAULT = r"fault,(\d+),(-|\d+),([a-z]+),(-|A|B|-?\d+),(-|-?\d+),(-|-?\d+),(-|-?\d+)"
+OBSERVED_MISSED = r"missed,(\d+),(\d+),(offset|rate),(-|\d+),,,"
 OBSERVED_SPREAD = r"spread,(\d+),(\d+),(\d+),(\d+),(\d+),,"
 OBSERVED_SENDER = r"sender,(\d+),(A|B),(\d+),(-|\d+),(-|\d+),(\d+),"
 
@@ -377,10 +378,11 @@ def _known(group: str) -> int | None:
 
 def observation(text: str) -> Observation:
     lines = _Lines(text)
-    precision = lines.one(r"precision,(\d+),,,,,,")
+    precision, flutter, lost = _numbers(lines.take(r"precision,(\d+),(\d+),(\d+),,,,"))
     cycles: list[ObservedCycle] = []
     nodes: list[ObservedNode] = []
     faults: list[ObservedFault] = []
+    missed: list[ObservedMissed] = []
     spreads: list[ObservedSpread] = []
     begun = -1
     while lines.at > begun:
@@ -391,16 +393,17 @@ def observation(text: str) -> Observation:
                      for double, node, low, high, least, most in lines.every(OBSERVED_NODE))
         faults.extend(ObservedFault(int(cycle), _known(node), kind, tuple(fields))
                       for cycle, node, kind, *fields in lines.every(OBSERVED_FAULT))
+        missed.extend(ObservedMissed(int(cycle), int(node), kind, _known(least)) for cycle, node, kind, least in lines.every(OBSERVED_MISSED))
         spreads.extend(ObservedSpread(*_numbers(groups)) for groups in lines.every(OBSERVED_SPREAD))
-    senders = tuple(ObservedSender(int(node), channel, int(frames), _known(begin), _known(end), int(missed))
-                    for node, channel, frames, begin, end, missed in lines.every(OBSERVED_SENDER))
+    senders = tuple(ObservedSender(int(node), channel, int(frames), _known(begin), _known(end), int(none))
+                    for node, channel, frames, begin, end, none in lines.every(OBSERVED_SENDER))
     log = LogCounts(*_numbers(lines.take(r"log,(\d+),(\d+),(\d+),(\d+),(\d+),(\d+),")))
-    covered, numbers, sync = _row(lines, "covered"), _row(lines, "numbers"), _row(lines, "sync")
+    numbers, sync = _row(lines, "numbers"), _row(lines, "sync")
     judged, doubles = int(sync[2]), int(sync[3])
     first, last, *told = lines.take(r"cycles,(-|\d+),(-|\d+),(\d+),(\d+),(\d+),,")
     within, over, neither = map(int, told)
-    return Observation(text, precision, tuple(cycles), tuple(nodes), log, _known(first), _known(last), within, over,
-                       neither, tuple(faults), senders, covered, numbers, sync, _row(lines, "verdict"), judged, doubles, tuple(spreads))
+    return Observation(text, precision, flutter, lost, tuple(cycles), tuple(nodes), log, _known(first), _known(last), within, over, neither,
+                       tuple(faults), senders, numbers, sync, _row(lines, "verdict"), judged, doubles, tuple(missed), tuple(spreads))
 
 
 def _row(lines: _Lines, word: str) -> tuple[str, ...]:

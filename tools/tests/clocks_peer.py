@@ -2,7 +2,8 @@
 numbers, after docs/PROTOCOL.md. Without such a node the rows are those of `flexray trace`, which a test holds; with it they
 are those of a network that the program, whose nodes keep the rules, never runs. An analyzer sees them all.
 
-Every node is a coldstart node on both channels and hears all others that send, without delay where none is given; no frame is lost.
+Every node is a coldstart node on both channels and hears all others that send, without delay where none is given; no frame is lost
+where that is not said.
 """
 import os
 import sys
@@ -10,7 +11,7 @@ import sys
 sys.path.insert(0, os.path.join(os.path.dirname(os.path.dirname(os.path.dirname(os.path.realpath(__file__)))), "python"))
 
 from flexlab.captures.frames import crc  # noqa: E402
-from observe_peer import Params, midpoint  # noqa: E402
+from observe_peer import midpoint  # noqa: E402
 
 MILLION = 1_000_000
 # A cluster with a cycle of 5 ms, a macrotick of 1 us and a microtick of 25 ns, whose oscillators lie within 200 ppm and do
@@ -25,7 +26,7 @@ VALUES = {
 # By how much a length changes from one cycle to the next, at most.
 CHANGE = "xChangeBound"
 VALUES[CHANGE] = 0
-# A cluster of production shape: a check of it fails, the first one.
+# A cluster of production shape.
 PRODUCTION = {
     **VALUES, "gMacroPerCycle": 3636, "gNumberOfStaticSlots": 91, "gdStaticSlot": 24, "gdActionPointOffset": 4, "gdNIT": 1452,
     "gPayloadLengthStatic": 8, "gOffsetCorrectionStart": 3536, "gMaxWithoutClockCorrectionPassive": 4, "gMaxWithoutClockCorrectionFatal": 8,
@@ -62,11 +63,12 @@ class Network:
         start, length, rate, _ = row
         return start + self.position(self.actions[node], rate) * length
 
-    def deviations(self, rows, senders):
-        """Of each node what it measures of the others that send, in a cycle."""
+    def deviations(self, cycle, rows, senders, later, hears):
+        """Of each node what it measures of the others that send and that it hears, by their numbers, in a cycle."""
         sent, late = [self.instant(node, row) for node, row in enumerate(rows)], self.values["pDelayCompensation"]
-        return [[(sent[other] + self.delays.get((other, node), 0) - start) // length - self.position(self.actions[other], rate) - late
-                 for other in senders if other != node] for node, (start, length, rate, _) in enumerate(rows)]
+        return [{other: (sent[other] + self.delays.get((other, node), 0) + later(cycle, other, node) - start) // length
+                 - self.position(self.actions[other], rate) - late for other in senders if other != node and hears(cycle, other, node)}
+                for node, (start, length, rate, _) in enumerate(rows)]
 
     def rate_after(self, rate, values):
         """The next rate term: the sum is taken toward 0 by the damping, and cut to its limit."""
@@ -74,22 +76,24 @@ class Network:
         total = max(total - damping, 0) if total > 0 else min(total + damping, 0)
         return max(-limit, min(limit, total))
 
-    def rows(self, wrong=lambda double, node: 0, wrong_rate=lambda double, node: 0, sends=lambda double, node: True):
+    def rows(self, wrong=lambda double, node: 0, wrong_rate=lambda double, node: 0, sends=lambda double, node: True,
+             later=lambda cycle, sender, receiver: 0, hears=lambda cycle, sender, receiver: True):
         """Of each cycle the rows (start, tick length, rate term, offset term) of all nodes; the offset term of a node, or the rate term
         that it computes, is so many microticks too great in a double cycle as `wrong` and `wrong_rate` say; a node that does not
-        send is not heard in that double cycle."""
+        send is not heard in that double cycle. A frame comes so many ticks later in a cycle as `later` says, and where `hears` says so
+        it does not."""
         found, starts, rates, limit = [], list(self.starts), [0] * len(self.slots), self.values["pOffsetCorrectionOut"]
         for double in range(self.doubles):
             even = [(starts[node], self.lengths[node], rates[node], 0) for node in self.nodes]
             starts = [start + (self.micros + rate) * length for start, length, rate, _ in even]
             senders = [node for node in self.nodes if sends(double, node)]
-            before, behind = self.deviations(even, senders), self.deviations(
-                [(starts[node], self.lengths[node], rates[node], 0) for node in self.nodes], senders)
-            terms = [max(-limit, min(limit, midpoint([0] + behind[node]) + wrong(double, node))) for node in self.nodes]
+            odd = [(starts[node], self.lengths[node], rates[node], 0) for node in self.nodes]
+            before, behind = (self.deviations(2 * double + at, rows, senders, later, hears) for at, rows in enumerate((even, odd)))
+            terms = [max(-limit, min(limit, midpoint([0, *behind[node].values()]) + wrong(double, node))) for node in self.nodes]
             found += [even, [(starts[node], self.lengths[node], rates[node], terms[node]) for node in self.nodes]]
             starts = [start + (self.micros + rate + term) * length for start, length, rate, term in found[-1]]
-            rates = [self.rate_after(rates[node], [0] + [late - early for early, late in zip(before[node], behind[node])])
-                     + wrong_rate(double, node) for node in self.nodes]
+            rates = [self.rate_after(rates[node], [0] + [behind[node][other] - early for other, early in before[node].items()
+                                                         if other in behind[node]]) + wrong_rate(double, node) for node in self.nodes]
         return found
 
     def head(self, node, cycle, kept={}):
@@ -100,16 +104,17 @@ class Network:
         return (kept[first] | cycle % 64).to_bytes(5, "big").hex().upper()
 
     def log(self, draw, rows, unit, width=0, drift=0, sends=lambda double, node: True):
-        """The log of an analyzer that misses nothing, with a true clock of which it states a drift of so many ppm: delays are the
-        same for all, but for so many ticks that it states as their range, and a stamp is of the unit in which the frame came.
-        A node has no frames there in a double cycle in which it does not send."""
-        low, zero = MILLION, draw.randrange(10**9, 10**10)
+        """The log of an analyzer that misses nothing, with a clock of which it states a drift of so many ppm, and that is as much off or
+        less: delays are the same for all, but for so many ticks that it states as their range, and a stamp is of the unit in which the
+        frame came. A node has no frames there in a double cycle in which it does not send."""
+        low, zero, off = MILLION, draw.randrange(10**9, 10**10), draw.randint(-drift, drift) if drift else 0
         later = {(node, channel): low + draw.randint(0, width) for node in self.nodes for channel in "AB"}
         seen = sorted((self.instant(node, row) + later[node, channel] + zero, node, channel, cycle)
                       for cycle, of_cycle in enumerate(rows) for node, row in enumerate(of_cycle) if sends(cycle // 2, node)
                       for channel in "AB")
         return (f"unit,{unit},,,\ndrift,{drift},,,\ndelay,,,{low},{low + width}\njitter,0,,,\nwhole,,,,\n"
-                + "".join(f"head,{at // unit},{channel},{self.head(node, cycle)},\n" for at, node, channel, cycle in seen))
+                + "".join(f"head,{at * (MILLION + off) // MILLION // unit},{channel},{self.head(node, cycle)},\n"
+                          for at, node, channel, cycle in seen))
 
 
 def near_oscillators(draw, doubles):
@@ -121,37 +126,22 @@ def near_oscillators(draw, doubles):
     return Network([34, 150, 84], [middle - 16, middle, middle + 16], [draw.randrange(3 * MILLION) for _ in range(3)], doubles)
 
 
-def any_oscillators(draw, doubles, values=None):
+def any_oscillators(draw, doubles):
     """A network of 3 to 8 nodes with oscillators and slots as they come."""
     count = draw.randrange(3, 9)
-    slots = ((values or VALUES)["gNumberOfStaticSlots"])
-    return Network(draw.sample(range(1, slots + 1), count), [MILLION + draw.randrange(-200, 201) for _ in range(count)],
-                   [draw.randrange(3 * MILLION) for _ in range(count)], doubles, values)
-
-
-def with_delay_error(microticks):
-    """The values of a cluster whose delays are stated to so many microticks, with what the five checks ask then."""
-    values = {**VALUES, "xDelayError": microticks * MILLION}
-    learnt = 2 * values["xDelayError"] + 2 * (MILLION + values["xRateBound"])
-    values["pClusterDriftDamping"] = -(-learnt // (MILLION - values["xRateBound"]))
-    params = Params([["param", name, value] for name, value in values.items()])
-    values["pOffsetCorrectionOut"] = (params.precision + values["xDelayError"]) // (MILLION - values["xRateBound"]) + 3
-    first = -(-(params.precision + values["xDelayError"]) * values["gMacroPerCycle"] // (values["pMicroPerCycle"] * MILLION)) + 2
-    # A slot of twice the action point.
-    values.update(gdActionPointOffset=first, gdStaticSlot=2 * first + 2)
-    values["gNumberOfStaticSlots"] = (values["gMacroPerCycle"] - 200) // values["gdStaticSlot"]
-    values["gdNIT"] = values["gMacroPerCycle"] - values["gNumberOfStaticSlots"] * values["gdStaticSlot"]
-    return values
+    return Network(draw.sample(range(1, VALUES["gNumberOfStaticSlots"] + 1), count),
+                   [MILLION + draw.randrange(-200, 201) for _ in range(count)],
+                   [draw.randrange(3 * MILLION) for _ in range(count)], doubles)
 
 
 def production(draw, doubles, counts=(2, 9), changes=(0, 0, 1), dampings=(0, 1, 2, 2, 3), delays=((7, 5), (7, 5), (4, 2), (3, 1))):
-    """A network of production shape of which a check fails: all start near each other, and delays lie around their compensation, as far
-    as is stated; `delays` has pairs of both, in microticks, of which one is taken."""
+    """A network of production shape: all start near each other, and delays lie around their compensation, as far as is stated; `delays`
+    has pairs of both, in microticks, of which one is taken."""
     count, (compensation, error) = draw.randrange(*counts), draw.choice(delays)
     values = {**PRODUCTION, "pClusterDriftDamping": draw.choice(dampings), "pDelayCompensation": compensation,
               "xDelayError": error * MILLION, CHANGE: draw.choice(changes)}
     bound, near = values["xRateBound"], draw.choice([1, 8, 40]) * MILLION
     delays = {(one, other): max(0, compensation * MILLION + draw.choice([-1, 1]) * draw.choice([error * MILLION, draw.randrange(error * MILLION)]))
-              for one in range(count) for other in range(count) if one != other}
+              for one in range(count) for other in range(count) if one != other} if error else {}
     return Network(draw.sample(range(1, 21), count), [MILLION + draw.randint(-bound, bound) for _ in range(count)],
                    [draw.randrange(1, near) for _ in range(count)], doubles, values, delays)

@@ -1,6 +1,6 @@
 #!/usr/bin/env python3
 """What `flexray observe PARAMS LOG` prints, reckoned by another program: plain Python and whole numbers, after
-docs/FORMATS.md and the definitions in specs/ of crates fr_bound, fr_course, fr_sightings, fr_observe and fr_findings.
+docs/FORMATS.md and the definitions in specs/ of crates fr_bound, fr_course, fr_sightings, fr_observe, fr_judging and fr_findings.
 
     observe_peer.py PARAMS LOG
 
@@ -39,6 +39,11 @@ class Known(NamedTuple):
     beyond: int
 
 
+def met_of(known, other):
+    """The lesser of each two numbers, where something is known."""
+    return other if known is None else Known(*map(min, known, other))
+
+
 class Params:
     """A parameter file."""
 
@@ -58,94 +63,14 @@ class Params:
         self.offset_out = value["pOffsetCorrectionOut"]
         ways = ("pDelayCompensation", "pDelayCompensationA", "pDelayCompensationB")
         self.widest = max(value[name] for name in ways if name in value)
-        self.bounds()
-
-    def bounds(self):
-        """What the clocks of a covered cluster keep within, in ticks."""
         self.shortest, self.longest = MILLION - self.rate_bound, MILLION + self.rate_bound
         self.arrival = self.delay_error + self.widest * self.rate_bound
         self.step = (self.micros + self.rate_out) * self.change
-        self.learnt = 2 * self.arrival + 2 * self.longest + 3 * self.step
-        self.lengths = 4 * self.learnt + 2 * self.longest + 4 * self.damping * self.longest + 8 * self.step
-        self.starts = 6 * self.lengths + 4 * self.arrival + 8 * self.longest
-        self.precision = self.starts + 2 * self.lengths + 2 * self.longest
-
-        self.own_bounds()
-
-    def own_bounds(self):
-        """What a double cycle by its own numbers has to do with, in ticks, where delays keep within what is stated."""
-        flutter = 2 * self.delay_error
-        later = (self.micros + self.rate_out + self.offset_out + 1) * self.change
-        value = flutter + self.longest - 1 + later
-        alone = 2 * value + self.longest + 2 * self.damping * self.longest + 2 * self.step
-        # How far lengths may lie apart by the rate corrections of one double cycle, without arbitrary nodes and beside them.
-        self.corrected = {"clean": alone, "meeting": 2 * alone}
-        damped = self.shortest - self.damping * self.shortest if self.damping else self.longest
-        self.walk = flutter + self.step + later - 1 + damped
         self.room = max(self.rate_out * self.shortest - 2 * self.micros * self.rate_bound, 0)
         self.last_action = self.action_point(max([1] + [key for _, key, _, _ in self.nodes if key]))
 
-    def yardstick(self, heard):
-        """The precision of its rows: where double cycles are judged by their own numbers, the sharper one."""
-        if not heard:
-            return self.precision
-        lengths = self.corrected[heard]
-        if heard == "clean":
-            starts = lengths + 2 * self.step + 2 * self.arrival + 3 * self.longest
-        else:
-            starts = 3 * lengths + 4 * self.step + 4 * self.arrival + 7 * self.longest
-        return starts + lengths + self.odd(lengths) + 2 * self.longest
-
-    def odd(self, lengths):
-        """How far lengths of odd cycles lie apart, where those of even ones lie so far apart."""
-        return lengths + 2 * self.step
-
-    def behind(self, heard, known):
-        """What is known of the next double cycle."""
-        (starts, lengths, beyond), corrected = known, self.corrected[heard]
-        if heard == "clean":
-            starts, lengths = self.odd(lengths) + 2 * self.arrival + 3 * self.longest, corrected
-        else:
-            starts = (starts + lengths + 2 * self.odd(lengths) + 4 * self.arrival + 7 * self.longest) // 2
-            lengths = (lengths + corrected) // 2
-        return Known(starts, lengths, max(beyond + self.walk, 0))
-
-    def apart(self, heard, known):
-        """How far macroticks lie apart in a double cycle."""
-        here = known.starts + known.lengths + self.odd(known.lengths) + 2 * self.longest
-        return max(here, self.behind(heard, known).starts + self.longest)
-
-    def near(self, known):
-        """How far its action points do."""
-        return known.starts + known.lengths + self.last_action * self.odd(known.lengths) // self.macros + self.longest
-
     def action_point(self, slot):
         return (slot - 1) * self.slot + self.action
-
-    def checks(self, reach):
-        """Both sides of each of the five checks of a cluster; from the third on with how far clocks lie apart."""
-        clear = self.micros - self.rate_out
-
-        def of_slot(macroticks):
-            return (macroticks * clear - self.macros) * self.shortest
-
-        front = self.macros * (reach + self.delay_error)
-        return [(self.damping * self.shortest, self.learnt + 2 * self.step),
-                (self.rate_out * self.shortest, 2 * self.micros * self.rate_bound),
-                (self.offset_out * self.shortest, reach + self.arrival + self.longest),
-                (of_slot(self.action), front),
-                (of_slot(self.slot - self.action), front + self.macros * self.widest * MILLION)]
-
-    def failing(self, reach, first=1):
-        """The first check from this one on that fails, with both sides."""
-        return next(([number, left, right] for number, (left, right) in enumerate(self.checks(reach), 1)
-                     if number >= first and (left < right or (number == 5 and left == right))), None)
-
-    def unfit(self, known):
-        """Why a double cycle of which so much is known is not judged by it."""
-        if self.failing(self.near(known), first=2):
-            return 3, "reach"
-        return (4, "drift") if known.beyond + max(self.walk, 0) > self.room else None
 
     def frame_of(self, slot):
         """Of a static slot its node, that node's channels, and the sync and startup indicators of its frames there; None
@@ -191,6 +116,67 @@ class Log:
     def jitter_of(self, node, channel):
         low, high = self.limits(node, channel)
         return high - low if self.jitter is None else min(self.jitter, high - low)
+
+
+class Bounds:
+    """The numbers of a double cycle, in ticks, by what its nodes hear of each other: `clean`, all of all; `meeting`, beside arbitrary
+    nodes; `poor`, where some may be missed; None where that is not told."""
+
+    def __init__(self, params, log):
+        self.params, flutter = params, 2 * params.delay_error if log.flutter is None else log.flutter
+        arbitrary = sum(node in log.arbitrary for node, _, _ in params.key_nodes())
+        is_told = arbitrary <= 2 and len(params.key_nodes()) - arbitrary >= (1, 3, 6)[arbitrary] and not (arbitrary and log.lost)
+        self.heard = ("meeting" if arbitrary else "poor" if log.lost else "clean") if is_told else None
+        later = (params.micros + params.rate_out + params.offset_out + 1) * params.change
+        self.flutter, self.error = flutter, flutter + params.longest - 1 + later
+        # By how much rate corrections set lengths apart that were equal, and lambda of the sharper precision.
+        self.corrected = 2 * self.error + 2 * params.damping * params.longest + 2 * params.step
+        self.sharp = (self.corrected + params.longest) * (2 if self.heard in ("meeting", None) else 1)
+        damped = params.shortest - params.damping * params.shortest if params.damping else params.longest
+        self.walk = flutter + params.step + later - 1 + damped
+
+    def synced(self):
+        """What is known of a double cycle in sharp sync."""
+        params, lengths = self.params, self.sharp
+        if self.heard in ("meeting", None):
+            return Known(3 * lengths + 4 * params.step + 4 * params.arrival + 7 * params.longest, lengths, 0)
+        return Known(self.odd(lengths) + 2 * params.arrival + 3 * params.longest, lengths, 0)
+
+    def odd(self, lengths):
+        """How far lengths of odd cycles lie apart, where those of even ones lie so far apart."""
+        return lengths + 2 * self.params.step
+
+    def here(self, known):
+        """How far macroticks lie apart by its own starts and lengths."""
+        return known.starts + known.lengths + self.odd(known.lengths) + 2 * self.params.longest
+
+    def behind(self, known):
+        """What is known of the next double cycle."""
+        (starts, lengths, beyond), arrival, longest = known, self.params.arrival, self.params.longest
+        if self.heard == "meeting":
+            starts = (starts + lengths + 2 * self.odd(lengths) + 4 * arrival + 7 * longest) // 2
+            lengths = (lengths + self.sharp) // 2
+        else:
+            lost = self.heard == "poor"
+            starts = lost * (starts + lengths) + self.odd(lengths) + 2 * arrival + 3 * longest
+            lengths = lengths + self.corrected if lost else self.sharp
+        return Known(starts, lengths, max(beyond + self.walk, 0))
+
+    def apart(self, known):
+        """How far macroticks lie apart in a double cycle."""
+        return max(self.here(known), self.behind(known).starts + self.params.longest)
+
+    def unfit(self, known):
+        """Why a double cycle of which so much is known is not judged by it: one of the checks 2 to 5 fails with how far its action
+        points lie apart, or the rate limit can't follow its lengths."""
+        p, (starts, lengths, beyond) = self.params, known
+        reach = starts + lengths + p.last_action * self.odd(lengths) // p.macros + p.longest
+        front, clear = p.macros * (reach + p.delay_error), p.micros - p.rate_out
+        if not (p.rate_out * p.shortest >= 2 * p.micros * p.rate_bound and p.offset_out * p.shortest >= reach + p.arrival + p.longest
+                and (p.action * clear - p.macros) * p.shortest >= front
+                and ((p.slot - p.action) * clear - p.macros) * p.shortest > front + p.macros * p.widest * MILLION):
+            return 3, "reach"
+        return (4, "drift") if beyond + max(self.walk, 0) > p.room else None
 
 
 # ---- sightings
@@ -427,15 +413,16 @@ def offset(clock, course, onward, span):
 class Value:
     """The values that a node can have measured, and their midpoint."""
 
-    def __init__(self, params, clock, further):
-        self.params, self.clock, self.further = params, clock, further
+    def __init__(self, params, clock, bounds):
+        self.params, self.clock, self.bounds = params, clock, bounds
 
-    def microticks(self, low, high, error):
-        """From which whole number to which such a value lies: what is told of it in readings, and by how many ticks it
-        may be off."""
+    def microticks(self, low, high, error, is_placed):
+        """From which whole number to which such a value lies: what is told of it in readings, and by how many ticks it may be off. One
+        that places ticks is not below them."""
         low, high = self.clock.ticks(low, high)
         low, high, shortest, longest = low - error, high + error, self.params.shortest, self.params.longest
-        return low // (shortest if low < 0 else longest), high // (longest if high < 0 else shortest)
+        by = shortest if low < 0 else longest
+        return up(low, by) if is_placed else low // by, high // (longest if high < 0 else shortest)
 
     def deviation(self, receiver, sender):
         """The odd macrotick of the receiver at which the sender sends, and the deviation of the sender's frame."""
@@ -444,31 +431,37 @@ class Value:
         if ahead < 0:
             short, long = long, short
         at = low + ahead * short // macros - micro, high + up(ahead * long, macros) + micro
-        return self.microticks(sender["odd"][0] - at[1], sender["odd"][1] - at[0], self.params.arrival)
+        return self.microticks(sender["odd"][0] - at[1], sender["odd"][1] - at[0], self.params.arrival, False)
 
     def rate(self, receiver, sender):
-        return self.microticks(sender["length"][0] - receiver["length"][1], sender["length"][1] - receiver["length"][0],
-                               self.params.learnt)
-
-    def middle(self, known):
-        """The least and the greatest midpoint of these values and of up to so many further ones."""
-        lows, highs = [], []
-        for more in range(self.further + 1):
-            if more > discarded(more + len(known)):
-                return None
-            lows.append(midpoint([min(low for low, _ in known)] * more + [low for low, _ in known]))
-            highs.append(midpoint([max(high for _, high in known)] * more + [high for _, high in known]))
-        return min(lows), max(highs)
-
+        """By how many microticks more than its own cycle the receiver places both action points of the sender."""
+        return self.microticks(sender["apart"][0] - receiver["length"][1], sender["apart"][1] - receiver["length"][0],
+                               self.bounds.error, True)
 
 def discarded(count):
     return 0 if count < 3 else 1 if count < 8 else 2
 
 
+def half(total):
+    return total // 2 if total >= 0 else -(-total // 2)
+
+
 def midpoint(values):
     values, off = sorted(values), discarded(len(values))
-    total = values[off] + values[len(values) - 1 - off]
-    return total // 2 if total >= 0 else -(-total // 2)
+    return half(values[off] + values[len(values) - 1 - off])
+
+
+def middle(known, further, lost):
+    """The least and the greatest midpoint of these values and of up to so many further ones, where up to so many of them were missed, and
+    not all; None where nothing limits it."""
+    lows, highs, found = sorted(low for low, _ in known), sorted(high for _, high in known), []
+    for missed in range(min(lost, len(known) - 1) + 1):
+        for more in range(further + 1):
+            ends = discarded(len(known) - missed + more)
+            if more > ends:
+                return None
+            found.append((half(lows[ends - more] + lows[-1 - ends - missed]), half(highs[ends + missed] + highs[more - ends - 1])))
+    return min(low for low, _ in found), max(high for _, high in found)
 
 
 def step(clock, course, onward):
@@ -483,8 +476,8 @@ def step(clock, course, onward):
 class Double:
     """A double cycle of a log: what its own sightings tell, and those of the double cycles before and behind it."""
 
-    def __init__(self, params, log, clock, double, before, here, behind, offending, ends):
-        self.params, self.log, self.clock, self.double, self.ends = params, log, clock, double, ends
+    def __init__(self, params, log, clock, bounds, double, before, here, behind, offending, ends):
+        self.params, self.log, self.clock, self.bounds, self.double, self.ends = params, log, clock, bounds, double, ends
         self.before, self.here, self.behind, self.offending = before, here, behind, offending
         self.keys = [(node, key, channels) for node, key, channels in params.key_nodes() if node not in log.arbitrary]
         # Each node that was seen with its course, and its course in the next double cycle.
@@ -531,25 +524,6 @@ class Double:
                 return 1, "unseen", 2 * self.double + boxes[0], node
         return (2, "fault", own[0][0], own[0][1]) if own else None
 
-    def unsynced(self, own):
-        """Why it is not certainly in sync."""
-        even = 2 * self.double
-        if why := self.untold(own):
-            return why
-        if self.starts[1] > self.params.starts or self.lengths[1] > self.params.lengths:
-            return 3, "reach", even, "-"
-        if not all(self.proper[0] <= self.clock.least_ticks(course["length"][0])
-                   and self.clock.most_ticks(course["length"][1]) <= self.proper[1]
-                   for _, course, _ in self.active):
-            return 4, "drift", even, "-"
-        return None
-
-    def in_sync(self, since):
-        """What no covered run gives that is in sync from a double cycle on."""
-        bounds = Known(self.params.starts, self.params.lengths, 0)
-        found = self.skewed(self.params.precision) + self.beyond(bounds) + self.terms("offset") + self.terms("rate")
-        return found + (self.missing() if since < self.double else [])
-
     def skewed(self, apart):
         """Skews that are certainly greater."""
         return [(2 * self.double + odd, "-", "skew", low, "-" if high is None else high, "-", apart)
@@ -574,21 +548,33 @@ class Double:
         beyond = [max(self.proper[0] - low, high - self.proper[1]) for low, high in ways]
         return Known(max(self.starts[1], 0), max(self.lengths[1], 0), max([0] + beyond))
 
-    def terms(self, kind):
-        value, found = Value(self.params, self.clock, len(self.params.key_nodes()) - len(self.active)), []
+    def measured(self, kind):
+        """Of each node what was seen of a term, and what it can have measured of itself and of the others."""
+        value = Value(self.params, self.clock, self.bounds)
         for node, course, onward in self.active:
             others = [other for number, other, _ in self.active if number != node]
             if kind == "offset":
-                seen = self.term(node, course, onward)
-                computed = value.middle([(0, 0)] + [value.deviation(course, other) for other in others])
+                yield node, self.term(node, course, onward), [(0, 0)] + [value.deviation(course, other) for other in others]
             else:
-                seen = step(self.clock, course, onward) if onward else None
-                computed = value.middle([(0, 0)] + [value.rate(course, other) for other in others])
-                if computed:
-                    computed = computed[0] - self.params.damping, computed[1] + self.params.damping
-            if seen and computed and (seen[1] < computed[0] or computed[1] < seen[0]):
-                found.append((2 * self.double + 1, node, kind, *seen, *computed))
-        return found
+                yield node, onward and step(self.clock, course, onward), [(0, 0)] + [value.rate(course, other) for other in others]
+
+    def terms(self, kind):
+        """Of each term that is not the one that was computed, by how many of the others its node may have missed."""
+        further, more, ways = len(self.params.key_nodes()) - len(self.active), kind == "rate" and self.params.damping, []
+        measured = [one for one in self.measured(kind) if one[1]]
+        for lost in range(max(len(self.active), self.log.lost + 1)):
+            ways.append({})
+            for node, seen, known in measured:
+                if computed := middle(known, further, lost):
+                    low, high = computed[0] - more, computed[1] + more
+                    if seen[1] < low or high < seen[0]:
+                        ways[lost][node] = 2 * self.double + 1, node, kind, *seen, low, high
+        return ways
+
+    def missed(self, ways):
+        """How many of the others a node must have missed: where nothing contradicts that; and a dash where there is no such number."""
+        return [["missed", *told[:3], next((least for least in range(len(self.active)) if node not in ways[least]), "-")]
+                for node, told in (ways[0] if self.active else {}).items()]
 
     def missing(self):
         """Frames that are not there of nodes that sent in the double cycle before."""
@@ -615,32 +601,11 @@ def says(limit, low, high):
     return "over" if low > limit else "within" if high is not None and high <= limit else "open"
 
 
-def coverable(params, log):
-    """Why no run of this cluster is covered, if that is certain."""
-    if failing := params.failing(params.precision):
-        return ["check", *failing]
-    return None if hearing(params, log) else ["count", *counts(params, log)]
-
-
-def counts(params, log):
-    """How many sync nodes are correct, and how many arbitrary."""
-    arbitrary = sum(node in log.arbitrary for node, _, _ in params.key_nodes())
-    return len(params.key_nodes()) - arbitrary, arbitrary
-
-
-def hearing(params, log):
-    """What correct nodes hear of each other, where the correct sync nodes are enough."""
-    correct, arbitrary = counts(params, log)
-    if arbitrary > 2 or correct < (1, 3, 6)[arbitrary]:
-        return None
-    return "meeting" if arbitrary else "clean"
-
-
 def are_numbers_sure(params, log):
-    """Whether each frame of a covered run in sync certainly comes within half a cycle of the schedule: 36 cycles' lengths,
-    16 offset terms, two roundings, the delay, the reading and the starts of two nodes are no further off together."""
-    off = (36 * params.micros * params.rate_bound + 16 * params.offset_out * params.longest + 2 * params.longest
-           + 31 * params.micros * log.drift + log.unit + log.error + params.starts)
+    """Whether each frame of a run whose nodes start near each other certainly comes within half a cycle of the schedule: 36 lawful cycles,
+    16 offset terms, two roundings, the delay, the reading, and the starts of two nodes are no further off together."""
+    off = (36 * (params.rate_out * params.longest + params.micros * params.rate_bound) + 16 * params.offset_out * params.longest
+           + 2 * params.longest + 31 * params.micros * log.drift + log.unit + log.error + params.offset_out * params.shortest)
     return all(2 * (off + log.limits(node, channel)[1]) <= params.micros * MILLION
                for node, _, channels in params.key_nodes() if node not in log.arbitrary for channel in channels)
 
@@ -657,25 +622,19 @@ def sender_lines(params, log, seen):
 
 
 class Progress:
-    """What is known behind some double cycles: sync, what is known of the next one by its own numbers, the first contradiction, what
-    rows say, and which double cycles are judged."""
+    """What is known behind some double cycles: of the next one, the first contradiction, what rows say, and which are judged."""
 
     def __init__(self, params, log):
-        self.params, self.log, self.gap, self.sync, self.first, self.over, self.why = params, log, coverable(params, log), None, None, [], None
-        # What nodes hear of each other, where double cycles are judged by their own numbers.
-        self.heard = hearing(params, log) if self.gap and self.gap[0] == "check" else None
-        self.limit = params.yardstick(self.heard)
+        self.log, self.bounds = log, Bounds(params, log)
+        self.limit = self.bounds.here(self.bounds.synced())
+        self.first, self.over, self.why = None, [], None
         self.doubles, self.judged, self.gaps, self.known = 0, [], 0, None
 
     def pass_double(self, double):
         """Its lines with those of its contradictions and of its own numbers."""
         lines, own = double.lines(self.limit), double.own()
         self.doubles += 1
-        if self.sync is None and self.log.since is not None and self.log.since <= 2 * double.double:
-            self.sync = self.log.since // 2, "stated"
-        elif self.sync is None and not double.unsynced(own):
-            self.sync = double.double, "seen"
-        found, why, spread = self.by_numbers(double, own) if self.heard else (*self.by_sync(double, own), [])
+        found, why, numbers = self.judge(double, own) if self.bounds.heard else ([], (0, "count", "-", "-"), [])
         if why:
             self.why = why if self.why is None or self.why[0] < why[0] else self.why
             self.gaps += bool(self.judged)
@@ -684,36 +643,34 @@ class Progress:
         found = own + found
         self.first = self.first or (found[0] if found else None)
         self.over += [line for line in lines if line[0] == "cycle" and line[5] == "over"]
-        return lines + [["fault", *fault, *["-"] * (7 - len(fault))] for fault in found] + spread
+        return lines + [["fault", *fault, *["-"] * (7 - len(fault))] for fault in found] + numbers
 
-    def by_sync(self, double, own):
-        """What contradicts it beside its own faults, and why it is not judged."""
-        why = (0, "count", "-", "-") if self.gap else None if self.sync else double.unsynced(own)
-        return [] if why else double.in_sync(self.sync[0]), why
-
-    def by_numbers(self, double, own):
-        """The same, and the row of what it is judged by."""
-        params, known, untold = self.params, self.known, double.untold(own)
-        met = known if untold else double.seen() if known is None else Known(*map(min, known, double.seen()))
-        unfit = params.unfit(met) if met else None
+    def judge(self, double, own):
+        """What contradicts it beside its own faults, why it is not judged, and what its nodes missed with what it is judged by."""
+        bounds, untold, known = self.bounds, double.untold(own), self.known
+        if self.log.since == 2 * double.double:
+            known = met_of(known, bounds.synced())
+        met = known if untold else met_of(known, double.seen())
+        unfit = bounds.unfit(met) if met else None
         why = None if met and not unfit else untold or (*unfit, 2 * double.double, "-")
-        moved, terms, spread, self.known = [], [], [], None
+        moved, terms, numbers, self.known = [], [], [], None
         if not why:
-            apart = params.apart(self.heard, met)
-            moved += double.skewed(apart)
-            terms += double.terms("offset") + double.terms("rate")
-            spread = [["spread", double.double, *met, apart]]
+            moved += double.skewed(bounds.apart(met))
+            for ways in (double.terms("offset"), double.terms("rate")):
+                terms += ways[self.log.lost].values()
+                numbers += double.missed(ways)
+            numbers.append(["spread", double.double, *met, bounds.apart(met)])
         if known:
             moved += double.beyond(known)
             terms += double.missing()
         if not why and not moved:
-            self.known = params.behind(self.heard, met)
-        return moved + terms, why, spread
+            self.known = bounds.behind(met)
+        return moved + terms, why, numbers
 
     def sync_fields(self):
-        sync = self.sync if not self.heard else (self.judged[0][0] // 2, "judged") if self.judged else None
-        why = self.why or (None if sync else (0, "unseen", "-", "-"))
-        return [*(sync or ("-", "open")), len(self.judged) // 2, self.doubles, *(why[1:] if why else "---")]
+        first = (self.judged[0][0] // 2, "judged") if self.judged else ("-", "open")
+        why = self.why or (None if self.judged else (0, "unseen", "-", "-"))
+        return [*first, len(self.judged) // 2, self.doubles, *(why[1:] if why else "---")]
 
     def verdict(self):
         if self.first:
@@ -734,7 +691,7 @@ def observe(params, log):
     """The lines of the text, each a list of its fields, without the empty ones at its end."""
     clock, (seen, tally, untimely, irregular) = Clock(params, log), sightings(params, log)
     doubles, offending, progress = {}, {}, Progress(params, log)
-    lines = [["precision", progress.limit]]
+    lines = [["precision", progress.limit, progress.bounds.flutter, log.lost]]
     for one in seen:
         doubles.setdefault(one[0] // 2, []).append(one)
     for one in untimely + irregular:
@@ -743,15 +700,12 @@ def observe(params, log):
     for double in [*(span[0] - 1 for _ in span[:1]), *span, *(last + 1 for last in span[-1:])]:
         parts[double] = Seen(params, log, clock, doubles.get(double, []))
     for double in span:
-        lines += progress.pass_double(Double(params, log, clock, double, parts[double - 1], parts[double],
+        lines += progress.pass_double(Double(params, log, clock, progress.bounds, double, parts[double - 1], parts[double],
                                              parts[double + 1], offending.get(double, []), (seen[0][0], seen[-1][0])))
     words = [line[5] for line in lines if line[0] == "cycle"]
     lines += sender_lines(params, log, seen)
     lines.append(["log", *(tally[kind] for kind in KINDS)])
-    why = coverable(params, log)
-    lines.append(["covered", *(["no", *why] if why else ["open"])])
-    is_sure = are_numbers_sure(params, log) and not (why and why[0] == "check")
-    lines.append(["numbers", "sure" if is_sure else "premise"])
+    lines.append(["numbers", "sure" if are_numbers_sure(params, log) else "premise"])
     lines.append(["sync", *progress.sync_fields()])
     ends = (2 * span[0], 2 * span[-1] + 1) if seen else ("-", "-")
     lines.append(["cycles", *ends, *(words.count(word) for word in ("within", "over", "open"))])

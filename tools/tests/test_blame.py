@@ -112,9 +112,11 @@ class Blame(Log):
         self.write("net.toml", toml_of(network))
         self.table(network, network.rows(lambda double, it: 40 if it == 1 and double >= 12 else 0))
         page = self.one_line(self.observe())
+        self.assertRegex(page, r"CONTRADICTION cycle 25, node 2: an offset term of 4\d to 4\d microticks, and by all that were seen \d to \d+ ")
         self.assertRegex(page, r"Blame node 1 is out: there is still cycle 25, node 2: an offset term of 4\d to 4\d microticks, and by all "
-                               r"that were seen -?\d to 1?\d node 2 cannot be excluded: no contradiction is left, and 20 of 20 double "
-                               r"cycles are judged node 3 is out: .* node 4 is out: .* if one node alone was at fault, no frame was lost "
+                               r"that were seen -?\d to 1?\d, unless it missed at least 2 senders node 2 cannot be excluded: no contradiction "
+                               r"is left, and 20 of 20 double cycles are judged node 3 is out: .* node 4 is out: .* if one node alone was at "
+                               r"fault, no frame was lost "
                                r"on the bus, and all else is as the verdict has it, it is node 2 ")
         self.assertNotIn("no other sender takes the ID", page)
         self.assertIn("seen/: params.csv, log.csv, observed.csv, blame.csv, observed.txt", page)
@@ -136,7 +138,7 @@ class Blame(Log):
             self.assertNotIn("cannot be excluded", page)
 
     def test_nodes_that_are_too_few(self):
-        """Of three nodes with one arbitrary no run is covered, so nothing is held against the rules of sync: all of them are open."""
+        """Of three nodes with one arbitrary no double cycle is judged: all of them are open."""
         network = clocks.near_oscillators(random.Random(1), 20)
         self.write("net.toml", toml_of(network))
         self.table(network, network.rows(lambda double, it: 40 if it == 0 and double == 12 else 0))
@@ -160,7 +162,7 @@ class Blame(Log):
         self.assertIn("if one node alone beside those that are named arbitrary was at fault", self.one_line(self.observe()))
 
     def test_when_it_is_asked(self):
-        """By itself where a contradiction asks for sync; a node that channels place nowhere is named already."""
+        """By itself where a contradiction asks what nodes hear of each other; a node that channels place nowhere is named already."""
         network = self.network(3)
         self.write("net.toml", toml_of(network))
         rows = network.rows()
@@ -273,7 +275,7 @@ class Hints(Log):
         self.assertIsNone(self.object(status=0)["first"])
 
     def test_a_count_that_begins_anew(self):
-        """From a second startup on: it is said when, and the words that are named take it alone, or what was before."""
+        """From a second startup on: it is said when, and the words that are named make a part of it."""
         network = self.network(3)
         self.write("net.toml", toml_of(network))
         rows = network.rows()
@@ -284,11 +286,14 @@ class Hints(Log):
         found = self.object()
         at = (begin + 37_000_000 - frames[0]) // 1000 / 10**6
         self.assertEqual((found["anew_s"], found["faults"][0]["kind"]), (at, "cycle"))
-        text = f"from {at:.6f} s of the file on frames come as if they were counted anew"
-        self.assertIn(text, self.one_line(self.observe()))
-        for words, judged in ((("--from", str(at)), 160), (("--to", str(at)), 160)):
+        page = self.one_line(self.observe())
+        self.assertIn(f"from {at:.6f} s of the file on frames come as if they were counted anew", page)
+        self.assertIn(f"; --part {at:.6f} observes these as a log of their own", page)
+        for words in (("--from", str(at)), ("--to", str(at))):
             part = self.object(*words, status=0)
-            self.assertEqual((part["log"]["judged"], part["anew_s"], part["faults"]), (judged, None, []))
+            self.assertEqual((part["log"]["judged"], part["anew_s"], part["faults"], part["parts"]), (160, None, [], []))
+        parts = self.object("--part", f"{at:.6f}", status=0)["parts"]
+        self.assertEqual([(part["log"]["judged"], part["anew_s"], part["faults"]) for part in parts], [(160, None, [])] * 2)
         # Of a file that is cut already it is the time of the file.
         self.assertEqual(self.object("--from", "0.02")["anew_s"], at)
         # A frame with another count alone is none, nor is a count that jumps at the end.
@@ -301,9 +306,9 @@ class Hints(Log):
         """Nodes by their faults and by their rows; irregular frames and faults of several nodes name none."""
         def told(*faults, senders=(1, 2, 3, 4)):
             return texts.observation(
-                "precision,5,,,,,,\n" + "".join(f"cycle,{cycle},4,0,1,within,,\n" for cycle in (8, 9))
+                "precision,5,7,1,,,,\n" + "".join(f"cycle,{cycle},4,0,1,within,,\n" for cycle in (8, 9))
                 + "".join(f"node,4,{node},1,2,-,-,\n" for node in senders) + "".join(f"fault,{fault},-,-,-,-\n" for fault in faults)
-                + "log,4,0,0,0,0,0,\ncovered,open,,,,,,\nnumbers,sure,,,,,,\nsync,4,seen,1,1,-,-,-\ncycles,8,9,2,0,0,,\n"
+                + "log,4,0,0,0,0,0,\nnumbers,sure,,,,,,\nsync,4,judged,1,1,-,-,-\ncycles,8,9,2,0,0,,\n"
                 "verdict,within,8,8,,,,\n")
         for faults, senders, wanted, is_most in (
                 (("8,1,offset", "9,2,rate"), (1, 2, 3, 4), (4, [1, 2], 4), False),

@@ -1,7 +1,5 @@
-"""What `flexray observe` tells of clusters of which a check fails, where double cycles are judged by their own numbers: beside another
-program that reckons it, and beside the clocks that gave the logs.
-
-Clusters are of production shape. FLEXRAY_JUDGED_LOGS is how many logs of each kind are taken (12).
+"""What `flexray observe` tells of clusters of production shape, whose double cycles are judged by their own numbers: beside another
+program that reckons it, and beside the clocks that gave the logs. FLEXRAY_JUDGED_LOGS is how many logs of each kind are taken (12).
 """
 import os
 import random
@@ -42,15 +40,33 @@ class Log:
         lines = [line for line in text.splitlines() if is_there(line)]
         return "".join(f"{line}\n" for line in [*stated.splitlines(), *lines] if whole or line != "whole,,,,")
 
+    def fluttering(self, flutter):
+        """How much later a frame comes in a cycle: up to so many ticks toward the compensation, drawn anew in each."""
+        middle, kept = self.network.values["pDelayCompensation"] * MILLION, {}
+
+        def later(*frame):
+            if frame not in kept:
+                kept[frame] = (-1 if self.network.delays[frame[1:]] > middle else 1) * self.draw.randint(0, flutter)
+            return kept[frame]
+        return later
+
+    def missing(self, most):
+        """Which frames are lost: of each double cycle and receiver those of up to so many senders, in either cycle or in both."""
+        lost = set()
+        for double in range(self.network.doubles):
+            for node in self.network.nodes:
+                others = [other for other in self.network.nodes if other != node]
+                for sender in self.draw.sample(others, min(len(others), self.draw.randrange(most + 1))):
+                    lost |= {(2 * double + odd, sender, node) for odd in self.draw.choice([(0,), (1,), (0, 1)])}
+        return lost
+
 
 class Judged(observing.Told):
     """Texts of these logs."""
 
     def told_of(self, log, text, **changed):
         self.write("params.csv", log.params(**changed))
-        told = self.told(text)
-        self.assertEqual(rows_of(told, "covered")[0][1:3], ["no", "check"])
-        return told
+        return self.told(text)
 
     def holds(self, log, told, nodes=None):
         """Holds each row `spread` against the clocks of nodes, and hands back how many there are."""
@@ -83,6 +99,45 @@ class Judged(observing.Told):
                 self.assertEqual(rows_of(told, "verdict")[0][1], wanted)
                 self.assertEqual(set(says[4:-1]), {"within"})
                 self.assertEqual(self.holds(log, told), 6)
+
+    def test_delays_that_flutter(self):
+        """As far as is stated: nothing is contradicted, and each number holds. Where they flutter further than is stated, that is told."""
+        told = 0
+        for seed in range(LOGS):
+            for flutter in (0, MILLION // 2, MILLION):
+                with self.subTest(seed=seed, flutter=flutter):
+                    log = Log(seed, 6)
+                    log.rows = log.network.rows(later=log.fluttering(flutter))
+                    text = self.told_of(log, log.text(stated=f"flutter,{flutter},,,\n"))
+                    self.assertEqual(rows_of(text, "precision")[0][2], str(flutter))
+                    self.assertEqual(rows_of(text, "fault"), [])
+                    self.assertEqual(self.holds(log, text), 6)
+            log = Log(seed, counts=(3, 9), changes=(0,), delays=((7, 5),))
+            log.unit, log.drift = 40_000, 0
+            log.rows = log.network.rows(later=log.fluttering(4 * MILLION))
+            told += bool(rows_of(self.told_of(log, log.text(stated="flutter,0,,,\n")), "fault"))
+        self.assertGreater(told, LOGS // 2)
+
+    def test_nodes_that_miss_frames(self):
+        """Of as many senders as is stated: nothing is contradicted, each number holds, and each node missed at least as many as is told of
+        it. Where that is not stated it is told of some."""
+        rows, faults = 0, 0
+        for seed in range(2 * LOGS):
+            for lost in (1, 2):
+                with self.subTest(seed=seed, lost=lost):
+                    log = Log(seed, counts=(3, 9))
+                    missing = log.missing(lost)
+                    log.rows = log.network.rows(hears=lambda *frame, missing=missing: frame not in missing)
+                    text = self.told_of(log, log.text(stated=f"lost,{lost},,,\n"))
+                    self.assertEqual(rows_of(text, "precision")[0][3], str(lost))
+                    self.assertEqual(rows_of(text, "fault"), [])
+                    self.assertGreater(self.holds(log, text), 6)
+                    for _, cycle, node, _, least, *_ in rows_of(text, "missed"):
+                        both = {sender for at, sender, receiver in missing if at // 2 == int(cycle) // 2 and receiver == int(node) - 1}
+                        self.assertLessEqual(int(least), len(both))
+                        rows += 1
+                    faults += bool(rows_of(self.told_of(log, log.text()), "fault"))
+        self.assertGreater(min(rows, faults), 0)
 
     def test_a_run_of_the_program(self):
         """The clocks of these tests are those of the program, where no node is wrong."""
@@ -171,7 +226,8 @@ class Judged(observing.Told):
 
                     words = {"offset": {"wrong": erring}, "rate": {"wrong_rate": erring}, "missing": {"sends": sends}}
                     log.rows = network.rows(**words[kind])
-                    told = self.told_of(log, log.text(sends=sends))
+                    # No loss that may be stated explains as much.
+                    told = self.told_of(log, log.text(sends=sends, stated=f"lost,{seed % 3},,,\n"))
                     faults = [row[1:4] for row in rows_of(told, "fault")]
                     cycle = 2 * begin + (2 if kind == "missing" else 1)
                     self.assertEqual(faults[:1], [[str(cycle), str(wrong + 1), kind]])
@@ -203,7 +259,7 @@ class Judged(observing.Told):
 
     def test_random_logs(self):
         """Whatever is in a log: both programs tell the same."""
-        words = dict.fromkeys(("spread", "fault"), 0)
+        words = dict.fromkeys(("spread", "fault", "missed"), 0)
         for seed in range(700, 700 + 4 * LOGS):
             with self.subTest(seed=seed):
                 log = Log(seed)
@@ -212,9 +268,13 @@ class Judged(observing.Told):
                 rates = {(draw.randrange(9), draw.choice(nodes)): draw.randrange(-20, 21) for _ in range(draw.randrange(2))}
                 lost = {(draw.randrange(9), draw.choice(nodes)) for _ in range(draw.choice([0, 0, 1, 5]))}
                 log.unit, log.width, log.drift = draw.choice([40_000, 4_000_000]), draw.choice([0, 4_000_000]), draw.choice([0, 50, 1000])
+                missing = log.missing(draw.choice([0, 0, 1, 3]))
                 log.rows = log.network.rows(lambda *at, errors=errors: errors.get(at, 0), lambda *at, rates=rates: rates.get(at, 0),
-                                            lambda *at, lost=lost: at not in lost)
+                                            lambda *at, lost=lost: at not in lost, hears=lambda *frame, missing=missing: frame not in missing)
                 stated = draw.choice(["", "", f"since,{2 * draw.randrange(6)},,,\n", f"arbitrary,{1 + draw.choice(nodes)},,,\n"])
+                stated += draw.choice(["", "", f"lost,{draw.choice([0, 1, 2, 14])},,,\n"])
+                stated += draw.choice(["", f"flutter,{draw.choice([0, 1, MILLION, 20 * MILLION, 1000 * MILLION])},,,\n"])
+                stated += draw.choice(["", f"error,{draw.choice([1, MILLION])},,,\n"])
                 changed = {"pOffsetCorrectionOut": draw.choice([40, 60, 127]), "pRateCorrectionOut": draw.choice([45, 601]),
                            "pClusterDriftDamping": draw.randrange(3)}
                 told = self.told_of(log, log.text(lambda *at, lost=lost: at in lost, stated, whole=draw.random() < 0.5), **changed)

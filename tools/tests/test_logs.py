@@ -18,7 +18,7 @@ import test_judged
 import test_observe
 from bench import EXAMPLE, REPOSITORY, Bench, edited, needs
 from flexray import texts
-from flexray.results import ObservedFault
+from flexray.results import ObservedFault, ObservedMissed
 from flexlab.captures import observed, observer, observing, packets
 from flexlab.program import report
 from flexlab.captures.frames import frame_bytes
@@ -39,7 +39,6 @@ class Cluster:
     """What words of contradictions and of a verdict ask of a cluster."""
     microtick_ns = Fraction(25)
     nodes = {}
-    called = staticmethod(str)
 
     @staticmethod
     def called(number):
@@ -79,10 +78,12 @@ class Rows(Bench):
         """The same of a log of production shape, some frames of which are not there, or wrong."""
         log = test_judged.Log(seed)
         draw, nodes = log.draw, log.network.nodes
-        lost = {(draw.randrange(9), draw.choice(nodes)) for _ in range(draw.choice([0, 1, 5, 60]))}
-        errors = {(draw.randrange(9), draw.choice(nodes)): 50 for _ in range(draw.choice([0, 0, 1]))}
+        lost = {(draw.randrange(9), draw.choice(nodes)) for _ in range(draw.choice([0, 0, 1, 5, 60]))}
+        errors = {(draw.randrange(9), draw.choice(nodes)): draw.choice([6, 8, 50]) for _ in range(draw.choice([0, 1]))}
         log.rows = log.network.rows(lambda *at: errors.get(at, 0))
-        self.write("log.csv", log.text(lambda *at: at in lost, draw.choice(["", f"since,{draw.randrange(3) * 2},,,\n"])))
+        stated = draw.choice(["", f"since,{draw.randrange(3) * 2},,,\n", *[f"lost,{draw.randrange(1, 4)},,,\n"] * 3,
+                              "arbitrary,1,,,\nlost,1,,,\n"])
+        self.write("log.csv", log.text(lambda *at: at in lost, stated, whole=draw.random() < 0.5))
         self.write("params.csv", log.params(pOffsetCorrectionOut=draw.choice([20, 127, 127])) + "node,60,,A,0\n" * (seed % 7 == 0))
         cluster = Cluster()
         cluster.nodes = {node + 1: SimpleNamespace(key_slot=slot) for node, slot in enumerate(log.network.slots)}
@@ -91,17 +92,14 @@ class Rows(Bench):
 
     def test_no_word_is_against_a_row(self):
         said = set()
-        # In the last two sync is seen.
-        for seed in [*range(ROWS), 166, 188]:
+        for seed in range(ROWS):
             with self.subTest(seed=seed):
                 cluster, told = self.of_production(seed) if seed % 2 else self.told(seed // 2)
                 lines = observed.skew_lines(cluster, told) + observed.verdict_lines(cluster, told) + observed.fault_lines(cluster, told)
                 self.hold(told, self.one_line("\n".join(lines)))
-                said |= {told.verdict[0], told.sync[1], told.sync[4], told.covered[0]}
-                said |= {(told.verdict[0], "own")} if observed.is_by_numbers(told) else set()
+                said |= {told.verdict[0], told.sync[1], told.sync[4], *(["missed"] if "Missed" in "".join(lines) else [])}
         if ROWS >= 80:
-            self.assertLessEqual({"no", "over", "open", "within", "partly", "seen", "stated", "judged", "unseen"}, said)
-            self.assertLessEqual({(word, "own") for word in ("no", "open", "within", "partly")}, said)
+            self.assertLessEqual({"no", "over", "open", "within", "partly", "judged", "unseen", "count", "missed"}, said)
 
     def hold(self, told, page):
         words = {word: [row.cycle for row in told.cycles if row.says == word] for word in ("within", "over", "open")}
@@ -116,27 +114,28 @@ class Rows(Bench):
         self.assertEqual("CONTRADICTION" in page, verdict.startswith("NO:"))
         if found := re.match(r"in cycles (\d+) to (\d+) the clocks", verdict):
             self.assertEqual(set(range(int(found[1]), int(found[2]) + 1)) - set(words["within"]), set())
-        is_own, rows = observed.is_by_numbers(told), {row.double: row for row in told.spreads}
-        if found := re.match(r"partly: of (the judged ones of )?cycles (\d+) to (\d+) .* precision in (\d+), for certain; of (\d+) it", verdict):
-            begin, end, *counts = map(int, found.groups()[1:])
-            self.assertEqual(bool(found[1]), is_own)
-            self.assertEqual([sum(begin <= cycle <= end and (not is_own or cycle // 2 in rows) for cycle in words[word])
-                              for word in ("within", "open")], counts)
+        rows = {row.double: row for row in told.spreads}
+        if found := re.match(r"partly: of the judged ones of cycles (\d+) to (\d+) .* precision in (\d+), for certain; of (\d+) it", verdict):
+            begin, end, *counts = map(int, found.groups())
+            self.assertEqual([sum(begin <= cycle <= end and cycle // 2 in rows for cycle in words[word]) for word in ("within", "open")], counts)
         if found := re.match(r"open: .*; in (\d+) cycles the clocks", verdict):
             self.assertEqual(int(found[1]), len(words["within"]))
         judged = re.search(r"Judged (\d+) of (\d+) double cycles", page)
-        self.assertEqual((0, told.doubles) if judged is None else (int(judged[1]), int(judged[2])), (told.judged, told.doubles))
-        self.assertEqual("nothing was held against the rules of sync" in page, verdict.startswith("open:") and not is_own)
-        self.assertEqual("of no double cycle it is certain" in page, told.sync[0] == "-" and not is_own)
+        self.assertEqual((int(judged[1]), int(judged[2])), (told.judged, told.doubles))
+        self.assertEqual("no double cycle is judged" in page, verdict.startswith("open:"))
         if found := re.search(r"from double cycle (\d+) on; no macroticks of these lie further apart than (\S+) us \(double cycle (\d+)\)", page):
-            self.assertEqual((min(rows), True), (int(found[1]), is_own))
+            self.assertEqual(min(rows), int(found[1]))
             most = max(row.apart for row in told.spreads)
             self.assertEqual(rows[int(found[3])].apart, most)
             self.assertLessEqual(most, Fraction(found[2]) * 40 * 1_000_000)
         self.assertEqual(found is not None, bool(rows))
-        self.assertTrue("in sync" not in page.replace("In sync", "") or not is_own, page)
         # What is advised would change something.
-        self.assertTrue("can state it" not in page or (told.covered[0] == "open" and told.cycles), page)
+        self.assertTrue("can state where" not in page or (told.sync[4] != "count" and told.cycles), page)
+        # Each row of what was missed is there once, with a contradiction or without.
+        faults = {(fault.cycle, fault.node, fault.kind) for fault in told.faults}
+        alone = [row for row in told.missed if (row.cycle, row.node, row.kind) not in faults]
+        self.assertEqual(len(re.findall(r"it missed at least \d+ senders?, by", page)), min(len(alone), observed.MOST_FAULTS))
+        self.assertTrue(all(row.least is not None and row.least <= told.lost for row in alone))
         self.assertEqual(observing.status_of(told, None), 0 if told.verdict[0] == "within" else 1)
         if told.verdict[0] in ("within", "partly"):
             self.assertEqual(observing.status_of(told, told.judged), 0)
@@ -238,15 +237,16 @@ class Logs(Bench):
         self.assertIn("Frames 160 say where a clock was, 0 are damaged", page)
         self.assertIn("Left out 40 frames of static slots that are no key slots", page)
         self.assertIn("Cycles 0 to 19, by the cycle counts: 19 within the precision, 0 over it, 1 open", page)
-        self.assertIn("Precision 7.902 us", page)
-        self.assertIn("In sync of no double cycle it is certain: node 5 has no key slot, so no frame shows its clock; it moves no clock, "
-                      "so leave it out of the file; or in_sync_from_cycle of [observer] can state it Verdict open: nothing was held against the rules of sync, since "
-                      "node 5 has no key slot, so no frame shows its clock; in 19 cycles the clocks of the nodes that sent lay within "
-                      "the precision", page)
+        self.assertIn("Precision 3.526 us, the sharp one where delays flutter by no more than 25 ns: a yardstick, which is promised where the "
+                      "checks of flexray bound PARAMS sharp 1000000 hold", page)
+        self.assertIn("Judged 0 of 10 double cycles, since node 5 has no key slot, so no frame shows its clock; it moves no clock, so leave it "
+                      "out of the file; or in_sync_from_cycle of [observer] can state where the cluster is in sync Verdict open: no double "
+                      "cycle is judged, since node 5 has no key slot, so no frame shows its clock; in 19 cycles the clocks of the nodes that "
+                      "sent lay within the precision", page)
         self.assertNotIn("Not seen", page)
         text = self.flexray("observe", "seen/params.csv", "seen/log.csv")[1]
         self.assertEqual(text, self.read("seen", "observed.csv"))
-        self.assertIn("Precision       7.902 us\n", self.read("seen", "observed.txt"))
+        self.assertIn("Precision       3.526 us, the sharp one", self.read("seen", "observed.txt"))
 
     def test_what_is_stated_of_the_analyzer(self):
         path = self.sent(SHORT + OBSERVER + "error_ns = 2.5\njitter_ns = 5\nflutter_ns = 12.5\nlost = 2\n")
@@ -267,26 +267,25 @@ class Logs(Bench):
         self.assertEqual(found["cycles"][0]["says"], "over")
         self.assertGreater(self.hold(found), 0)
 
-    def test_sync_that_is_seen(self):
-        """Where each node has a key slot and stamps are fine, the log itself shows that it is in sync."""
+    def test_double_cycles_that_are_judged(self):
+        """Where each node has a key slot and stamps are fine, each double cycle is judged by what the log shows of it."""
         text = edited(("double_cycles = 200", "double_cycles = 10"),
                       ("id = 5\nchannels = \"A\"\n", "id = 5\nchannels = \"A\"\nkey_slot = 5\n"))
         path = self.sent(text + OBSERVER.replace("resolution_ns = 10", "resolution_ns = 1"))
         page = self.one_line(self.flexlab("observe", "-o", "seen", path, "net.toml")[0])
-        self.assertRegex(page, r"In sync double cycle \d is, as its stamps show")
-        self.assertRegex(page, r"Judged \d+ of 10 double cycles are held against the rules of sync")
-        self.assertRegex(page, r"Verdict in cycles \d+ to 18 the clocks of the nodes that sent lay within the precision")
+        self.assertIn("Judged 10 of 10 double cycles, by what is seen and known of them, from double cycle 0 on; no macroticks of these lie "
+                      "further apart than", page)
+        self.assertIn("Verdict in cycles 0 to 18 the clocks of the nodes that sent lay within the precision", page)
 
-    def test_a_cluster_of_which_a_check_fails(self):
-        """One of production shape is judged by what is seen of it; a node that drops out is told of, too."""
+    def test_a_cluster_of_production_shape(self):
+        """It is judged by what is seen of it; a node that drops out is told of, too."""
         with open(os.path.join(REPOSITORY, "examples", "sharp", "sharp.toml"), encoding="utf-8") as file:
             text = file.read().replace("double_cycles = 60", "double_cycles = 12") + OBSERVER + "jitter_ns = 5\nmissed_none = true\n"
         path = self.sent(text)
         page = self.one_line(self.flexlab("observe", "-o", "seen", path, "net.toml", status=1)[0])
-        self.assertIn("Covered no run of this cluster is: check 1 fails; so each double cycle is judged by its own numbers Numbers that each "
-                      "frame comes within half a cycle of the schedule is taken for granted: it is sure of clocks of a covered cluster alone "
-                      "Judged 12 of 12 double cycles, by what is seen of them, from double cycle 0 on; no macroticks of these lie further "
-                      "apart than", page)
+        self.assertIn("Judged 12 of 12 double cycles, by what is seen and known of them, from double cycle 0 on; no macroticks of these lie "
+                      "further apart than", page)
+        self.assertNotIn("Numbers", page)
         # Its clocks begin 2 us apart, and the sharp precision is 2.4.
         self.assertRegex(page, r"Verdict partly: of the judged ones of cycles 0 to 23 .* lay within the precision in 22, for certain")
         self.flexlab("observe", "-o", "seen", "--require", "judged=12", path, "net.toml")
@@ -308,7 +307,7 @@ class Logs(Bench):
                 if packet.frame[1] != 3 or packet.frame[4] & 63 < 11]
         packets.write_capture(self.path("less.pcap"), [(packet.ns, packet.channel, packet.frame) for packet in made])
         page = self.one_line(self.flexlab("observe", "-o", "seen", "less.pcap", "net.toml", status=1)[0])
-        self.assertIn("it missed no frame; the cluster is in sync from cycle 2 on", page)
+        self.assertIn("it missed no frame; the cluster is in sync in the double cycle of cycle 2", page)
         self.assertIn("Verdict NO: no run of this cluster", page)
         self.assertRegex(page, r"CONTRADICTION cycle 11, node \d: its frame on channel A is not there")
         self.assertRegex(page, r"Not seen node \d on channel A in 9 cycles")
@@ -319,9 +318,9 @@ class Logs(Bench):
         # Where sync is stated and it is not told whether frames were missed, the cycle before the gap is open.
         self.write("net.toml", SHORT + OBSERVER + "in_sync_from_cycle = 2\n")
         page = self.one_line(self.flexlab("observe", "-o", "seen", "less.pcap", "net.toml", status=1)[0])
-        self.assertRegex(page, r"Judged 9 of 10 double cycles are held against the rules of sync; of the others the one that came "
-                               r"farthest is not, since node \d")
-        self.assertIn("Verdict partly: of cycles 2 to 19 the clocks of the nodes that sent lay within the precision in ", page)
+        self.assertRegex(page, r"Judged 9 of 10 double cycles, by what is seen and known of them, from double cycle 1 on; .* of the others the "
+                               r"one that came farthest is not judged, since node \d")
+        self.assertIn("Verdict partly: of the judged ones of cycles 2 to 19 the clocks of the nodes that sent lay within the precision in ", page)
         self.flexlab("observe", "-o", "seen", "--require", "judged=9", "less.pcap", "net.toml")
         line = self.flexlab("observe", "-o", "seen", "--require", "judged=10", "less.pcap", "net.toml", status=7)[1]
         self.assertEqual(line, "flexlab: not met: judged=10: 9 of 10 double cycles are judged\n")
@@ -340,16 +339,18 @@ class Logs(Bench):
         self.assertIn("it missed no frame, which is not taken where frames are damaged", page)
 
     def test_contradictions_in_words(self):
-        words = observed.Words(Cluster)
+        missed = [ObservedMissed(7, 2, "offset", 2), ObservedMissed(7, 2, "rate", None), ObservedMissed(9, 2, "rate", 1)]
+        words = observed.Words(Cluster, SimpleNamespace(missed=missed))
         for kind, fields, told in (
                 ("limit", ("1", "40000", "80000", "120000"), "both its cycles last 0.000 to 0.001 us, and one of the"),
                 ("correction", ("500", "501", "-200", "200"), "an offset term of 500 to 501 microticks, and the limit is 200"),
-                ("offset", ("5", "6", "1", "3"), "an offset term of 5 to 6 microticks, and by all that were seen 1 to 3"),
-                ("rate", ("5", "6", "1", "3"), "a change of the rate term of 5 to 6 microticks, and by all that"),
-                ("skew", ("80000000", "-", "-", "40000000"), "clocks at least 2.000 us apart, and in sync at most 1.000 us"),
-                ("start", ("80000000", "9", "-", "40000000"), "starts at least 2.000 us apart, and in sync at most 1.000"),
+                ("offset", ("5", "6", "1", "3"), "an offset term of 5 to 6 microticks, and by all that were seen 1 to 3, unless it missed at "
+                                                 "least 2 senders"),
+                ("rate", ("5", "6", "1", "3"), "a change of the rate term of 5 to 6 microticks, and by all that were seen 1 to 3"),
+                ("skew", ("80000000", "-", "-", "40000000"), "clocks at least 2.000 us apart, and by what is known at most 1.000 us"),
+                ("start", ("80000000", "9", "-", "40000000"), "starts at least 2.000 us apart, and by what is known at most 1.000"),
                 ("lengths", ("80000000", "9", "-", "40000000"), "lengths of cycles at least 2.000 us apart"),
-                ("length", ("40000000", "80000000", "1", "2"), "a cycle of 1.000 to 2.000 us, and in sync one of 0.000"),
+                ("length", ("40000000", "80000000", "1", "2"), "a cycle of 1.000 to 2.000 us, and by what is known one of 0.000"),
                 ("channels", ("2", "1", "-", "-"), "the stamps of both channels place its clock nowhere"),
                 ("twice", ("A", "4", "3", "-"), "its frame on channel A is there twice"),
                 ("missing", ("B", "-", "-", "-"), "its frame on channel B is not there"),
@@ -359,6 +360,8 @@ class Logs(Bench):
             fault = ObservedFault(7, 2, kind, fields)
             self.assertIn(told, words.of(fault))
             self.assertTrue(words.of(fault).startswith("cycle 7, node 2: "))
+            self.assertEqual("unless" in words.of(fault), kind == "offset")
+        self.assertTrue(words.of(ObservedFault(9, 2, "rate", ("5", "6", "1", "3"))).endswith("unless it missed at least 1 sender"))
 
     def test_a_frame_of_another_form(self):
         path = self.sent()
@@ -374,7 +377,7 @@ class Logs(Bench):
         self.assertNotIn("Numbers", page)
 
     def test_numbers_that_are_a_premise(self):
-        """Where limits are so wide that clocks in sync could come half a cycle off, that is said."""
+        """Where limits are so wide that clocks near each other could come half a cycle off, that is said."""
         with open(os.path.join(REPOSITORY, "examples", "observe", "observe", "printed.txt"), encoding="ascii") as file:
             text = file.read()
         for word, is_said in (("sure", False), ("premise", True)):
@@ -389,8 +392,7 @@ class Logs(Bench):
         self.write("net.toml", SHORT.replace("gPayloadLengthStatic = 8", "gPayloadLengthStatic = 9") + OBSERVER)
         page = self.one_line(self.flexlab("observe", "--pictures", "-o", "seen", path, "net.toml", status=1)[0])
         self.assertIn("0 say where a clock was", page)
-        self.assertIn("Verdict open: nothing was held against the rules of sync, since no frame tells where a clock was; in 0 cycles",
-                      page)
+        self.assertIn("Verdict open: no double cycle is judged, since no frame tells where a clock was; in 0 cycles", page)
         self.assertIn("Skew of no frame it is told where a clock was, so of clocks nothing is told", page)
         self.assertNotIn("Picture", page)
 
@@ -502,10 +504,12 @@ class Logs(Bench):
             self.assertEqual(self.read(part["folder"], "log.csv").count("whole,,,,"), 1)
         self.assertEqual(found["verdict"], alone["verdict"])
         page = self.one_line(self.flexlab("observe", "-o", "seen", "two.pcap", "net.toml", status=(0, 1))[0])
-        self.assertIn("Part 1 of 2: 0.000000 s to 0.0", page)
-        self.assertIn("Part 2 of 2: 0.400000 s to 0.4", page)
-        self.assertIn(f"Parts 2, since behind a silence of more than 30 cycles a count begins anew: 2 {alone['verdict'][0]}", page)
-        # What is stated of sync is stated of the first part.
+        self.assertIn("Part 1 of 2, from 0 s to 0.0", page)
+        self.assertIn("Part 2 of 2, from 0.4 s to 0.4", page)
+        self.assertIn(f"Parts 2, since behind a silence of more than 30 cycles, and where --part cuts, a count begins anew: 2 "
+                      f"{alone['verdict'][0]}. Each may be of a history of its own: nothing is said across parts Verdict the worst, of part 1: ",
+                      page)
+        # What is stated of sync is stated of the first part that has the cycle.
         self.write("net.toml", SHORT + OBSERVER + "in_sync_from_cycle = 4\n")
         self.observed("two.pcap")
         self.assertEqual(["since,4,,," in self.read("seen", f"part-{number}", "log.csv") for number in (1, 2)], [True, False])

@@ -8,7 +8,6 @@ FLEXRAY_OBSERVE_RUNS is how many runs are taken (40).
 """
 import os
 import random
-import re
 import unittest
 from fractions import Fraction
 
@@ -49,8 +48,8 @@ def skew(values, cycle, rows):
 class Cluster:
     """A random cluster and its run: parameters, drift and script as files, and the rows of its trace."""
 
-    def __init__(self, draw, is_long, is_covered=False):
-        """`is_covered`: with parameters of which runs can be covered."""
+    def __init__(self, draw, is_long, is_fit=False):
+        """`is_fit`: with parameters with which many double cycles can be judged."""
         self.doubles = draw.randrange(24, 40) if is_long else draw.randrange(2, 7)
         macros = 400 if is_long else draw.choice([400, 500, 1000])
         slot, count, further = max(20, macros // 20), draw.randrange(1, 5 if is_long else 7), draw.randrange(0, 4)
@@ -62,7 +61,7 @@ class Cluster:
             "gPayloadLengthStatic": draw.randrange(6), "gOffsetCorrectionStart": macros - nit // 2,
             "pClusterDriftDamping": draw.randrange(4), "xRateBound": draw.choice([50, 200, 1000]),
             "xChangeBound": draw.choice([0, 0, 1]), "xDelayError": draw.choice([0, 500000]), **FIXED}
-        if is_covered:
+        if is_fit:
             self.values.update(pMicroPerCycle=40 * macros, gdActionPointOffset=draw.randrange(8, 11), xRateBound=draw.choice([50, 200]),
                                pClusterDriftDamping=4, xDelayError=draw.choice([0, 200000]), pOffsetCorrectionOut=400)
         slots = draw.sample(range(1, static + 1), static)
@@ -88,7 +87,7 @@ class Cluster:
 
     def drift(self, draw):
         bound, change, lines = self.values["xRateBound"], self.values["xChangeBound"], [f"doubles,{self.doubles},,,,\n"]
-        # Some clocks begin further apart than the precision.
+        # Some clocks begin far apart.
         latest = draw.choice([3, 3, 3, 300]) * MILLION
         for node, _, _, _ in self.correct:
             length = MILLION - bound + draw.randrange(2 * bound + 1)
@@ -104,11 +103,26 @@ class Cluster:
     def script(self, draw):
         lines = [f"arbitrary,{self.arbitrary},,,,,\n"] if self.arbitrary else []
         lines += [f"join,{draw.randrange(2)},{node},1,,,\n" for node in self.joins]
-        pairs = self.pairs()
+        pairs, self.lost = self.pairs(), set()
         if pairs and draw.random() < 0.4:
             for cycle in sorted(draw.sample(range(2 * self.doubles), 2)):
-                lines.append("lose,{},{},{},{},,\n".format(cycle, *draw.choice(pairs)))
-        return "".join(lines)
+                self.lost.add((cycle, *draw.choice(pairs)))
+        return "".join(lines + ["lose,{},{},{},{},,\n".format(*lost) for lost in sorted(self.lost)])
+
+    def missed(self, double, node):
+        """How many correct senders a node misses there: no channel carries the frames of both cycles."""
+        own = dict((number, channels) for number, _, channels, _ in self.nodes)
+        return sum(all(any((2 * double + odd, number, node, channel) in self.lost for odd in (0, 1)) for channel in channels
+                       if channel in own[node]) for number, _, channels, _ in self.correct if number != node)
+
+    @property
+    def most_missed(self):
+        return max(self.missed(double, node) for double in range(self.doubles) for node, _, _, _ in self.correct)
+
+    @property
+    def is_outweighing(self):
+        """Whether the correct sync nodes that do not join outweigh arbitrary ones."""
+        return len(self.correct) - len(self.joins) >= (3 if self.arbitrary else 1)
 
     def take(self, trace):
         """The rows (start, tick length, rate term, offset term, state) of a trace, by cycle and node."""
@@ -291,23 +305,20 @@ class Told(Bench):
         return text
 
     def verdict_fits(self, text):
-        """The last line says what the rows before it say, whatever it rests on."""
-        cycles, faults = rows_of(text, "cycle"), rows_of(text, "fault")
-        (sync,), (verdict,), (covered,) = (rows_of(text, word) for word in ("sync", "verdict", "covered"))
+        """The last line says what the rows before it say, whatever it rests on; and of a term that is missed by more senders than the log
+        states, or in no way, there is a contradiction, and of no other one."""
+        cycles, faults, (head,) = rows_of(text, "cycle"), rows_of(text, "fault"), rows_of(text, "precision")
+        (sync,), (verdict,) = (rows_of(text, word) for word in ("sync", "verdict"))
         judged, doubles, spread = int(sync[3]), int(sync[4]), [int(row[1]) for row in rows_of(text, "spread")]
         self.assertEqual(2 * doubles, len(cycles))
-        if covered[2] == "check":
-            # Those that have a row of their own numbers.
-            self.assertEqual(spread, sorted(set(spread)))
-            rows = [row for row in cycles if int(row[1]) // 2 in spread]
-            is_through = bool(spread) and spread == list(range(spread[0], int(cycles[-1][1]) // 2 + 1))
-            self.assertTrue(not spread or sync[1] != "-")
-        else:
-            # From the double cycle of the `sync` row on, or from the first one that is there.
-            begins = 0 if sync[1] == "-" or not cycles else max(0, 2 * int(sync[1]) - int(cycles[0][1]))
-            rows, is_through = cycles[begins:] if sync[1] != "-" and covered[1] == "open" else [], True
-            self.assertEqual(spread, [])
+        # Those that are judged have a row of their own numbers.
+        self.assertEqual(spread, sorted(set(spread)))
+        rows = [row for row in cycles if int(row[1]) // 2 in spread]
+        is_through = bool(spread) and spread == list(range(spread[0], int(cycles[-1][1]) // 2 + 1))
+        self.assertEqual(sync[1:3], [str(spread[0]), "judged"] if spread else ["-", "open"])
         self.assertEqual(2 * judged, len(rows))
+        told = [row[1:4] for row in rows_of(text, "missed") if row[4] == "-" or int(row[4]) > int(head[3])]
+        self.assertEqual(sorted(told), sorted(row[1:4] for row in faults if row[3] in ("offset", "rate")))
         self.assertEqual(sync[5] == "-", judged == doubles and doubles > 0)
         over, words = [row for row in cycles if row[5] == "over"], [row[5] for row in rows]
         if faults:
@@ -326,9 +337,9 @@ class Told(Bench):
 class Observed(Told):
     """The texts, and the intervals in them."""
 
-    def run_of(self, draw, is_long=False, is_covered=False):
+    def run_of(self, draw, is_long=False, is_fit=False):
         """A cluster with the rows of its trace."""
-        cluster = Cluster(draw, is_long, is_covered)
+        cluster = Cluster(draw, is_long, is_fit)
         self.write("params.csv", cluster.params())
         self.write("drift.csv", cluster.drift(draw))
         self.write("script.csv", cluster.script(draw))
@@ -457,15 +468,26 @@ class Observed(Told):
 
     # ---- verdicts
 
-    def is_covered(self):
-        """Whether `flexray run` covers the run, and the first double cycle in sync in which none follows."""
-        status, report, _ = self.flexray("run", "params.csv", "drift.csv", "script.csv")
-        synced = re.search(r"^in sync (\d+)$", report, re.MULTILINE)
-        return "\ncovered yes\n" in report, int(synced[1]) if synced else None
+    def correct_rows(self, cluster, double):
+        """The rows of both cycles of all correct nodes, and of those that are silent, where each has both and is active."""
+        nodes = [node for node, _, _, _ in cluster.correct] + [len(cluster.nodes) + 1] * bool(cluster.silent)
+        rows = [[cluster.rows.get((2 * double + odd, node)) for node in nodes] for odd in (0, 1)]
+        return rows if all(row and row[4] == "active" for of_cycle in rows for row in of_cycle) else None
+
+    def lies_in(self, cluster, double, known):
+        """Whether starts and even lengths of a double cycle lie no further apart than that, and no further beyond their range."""
+        values, rows = cluster.values, self.correct_rows(cluster, double)
+        if rows is None:
+            return False
+        starts, micros, bound = [row[0] for row in rows[0]], values["pMicroPerCycle"], values["xRateBound"]
+        lengths = [(micros + rate) * length for _, length, rate, _, _ in rows[0]]
+        return (max(starts) - min(starts) <= known.starts and max(lengths) - min(lengths) <= known.lengths
+                and min(lengths) >= micros * (MILLION - bound) - known.beyond and max(lengths) <= micros * (MILLION + bound) + known.beyond)
 
     def test_lawful_runs_are_not_contradicted(self):
-        """Whatever was lost on the bus or on the way to the observer, of what correct nodes sent."""
-        told = dict.fromkeys(("within", "open", "seen", "stated", "whole", "untimely", "covered", "sure", "premise", "timely"), 0)
+        """Whatever was lost on the bus, as is stated, or on the way to the observer, of what correct nodes sent: and each number that a
+        double cycle is judged by is so, and that of senders that a node missed."""
+        told = dict.fromkeys(("within", "open", "judged", "stated", "known", "missed", "whole", "untimely", "sure", "premise", "timely"), 0)
         for seed in range(RUNS):
             with self.subTest(seed=seed):
                 draw = random.Random(seed)
@@ -473,56 +495,70 @@ class Observed(Told):
                 analyzer, lost = Analyzer(draw, cluster), draw.choice([0, 0, 0.1, 0.5])
                 entries = analyzer.entries(analyzer.rates[0], analyzer.zero, "AB", lost)
                 entries = sorted(entries + analyzer.others(entries), key=lambda entry: entry[0])
-                covered, synced = self.is_covered()
-                stated = ["whole,,,,\n"] if not lost else []
+                stated = [word for word in ("whole,,,,\n" * (not lost), draw.choice(["", "flutter,0,,,\n"])) if word]
+                missed = draw.choice([cluster.most_missed, cluster.most_missed, 0])
+                stated += [f"lost,{missed},,,\n"] * (missed > 0)
                 # The cycle of the run that has number 0 in the log.
                 first = min((cycle for (cycle, _), row in cluster.rows.items() if cycle >= analyzer.first), default=0)
-                if synced is not None and draw.random() < 0.5 and 2 * synced >= first - first % 64:
-                    stated.append(f"since,{2 * synced - (first - first % 64)},,,\n")
+                zero, synced = first - first % 64, self.bounds_of(analyzer, stated).synced()
+                there = [double for double in range(zero // 2, cluster.doubles) if self.lies_in(cluster, double, synced)]
+                if there and draw.random() < 0.5:
+                    stated.append(f"since,{2 * draw.choice(there) - zero},,,\n")
+                    told["stated"] += 1
                 text = self.told(analyzer.log(entries, *stated))
                 faults = rows_of(text, "fault")
-                # A small cluster that is not in sync can send when a log does not take it for timely.
+                # A small cluster whose clocks lie far apart can send when a log does not take it for timely.
                 told["untimely"] += any(row[3] == "cycle" for row in faults)
                 kinds = {row[3] for row in faults}
                 self.assertEqual(kinds & {"channels", "limit", "correction", "twice", *peer.IRREGULAR}, set())
-                if covered:
-                    self.assertEqual(kinds - {"cycle"}, set())
-                if covered and synced == 0:
-                    self.assertEqual(faults, [])
                 numbers, sync, verdict = rows_of(text, "numbers", "sync", "verdict")
-                told[numbers[1]] += 1
-                if covered and synced is not None and synced <= first // 2 and numbers[1] == "sure":
-                    self.assertEqual(faults, [])
-                    told["timely"] += 1
-                told[sync[2]] = told.get(sync[2], 0) + 1
-                told[verdict[1]] = told.get(verdict[1], 0) + 1
+                if cluster.is_outweighing and cluster.most_missed <= missed:
+                    self.assertEqual(kinds - {"cycle"}, set())
+                    if not kinds:
+                        told["known"] += self.are_so(cluster, text, zero)
+                        told["missed"] += len(rows_of(text, "missed"))
+                    if numbers[1] == "sure" and self.is_near(cluster, first // 2):
+                        self.assertEqual(faults, [])
+                        told["timely"] += 1
+                for word in (numbers[1], sync[2], verdict[1]):
+                    told[word] = told.get(word, 0) + 1
                 told["whole"] += not lost
-                told["covered"] += covered
-                if sync[2] == "seen":
-                    self.in_sync(cluster, int(sync[1]))
         if RUNS != 40:
             print(f"{RUNS} lawful runs: {told}")
-        self.assertGreater(min(told[word] for word in ("within", "open", "seen", "stated", "timely")), 0, told)
+        self.assertGreater(min(told[word] for word in ("within", "open", "judged", "stated", "known", "timely")), 0, told)
 
-    def in_sync(self, cluster, double):
-        """A double cycle that is told in sync is so in the run."""
-        params = peer.Params(peer.rows_of(self.path("params.csv")))
-        rows = [[cluster.rows[2 * double + odd, node] for node, _, _, _ in cluster.correct] for odd in (0, 1)]
-        starts = [start for start, *_ in rows[0]]
-        self.assertLessEqual(max(starts) - min(starts), params.starts)
-        for of_cycle in rows:
-            lengths = [(params.micros + rate) * length for _, length, rate, _, _ in of_cycle]
-            self.assertLessEqual(max(lengths) - min(lengths), params.lengths)
-            self.assertTrue(all(params.micros * params.shortest <= long <= params.micros * params.longest
-                                for long in lengths))
-            self.assertTrue(all(row[4] == "active" for row in of_cycle))
+    def bounds_of(self, analyzer, stated):
+        """The bounds of a log of its own and the run's parameters."""
+        return peer.Bounds(peer.Params(peer.rows_of(self.path("params.csv"))),
+                           peer.Log([line.split(",") for line in analyzer.log([], *stated).splitlines()]))
+
+    def is_near(self, cluster, first):
+        """Whether starts lie no further apart than offset corrections reach, from a double cycle on."""
+        most = cluster.values["pOffsetCorrectionOut"] * (MILLION - cluster.values["xRateBound"])
+        for double in range(first, cluster.doubles):
+            starts = [row[0] for (cycle, _), row in cluster.rows.items() if cycle == 2 * double]
+            if starts and max(starts) - min(starts) > most:
+                return False
+        return True
+
+    def are_so(self, cluster, text, zero):
+        """Holds the numbers that double cycles are judged by, and what nodes missed, against the run; hands back how many are judged."""
+        for row in rows_of(text, "spread"):
+            number, *known, apart = map(int, row[1:6])
+            double = number + zero // 2
+            self.assertTrue(self.lies_in(cluster, double, peer.Known(*known)), row)
+            for odd, rows in enumerate(self.correct_rows(cluster, double)):
+                self.assertLessEqual(skew(cluster.values, odd, [row[:4] for row in rows]), apart, row)
+        for row in rows_of(text, "missed"):
+            self.assertLessEqual(int(row[4]), cluster.missed((int(row[1]) + zero) // 2, int(row[2])), row)
+        return len(rows_of(text, "spread"))
 
     def exact(self, seed):
-        """A covered run of correct nodes, seen by an exact analyzer that misses nothing, from its first cycle on; None
+        """A run of correct nodes that miss no frame, seen by an exact analyzer that misses nothing, from its first cycle on; None
         where the run is none."""
         draw = random.Random(seed)
-        cluster = self.run_of(draw, is_long=True, is_covered=True)
-        if cluster.arbitrary or cluster.joins or len(cluster.nodes) < 3 or self.is_covered() != (True, 0):
+        cluster = self.run_of(draw, is_long=True, is_fit=True)
+        if cluster.arbitrary or cluster.joins or cluster.silent or len(cluster.nodes) < 3 or cluster.most_missed:
             return None
         analyzer = Analyzer(draw, cluster)
         analyzer.unit, analyzer.error, analyzer.jitter, analyzer.drift, analyzer.first = 40_000, 0, 0, 20, 0
@@ -552,11 +588,10 @@ class Observed(Told):
                 continue
             cluster, analyzer = found
             text = self.told(self.exact_log(analyzer))
-            sync, verdict = rows_of(text, "sync", "verdict")
+            sync, = rows_of(text, "sync")
             self.assertEqual(rows_of(text, "fault"), [])
-            if sync[1] == "-" or int(sync[1]) > 3:
+            if sync[1] == "-" or int(sync[1]) > 3 or sync[5] != "-":
                 continue
-            self.assertEqual(verdict[1], "within")
             lawful, draw = dict(cluster.rows), random.Random(seed)
             for kind in tried:
                 cluster.rows = dict(lawful)
@@ -636,7 +671,7 @@ class Observed(Told):
                 wanted.sort(key=lambda row: int(row[1]) // 2)
                 self.assertEqual([row for row in text if row[0] == "fault"], wanted)
                 self.assertEqual([row for row in text if row[0] == "log"], [["log", *map(str, tally), ""]])
-                words = ("fault", "spread", "log", "sync", "verdict")
+                words = ("fault", "missed", "spread", "log", "sync", "verdict")
                 self.assertEqual(*([row for row in rows if row[0] not in words] for rows in (text, lawful)))
                 sync = next(row for row in text if row[0] == "sync")
                 self.assertNotIn(sync[1], {str(int(row[1]) // 2) for row in wanted})
@@ -647,7 +682,7 @@ class Observed(Told):
     def faults_of(self, network, draw, rows):
         """Cycle, node and kind of what is told of a network where stamps are of 1 ns and delays known to 1 ns."""
         found = rows_of(self.told(network.log(draw, rows, 40_000, 40_000)), "sync", "fault")
-        self.assertIn(["sync", "seen"], [[row[0], row[2]] for row in found])
+        self.assertIn(["sync", "judged"], [[row[0], row[2]] for row in found])
         return [(int(row[1]), row[2], row[3]) for row in found if row[0] == "fault"]
 
     def traced(self, network, more=""):
@@ -709,27 +744,19 @@ class Observed(Told):
                 self.assertEqual(self.faults_of(network, draw, rows), [(2 * begin, str(node + 1), "limit")])
 
     def test_sync_that_is_stated_wrongly(self):
-        """Where clocks begin further apart than the precision, and the log states that they are in sync, that is told."""
+        """Where clocks begin further apart than the sharper bounds, and the log states that they are in sync, that is told."""
         found = set()
         for seed in range(2000, 2060):
             draw = random.Random(seed)
-            cluster = self.run_of(draw, is_covered=True)
-            covered, synced = self.is_covered()
-            if covered and synced != 0 and not cluster.joins:
-                analyzer = Analyzer(draw, cluster)
-                analyzer.first = 0
+            cluster = self.run_of(draw, is_fit=True)
+            analyzer = Analyzer(draw, cluster)
+            analyzer.first, bounds = 0, self.bounds_of(analyzer, [])
+            if bounds.heard and not bounds.unfit(bounds.synced()) and not cluster.joins and not self.lies_in(cluster, 0, bounds.synced()):
                 entries = analyzer.entries(analyzer.rates[0], analyzer.zero, "AB", 0)
                 text = self.told(analyzer.log(entries, "since,0,,,\n"))
-                self.assertRegex(text, r"\nsync,0,stated,(\d+),\1,-,-,-\n")
+                self.assertIn("\nsync,0,judged,", text)
                 found.update(row[3] for row in rows_of(text, "fault"))
         self.assertTrue({"skew", "start"} <= found, found)
-
-    def test_a_cluster_that_is_never_covered(self):
-        _, analyzer, entries = self.seen(1)
-        params = self.read("params.csv")
-        self.write("params.csv", re.sub("xDelayError,.*", "xDelayError,10000000,,", params))
-        text = self.told(analyzer.log(entries))
-        self.assertRegex(text, r"\ncovered,no,check,[1-5],[0-9]+,[0-9]+,,\n")
 
     def test_numbers_that_are_sure(self):
         """What a log states of its analyzer decides, too, and each statement that is wider makes it no surer."""

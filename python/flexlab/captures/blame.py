@@ -4,6 +4,7 @@ excluded, and no more is said of them."""
 from __future__ import annotations
 
 import os
+import re
 import tempfile
 from collections.abc import Iterator, Sequence
 from typing import Any, NamedTuple
@@ -38,7 +39,8 @@ class Blamed(NamedTuple):
 
 
 def is_asked(told: Observation, always: bool) -> bool:
-    """Whether a log is held against each node: where it has contradictions, and that is asked for or one of them asks for sync."""
+    """Whether a log is held against each node: where it has contradictions, and that is asked for or one of them asks what nodes hear of
+    each other."""
     return any(always or fault.kind not in ALWAYS for fault in told.faults)
 
 
@@ -50,7 +52,7 @@ def blamed_as(cluster: Cluster, node: int, told: Observation) -> Blamed:
     """A node, by what is told of the log with this node named arbitrary. A fault that is not irregular says more."""
     if told.faults:
         first = next((fault for fault in told.faults if fault.kind not in IRREGULAR), told.faults[0])
-        return Blamed(node, "out", first.cycle, first.kind, first.node, told.judged, told.doubles, Words.by(cluster, told).of(first))
+        return Blamed(node, "out", first.cycle, first.kind, first.node, told.judged, told.doubles, Words(cluster, told).of(first))
     if told.judged:
         return Blamed(node, "left", None, None, None, told.judged, told.doubles,
                       f"no contradiction is left, and {told.judged} of {told.doubles} double cycles are judged")
@@ -60,8 +62,9 @@ def blamed_as(cluster: Cluster, node: int, told: Observation) -> Blamed:
 
 
 def blamed(program: str, cluster: Cluster, params: str, log: str) -> list[Blamed]:
-    """Each node with a key slot that the file does not name arbitrary, by the log with one row more in its head."""
-    found, text = [], read(log)
+    """Each node with a key slot that the file does not name arbitrary, by the log with one row more in its head, and without that of what
+    nodes may miss: beside arbitrary nodes nothing is judged with it."""
+    found, text = [], re.sub(rb"(?m)^lost,[0-9]+,,,\n", b"", read(log), count=1)
     with tempfile.TemporaryDirectory() as room:
         path = os.path.join(room, "log.csv")
         for node in sorted(node.number for node in cluster.nodes.values() if node.key_slot and not node.arbitrary):

@@ -68,7 +68,7 @@ def hint_lines(cluster: Cluster, log: Log, told: Observation, anew: int | None) 
     if anew is not None:
         at = lower(seconds_of(cluster, log, anew), 6)
         found.append(f"from {at} s of the file on frames come as if they were counted anew: after a second startup, or where the "
-                     f"analyzer's clock or all counts jumped; --from {at} takes these alone, and --to {at} those before")
+                     f"analyzer's clock or all counts jumped; --part {at} observes these as a log of their own")
     return lines_of("Hint", *found) if found else []
 
 

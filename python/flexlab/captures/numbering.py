@@ -1,19 +1,20 @@
 """Logs that were written, and the numbers that flexray gives to their frames: docs/OBSERVE.md, "Which frames are used"."""
 from __future__ import annotations
 
-from collections.abc import Iterable, Iterator
+from collections.abc import Iterable, Iterator, Mapping
 from dataclasses import dataclass, field
 from typing import NamedTuple
 
 from ..base.files import read
 from ..base.units import TICKS
-from ..toml.cluster import Cluster
+from ..toml.cluster import Cluster, Node
 from .observer import End, is_damaged
-from .parts import SILENCE
 
 # Numbers of cycles are known but for so many.
 COUNTS = 64
 LAST_CYCLE = 199_999
+# Behind so many cycles without a frame that says where a clock was flexray gives no number.
+SILENCE = 30
 
 
 @dataclass
@@ -49,16 +50,26 @@ class Sent(NamedTuple):
     channel: str
 
 
+def senders_of(cluster: Cluster) -> dict[int, Node]:
+    """The nodes whose frames say where a clock was, by their key slots."""
+    return {node.key_slot: node for node in cluster.nodes.values() if node.key_slot and not node.arbitrary}
+
+
+def sender_of(cluster: Cluster, keys: Mapping[int, Node], channel: str, data: bytes) -> Node | None:
+    """The node of which a frame, where it is not damaged, says where its clock was."""
+    node = keys.get((data[0] & 7) << 8 | data[1])
+    if node is None or channel not in node.channels or data[2] >> 1 != cluster.parameters["gPayloadLengthStatic"]:
+        return None
+    return node if (data[0] >> 3 & 3) == 2 + node.coldstart else None
+
+
 def frames_of(cluster: Cluster, text: Text, may_be_damaged: bool) -> Iterator[Sent]:
     """The frames of a log that say where a clock was."""
-    keys = {node.key_slot: node for node in cluster.nodes.values() if node.key_slot and not node.arbitrary}
+    keys = senders_of(cluster)
     for kind, stamp, channel, data in text.entries:
-        slot, words = (data[0] & 7) << 8 | data[1], data[2] >> 1
-        node = keys.get(slot)
-        if node is None or channel not in node.channels or words != cluster.parameters["gPayloadLengthStatic"]:
-            continue
-        if (data[0] >> 3 & 3) == 2 + node.coldstart and not (may_be_damaged and is_damaged(channel, data, kind == "frame")):
-            yield Sent(node.number, slot, data[4] & 63, stamp, channel)
+        node = sender_of(cluster, keys, channel, data)
+        if node and not (may_be_damaged and is_damaged(channel, data, kind == "frame")):
+            yield Sent(node.number, (data[0] & 7) << 8 | data[1], data[4] & 63, stamp, channel)
 
 
 def numbered(cluster: Cluster, unit: int, frames: Iterable[Sent]) -> Iterator[tuple[Sent, int | None]]:

@@ -6,7 +6,7 @@ from fractions import Fraction
 from collections.abc import Callable, Sequence
 from typing import Any, NamedTuple
 
-from flexray.results import Observation, ObservedFault, ObservedNode
+from flexray.results import Observation, ObservedFault, ObservedMissed, ObservedNode
 
 from ..toml.cluster import Cluster
 from .observer import Log, analyzer_words, differences, left_lines, plain
@@ -21,10 +21,10 @@ FATES = ("say where a clock was", "are damaged", "are of arbitrary nodes", "tell
 MOST_FAULTS = 8
 # Kinds of contradictions to that each whole frame with the ID of a node is one that it sends.
 IRREGULAR = ("stranger", "form")
-# Kinds of contradictions that need no sync: by itself each excludes every history, and names a node.
+# Kinds of contradictions that ask nothing of what nodes hear of each other: by itself each names a node.
 ALWAYS = ("channels", "limit", "correction", "twice", "cycle", *IRREGULAR)
-# The reason where no run of a cluster is covered and no double cycle is judged by its own numbers, so that its precision is that of none.
-UNPROMISED = "count"
+# So many correct sync nodes are enough beside none, one and two arbitrary ones.
+ENOUGH = (1, 3, 6)
 ORIGIN = ("Every limit here is one that flexray printed, converted and rounded outwards: it holds in every run of the "
           "cluster that can have given the log, if what is stated of the analyzer and of the oscillators is so. "
           "flexlab computes no answer of its own.")
@@ -77,20 +77,12 @@ def offset_of(row: ObservedNode) -> Limits | None:
 # ---- contradictions
 
 
-def is_by_numbers(told: Observation) -> bool:
-    """Whether double cycles are judged by their own numbers, as they are seen, since a check of the cluster fails."""
-    return told.covered[:2] == ("no", "check") and told.sync[4] != UNPROMISED
-
-
 class Words:
-    """Contradictions in words, with numbers in microseconds and microticks; `bound` says of what the bounds are."""
+    """Contradictions in words, with numbers in microseconds and microticks; `missed` has how many senders a node must have missed."""
 
-    def __init__(self, cluster: Cluster, bound: str = "in sync") -> None:
-        self.cluster, self.unit, self.bound = cluster, cluster.microtick_ns, bound
-
-    @classmethod
-    def by(cls, cluster: Cluster, told: Observation) -> Words:
-        return cls(cluster, "by what is known" if is_by_numbers(told) else "in sync")
+    def __init__(self, cluster: Cluster, told: Observation) -> None:
+        self.cluster, self.unit = cluster, cluster.microtick_ns
+        self.missed = {(row.cycle, row.node, row.kind): row for row in told.missed}
 
     def us(self, low: str, high: str) -> str:
         """A pair of numbers of ticks; the upper one may not be known."""
@@ -98,14 +90,20 @@ class Words:
         return f"{lower(us_of_ticks(int(low), self.unit))} to {most}"
 
     def beyond(self, what: str, fields: Sequence[str]) -> str:
-        return (f"{what} at least {lower(us_of_ticks(int(fields[0]), self.unit))} us apart, and {self.bound} at most "
+        return (f"{what} at least {lower(us_of_ticks(int(fields[0]), self.unit))} us apart, and by what is known at most "
                 f"{upper(us_of_ticks(int(fields[3]), self.unit))} us")
 
     def of(self, fault: ObservedFault) -> str:
         node = "" if fault.node is None else f", node {self.cluster.called(fault.node)}"
-        return f"cycle {fault.cycle}{node}: {self.told(fault.kind, fault.fields)}"
+        return f"cycle {fault.cycle}{node}: {self.told(fault)}"
 
-    def told(self, kind: str, fields: Sequence[str]) -> str:
+    def unless(self, fault: ObservedFault) -> str:
+        """How many senders its node may have missed instead."""
+        row = None if fault.node is None else self.missed.get((fault.cycle, fault.node, fault.kind))
+        return "" if row is None or row.least is None else f", unless it missed at least {senders(row.least)}"
+
+    def told(self, fault: ObservedFault) -> str:
+        kind, fields = fault.kind, fault.fields
         one, two, three, four = fields
         if kind == "channels":
             return "the stamps of both channels place its clock nowhere"
@@ -129,29 +127,44 @@ class Words:
         if kind == "missing":
             return f"its frame on channel {one} is not there"
         if kind == "length":
-            return f"a cycle of {self.us(one, two)}, and {self.bound} one of {self.us(three, four)}"
+            return f"a cycle of {self.us(one, two)}, and by what is known one of {self.us(three, four)}"
         if kind in ("offset", "rate"):
             step = "an offset term" if kind == "offset" else "a change of the rate term"
-            return f"{step} of {one} to {two} microticks, and by all that were seen {three} to {four}"
+            return f"{step} of {one} to {two} microticks, and by all that were seen {three} to {four}{self.unless(fault)}"
         what = {"skew": "clocks", "start": "starts", "lengths": "lengths of cycles"}[kind]
         return self.beyond(what, fields)
 
 
+def senders(count: int) -> str:
+    return f"{count} sender{'s' * (count > 1)}"
+
+
+def some_lines(title: str, lines: list[str]) -> list[str]:
+    """The first ones, and how many more there are."""
+    more = [f"and {len(lines) - MOST_FAULTS} more, in observed.csv"] if len(lines) > MOST_FAULTS else []
+    return lines_of(title, *lines[:MOST_FAULTS], *more) if lines else []
+
+
 def fault_lines(cluster: Cluster, told: Observation) -> list[str]:
-    words, some = Words.by(cluster, told), told.faults[:MOST_FAULTS]
-    found = lines_of("CONTRADICTION", *map(words.of, some)) if some else []
-    if len(told.faults) > len(some):
-        found += lines_of("", f"and {len(told.faults) - len(some)} more, in observed.csv")
-    return found
+    """What contradicts the log; and what does not, where a node may have missed senders."""
+    words, faults = Words(cluster, told), {(fault.cycle, fault.node, fault.kind) for fault in told.faults}
+
+    def of(row: ObservedMissed) -> str:
+        what = "the offset term" if row.kind == "offset" else "the change of the rate term"
+        return (f"cycle {row.cycle}, node {cluster.called(row.node)}: it missed at least {senders(row.least or 0)}, by {what} that was seen")
+    return (some_lines("CONTRADICTION", [words.of(fault) for fault in told.faults])
+            + some_lines("Missed", [of(row) for row in told.missed if (row.cycle, row.node, row.kind) not in faults]))
 
 
 def why_unjudged(cluster: Cluster, told: Observation, why: Sequence[str]) -> str:
     """Why a double cycle is not judged: the last three fields of a `sync` row."""
     kind, cycle, number = why
     node = "" if number == "-" else cluster.called(int(number))
-    if kind == UNPROMISED:
-        counts = told.covered[2:4] if told.covered[1] == "count" else ()
-        few, many = counts or ("the", "the")
+    if kind == "count":
+        few = len({row.node for row in told.senders})
+        many = sum(bool(one.key_slot) for one in cluster.nodes.values()) - few
+        if many and many < len(ENOUGH) and few >= ENOUGH[many]:
+            return "beside arbitrary nodes none is judged where a node may miss senders"
         return f"{few} correct nodes with a key slot do not outweigh {many} arbitrary ones"
     if kind == "unseen":
         if not node:
@@ -160,67 +173,47 @@ def why_unjudged(cluster: Cluster, told: Observation, why: Sequence[str]) -> str
                 else f"node {node} has no key slot, so no frame shows its clock")
     if kind == "fault":
         return f"there is a contradiction in cycle {cycle}" + (f", node {node}" if node else "")
-    if is_by_numbers(told):
-        return ("starts and lengths of cycles may lie so far apart that a check from the second on fails with them" if kind == "reach" else
-                "lengths of cycles may lie further beyond their range than the rate limit follows") + f", in cycle {cycle}"
-    if kind == "reach":
-        return f"by their stamps starts or lengths of cycles may lie further apart than in sync, in cycle {cycle}"
-    return (f"by the drift of the analyzer's clock a cycle may be longer or shorter than oscillators within their bounds make it, in "
-            f"cycle {cycle}")
+    return ("starts and lengths of cycles may lie so far apart that a check from the second on fails with them" if kind == "reach" else
+            "lengths of cycles may lie further beyond their range than the rate limit follows") + f", in cycle {cycle}"
 
 
-def advice(cluster: Cluster, number: str) -> str:
-    """What makes sync certain, where some node is why it is not."""
-    state = "in_sync_from_cycle of [observer] can state it"
-    if number == "-" or cluster.nodes[int(number)].key_slot:
-        return state
-    return f"it moves no clock, so leave it out of the file; or {state}"
+def advice(cluster: Cluster, told: Observation, why: Sequence[str]) -> str:
+    """What may make a double cycle judged, where none is."""
+    if why[0] == "count" or not told.cycles:
+        return ""
+    node = cluster.nodes.get(int(why[2])) if why[2] != "-" else None
+    aside = "it moves no clock, so leave it out of the file; or " if node and not node.key_slot else ""
+    return f"; {aside}in_sync_from_cycle of [observer] can state where the cluster is in sync"
 
 
-def number_lines(cluster: Cluster, told: Observation) -> list[str]:
-    """Which double cycles are judged by their own numbers, and how far clocks lie apart in these."""
+def kept(told: Observation) -> str:
+    """What a run keeps to where its nodes hear each other as the log says."""
+    return (f"in which no node misses more than {senders(told.lost)} of a double cycle" if told.lost else
+            "in which correct nodes hear each other in each double cycle")
+
+
+def judged_lines(cluster: Cluster, told: Observation) -> list[str]:
+    """Which double cycles are judged, and how far clocks lie apart in these."""
     why = told.sync[4:]
     if not told.spreads:
-        node = cluster.nodes.get(int(why[2])) if why[2] != "-" else None
-        more = "; it moves no clock, so leave it out of the file" if node and not node.key_slot else ""
-        return lines_of("Judged", f"0 of {told.doubles} double cycles, since {why_unjudged(cluster, told, why)}{more}")
+        return lines_of("Judged", f"0 of {told.doubles} double cycles, since {why_unjudged(cluster, told, why)}{advice(cluster, told, why)}")
     most, unit = max(told.spreads, key=lambda row: row.apart), cluster.microtick_ns
-    text = (f"{told.judged} of {told.doubles} double cycles, by what is seen of them, from double cycle {told.spreads[0].double} on; no "
-            f"macroticks of these lie further apart than {upper(us_of_ticks(most.apart, unit))} us (double cycle {most.double}), in every "
-            "run that keeps to what is stated and in which correct nodes hear each other")
+    text = (f"{told.judged} of {told.doubles} double cycles, by what is seen and known of them, from double cycle {told.spreads[0].double} "
+            f"on; no macroticks of these lie further apart than {upper(us_of_ticks(most.apart, unit))} us (double cycle {most.double}), in every "
+            f"run that keeps to what is stated and {kept(told)}")
     if why[0] != "-":
         text += f"; of the others the one that came farthest is not judged, since {why_unjudged(cluster, told, why)}"
     return lines_of("Judged", text)
 
 
-def sync_lines(cluster: Cluster, told: Observation) -> list[str]:
-    """From when on the cluster is in sync, and what of the log is held against the rules of sync."""
-    sync = told.sync
-    if sync[0] == "-":
-        why = why_unjudged(cluster, told, sync[4:])
-        if sync[4] == UNPROMISED:
-            text = f"of no double cycle it is certain; none would be held against the rules of sync, since {why}"
-        else:
-            text = f"of no double cycle it is certain: {why}" + (f"; {advice(cluster, sync[6])}" if told.cycles else "")
-        return lines_of("In sync", text)
-    found = lines_of("In sync", f"double cycle {sync[0]} is, as " + ("its stamps show" if sync[1] == "seen" else "[observer] states")
-                     + "; a covered cluster stays so")
-    text = f"{told.judged} of {told.doubles} double cycles are held against the rules of sync"
-    if sync[4] != "-":
-        others = "the others are" if sync[4] == UNPROMISED else "of the others the one that came farthest is"
-        text += f"; {others} not, since {why_unjudged(cluster, told, sync[4:])}"
-    return found + lines_of("Judged", text)
-
-
 def verdict_text(cluster: Cluster, told: Observation) -> str:
     """The verdict in words."""
-    verdict, clocks, is_own = told.verdict, "the clocks of the nodes that sent lay", is_by_numbers(told)
-    unpromised = ", the sharp one, which is a yardstick here" if is_own else ", which nothing promises of this cluster"
+    verdict, clocks = told.verdict, "the clocks of the nodes that sent lay"
     if verdict[0] == "within":
-        return f"in cycles {verdict[1]} to {verdict[2]} {clocks} within the precision" + (unpromised if is_own else "")
+        return f"in cycles {verdict[1]} to {verdict[2]} {clocks} within the precision"
     if verdict[0] == "no":
         alone = ", and in which no other sender takes the ID of a node," if verdict[2] in IRREGULAR else ""
-        heard = ", in which correct nodes hear each other in each double cycle" if is_own and verdict[2] not in ALWAYS else ""
+        heard = "" if verdict[2] in ALWAYS else f", {kept(told)}"
         return (f"NO: no run of this cluster that keeps to what is stated{heard} and whose frames come within half a cycle of the "
                 f"schedule{alone} can have given this log; the first contradiction is in cycle {verdict[1]}")
     if verdict[0] == "over":
@@ -228,28 +221,17 @@ def verdict_text(cluster: Cluster, told: Observation) -> str:
         return (f"OVER: in {verdict[3]} cycles {clocks} further apart than the precision, for certain; in the first of them, cycle "
                 f"{verdict[1]}, at least {low} us")
     if verdict[0] == "partly":
-        return (f"partly: of {'the judged ones of ' * is_own}cycles {verdict[1]} to {verdict[2]} {clocks} within the precision in "
-                f"{verdict[3]}, for certain; of {verdict[4]} it is not certain")
-    nothing = "no double cycle is judged" if is_own else "nothing was held against the rules of sync"
-    return (f"open: {nothing}, since {why_unjudged(cluster, told, verdict[1:4])}; in {told.within} "
-            f"cycles {clocks} within the precision" + (unpromised if is_own or verdict[1] == UNPROMISED else ""))
+        return (f"partly: of the judged ones of cycles {verdict[1]} to {verdict[2]} {clocks} within the precision in {verdict[3]}, for "
+                f"certain; of {verdict[4]} it is not certain")
+    return (f"open: no double cycle is judged, since {why_unjudged(cluster, told, verdict[1:4])}; in {told.within} cycles {clocks} within "
+            "the precision")
 
 
 def verdict_lines(cluster: Cluster, told: Observation) -> list[str]:
     """What the log comes to."""
-    covered = told.covered
-    found: list[str] = []
-    if covered[0] == "no":
-        why = f"check {covered[2]} fails" if covered[1] == "check" else (
-            f"{covered[2]} correct nodes with a key slot do not outweigh {covered[3]} arbitrary ones")
-        so = "so each double cycle is judged by its own numbers" if is_by_numbers(told) else "so nothing is held against the rules of sync"
-        found += lines_of("Covered", f"no run of this cluster is: {why}; {so}")
-    if told.numbers[0] == "premise":
-        why = ("it is sure of clocks of a covered cluster alone" if covered[1:2] == ("check",) else
-               "the limits that are stated do not suffice to be sure of it of clocks in sync")
-        found += lines_of("Numbers", f"that each frame comes within half a cycle of the schedule is taken for granted: {why}")
-    judged = (number_lines if is_by_numbers(told) else sync_lines)(cluster, told)
-    return found + judged + lines_of("Verdict", verdict_text(cluster, told))
+    found = lines_of("Numbers", "that each frame comes within half a cycle of the schedule is taken for granted: the limits that are stated "
+                                "do not suffice to be sure of it of clocks near each other") if told.numbers[0] == "premise" else []
+    return found + judged_lines(cluster, told) + lines_of("Verdict", verdict_text(cluster, told))
 
 
 # ---- the page
@@ -292,7 +274,7 @@ def node_lines(cluster: Cluster, told: Observation) -> list[str]:
             "clock, in all its double cycles. Offset terms are microticks.")
 
 
-def missed_lines(cluster: Cluster, told: Observation) -> list[str]:
+def unseen_lines(cluster: Cluster, told: Observation) -> list[str]:
     """Which senders have cycles of the log without a frame."""
     rows = [(row.node, row.channel, row.frames, row.missed) for row in told.senders if row.missed]
     return lines_of("Not seen", *(
@@ -315,8 +297,10 @@ def page_lines(cluster: Cluster, told: Observation, log: Log, name: str, more: S
     if told.cycles:
         found += lines_of("Cycles", f"{told.cycles[0].cycle} to {told.cycles[-1].cycle}, by the cycle counts: {told.within} within the "
                                     f"precision, {told.over} over it, {told.open} open")
-    found += missed_lines(cluster, told)
-    found += lines_of("Precision", f"{decimal(us_of_ticks(told.precision, cluster.microtick_ns), 3)} us")
+    found += unseen_lines(cluster, told)
+    precision, flutter = (us_of_ticks(ticks, cluster.microtick_ns) for ticks in (told.precision, told.flutter))
+    found += lines_of("Precision", f"{decimal(precision, 3)} us, the sharp one where delays flutter by no more than {plain(1000 * flutter)} "
+                                   f"ns: a yardstick, which is promised where the checks of flexray bound PARAMS sharp {told.flutter} hold")
     return [*found, *skew_lines(cluster, told), *verdict_lines(cluster, told), *fault_lines(cluster, told), *more,
             *node_lines(cluster, told), *lines_of("Origin", ORIGIN)]
 
@@ -327,10 +311,11 @@ def observed_object(cluster: Cluster, told: Observation, log: Log) -> dict[str, 
         return None if ticks is None else float(rounded(us_of_ticks(ticks, cluster.microtick_ns), 6))
     return {
         "names": cluster.names, "entries": log.entries, "left_out": log.frames.left, "differs": differences(cluster, log.frames),
-        "precision": {"ticks": told.precision},
+        "precision": {"ticks": told.precision, "flutter_ticks": told.flutter, "lost": told.lost},
         "log": asdict(told.log), "said": {"within": told.within, "over": told.over, "open": told.open}, "verdict": told.verdict,
-        "judged": told.judged, "double_cycles": told.doubles, "sync": told.sync, "covered": told.covered, "numbers": told.numbers,
-        "faults": [{**asdict(fault), "told": Words.by(cluster, told).told(fault.kind, fault.fields)} for fault in told.faults],
+        "judged": told.judged, "double_cycles": told.doubles, "sync": told.sync, "numbers": told.numbers,
+        "faults": [{**asdict(fault), "told": Words(cluster, told).told(fault)} for fault in told.faults],
+        "missed": [asdict(row) for row in told.missed],
         "spreads": [{"double_cycle": row.double, "starts": row.starts, "lengths": row.lengths, "beyond": row.beyond, "apart": row.apart,
                      "apart_us": us(row.apart, upper)} for row in told.spreads],
         "senders": [asdict(row) for row in told.senders],

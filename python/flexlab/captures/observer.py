@@ -80,7 +80,7 @@ class TableRow(NamedTuple):
 @dataclass
 class Observer:
     """What is stated of an analyzer, in ns and ppm; limits are the least and the greatest delay by node and channel;
-    whether it missed no frame; and the cycle of the log, even, from which on the cluster is in sync. Of the network: how much
+    whether it missed no frame; and the cycle of the log, even, in whose double cycle the cluster is in sync. Of the network: how much
     a delay from node to node differs between both cycles of a double cycle, in ns, and how many senders a node may miss there."""
     resolution: Fraction
     drift: int
@@ -576,7 +576,7 @@ def analyzer_words(observer: Observer, frames: Frames) -> str:
         found += f"; a node may miss {observer.lost} sender{'s' * (observer.lost > 1)} in each double cycle"
     if observer.is_whole:
         found += "; it missed no frame" + (", which is not taken where frames are damaged" if frames.is_torn else "")
-    return found if observer.since is None else found + f"; the cluster is in sync from cycle {observer.since} on"
+    return found if observer.since is None else found + f"; the cluster is in sync in the double cycle of cycle {observer.since}"
 
 
 def plain(ns: Fraction) -> str:

@@ -24,9 +24,10 @@ from ..runs.runs import answer, keep
 from ..toml.cluster import Cluster, read_cluster
 from .blame import BLAME, Blamed, blame_lines, blame_object, blame_rows, blamed, is_asked
 from .hints import anew_of, hint_lines, hints_object
-from .observed import draw_observed, observed_object, page_lines
+from .numbering import SILENCE
+from .observed import draw_observed, observed_object, page_lines, verdict_text
 from .observer import Frames, Log, Observer, taken, write_log
-from .parts import SILENCE, WORST, begins, parts_of, span_of
+from .parts import WORST, begins, parts_of, said, span_of
 
 LOG = "log.csv"
 
@@ -78,17 +79,24 @@ def asked(program: str, cluster: Cluster, params: str, folder: str, log: tuple[O
     return Part(written, understood(texts.observation, "log", text), folder)
 
 
-def all_parts(program: str, cluster: Cluster, params: str, folder: str, observer: Observer, frames: Frames) -> list[Part]:
-    """The log as one, or each of its parts, where frames come behind a silence."""
+def all_parts(program: str, cluster: Cluster, params: str, folder: str, seconds: Sequence[Fraction], observer: Observer,
+              frames: Frames) -> list[Part]:
+    """The log as one, or each of its parts, where frames come behind a silence or it is cut at some seconds. What is stated of sync in a
+    cycle is said of the first part that has the cycle."""
+    cuts = said(frames, seconds)
     one = asked(program, cluster, params, folder, (observer, replace(frames, left=dict(frames.left))))
-    cuts = begins(cluster, frames) if one.told.log.behind else []
+    cuts += begins(cluster, frames) if cuts or one.told.log.behind else []
     if not cuts:
         return [one]
-    found = []
-    for number, part in enumerate(parts_of(observer, frames, cuts), 1):
+    found, since = list[Part](), observer.since
+    for number, (_, some) in enumerate(parts_of(observer, frames, cuts), 1):
         place = os.path.join(folder, f"part-{number}")
         make_folder(place)
-        found.append(asked(program, cluster, params, place, part))
+        part = asked(program, cluster, params, place, (replace(observer, since=None), replace(some, left=dict(some.left))))
+        told = part.told
+        if since is not None and told.first is not None and told.last is not None and told.first <= since <= told.last:
+            part, since = asked(program, cluster, params, place, (replace(observer, since=since), some)), None
+        found.append(part)
     return found
 
 
@@ -110,24 +118,25 @@ def pages_of(cluster: Cluster, parts: list[Part], name: str) -> list[str]:
     pages = [part.page(cluster, name) for part in parts]
     if len(parts) == 1:
         return pages[0]
-    found, spans, verdicts = list[str](), spans_of(parts), [part.told.verdict[0] for part in parts]
-    for number, (page, span) in enumerate(zip(pages, spans), 1):
-        found += lines_of("Part", f"{number} of {len(parts)}: {span}") + page + [""]
+    found, verdicts, worst = list[str](), [part.told.verdict[0] for part in parts], worst_of(parts)
+    for number, (page, part) in enumerate(zip(pages, parts), 1):
+        found += lines_of("Part", f"{number} of {len(parts)}, {span_of(part.log.frames)}") + page + [""]
     counts = ", ".join(f"{verdicts.count(word)} {word}" for word in WORST if word in verdicts)
-    return found + lines_of("Parts", f"{len(parts)}, since behind a silence of more than {SILENCE} cycles a count begins anew: {counts}. "
-                                     "Each may be of a history of its own: nothing is said across a silence")
+    found += lines_of("Parts", f"{len(parts)}, since behind a silence of more than {SILENCE} cycles, and where --part cuts, a count begins "
+                               f"anew: {counts}. Each may be of a history of its own: nothing is said across parts")
+    return found + lines_of("Verdict", f"the worst, of part {worst + 1}: {verdict_text(cluster, parts[worst].told)}")
 
 
-def spans_of(parts: list[Part]) -> list[str]:
-    return [span_of(part.log.frames, part.log.frames.zero or Fraction(0)) for part in parts]
+def worst_of(parts: list[Part]) -> int:
+    """The place of the first part whose verdict is worst."""
+    return min(range(len(parts)), key=lambda place: WORST.index(parts[place].told.verdict[0]))
 
 
 def parts_object(cluster: Cluster, parts: list[Part]) -> dict[str, Any]:
     """That of the part whose verdict is worst, and of several parts all of them."""
     found = [part.object(cluster) for part in parts]
-    worst = min(range(len(parts)), key=lambda place: WORST.index(parts[place].told.verdict[0]))
-    several = [{**one, "span": span, "folder": part.folder} for one, span, part in zip(found, spans_of(parts), parts)]
-    return {**found[worst], "parts": several if len(parts) > 1 else []}
+    several = [{**one, "span": span_of(part.log.frames), "folder": part.folder} for one, part in zip(found, parts)]
+    return {**found[worst_of(parts)], "parts": several if len(parts) > 1 else []}
 
 
 class Seen(NamedTuple):
@@ -158,7 +167,7 @@ def seen_in(program: str, cluster: Cluster, words: Namespace, folder: str) -> Se
     """Asks flexray for what the file tells, whose log and text go into the folder, with its page."""
     params = os.path.join(folder, "params.csv")
     put(params, "".join(parameter_lines(cluster)), "ascii")
-    parts = all_parts(program, cluster, params, folder, *taken(cluster, words))
+    parts = all_parts(program, cluster, params, folder, words.part or [], *taken(cluster, words))
     seen = Seen(cluster, [with_blame(program, cluster, params, part, words.blame) for part in parts], os.path.basename(words.file))
     keep(folder, "observed.txt", "\n".join(seen.page) + "\n")
     return seen

@@ -38,7 +38,7 @@ def mebibytes(text: str) -> int:
 
 
 def seconds(text: str) -> Fraction:
-    """A time of --from and --to."""
+    """A time of --from, --to and --part."""
     import re
     from fractions import Fraction
     if not re.fullmatch(r"[0-9]{1,9}(?:\.[0-9]{1,9})?", text):
@@ -291,15 +291,18 @@ def parser() -> argparse.ArgumentParser:
 
     observe.add_argument("--second", nargs=2, metavar=("CAPTURE", "CLUSTER.toml"),
                          help="the log of another analyzer, and the same cluster with its [observer]: both logs are held against each "
-                              "other; --columns, --time-unit, --bus, --from and --to hold for both captures")
+                              "other; --columns, --time-unit, --bus, --from, --to and --part hold for both captures")
     observe.add_argument("--shift", metavar="CYCLES", type=shift,
                          help="with --second: how much later the second log begins than its cycle counts say, a multiple of 64 (0), "
                               "of all parts")
+    observe.add_argument("--part", metavar="SECONDS", type=seconds, action="append",
+                         help="what comes from so long behind the first frame of the file on is a log of its own, as behind a restart; as "
+                              "often as it is given")
     observe.add_argument("-o", "--out", metavar="FOLDER", help="where files go (CAPTURE.lab beside the capture)")
     observe.add_argument("-p", "--pictures", action="store_true", help="draw skew, rates and offset terms, by gnuplot")
     observe.add_argument("--blame", action="store_true",
                          help="name each node arbitrary in turn, and tell with which of them a contradiction is left; without it that is "
-                              "done where a contradiction asks for sync")
+                              "done where a contradiction asks what nodes hear of each other")
     observe.add_argument("--require", metavar="judged=COUNT",
                          help="status 0 where the verdict is partly, too, and status 7 where fewer double cycles are judged; where it "
                               "is no or over the status stays 1")

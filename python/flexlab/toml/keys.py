@@ -286,7 +286,7 @@ TABLES: Mapping[str, Entry] = {one.name: one for one in (
           logged("observer", "delay_from_ns", "the least delay from a node to its stamp"),
           logged("observer", "delay_to_ns", "the greatest one"),
           plain("observer", "missed_none", Kind.FLAG, "whether it missed no frame", default=False),
-          whole("observer", "in_sync_from_cycle", (0, MOST_CYCLE), "", "the cycle of the log from which on the cluster is in sync",
+          whole("observer", "in_sync_from_cycle", (0, MOST_CYCLE), "", "the cycle of the log in whose double cycle the cluster is in sync",
                 optional=True, narrower="even")),
     entry("observer_delay", True, "delays to it from some nodes",
           plain("observer_delay", "nodes", Kind.NODES, "from whom"), channels("observer_delay"),
