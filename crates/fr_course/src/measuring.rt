@@ -27,7 +27,8 @@ pub struct Measuring {
 }
 
 impl Measuring {
-    /// How the nodes of these parameters measure, where delays flutter by no more than so many ticks, 0 to 1,000,000,000.
+    /// How the nodes of these parameters measure, where delays flutter by no more than so many ticks, 0 to
+    /// 1,000,000,000.
     pub fn of(params: &Params, flutter: u64) -> Measuring
         requires { flutter ≤ most_flutter }
         ensures value { result ≡ measuring_of params.now flutter }

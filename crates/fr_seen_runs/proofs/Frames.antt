@@ -1,4 +1,4 @@
--- How far from the schedule the frames of a log arrive that is read of a covered run in sync.
+-- How far from the schedule the frames of a log arrive that is read of a run whose nodes start near each other.
 use Rattle.std.proofs.Common.{◌≡◌, ◌⊎◌, ℕ, suc, ◌+◌, ◌-◌, ◌*◌, ◌/◌, ◌<◌, ◌≤◌, ℤ, pos, Some, ◌∷◌, ap, sym, ◌∙◌, subst, inl, inr, arith}
 use Rattle.std.specs.Prelude.{◌+ℤ◌, ◌-ℤ◌, ◌*ℤ◌, ◌≤ℤ◌, ◌<ℤ◌, neg_ℤ, is_some, Contains, length}
 use Rattle.std.proofs.lemmas.Int.{ints}
@@ -9,7 +9,6 @@ use Rattle.fr_cluster.specs.Values.{Values, amount}
 use Rattle.fr_cluster.specs.declared.names.ParamName.TheVariants as name
 use Rattle.fr_cluster.specs.declared.nodes.NodeSpec.{NodeSpec}
 use Rattle.fr_midpoint.proofs.Products.{mulz-negz, negz-mulz}
-use Rattle.fr_bound.specs.Bounds.{pi_of}
 use Rattle.fr_bound.specs.Sync.{cycle_length_of}
 use Rattle.fr_precision.specs.Rows.{HasProperMicro}
 use Rattle.fr_precision.proofs.Figures.{natural}
@@ -19,7 +18,6 @@ use Rattle.fr_time.specs.Position.{even_position, grid_for}
 use Rattle.fr_history.specs.Cycles.{Cycle, Cycles, cycle_at}
 use Rattle.fr_history.specs.History.{row_for, row_of}
 use Rattle.fr_history.specs.Standing.{row_nodes}
-use Rattle.fr_runs.specs.Whole.{IsUnfollowedRun}
 use Rattle.fr_runs.proofs.Courses.{is_correct_row}
 use Rattle.fr_runs.proofs.Parts.{cycle_within}
 use Rattle.fr_course.specs.Numbering.{nominal_cycle}
@@ -29,12 +27,12 @@ use Rattle.fr_seen.proofs.Doubles.{numbers_of}
 use Rattle.fr_seen.proofs.ObservedLaws.{is_action}
 use Rattle.fr_seen.proofs.RunLaws.{cut_at, nodes_have_both_rows, row_at, two_at}
 use Rattle.fr_seen.proofs.SenderLaws.{some_row}
-use Rattle.fr_seen_runs.specs.InTime.{arrives_at}
+use Rattle.fr_seen_runs.specs.InTime.{IsNearFrom, arrives_at}
 use Rattle.fr_seen_runs.specs.KeptInSync.{IsDoubleThere}
 use Rattle.fr_seen_runs.proofs.Places.{IsPlaced, macrotick_near, placed_even, placed_odd, two_near}
 use Rattle.fr_seen_runs.proofs.Schedule.{ahead}
-use Rattle.fr_seen_runs.proofs.Starts.{IsNodeAt, double_off, later, length_off, longest, rows_kept, same_cycle, starts_near}
-use Rattle.fr_seen_runs.proofs.StaysInSync.{doubles_to}
+use Rattle.fr_seen_runs.proofs.SeenDoubles.{double_of_cycle}
+use Rattle.fr_seen_runs.proofs.Starts.{IsNodeAt, double_off, later, length_off, longest, rows_kept, same_cycle, starts_near, starts_off}
 
 -- how far a frame is off its place behind the start of its double cycle at most
 abbrev pub place_off : Values → ℤ
@@ -42,7 +40,7 @@ place_off p = (pos 2 *ℤ length_off p) +ℤ longest p
 
 -- what adds to what double cycles are off: by the starts of both nodes, the places of both frames, and their delays
 abbrev pub rest_off : Values → ℤ → ℤ
-rest_off p delays = (pos (pi_of p) +ℤ (pos 2 *ℤ place_off p)) +ℤ delays
+rest_off p delays = (starts_off p +ℤ (pos 2 *ℤ place_off p)) +ℤ delays
 
 -- a span that lies near the schedule, so many double cycles on, of so many cycles and macroticks
 pub record IsNear (p : Values) (delays : ℤ) (q : ℕ) (c m span : ℤ) : Type 0 where
@@ -58,7 +56,7 @@ mirrored w g c m = ap (λ x. x *ℤ w) (sums (neg_ℤ c *ℤ g) (c *ℤ g) m (ne
     sums : (a b m : ℤ) → a ≡ neg_ℤ b → a +ℤ neg_ℤ m ≡ neg_ℤ (b +ℤ m)
     sums a b m h = omega (arith, ints)
 
-module _ (x : Setting) (h : Cycles) (base from : ℕ) (timed : IsTimedRun x h) (u : IsUnfollowedRun x h from) where
+module _ (x : Setting) (h : Cycles) (base : ℕ) (timed : IsTimedRun x h) (whole : length h ≡ 2 * x.doubles) where
   -- a frame of a node that has its rows in the double cycle, and that lies near its place there
   record IsFramePlaced (sent : SentFrame) : Type 0 where
     spec : NodeSpec
@@ -97,136 +95,133 @@ module _ (x : Setting) (h : Cycles) (base from : ℕ) (timed : IsTimedRun x h) (
         lasts : (d : ℕ) (z : ℤ) → d ≤ 1_500 → pos (1_000_000 - d) ≤ℤ z → pos 0 <ℤ z
         lasts d z a b = omega (arith, ints, a, b)
 
-    module _ (after : from ≤ double_cycle_of sent.cycle) where
-      there : IsDoubleThere h (double_cycle_of sent.cycle)
-      there =
-          doubles_to h x.doubles (double_cycle_of sent.cycle) u.whole
-          (less sent.cycle x.doubles (length h) u.whole (cycle_within h sent.cycle is.told is.has_cycle))
-        where
-          less : (c d long : ℕ) → long ≡ 2 * d → c < long → c / 2 < d
-          less c d long a b = omega (arith, a, b)
+    there : IsDoubleThere h (double_cycle_of sent.cycle)
+    there = double_of_cycle h sent.cycle (double_cycle_of sent.cycle) x.doubles is.told whole is.has_cycle (itself (double_cycle_of sent.cycle))
+      where
+        itself : (k : ℕ) → k ≤ k
+        itself k = omega arith
 
-      -- its node
-      even_placed : sent.cycle ≡ 2 * double_cycle_of sent.cycle → IsFramePlaced sent
-      even_placed even =
-          let same : is.told ≡ there.even = same_cycle is.told there.even (sym is.has_cycle ∙ ap (cycle_at h) even ∙ there.has.has_even) in
-          let row : row_of there.even.told.rows sent.node ≡ Some sent.row = ap (λ (c : Cycle). row_of c.told.rows sent.node) (sym same) ∙ is.has_row in
-          let cut = cut_at h (double_cycle_of sent.cycle) there.even there.odd there.has in
-          let two = two_at x h (double_cycle_of sent.cycle) there.even there.odd timed there.has cut in
-          let spec = row_at (row_nodes x cut.earlier) there.even.told.rows sent.node sent.row two.two.even_rows.nodes row in
-          let ways = nodes_have_both_rows x h (double_cycle_of sent.cycle) there.even there.odd spec.spec.id timed there.has in
-          let in_even : row_of there.even.told.rows spec.spec.id ≡ Some sent.row = ap (row_of there.even.told.rows) spec.id_is ∙ row in
-          let at : IsNodeAt h spec.spec.id (double_cycle_of sent.cycle) =
-          record {
-            even = there.even;
-            odd = there.odd;
-            has = there.has;
-            early = sent.row;
-            late = row_for there.odd.told.rows spec.spec.id;
-            in_even = in_even;
-            in_odd = some_row there.odd.told.rows spec.spec.id (ways.0 (ap is_some in_even));
-          } in
-          let kept = rows_kept x h from timed u spec.spec.id (double_cycle_of sent.cycle) at after in
-          let numbers = numbers_of x.params timed.sane in
-          let behind = even_position (grid_for x.params) sent.row.rate (sent_macrotick x sent) *ℤ sent.row.length in
-          record {
-            spec = spec.spec;
-            correct = is_correct_row x cut.earlier spec.spec spec.among;
-            at = at;
-            turn = pos 0;
-            turn_from = omega (arith, ints);
-            turn_to = omega (arith, ints);
-            in_cycle = counted sent.cycle (double_cycle_of sent.cycle) even;
-            placed =
-                subst (IsPlaced (nominal_cycle x.params) x.params.macros (place_off x.params) (pos 0) (sent_macrotick x sent)) (span sent.row.start behind)
-                (placed_even (nominal_cycle x.params) x.params.macros (length_off x.params) (longest x.params) (sent_macrotick x sent) behind numbers.macros_some length_from
-                (point sent.row kept.regular.even_micro kept.early_long));
-          }
-        where
-          counted : (c k : ℕ) → c ≡ 2 * k → pos c ≡ (pos 2 *ℤ pos k) +ℤ pos 0
-          counted c k is = omega (arith, ints, is)
+    -- its node
+    even_placed : sent.cycle ≡ 2 * double_cycle_of sent.cycle → IsFramePlaced sent
+    even_placed even =
+        let same : is.told ≡ there.even = same_cycle is.told there.even (sym is.has_cycle ∙ ap (cycle_at h) even ∙ there.has.has_even) in
+        let row : row_of there.even.told.rows sent.node ≡ Some sent.row = ap (λ (c : Cycle). row_of c.told.rows sent.node) (sym same) ∙ is.has_row in
+        let cut = cut_at h (double_cycle_of sent.cycle) there.even there.odd there.has in
+        let two = two_at x h (double_cycle_of sent.cycle) there.even there.odd timed there.has cut in
+        let spec = row_at (row_nodes x cut.earlier) there.even.told.rows sent.node sent.row two.two.even_rows.nodes row in
+        let ways = nodes_have_both_rows x h (double_cycle_of sent.cycle) there.even there.odd spec.spec.id timed there.has in
+        let in_even : row_of there.even.told.rows spec.spec.id ≡ Some sent.row = ap (row_of there.even.told.rows) spec.id_is ∙ row in
+        let at : IsNodeAt h spec.spec.id (double_cycle_of sent.cycle) =
+        record {
+          even = there.even;
+          odd = there.odd;
+          has = there.has;
+          early = sent.row;
+          late = row_for there.odd.told.rows spec.spec.id;
+          in_even = in_even;
+          in_odd = some_row there.odd.told.rows spec.spec.id (ways.0 (ap is_some in_even));
+        } in
+        let kept = rows_kept x h timed whole spec.spec.id (double_cycle_of sent.cycle) at in
+        let numbers = numbers_of x.params timed.sane in
+        let behind = even_position (grid_for x.params) sent.row.rate (sent_macrotick x sent) *ℤ sent.row.length in
+        record {
+          spec = spec.spec;
+          correct = is_correct_row x cut.earlier spec.spec spec.among;
+          at = at;
+          turn = pos 0;
+          turn_from = omega (arith, ints);
+          turn_to = omega (arith, ints);
+          in_cycle = counted sent.cycle (double_cycle_of sent.cycle) even;
+          placed =
+              subst (IsPlaced (nominal_cycle x.params) x.params.macros (place_off x.params) (pos 0) (sent_macrotick x sent)) (span sent.row.start behind)
+              (placed_even (nominal_cycle x.params) x.params.macros (length_off x.params) (longest x.params) (sent_macrotick x sent) behind numbers.macros_some length_from
+              (point sent.row kept.regular.even_micro kept.early_long));
+        }
+      where
+        counted : (c k : ℕ) → c ≡ 2 * k → pos c ≡ (pos 2 *ℤ pos k) +ℤ pos 0
+        counted c k is = omega (arith, ints, is)
 
-          span : (s b : ℤ) → b ≡ (s +ℤ b) -ℤ s
-          span s b = omega (arith, ints)
+        span : (s b : ℤ) → b ≡ (s +ℤ b) -ℤ s
+        span s b = omega (arith, ints)
 
-      odd_placed : sent.cycle ≡ suc (2 * double_cycle_of sent.cycle) → IsFramePlaced sent
-      odd_placed odd =
-          let same : is.told ≡ there.odd = same_cycle is.told there.odd (sym is.has_cycle ∙ ap (cycle_at h) odd ∙ there.has.has_odd) in
-          let row : row_of there.odd.told.rows sent.node ≡ Some sent.row = ap (λ (c : Cycle). row_of c.told.rows sent.node) (sym same) ∙ is.has_row in
-          let cut = cut_at h (double_cycle_of sent.cycle) there.even there.odd there.has in
-          let two = two_at x h (double_cycle_of sent.cycle) there.even there.odd timed there.has cut in
-          let spec = row_at (row_nodes x (there.even ∷ cut.earlier)) there.odd.told.rows sent.node sent.row two.odd_runs.rows.nodes row in
-          let ways = nodes_have_both_rows x h (double_cycle_of sent.cycle) there.even there.odd spec.spec.id timed there.has in
-          let in_odd : row_of there.odd.told.rows spec.spec.id ≡ Some sent.row = ap (row_of there.odd.told.rows) spec.id_is ∙ row in
-          let early = row_for there.even.told.rows spec.spec.id in
-          let at : IsNodeAt h spec.spec.id (double_cycle_of sent.cycle) =
-          record {
-            even = there.even;
-            odd = there.odd;
-            has = there.has;
-            early = early;
-            late = sent.row;
-            in_even = some_row there.even.told.rows spec.spec.id (ways.1 (ap is_some in_odd));
-            in_odd = in_odd;
-          } in
-          let kept = rows_kept x h from timed u spec.spec.id (double_cycle_of sent.cycle) at after in
-          let numbers = numbers_of x.params timed.sane in
-          let behind = even_position (grid_for x.params) sent.row.rate (sent_macrotick x sent) *ℤ sent.row.length in
-          record {
-            spec = spec.spec;
-            correct = is_correct_row x (there.even ∷ cut.earlier) spec.spec spec.among;
-            at = at;
-            turn = pos 1;
-            turn_from = omega (arith, ints);
-            turn_to = omega (arith, ints);
-            in_cycle = counted sent.cycle (double_cycle_of sent.cycle) odd;
-            placed =
-                subst (IsPlaced (nominal_cycle x.params) x.params.macros (place_off x.params) (pos 1) (sent_macrotick x sent))
-                (span early.start sent.row.start (cycle_length_of x.params early) behind kept.follows)
-                (placed_odd (nominal_cycle x.params) x.params.macros (length_off x.params) (longest x.params) (sent_macrotick x sent) (cycle_length_of x.params early) behind numbers.macros_some
-                kept.early_long (point sent.row kept.regular.odd_micro kept.late_long));
-          }
-        where
-          counted : (c k : ℕ) → c ≡ suc (2 * k) → pos c ≡ (pos 2 *ℤ pos k) +ℤ pos 1
-          counted c k is = omega (arith, ints, is)
+    odd_placed : sent.cycle ≡ suc (2 * double_cycle_of sent.cycle) → IsFramePlaced sent
+    odd_placed odd =
+        let same : is.told ≡ there.odd = same_cycle is.told there.odd (sym is.has_cycle ∙ ap (cycle_at h) odd ∙ there.has.has_odd) in
+        let row : row_of there.odd.told.rows sent.node ≡ Some sent.row = ap (λ (c : Cycle). row_of c.told.rows sent.node) (sym same) ∙ is.has_row in
+        let cut = cut_at h (double_cycle_of sent.cycle) there.even there.odd there.has in
+        let two = two_at x h (double_cycle_of sent.cycle) there.even there.odd timed there.has cut in
+        let spec = row_at (row_nodes x (there.even ∷ cut.earlier)) there.odd.told.rows sent.node sent.row two.odd_runs.rows.nodes row in
+        let ways = nodes_have_both_rows x h (double_cycle_of sent.cycle) there.even there.odd spec.spec.id timed there.has in
+        let in_odd : row_of there.odd.told.rows spec.spec.id ≡ Some sent.row = ap (row_of there.odd.told.rows) spec.id_is ∙ row in
+        let early = row_for there.even.told.rows spec.spec.id in
+        let at : IsNodeAt h spec.spec.id (double_cycle_of sent.cycle) =
+        record {
+          even = there.even;
+          odd = there.odd;
+          has = there.has;
+          early = early;
+          late = sent.row;
+          in_even = some_row there.even.told.rows spec.spec.id (ways.1 (ap is_some in_odd));
+          in_odd = in_odd;
+        } in
+        let kept = rows_kept x h timed whole spec.spec.id (double_cycle_of sent.cycle) at in
+        let numbers = numbers_of x.params timed.sane in
+        let behind = even_position (grid_for x.params) sent.row.rate (sent_macrotick x sent) *ℤ sent.row.length in
+        record {
+          spec = spec.spec;
+          correct = is_correct_row x (there.even ∷ cut.earlier) spec.spec spec.among;
+          at = at;
+          turn = pos 1;
+          turn_from = omega (arith, ints);
+          turn_to = omega (arith, ints);
+          in_cycle = counted sent.cycle (double_cycle_of sent.cycle) odd;
+          placed =
+              subst (IsPlaced (nominal_cycle x.params) x.params.macros (place_off x.params) (pos 1) (sent_macrotick x sent))
+              (span early.start sent.row.start (cycle_length_of x.params early) behind kept.follows)
+              (placed_odd (nominal_cycle x.params) x.params.macros (length_off x.params) (longest x.params) (sent_macrotick x sent) (cycle_length_of x.params early) behind numbers.macros_some
+              kept.early_long (point sent.row kept.regular.odd_micro kept.late_long));
+        }
+      where
+        counted : (c k : ℕ) → c ≡ suc (2 * k) → pos c ≡ (pos 2 *ℤ pos k) +ℤ pos 1
+        counted c k is = omega (arith, ints, is)
 
-          span : (s t l b : ℤ) → t ≡ s +ℤ l → l +ℤ b ≡ (t +ℤ b) -ℤ s
-          span s t l b is = omega (arith, ints, is)
+        span : (s t l b : ℤ) → t ≡ s +ℤ l → l +ℤ b ≡ (t +ℤ b) -ℤ s
+        span s t l b is = omega (arith, ints, is)
 
-      frame_placed : IsFramePlaced sent
-      frame_placed =
-          elim (halves sent.cycle) [
-            | inl even ↦ even_placed even
-            | inr odd ↦ odd_placed odd
-          ]
-        where
-          halves : (c : ℕ) → (c ≡ 2 * (c / 2)) ⊎ (c ≡ suc (2 * (c / 2)))
-          halves c = grind arith
+    frame_placed : IsFramePlaced sent
+    frame_placed =
+        elim (halves sent.cycle) [
+          | inl even ↦ even_placed even
+          | inr odd ↦ odd_placed odd
+        ]
+      where
+        halves : (c : ℕ) → (c ≡ 2 * (c / 2)) ⊎ (c ≡ suc (2 * (c / 2)))
+        halves c = grind arith
 
   -- ---- two frames
 
   -- the second of no earlier double cycle than the first
-  ordered : (sent later_sent : SentFrame) (delays : ℤ) → IsSentIn x h base sent → IsSentIn x h base later_sent → from ≤ double_cycle_of sent.cycle → from ≤ double_cycle_of later_sent.cycle
+  ordered : (from : ℕ) (sent later_sent : SentFrame) (delays : ℤ) → IsNearFrom x h from → IsSentIn x h base sent → IsSentIn x h base later_sent → from ≤ double_cycle_of later_sent.cycle
       → double_cycle_of sent.cycle ≤ double_cycle_of later_sent.cycle → IsWithin delays (later_sent.delay -ℤ sent.delay)
       → (q : ℕ) × IsNear x.params delays q (later_sent.frame.number -ℤ sent.frame.number) (sent_macrotick x later_sent -ℤ sent_macrotick x sent) (arrives_at x later_sent -ℤ arrives_at x sent)
-  ordered sent later_sent delays is later_is after later_after le delayed =
+  ordered from sent later_sent delays near_from is later_is after le delayed =
       let p = x.params in
       let k = double_cycle_of sent.cycle in
       let k2 = double_cycle_of later_sent.cycle in
       let q = k2 - k in
-      let one = frame_placed sent is after in
-      let two = frame_placed later_sent later_is later_after in
-      let less = within later_sent.cycle x.doubles (length h) u.whole (cycle_within h later_sent.cycle later_is.told later_is.has_cycle) in
-      let on = later x h from timed u one.spec k q k2 one.correct one.at after (apart k k2 le) less in
+      let one = frame_placed sent is in
+      let two = frame_placed later_sent later_is in
+      let less = within later_sent.cycle x.doubles (length h) whole (cycle_within h later_sent.cycle later_is.told later_is.has_cycle) in
+      let on = later x h timed whole one.spec k q k2 one.correct one.at (apart k k2 le) less in
       let long = on.at.early.start -ℤ one.at.early.start in
       let gap = two.at.early.start -ℤ on.at.early.start in
       let behind = action_instant p sent.row sent.frame.slot -ℤ one.at.early.start in
       let behind2 = action_instant p later_sent.row later_sent.frame.slot -ℤ two.at.early.start in
       let more = later_sent.delay -ℤ sent.delay in
       let near =
-      two_near (nominal_cycle p) p.macros (double_off p) (pos (pi_of p)) (place_off p) delays (pos q) one.turn (sent_macrotick x sent) two.turn (sent_macrotick x later_sent) behind behind2 long gap
+      two_near (nominal_cycle p) p.macros (double_off p) (starts_off p) (place_off p) delays (pos q) one.turn (sent_macrotick x sent) two.turn (sent_macrotick x later_sent) behind behind2 long gap
       more (numbers_of p timed.sane).macros_some
-      (record { first = one.placed; second = two.placed; on = on.near; starts = starts_near x h from timed u one.spec.id two.spec.id k2 on.at two.at later_after; delayed = delayed }) in
+      (record { first = one.placed; second = two.placed; on = on.near; starts = starts_near x h timed whole from one.spec.id two.spec.id k2 near_from on.at two.at after; delayed = delayed }) in
       let cycles : ((pos 2 *ℤ pos q) +ℤ two.turn) -ℤ one.turn ≡ later_sent.frame.number -ℤ sent.frame.number =
       numbered q k k2 base (pos sent.cycle) (pos later_sent.cycle) one.turn two.turn sent.frame.number later_sent.frame.number (apart k k2 le) one.in_cycle two.in_cycle is.numbered later_is.numbered in
       let span : (((long +ℤ gap) +ℤ behind2) -ℤ behind) +ℤ more ≡ arrives_at x later_sent -ℤ arrives_at x sent =
@@ -260,14 +255,14 @@ module _ (x : Setting) (h : Cycles) (base from : ℕ) (timed : IsTimedRun x h) (
       some q t t2 c a b is = omega (arith, ints, a, b, is)
 
   -- any two
-  pub frames_near : (sent other : SentFrame) (delays : ℤ) → IsSentIn x h base sent → IsSentIn x h base other → from ≤ double_cycle_of sent.cycle → from ≤ double_cycle_of other.cycle
+  pub frames_near : (from : ℕ) (sent other : SentFrame) (delays : ℤ) → IsNearFrom x h from → IsSentIn x h base sent → IsSentIn x h base other → from ≤ double_cycle_of sent.cycle → from ≤ double_cycle_of other.cycle
       → IsWithin delays (other.delay -ℤ sent.delay)
       → (q : ℕ) × IsNear x.params delays q (other.frame.number -ℤ sent.frame.number) (sent_macrotick x other -ℤ sent_macrotick x sent) (arrives_at x other -ℤ arrives_at x sent)
-  frames_near sent other delays is other_is after other_after delayed =
+  frames_near from sent other delays near_from is other_is after other_after delayed =
       elim (either (double_cycle_of sent.cycle) (double_cycle_of other.cycle)) [
-        | inl le ↦ ordered sent other delays is other_is after other_after le delayed
+        | inl le ↦ ordered from sent other delays near_from is other_is other_after le delayed
         | inr le ↦
-            let back = ordered other sent delays other_is is other_after after le (turned delays other.delay sent.delay delayed) in
+            let back = ordered from other sent delays near_from other_is is after le (turned delays other.delay sent.delay delayed) in
             let c = sent.frame.number -ℤ other.frame.number in
             let m = sent_macrotick x sent -ℤ sent_macrotick x other in
             let span = arrives_at x sent -ℤ arrives_at x other in

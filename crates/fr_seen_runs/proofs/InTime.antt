@@ -1,16 +1,19 @@
--- The frames of a log that is read of a covered run in sync come in time, where the numbers suffice.
-use Rattle.std.proofs.Common.{◌≡◌, ◌⊎◌, ℕ, ◌+◌, ◌*◌, ◌==◌, ◌≤◌, Bool, true, false, Option, Some, None, ℤ, pos, List, [], ◌∷◌, All, refl, ap, sym, ◌∙◌, subst, inl, inr, arith}
+-- The frames of a log that is read of a run whose nodes start near each other come in time, where the numbers suffice.
+use Rattle.std.proofs.Common.{◌≡◌, ◌⊎◌, ℕ, ◌+◌, ◌*◌, ◌/◌, ◌==◌, ◌≤◌, Bool, true, false, Option, Some, None, ℤ, pos, List, [], ◌∷◌, All, map, lit≤, refl, ap, sym, ◌∙◌, subst, inl, inr, arith}
 use Rattle.std.specs.Prelude.{◌+ℤ◌, ◌-ℤ◌, ◌*ℤ◌, ◌≤ℤ◌, ◌<ℤ◌, neg_ℤ, ◌&&◌, ◌||◌, not, is_some, nat_le, Contains, IfSome}
 use Rattle.std.specs.List.{AllZip}
 use Rattle.std.specs.Option.{option_map}
 use Rattle.std.proofs.lemmas.Int.{ints, by_lt_z}
 use Rattle.std.proofs.lemmas.List.Elements.{All-cons, All-contains, All-contains_itself, All-head, All-tail}
 use Rattle.std.proofs.lemmas.List.Sums.{AllPass-from_list_all}
-use Rattle.fr_base.specs.Within.{IsBetween, IsWithin}
+use Rattle.fr_base.specs.Within.{IsBetween, IsWithin, LieWithin}
 use Rattle.fr_base.specs.declared.channel.Channel.{Channel}
 use Rattle.fr_base.specs.declared.channel.Channel.TheVariants.{A, B}
+use Rattle.fr_base.specs.declared.node_row.NodeRow.{NodeRow}
 use Rattle.fr_midpoint.proofs.Products.{mulz-negz, mulz_assoc, mulz_comm}
-use Rattle.fr_bound.specs.Bounds.{longest_micro, nominal, pi_of}
+use Rattle.fr_bound.specs.Bounds.{arrival_error, longest_micro, nominal}
+use Rattle.fr_bound.specs.Checks.{left_of}
+use Rattle.fr_bound.specs.SharpBounds.{last_action, near_by, odd_spread}
 use Rattle.fr_cluster.specs.Questions.{has_channel, key_in, node_of}
 use Rattle.fr_cluster.specs.Sane.{IsSane}
 use Rattle.fr_cluster.specs.Setting.{Setting}
@@ -19,7 +22,7 @@ use Rattle.fr_cluster.specs.declared.names.ParamName.TheVariants as name
 use Rattle.fr_cluster.specs.declared.nodes.NodeSpec.{NodeSpec}
 use Rattle.fr_cluster.proofs.Elements.{found}
 use Rattle.fr_time.specs.Cycles.{double_cycle_of}
-use Rattle.fr_history.specs.Cycles.{Cycles}
+use Rattle.fr_history.specs.Cycles.{Cycle, Cycles}
 use Rattle.fr_log.specs.View.{IsEntry, LogView, delay_limits_of, is_arbitrary_in, jitter_of, jitter_within}
 use Rattle.fr_log.specs.declared.rows.DelayLimits.{DelayLimits}
 use Rattle.fr_course.specs.Course.{breadth_of}
@@ -40,10 +43,11 @@ use Rattle.fr_seen.proofs.ObservedLaws.{is_action}
 use Rattle.fr_seen.proofs.SenderLaws.{all_given}
 use Rattle.fr_seen.proofs.TermLaws.{product_some}
 use Rattle.fr_seen_runs.specs.Contradictions.{IsObservedRun}
-use Rattle.fr_seen_runs.specs.InTime.{IsReadInSync, SyncIsTimely, arrives_at}
+use Rattle.fr_seen_runs.specs.InTime.{IsReadNear, JudgedIsNear, NearIsTimely, arrives_at}
 use Rattle.fr_seen_runs.proofs.Frames.{frames_near, rest_off}
 use Rattle.fr_seen_runs.proofs.Schedule.{AreSure, IsFineReading, comes_in_time, read_near}
-use Rattle.fr_seen_runs.proofs.Starts.{double_off}
+use Rattle.fr_seen_runs.proofs.SendersApart.{all_within, two_within}
+use Rattle.fr_seen_runs.proofs.Starts.{double_off, same_cycle}
 
 -- ---- the limits of the delays of what is judged
 
@@ -116,11 +120,11 @@ module _ (p : Values) (l : LogView) (sane : IsSane p) (is_sure : are_numbers_sur
   seen_from fate.Behind s is = absurd (cc is)
   seen_from (fate.Seen t) s is = let same : t ≡ s = cc is in ap fate.Seen same
 
--- ---- a log that is read of a run in sync
+-- ---- a log that is read of a run that is near
 
 module _
     (x : Setting) (h : Cycles) (base : ℕ) (delays : ℕ → Channel → Delays) (clock : ℕ → StraightClock) (l : LogView) (from : ℕ)
-    (r : IsReadInSync x h base delays clock l from) (is_sure : are_numbers_sure x.params l ≡ true)
+    (r : IsReadNear x h base delays clock l from) (is_sure : are_numbers_sure x.params l ≡ true)
   where
     abbrev Log : List SentFrame
     Log = r.run.read.sent
@@ -226,6 +230,10 @@ module _
 
     -- the numbers in terms of whole numbers
     module _ (most : ℕ) (sure : IsSureWith x.params l most) where
+      -- how far off the length of a cycle is at most
+      abbrev Off : ℕ
+      Off = amount x.params name.pRateCorrectionOut * longest_micro x.params + amount x.params name.pMicroPerCycle * amount x.params name.xRateBound
+
       fine : IsFineReading (nominal_cycle x.params) (pos l.drift) Drift Breadth
       fine =
           record {
@@ -234,8 +242,8 @@ module _
             drift_to = to l.drift r.run.log.drift.to;
             drifts = turned (amount x.params name.pMicroPerCycle) l.drift;
             breadth_to =
-                less (amount x.params name.pMicroPerCycle * amount x.params name.xRateBound) (amount x.params name.pOffsetCorrectionOut * longest_micro x.params) (longest_micro x.params) most
-                (amount x.params name.pMicroPerCycle * l.drift) (l.unit + l.error) (pi_of x.params) (amount x.params name.pMicroPerCycle * nominal) (nominal_cycle x.params)
+                less Off (amount x.params name.pOffsetCorrectionOut * longest_micro x.params) (longest_micro x.params) most
+                (amount x.params name.pMicroPerCycle * l.drift) (l.unit + l.error) (left_of 3 x.params) (amount x.params name.pMicroPerCycle * nominal) (nominal_cycle x.params)
                 (product (amount x.params name.pMicroPerCycle) nominal) sure;
           }
         where
@@ -264,13 +272,13 @@ module _
           record {
             cycle_some = cycle_some;
             macros_some = (numbers_of x.params sane).macros_some;
-            double_from = doubles (amount x.params name.pMicroPerCycle * amount x.params name.xRateBound) (amount x.params name.pOffsetCorrectionOut * longest_micro x.params);
+            double_from = doubles Off (amount x.params name.pOffsetCorrectionOut * longest_micro x.params);
             rest_from =
-                rests (pi_of x.params) (amount x.params name.pMicroPerCycle * amount x.params name.xRateBound) (longest_micro x.params) most (amount x.params name.pMicroPerCycle * l.drift)
+                rests (left_of 3 x.params) Off (longest_micro x.params) most (amount x.params name.pMicroPerCycle * l.drift)
                 (l.unit + l.error);
             sure =
-                all (amount x.params name.pMicroPerCycle * amount x.params name.xRateBound) (amount x.params name.pOffsetCorrectionOut * longest_micro x.params) (longest_micro x.params) most
-                (amount x.params name.pMicroPerCycle * l.drift) (l.unit + l.error) (pi_of x.params) (amount x.params name.pMicroPerCycle * nominal) (nominal_cycle x.params)
+                all Off (amount x.params name.pOffsetCorrectionOut * longest_micro x.params) (longest_micro x.params) most
+                (amount x.params name.pMicroPerCycle * l.drift) (l.unit + l.error) (left_of 3 x.params) (amount x.params name.pMicroPerCycle * nominal) (nominal_cycle x.params)
                 (product (amount x.params name.pMicroPerCycle) nominal) sure;
           }
         where
@@ -379,8 +387,8 @@ module _
         let two = All-contains (IsSentIn x h base) Log later r.run.read.read.sent there in
         let limits = delays_of frame later here there in
         let near =
-        frames_near x h base from r.run.timed r.unfollowed frame later (pos limits.most) one two (All-contains Behind Log frame r.behind here) (All-contains Behind Log later r.behind there)
-        limits.within in
+        frames_near x h base r.run.timed r.run.whole from frame later (pos limits.most) r.near one two (All-contains Behind Log frame r.behind here)
+        (All-contains Behind Log later r.behind there) limits.within in
         let span = span_read limits.most limits.sure frame later here there silent in
         let first = is_action p frame.frame.slot sane one.slot_from one.slot_to in
         let second = is_action p later.frame.slot sane two.slot_from two.slot_to in
@@ -431,5 +439,31 @@ module _
               };
         }
 
-pub sync_is_timely : SyncIsTimely
-sync_is_timely x h base delays clock l from r is_sure = observed x h base delays clock l from r is_sure
+pub near_is_timely : NearIsTimely
+near_is_timely x h base delays clock l from r is_sure = observed x h base delays clock l from r is_sure
+
+-- ---- what is judged
+
+-- starts lie no further apart than action points, for which the offset limit suffices
+pub judged_is_near : JudgedIsNear
+judged_is_near x flutter h double known even odd is judged has =
+    let p = x.params in
+    let starts = known.spread.starts in
+    let same : is.even ≡ even = same_cycle is.even even (sym is.has_even ∙ has.has_even) in
+    let near : LieWithin (pos starts) (map (λ (row : NodeRow). row.start) even.told.rows) =
+    subst (λ (c : Cycle). LieWithin (pos starts) (map (λ (row : NodeRow). row.start) c.told.rows)) same is.rows.starts_lie in
+    let third : (near_by p starts known.spread.lengths + arrival_error p) + longest_micro p ≤ left_of 3 p =
+    no_more ((near_by p starts known.spread.lengths + arrival_error p) + longest_micro p) (left_of 3 p) (judged.checks 3 (lit≤ tt) (lit≤ tt)) in
+    let less : starts ≤ left_of 3 p =
+    first starts known.spread.lengths (last_action p * odd_spread p known.spread.lengths / amount p name.gMacroPerCycle) (longest_micro p) (arrival_error p) (left_of 3 p) third in
+    all_within (pos (left_of 3 p)) (λ (row : NodeRow). row.start) even.told.rows
+    (λ a b here there. wider starts (left_of 3 p) (a.start -ℤ b.start) less (two_within (pos starts) (λ (row : NodeRow). row.start) even.told.rows a b near here there))
+  where
+    no_more : (a b : ℕ) → nat_le a b ≡ true → a ≤ b
+    no_more a b is = grind arith
+
+    first : (s l a m e n : ℕ) → ((((s + l) + a) + m) + e) + m ≤ n → s ≤ n
+    first s l a m e n le = omega (arith, le)
+
+    wider : (s n : ℕ) (z : ℤ) → s ≤ n → z ≤ℤ pos s → z ≤ℤ pos n
+    wider s n z le near = omega (arith, ints, le, near)

@@ -96,12 +96,12 @@ pub record IsFineReading (w drift v breadth : ℤ) : Type 0 where
   pub breadth_to : (pos 2 *ℤ breadth) ≤ℤ w
 
 -- the span is no longer than 31 cycles, and is read so much off at most
-pub record IsReadNear (w v breadth span apart : ℤ) : Type 0 where
+pub record IsSpanRead (w v breadth span apart : ℤ) : Type 0 where
   pub late : span ≤ℤ (pos 31 *ℤ w)
   pub near : IsWithin ((pos 31 *ℤ v) +ℤ breadth) (apart -ℤ span)
 
 pub read_near : (w drift v breadth span apart : ℤ) → IsFineReading w drift v breadth → pos 0 ≤ℤ span → apart ≤ℤ (pos 30 *ℤ w) → ReadsSpan drift breadth span apart
-    → IsReadNear w v breadth span apart
+    → IsSpanRead w v breadth span apart
 read_near w drift v breadth span apart f from silent reads =
     let k = pos 1_000_000 in
     let whole = pos 31 *ℤ w in

@@ -1,24 +1,32 @@
--- The worked log is read of its run in sync, and its numbers are sure.
-use Rattle.std.proofs.Common.{◌≡◌, ℕ, ◌≤◌, false, true, None, ℤ, pos, refl, inl, subst, arith}
+-- The worked log is read of its run, whose nodes start near each other, and its numbers are sure.
+use Rattle.std.proofs.Common.{◌≡◌, ℕ, zero, suc, ◌*◌, ◌<◌, ◌≤◌, false, true, None, ℤ, pos, All, refl, inl, subst, arith}
 use Rattle.std.specs.Prelude.{◌+ℤ◌, ◌-ℤ◌, ◌*ℤ◌, ◌≤ℤ◌, Contains}
 use Rattle.std.proofs.lemmas.Int.{ints}
-use Rattle.std.proofs.lemmas.List.Elements.{All-weaker}
+use Rattle.std.proofs.lemmas.List.Elements.{All-contains, All-weaker}
 use Rattle.fr_base.specs.Within.{IsBetween}
+use Rattle.fr_base.specs.declared.node_row.NodeRow.{NodeRow}
+use Rattle.fr_bound.specs.Checks.{left_of}
 use Rattle.fr_cluster.specs.Setting.{IsSetting, Setting}
 use Rattle.fr_midpoint.proofs.Products.{mulz-subz}
+use Rattle.fr_precision.proofs.Worked.{two}
 use Rattle.fr_time.specs.Cycles.{double_cycle_of}
+use Rattle.fr_history.specs.Cycles.{Cycle, cycle_at}
 use Rattle.fr_history.specs.Lawful.{IsLawful}
 use Rattle.fr_history.specs.Next.{cycles_of}
+use Rattle.fr_runs.specs.Numbers.{HasDouble}
+use Rattle.fr_runs.proofs.Parts.{cycle_within}
 use Rattle.fr_log.specs.View.{delay_limits_of, is_arbitrary_in, own_limits}
 use Rattle.fr_course.specs.Course.{breadth_of}
 use Rattle.fr_sightings.specs.Senders.{observer_of}
 use Rattle.fr_sightings.specs.Sure.{are_numbers_sure}
 use Rattle.fr_seen.specs.LogSeen.{IsLogSeen}
 use Rattle.fr_seen.specs.Observed.{IsSentIn, SentFrame, stamped_apart}
-use Rattle.fr_seen_runs.specs.InTime.{KeepsDrift, arrives_at}
-use Rattle.fr_seen_runs.specs.WorkedLog.{no_delays, seen_cluster, seen_cycles, seen_log, seen_run, true_clock}
+use Rattle.fr_seen_runs.specs.InTime.{KeepsDrift, StartsLieNear, arrives_at}
+use Rattle.fr_seen_runs.specs.WorkedLog.{no_delays, seen_cluster, seen_cycle, seen_cycles, seen_log, seen_row, seen_run, true_clock}
 use Rattle.fr_seen_runs.specs.WorkedReading.{WorkedReading}
-use Rattle.fr_seen_runs.proofs.WorkedCycles.{cycles_are, is_in_sync_first, run_is_covered, run_is_setting, run_is_timed}
+use Rattle.fr_seen_runs.proofs.SendersApart.{all_within}
+use Rattle.fr_seen_runs.proofs.Starts.{same_cycle}
+use Rattle.fr_seen_runs.proofs.WorkedCycles.{cycles_are, run_is_setting, run_is_timed}
 use Rattle.fr_seen_runs.proofs.WorkedSeen.{log_is, log_is_seen}
 
 -- a clock that is never off
@@ -46,6 +54,39 @@ module _ (o : IsLogSeen seen_run seen_cycles 0 no_delays true_clock (seen_log No
 numbers_are_sure : are_numbers_sure seen_cluster (seen_log None false) ≡ true
 unfolding are_numbers_sure is_arbitrary_in delay_limits_of own_limits
 numbers_are_sure = refl
+
+-- ---- its starts lie near each other
+
+even_near : (cycle : ℕ) → ((seen_row 1 cycle).start -ℤ (seen_row 2 cycle).start) ≤ℤ pos (left_of 3 seen_cluster)
+    → ((seen_row 2 cycle).start -ℤ (seen_row 1 cycle).start) ≤ℤ pos (left_of 3 seen_cluster) → StartsLieNear seen_cluster (seen_cycle cycle).told.rows
+even_near cycle one other =
+    all_within (pos (left_of 3 seen_cluster)) (λ (row : NodeRow). row.start) (seen_cycle cycle).told.rows
+    (λ a b here there.
+    All-contains (Near a) (seen_cycle cycle).told.rows b
+    (All-contains (λ (r : NodeRow). All (Near r) (seen_cycle cycle).told.rows) (seen_cycle cycle).told.rows a
+    (two (λ (r : NodeRow). All (Near r) (seen_cycle cycle).told.rows) (seen_row 1 cycle) (seen_row 2 cycle)
+    (two (Near (seen_row 1 cycle)) (seen_row 1 cycle) (seen_row 2 cycle) (none (left_of 3 seen_cluster) (seen_row 1 cycle).start) one)
+    (two (Near (seen_row 2 cycle)) (seen_row 1 cycle) (seen_row 2 cycle) other (none (left_of 3 seen_cluster) (seen_row 2 cycle).start)))
+    here) there)
+  where
+    Near : NodeRow → NodeRow → Type 0
+    Near a b = (a.start -ℤ b.start) ≤ℤ pos (left_of 3 seen_cluster)
+
+    none : (n : ℕ) (z : ℤ) → (z -ℤ z) ≤ℤ pos n
+    none n z = omega (arith, ints)
+
+starts_are_near : (double : ℕ) (even odd : Cycle) → 0 ≤ double → HasDouble seen_cycles double even odd → StartsLieNear seen_cluster even.told.rows
+unfolding cycle_at
+starts_are_near zero even odd from has =
+    subst (λ (c : Cycle). StartsLieNear seen_cluster c.told.rows) (same_cycle (seen_cycle 0) even has.has_even)
+    (even_near 0 (record { le = tt }) (record { le = tt }))
+starts_are_near (suc zero) even odd from has =
+    subst (λ (c : Cycle). StartsLieNear seen_cluster c.told.rows) (same_cycle (seen_cycle 2) even has.has_even)
+    (even_near 2 (record { le = tt }) (record { le = tt }))
+starts_are_near (suc (suc n)) even odd from has = absurd (behind n (cycle_within seen_cycles (suc (2 * suc (suc n))) odd has.has_odd))
+  where
+    behind : (n : ℕ) → suc (2 * suc (suc n)) < 4 → ⊥
+    behind n less = omega (arith, less)
 
 pub worked_reading_is : ((x : Setting) (n : ℕ) → IsSetting x → IsLawful x (cycles_of x n)) → WorkedReading
 worked_reading_is lawful =
@@ -78,15 +119,7 @@ worked_reading_is lawful =
                         first = o.first;
                       };
                 };
-            unfollowed =
-                record {
-                  covered = run_is_covered;
-                  rates = timed.rates;
-                  starts = λ joins. absurd (let e : false ≡ true = joins in cc);
-                  lawful = run_lawful;
-                  whole = refl;
-                  unfollowed = is_in_sync_first;
-                };
+            near = record { near = starts_are_near };
             behind = All-weaker (IsSentIn seen_run seen_cycles 0) (λ (sent : SentFrame). 0 ≤ double_cycle_of sent.cycle) (λ sent is. omega arith) o.sent o.seen.sent;
           };
       sure = numbers_are_sure;

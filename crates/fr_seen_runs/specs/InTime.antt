@@ -1,15 +1,20 @@
--- A log that is read of a run, whether or not its frames come in time; and that they do, where the run is covered and in sync,
--- and the numbers of the cluster and of the log suffice.
-use Rattle.std.specs.Prelude.{◌≡◌, ◌≤◌, ◌*◌, ◌%◌, ◌-ℤ◌, ◌+ℤ◌, ◌*ℤ◌, ◌≤ℤ◌, ℕ, ℤ, pos, true, List, length, All, Contains, IfSome}
+-- A log that is read of a run, whether or not its frames come in time; and that they do, where the nodes of the run start near each
+-- other, and the numbers of the cluster and of the log suffice.
+use Rattle.std.specs.Prelude.{◌≡◌, ◌≤◌, ◌*◌, ◌%◌, ◌-ℤ◌, ◌+ℤ◌, ◌*ℤ◌, ◌≤ℤ◌, ℕ, ℤ, pos, true, List, length, map, All, Contains, IfSome}
 use Rattle.std.specs.List.{AllZip}
-use Rattle.fr_base.specs.Within.{IsBetween, IsWithin}
+use Rattle.fr_base.specs.Within.{IsBetween, IsWithin, LieWithin}
 use Rattle.fr_base.specs.declared.channel.Channel.{Channel}
+use Rattle.fr_base.specs.declared.node_row.NodeRow.{NodeRow}
 use Rattle.fr_bound.specs.Bounds.{nominal}
+use Rattle.fr_bound.specs.Checks.{left_of}
+use Rattle.fr_bound.specs.Judged.{IsJudgedDouble}
+use Rattle.fr_bound.specs.declared.judging.Known.{Known}
 use Rattle.fr_cluster.specs.Setting.{Setting}
+use Rattle.fr_cluster.specs.Values.{Values}
 use Rattle.fr_time.specs.Cycles.{double_cycle_of}
 use Rattle.fr_time.specs.Instant.{action_instant}
-use Rattle.fr_history.specs.Cycles.{Cycles}
-use Rattle.fr_runs.specs.Whole.{IsUnfollowedRun}
+use Rattle.fr_history.specs.Cycles.{Cycle, Cycles}
+use Rattle.fr_runs.specs.Numbers.{HasDouble}
 use Rattle.fr_log.specs.View.{IsLog, LogView}
 use Rattle.fr_course.specs.Course.{breadth_of}
 use Rattle.fr_course.specs.Readings.{fast_million, slow_million}
@@ -26,6 +31,7 @@ use Rattle.fr_seen.specs.LogSeen.{BeginsAsCounted, IsToldOf, judged_of}
 use Rattle.fr_seen.specs.Observed.{IsInWindow, IsSentIn, SentFrame, stamped_apart}
 use Rattle.fr_seen.specs.OwnSlots.{SlotsAreOwn}
 use Rattle.fr_seen.specs.RunRows.{IsTimedRun}
+use Rattle.fr_sharp.specs.JudgedSteps.{IsKnownAt}
 use Rattle.fr_seen_runs.specs.Contradictions.{IsAsLogStates, IsObservedRun}
 
 -- ---- a log that is read
@@ -88,31 +94,46 @@ pub record IsReadRun
   pub log : IsLog l
   pub read : IsLogRead x h base delays clock l
 
--- ---- in sync
+-- ---- near
 
--- and that is covered, and in sync from some double cycle on, without a node that follows in it; no frame of the log is of an
--- earlier one
-pub record IsReadInSync
+-- the starts of some rows lie near each other: no further apart than the offset limit at the shortest microtick, in ticks
+abbrev pub StartsLieNear : Values → List NodeRow → Type 0
+StartsLieNear p rows = LieWithin (pos (left_of 3 p)) (map (λ row. row.start) rows)
+
+-- from some double cycle on the nodes with rows do so, whoever they are: no check need hold, and nodes may join
+pub record IsNearFrom (x : Setting) (h : Cycles) (from : ℕ) : Type 0 where
+  pub near :
+      (double : ℕ) (even odd : Cycle) → from ≤ double → HasDouble h double even odd → StartsLieNear x.params even.told.rows
+
+-- in a double cycle that is judged they do, by the third check of its own reach
+abbrev pub JudgedIsNear : Type 0
+JudgedIsNear =
+    (x : Setting) (flutter : ℕ) (h : Cycles) (double : ℕ) (known : Known) (even odd : Cycle)
+    → IsKnownAt x h double known → IsJudgedDouble x.params flutter known → HasDouble h double even odd
+    → StartsLieNear x.params even.told.rows
+
+-- a whole run that the log is read of, near from some double cycle on; no frame of the log is of an earlier one
+pub record IsReadNear
     (x : Setting) (h : Cycles) (base : ℕ) (delays : ℕ → Channel → Delays) (clock : ℕ → StraightClock) (l : LogView)
     (from : ℕ)
     : Type 0 where
   pub run : IsReadRun x h base delays clock l
-  pub unfollowed : IsUnfollowedRun x h from
+  pub near : IsNearFrom x h from
   pub behind : All (λ sent. from ≤ double_cycle_of sent.cycle) run.read.sent
 
 -- then its frames come in time, where the numbers are sure of that: the log is seen of the run
-abbrev pub SyncIsTimely : Type 0
-SyncIsTimely =
+abbrev pub NearIsTimely : Type 0
+NearIsTimely =
     (x : Setting) (h : Cycles) (base : ℕ) (delays : ℕ → Channel → Delays) (clock : ℕ → StraightClock) (l : LogView)
     (from : ℕ)
-    → IsReadInSync x h base delays clock l from → are_numbers_sure x.params l ≡ true
+    → IsReadNear x h base delays clock l from → are_numbers_sure x.params l ≡ true
     → IsObservedRun x h base delays clock l
 
 -- so where the verdict of such a log is no, whatever the kind of its fault, there is no such run that is as the log states. By a
 -- fault whose kind asks for own slots, this is said of runs where each whole frame in the slot of a node is one that the node sends
-abbrev pub NoRunInSyncIsContradicted : Type 0
-NoRunInSyncIsContradicted =
+abbrev pub NoNearRunIsContradicted : Type 0
+NoNearRunIsContradicted =
     (x : Setting) (h : Cycles) (base : ℕ) (delays : ℕ → Channel → Delays) (clock : ℕ → StraightClock) (l : LogView)
     (from : ℕ) (fault : Fault)
-    → IsReadInSync x h base delays clock l from → IsAsLogStates x h base l → are_numbers_sure x.params l ≡ true
+    → IsReadNear x h base delays clock l from → IsAsLogStates x h base l → are_numbers_sure x.params l ≡ true
     → (asks_own_slots fault.kind ≡ true → SlotsAreOwn x h l) → verdict_of x.params l ≡ verdict.No fault → ⊥

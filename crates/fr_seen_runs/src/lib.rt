@@ -14,7 +14,7 @@ mod worked;
 
 pub use completeness::{corners_are_narrow, far_senders_are_told, near_senders_are_within};
 pub use computed::{missed_senders_are_so, nodes_apply_midpoints, terms_are_computed};
-pub use in_time::{a_worked_reading, no_run_in_sync_is_contradicted, sync_is_timely};
+pub use in_time::{a_worked_reading, judged_is_near, near_is_timely, no_near_run_is_contradicted};
 pub use known::{
     known_faults_are_none, missings_are_so, seen_numbers_are_known, skew_faults_within_are_none,
     spreads_are_so, standings_are_so,
