@@ -18,7 +18,7 @@ use Rattle.fr_sightings.specs.declared.sighting.Sighting.{Sighting}
 use Rattle.fr_seen.specs.Clocks.{StraightClock}
 use Rattle.fr_seen.specs.OwnSlots.{SlotsAreOwn}
 use Rattle.fr_seen_runs.specs.Contradictions.{IsAsLogStates, IsObservedRun}
-use Rattle.fr_seen_runs.specs.Standings.{IsKnownOfLog, SpreadIsSo, Spreading, SpreadsAreSo, StandingsAreSo, log_spreads, spread_row_of, spreads_from}
+use Rattle.fr_seen_runs.specs.Standings.{IsKnownOfLog, SpreadIsSo, Spreading, SpreadsAreSo, StandingsAreSo, StandsSo, log_spreads, log_standing, spread_row_of, spreads_from}
 use Rattle.fr_seen_runs.specs.ToldFaults.{NoFaultIsTold, ToldFaultsAskEither, ToldFaultsAskJudged, ToldFaultsAskOwnSlots, VerdictTellsFirst, faults_from, log_faults}
 use Rattle.fr_seen_runs.specs.NotContradicted.{NoRunHasOwnFaults, NoRunIsContradicted}
 use Rattle.fr_observe.specs.declared.fault.Fault.{Fault}
@@ -132,13 +132,24 @@ module _ (x : Setting) (h : Cycles) (base : ℕ) (delays : ℕ → Channel → D
       told_are AsksJudged (no_slots AsksJudged own) (λ double progress. Unit {0})
       (λ double progress among known. (known_asks double progress, tt)) (λ first. tt)
 
-  -- ---- no fault at all, where the run is as the log states
+  -- ---- no fault at all, where double cycles stand so
 
-  module _ (states : IsAsLogStates x h base l) (judged : StandingsAreSo) where
-    -- behind each double cycle what is known of the next one is so
-    abbrev IsKnown : ℕ → Progress → Type 0
-    IsKnown double progress = IsKnownOfLog x h base double progress.known
+  -- behind each double cycle what is known of the next one is so
+  abbrev IsKnown : ℕ → Progress → Type 0
+  IsKnown double progress = IsKnownOfLog x h base double progress.known
 
+  -- its numbers, where it is told what its nodes hear
+  abbrev pub SpreadBy : Option Heard → Spreading → Type 0
+  SpreadBy None s = Unit {0}
+  SpreadBy (Some what) s = SpreadIsSo x h base l what s
+
+  -- those that are within something stand so
+  abbrev pub AreStanding : (ℕ → Type 0) → Type 0
+  AreStanding Within =
+      (what : Heard) (double : ℕ) (known : Option Known) (told : Option Fault) → Within double → log_heard x.params l ≡ Some what → IsKnownOfLog x h base double known
+      → StandsSo x h base l what double (log_standing x l what double known told)
+
+  module _ (Within : ℕ → Type 0) (standing : AreStanding Within) where
     -- what is known, by what its nodes hear
     standing_by : (double : ℕ) (heard : Option Heard) (known : Option Known) → Standing
     standing_by double heard known =
@@ -146,11 +157,6 @@ module _ (x : Setting) (h : Cycles) (base : ℕ) (delays : ℕ → Channel → D
 
     faults_by : ℕ → Standing → List Fault
     faults_by double st = standing_faults x.params Log.scale l Log.span (At double).before (At double).here (At double).number (At double).senders st
-
-    -- its numbers, where it is told what its nodes hear
-    abbrev pub SpreadBy : Option Heard → Spreading → Type 0
-    SpreadBy None s = Unit {0}
-    SpreadBy (Some what) s = SpreadIsSo x h base l what s
 
     KnownSo : ℕ → Option Heard → Option Known → Type 0
     KnownSo double heard known =
@@ -163,35 +169,41 @@ module _ (x : Setting) (h : Cycles) (base : ℕ) (delays : ℕ → Channel → D
     spread_listed what double None is = All-nil (SpreadIsSo x h base l what)
     spread_listed what double (Some met) is = All-cons (SpreadIsSo x h base l what) (record { number = double; met = met }) [] is (All-nil (SpreadIsSo x h base l what))
 
-    known_so : (double : ℕ) (heard : Option Heard) (known : Option Known) → log_heard x.params l ≡ heard → Contains (seen_doubles Seen) double → IsKnownOfLog x h base double known → KnownSo double heard known
+    known_so : (double : ℕ) (heard : Option Heard) (known : Option Known) → log_heard x.params l ≡ heard → Within double → IsKnownOfLog x h base double known → KnownSo double heard known
     unfolding KnownSo faults_by standing_by standing_of standing_faults moving_faults term_faults judged_terms known_missing known_next double_at senders_of
-    known_so double None known is among before = (refl, (All-nil (λ (s : Spreading). Unit {0}), tt))
-    known_so double (Some what) known is among before =
-        let stands = judged x h base delays clock l what double known (first_of_faults (own_told Log (At double))) run states is among before in
+    known_so double None known is within before = (refl, (All-nil (λ (s : Spreading). Unit {0}), tt))
+    known_so double (Some what) known is within before =
+        let stands = standing what double known (first_of_faults (own_told Log (At double))) within is before in
         (stands.faults, (spread_listed what double (judged_met (standing_by double (Some what) known)) stands.spread, stands.next))
 
-    known_where : (double : ℕ) (progress : Progress) → Contains (seen_doubles Seen) double → IsKnownOfLog x h base double progress.known
+    known_where : (double : ℕ) (progress : Progress) → Within double → IsKnownOfLog x h base double progress.known
         → (known_told Log (At double) progress.known ≡ [])
         × ((All (SpreadBy Log.heard) (spread_row_of double (judged_met (standing_told Log (At double) progress.known)))) × IsKnownOfLog x h base (suc double) (known_next_told Log (At double) progress.known))
     unfolding known_told moving_told standing_told standing_faults KnownSo faults_by standing_by
-    known_where double progress among before =
-        let is = known_so double Log.heard progress.known refl among before in
+    known_where double progress within before =
+        let is = known_so double Log.heard progress.known refl within before in
         let told = term_faults Log.params Log.scale Log.log Log.span (At double).before (At double).here (At double).number (At double).senders (standing_told Log (At double) progress.known) in
         let clear : is_nil (moving_told Log (At double) progress.known) ≡ true = ap is_nil (front_none (moving_told Log (At double) progress.known) told is.0) in
         (is.0, (is.1.0, subst (λ b. IsKnownOfLog x h base (suc double) (known_next x.params l (standing_told Log (At double) progress.known) b)) (sym clear) is.1.1))
 
-    pub known_step : (Q : Fault → Type 0) (double : ℕ) (progress : Progress) → Contains (seen_doubles Seen) double → IsKnown double progress
+    pub known_step : (Q : Fault → Type 0) (double : ℕ) (progress : Progress) → Within double → IsKnown double progress
         → All Q (known_told Log (At double) progress.known) × IsKnown (suc double) (progress_behind Log Seen Offending double progress)
     unfolding progress_told
-    known_step Q double progress among before =
-        let is = known_where double progress among before in
+    known_step Q double progress within before =
+        let is = known_where double progress within before in
         (subst (All Q) (sym is.0) (All-nil Q), is.1.1)
 
-    first_known : (first : ℕ) → IsKnown first no_progress
-    first_known first = tt
+  first_known : (first : ℕ) → IsKnown first no_progress
+  first_known first = tt
+
+  -- ---- where the run is as the log states
+
+  module _ (states : IsAsLogStates x h base l) (judged : StandingsAreSo) where
+    all_standing : AreStanding (Contains (seen_doubles Seen))
+    all_standing what double known told among is before = judged x h base delays clock l what double known told run states is among before
 
     pub slots_told : All AsksOwnSlots (log_faults x.params l)
-    slots_told = told_are AsksOwnSlots slots_ask IsKnown (known_step AsksOwnSlots) first_known
+    slots_told = told_are AsksOwnSlots slots_ask IsKnown (known_step (Contains (seen_doubles Seen)) all_standing AsksOwnSlots) first_known
 
     -- ---- the rows of spread
 
@@ -206,7 +218,7 @@ module _ (x : Setting) (h : Cycles) (base : ℕ) (delays : ℕ → Channel → D
     spread_step : (double : ℕ) (progress : Progress) → Contains (seen_doubles Seen) double → IsKnown double progress
         → All (SpreadBy Log.heard) (spreads_at double progress) × IsKnown (suc double) (progress_behind Log Seen Offending double progress)
     unfolding progress_told spreads_at
-    spread_step double progress among before = (known_where double progress among before).1
+    spread_step double progress among before = (known_where (Contains (seen_doubles Seen)) all_standing double progress among before).1
 
     pub spreads_told : All (SpreadBy Log.heard) (log_spreads x.params l)
     unfolding log_spreads
@@ -219,7 +231,7 @@ module _ (x : Setting) (h : Cycles) (base : ℕ) (delays : ℕ → Channel → D
     none_of (fault ∷ faults) all = absurd (All-head (λ fault. ⊥) fault faults all)
 
     pub none_told : SlotsAreOwn x h l → log_faults x.params l ≡ []
-    none_told own = none_of (log_faults x.params l) (told_are (λ fault. ⊥) (no_slots (λ fault. ⊥) own) IsKnown (known_step (λ fault. ⊥)) first_known)
+    none_told own = none_of (log_faults x.params l) (told_are (λ fault. ⊥) (no_slots (λ fault. ⊥) own) IsKnown (known_step (Contains (seen_doubles Seen)) all_standing (λ fault. ⊥)) first_known)
 
 pub told_faults_ask_either : ToldFaultsAskEither
 told_faults_ask_either = either_asks
@@ -236,7 +248,7 @@ no_fault_is_told judged x h base delays clock l run states own = none_told x h b
 
 pub spreads_are_so : StandingsAreSo → SpreadsAreSo
 spreads_are_so judged x h base delays clock l what run states is =
-    subst (λ heard. All (SpreadBy x h base delays clock l run states judged heard) (log_spreads x.params l)) is (spreads_told x h base delays clock l run states judged)
+    subst (λ heard. All (SpreadBy x h base delays clock l run heard) (log_spreads x.params l)) is (spreads_told x h base delays clock l run states judged)
 
 -- ---- the verdict
 

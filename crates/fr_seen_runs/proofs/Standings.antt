@@ -40,12 +40,12 @@ use Rattle.fr_runs.proofs.Parts.{cycle_within}
 use Rattle.fr_sharp.proofs.JudgedLaws.{known_is_met_lem, unfollowed_goes_on_lem}
 use Rattle.fr_seen.specs.Clocks.{StraightClock}
 use Rattle.fr_seen.specs.LogSeen.{log_senders, run_double}
-use Rattle.fr_seen_runs.specs.Contradictions.{IsAsLogStates, IsObservedRun, IsSyncedAsStated, MissesFew, NamesArbitrary}
+use Rattle.fr_seen_runs.specs.Contradictions.{IsAsLogStatesBefore, IsObservedRun, IsSyncedAsStated, MissesFew, NamesArbitrary}
 use Rattle.fr_seen_runs.specs.ComputedTerms.{IsNamedLog}
-use Rattle.fr_seen_runs.specs.JudgedTerms.{IsJudgedRun, MissedIsSo}
+use Rattle.fr_seen_runs.specs.JudgedTerms.{MissedIsSo}
 use Rattle.fr_seen_runs.specs.LogDoubles.{IsDoubleThere}
 use Rattle.fr_seen_runs.specs.KnownDoubles.{HasNoSkewAbove, NoKnownFault, NoSkewFaultWithin, SeenIsKnown}
-use Rattle.fr_seen_runs.specs.Standings.{IsKnownOfLog, SpreadIsSo, StandingsAreSo, log_standing, log_standing_faults}
+use Rattle.fr_seen_runs.specs.Standings.{IsKnownOfLog, SpreadIsSo, StandingsAreSo, StandsSo, log_standing, log_standing_faults}
 use Rattle.fr_seen_runs.proofs.ComputedLists.{none_given}
 use Rattle.fr_seen_runs.proofs.ComputedSenders.{IsLogSender, are_log_senders}
 use Rattle.fr_seen_runs.proofs.KeyFrames.{correct_by}
@@ -74,7 +74,7 @@ arbitrary_alike x l named =
     count_alike (λ (node : NodeSpec). is_some node.key && x.is_arbitrary node.id) (is_sync_as l true) x.params.nodes
     (λ node among. ap (λ b. is_some node.key && b) (named node among))
 
-module _ (x : Setting) (h : Cycles) (base : ℕ) (l : LogView) (states : IsAsLogStates x h base l) (double : ℕ) (short : double < x.doubles) where
+module _ (x : Setting) (h : Cycles) (base : ℕ) (l : LogView) (until : ℕ) (states : IsAsLogStatesBefore x h base l until) (double : ℕ) (short : double < until) where
   -- where no sender may be missed, all of all are heard
   whole_by : (what : Heard) → log_heard x.params l ≡ Some what → (l.lost == 0) ≡ true → IsWhole x double
   whole_by what is none sender receiver slot linked =
@@ -123,7 +123,8 @@ pub record KnownIsKept : Type 0 where
 
 module _
     (x : Setting) (h : Cycles) (base : ℕ) (delays : ℕ → Channel → Delays) (clock : ℕ → StraightClock) (l : LogView) (what : Heard) (double : ℕ)
-    (run : IsObservedRun x h base delays clock l) (states : IsAsLogStates x h base l) (is : log_heard x.params l ≡ Some what) (among : Contains (seen_doubles (sightings_of x.params l)) double) (kept : KnownIsKept)
+    (until : ℕ) (run : IsObservedRun x h base delays clock l) (states : IsAsLogStatesBefore x h base l until) (is : log_heard x.params l ≡ Some what)
+    (among : Contains (seen_doubles (sightings_of x.params l)) double) (kept : KnownIsKept)
   where
     abbrev At : ℕ
     At = run_double base double
@@ -158,8 +159,12 @@ module _
     lawful : IsLawfulStatedRun x (stated_flutter x.params l) h
     lawful = record { covered = states.timed what is; lawful = run.timed.lawful; whole = run.whole }
 
-    hears : IsHeardIn what x At
-    hears = heard_in x h base l states At short what is
+    -- one before that until which the run is as the log states
+    abbrev pub IsBefore : Type 0
+    IsBefore = run_double base double < until
+
+    hears : IsBefore → IsHeardIn what x At
+    hears below = heard_in x h base l until states At below what is
 
     named : IsNamedLog x h base delays clock l
     named = record { timed = run.timed; log = run.log; seen = run.seen; named = states.named }
@@ -197,18 +202,17 @@ module _
     judged_where None true judged at = tt
     judged_where (Some met) true judged at = record { at = at; judged = judged_from x.params Flutter met judged }
 
-    module _ (met : Known) (j : IsJudged met) where
+    -- a node whose term is contradicted, if it missed at most so many senders, misses more, whatever is heard there
+    pub none_missed_by : (by : Heard) → IsHeardIn by x (run_double base double) → (met : Known) → IsJudged met
+        → (kind : Term) (s : Sender) (node : NodeSpec) (lost : ℕ) (fault : Fault) → Contains (log_senders x l double) s → Contains (correct_nodes x) node → node.id ≡ s.node
+        → unlike_term kind x.params l (reading_scale l.drift x.params) double (log_senders x l double) s lost ≡ Some fault → MissesFew x (run_double base double) lost node → ⊥
+    none_missed_by by heard met j kind s node lost fault there correct same told misses =
+        kept.missed by kind x h base delays clock l double lost met s node fault named (record { run = lawful; hears = heard; each = j.at.1; is = j.at.0; judged = j.judged })
+        there correct same told misses
+
+    module _ (below : IsBefore) (met : Known) (j : IsJudged met) where
       goes : GoesOnJudged what x (stated_flutter x.params l) h At met × (suc At < x.doubles → EachHasRow x h (suc At))
-      goes = unfollowed_goes_on_lem what x Flutter h At met lawful short hears j.at.1 j.at.0 j.judged
-
-      judged_run : IsJudgedRun what x (stated_flutter x.params l) h At met
-      judged_run = record { run = lawful; hears = hears; each = j.at.1; is = j.at.0; judged = j.judged }
-
-      -- a node whose term is contradicted, if it missed at most so many senders, misses more
-      pub none_missed : (kind : Term) (s : Sender) (node : NodeSpec) (lost : ℕ) (fault : Fault) → Contains (log_senders x l double) s → Contains (correct_nodes x) node → node.id ≡ s.node
-          → unlike_term kind x.params l (reading_scale l.drift x.params) double (log_senders x l double) s lost ≡ Some fault → MissesFew x (run_double base double) lost node → ⊥
-      none_missed kind s node lost fault there correct same told misses =
-          kept.missed what kind x h base delays clock l double lost met s node fault named judged_run there correct same told misses
+      goes = unfollowed_goes_on_lem what x Flutter h At met lawful short (hears below) j.at.1 j.at.0 j.judged
 
       no_term_fault : (kind : Term) (s : Sender) → Contains (log_senders x l double) s → unlike_term kind x.params l (reading_scale l.drift x.params) double (log_senders x l double) s l.lost ≡ None
       no_term_fault kind s there = by (unlike_term kind p l Scaled double Senders s l.lost) refl
@@ -217,7 +221,7 @@ module _
           by None told = refl
           by (Some fault) told =
               let of = sender_node s there in
-              absurd (none_missed kind s of.node l.lost fault there of.correct of.same told (states.missed what At of.node is short of.correct))
+              absurd (none_missed_by what (hears below) met j kind s of.node l.lost fault there of.correct of.same told (states.missed what At of.node is below of.correct))
 
       skews : HasNoSkewAbove x l double (apart_through what x.params (stated_flutter x.params l) met)
       skews = kept.skew x h base delays clock l double (apart_through what x.params (stated_flutter x.params l) met) met run j.at.0 goes.0.keeps
@@ -244,19 +248,19 @@ module _
           after : (d b : ℕ) → suc (d + b) ≡ suc d + b
           after d b = omega arith
 
-    skews_are_none : (judged : Option Known) → IfSome judged IsJudged → judged_skews x.params l (reading_scale l.drift x.params) double (log_senders x l double) what judged ≡ []
+    skews_are_none : IsBefore → (judged : Option Known) → IfSome judged IsJudged → judged_skews x.params l (reading_scale l.drift x.params) double (log_senders x l double) what judged ≡ []
     unfolding judged_skews
-    skews_are_none None all = refl
-    skews_are_none (Some met) j = skews_none met j
+    skews_are_none below None all = refl
+    skews_are_none below (Some met) j = skews_none below met j
 
-    terms_are_none : (judged : Option Known) → IfSome judged IsJudged → judged_terms x.params l (reading_scale l.drift x.params) double (log_senders x l double) judged ≡ []
+    terms_are_none : IsBefore → (judged : Option Known) → IfSome judged IsJudged → judged_terms x.params l (reading_scale l.drift x.params) double (log_senders x l double) judged ≡ []
     unfolding judged_terms
-    terms_are_none None all = refl
-    terms_are_none (Some met) j = terms_none met j
+    terms_are_none below None all = refl
+    terms_are_none below (Some met) j = terms_none below met j
 
-    next_is : (judged : Option Known) → IfSome judged IsJudged → IsKnownOfLog x h base (suc double) (option_map (known_after what x.params (stated_flutter x.params l)) judged)
-    next_is None all = tt
-    next_is (Some met) j = next_known met j
+    next_is : IsBefore → (judged : Option Known) → IfSome judged IsJudged → IsKnownOfLog x h base (suc double) (option_map (known_after what x.params (stated_flutter x.params l)) judged)
+    next_is below None all = tt
+    next_is below (Some met) j = next_known below met j
 
     apart_is_none : (known : Option Known) → IfSome known Is → known_apart x.params (reading_scale l.drift x.params) double (log_senders x l double) known ≡ []
     unfolding known_apart
@@ -318,27 +322,29 @@ module _
       unfolding standing_of
       judged_is = judged_all
 
-      pub faults_none : log_standing_faults x l double (log_standing x l what double before told) ≡ []
+      pub faults_none : IsBefore → log_standing_faults x l double (log_standing x l what double before told) ≡ []
       unfolding standing_faults moving_faults term_faults standing_of
-      faults_none =
-          none_of_two _ _ (none_of_two _ _ (skews_are_none Judged judged_all) (apart_is_none KnownHere known_is))
-          (none_of_two _ _ (terms_are_none Judged judged_all) (missing_is_none KnownHere known_is))
+      faults_none below =
+          none_of_two _ _ (none_of_two _ _ (skews_are_none below Judged judged_all) (apart_is_none KnownHere known_is))
+          (none_of_two _ _ (terms_are_none below Judged judged_all) (missing_is_none KnownHere known_is))
 
-      spread_is : (judged : Option Known) → IfSome judged IsJudged → IfSome judged (λ some. SpreadIsSo x h base l what (record { number = double; met = some }))
-      spread_is None all = tt
-      spread_is (Some some) j = record { known = j.at.0; each = j.at.1; keeps = (goes some j).0.keeps }
+      spread_is : IsBefore → (judged : Option Known) → IfSome judged IsJudged → IfSome judged (λ some. SpreadIsSo x h base l what (record { number = double; met = some }))
+      spread_is below None all = tt
+      spread_is below (Some some) j = record { known = j.at.0; each = j.at.1; keeps = (goes below some j).0.keeps }
 
-      pub spread_so : IfSome (judged_met (log_standing x l what double before told)) (λ some. SpreadIsSo x h base l what (record { number = double; met = some }))
+      pub spread_so : IsBefore → IfSome (judged_met (log_standing x l what double before told)) (λ some. SpreadIsSo x h base l what (record { number = double; met = some }))
       unfolding standing_of
-      spread_so = spread_is Judged judged_all
+      spread_so below = spread_is below Judged judged_all
 
-      pub next_so : IsKnownOfLog x h base (suc double) (known_next x.params l (log_standing x l what double before told) true)
+      pub next_so : IsBefore → IsKnownOfLog x h base (suc double) (known_next x.params l (log_standing x l what double before told) true)
       unfolding known_next standing_of
-      next_so = next_is Judged judged_all
+      next_so below = next_is below Judged judged_all
+
+      -- how it stands
+      pub stands_so : IsBefore → StandsSo x h base l what double (log_standing x l what double before told)
+      stands_so below = record { faults = faults_none below; spread = spread_so below; next = next_so below }
 
 pub standings_hold : KnownIsKept → StandingsAreSo
-standings_hold kept x h base delays clock l what double known told run states is among before = record {
-  faults = faults_none x h base delays clock l what double run states is among kept known told before;
-  spread = spread_so x h base delays clock l what double run states is among kept known told before;
-  next = next_so x h base delays clock l what double run states is among kept known told before;
-}
+standings_hold kept x h base delays clock l what double known told run states is among before =
+    stands_so x h base delays clock l what double x.doubles run states is among kept known told before
+    (short x h base delays clock l what double x.doubles run states is among kept)
