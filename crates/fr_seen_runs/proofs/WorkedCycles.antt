@@ -15,7 +15,7 @@ use Rattle.fr_precision.proofs.Worked.{is_sane, two}
 use Rattle.fr_history.specs.Lawful.{IsLawful}
 use Rattle.fr_history.specs.Next.{cycles_of, next_cycle}
 use Rattle.fr_history.specs.Worked.{on_a}
-use Rattle.fr_history.specs.Cycles.{Cycle}
+use Rattle.fr_history.specs.Cycles.{Cycle, cycle_at}
 use Rattle.fr_history.specs.History.{row_of}
 use Rattle.fr_history.proofs.Computing.{on_cycles, on_told}
 use Rattle.fr_runs.proofs.Parts.{even_is}
@@ -124,6 +124,7 @@ first_is_known =
     sharp_sync_is_known_lem false seen_run seen_flutter 0 seen_cycles 0 (first_sharp_sync_is false seen_cluster seen_flutter seen_cycles 0 first_sync).unfollowed.synced
 
 pub first_has_rows : EachHasRow seen_run seen_cycles 0
+unfolding cycle_at
 first_has_rows node correct earlier even odd is =
     let same : even ≡ seen_cycle 0 = some_same even (seen_cycle 0) (sym (even_is seen_cycles 0 earlier even odd is)) in
     subst (λ (c : Cycle). IsSome (row_of c.told.rows node.id)) (sym same)

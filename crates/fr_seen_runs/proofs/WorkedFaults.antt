@@ -1,5 +1,5 @@
 -- The worked contradictions, computed; and what no run is seen of.
-use Rattle.std.proofs.Common.{◌≡◌, ◌∙◌, ◌<◌, ◌≤◌, ℕ, ◌+◌, pos, true, false, Some, List, [], ◌∷◌, refl, sym, ap, lit≤, lit<}
+use Rattle.std.proofs.Common.{◌≡◌, ◌∙◌, ◌<◌, ◌≤◌, ℕ, ◌+◌, pos, true, false, None, Some, List, [], ◌∷◌, refl, sym, ap, lit≤, lit<}
 use Rattle.fr_bound.specs.declared.judging.Heard.TheVariants.{Clean}
 use Rattle.std.proofs.lemmas.List.Elements.{All-cons, All-nil}
 use Rattle.fr_base.specs.declared.channel.Channel.{Channel}

@@ -1,5 +1,5 @@
 -- The worked log of a cluster in which a classical check fails, computed.
-use Rattle.std.proofs.Common.{◌≡◌, pos, None, Some, List, [], ◌∷◌, refl}
+use Rattle.std.proofs.Common.{◌≡◌, ℕ, pos, None, Some, List, [], ◌∷◌, refl}
 use Rattle.std.specs.Prelude.{codes}
 use Rattle.std.specs.Fmt.{digits}
 use Rattle.fr_bound.specs.declared.judging.Heard.TheVariants.{Clean, Poor}
@@ -16,7 +16,7 @@ use Rattle.fr_judging.specs.Hearing.{log_heard}
 use Rattle.fr_findings.specs.Verdict.{Basis, double_at, known_next_told, log_basis, log_progress, standing_told, verdict_by, verdict_of}
 use Rattle.fr_findings.specs.declared.verdict.Verdict.TheVariants as verdict
 use Rattle.fr_seen_runs.specs.WorkedFaults.{late_log, offset_told}
-use Rattle.fr_seen_runs.specs.WorkedJudged.{JudgedLog, JudgedOffsetIsTold, LostLog, MissedLog, first_met, judged_by_numbers, judged_cluster, judged_log, log_stands, log_tells_next, lost_log, missed_log, missed_partly, second_known, second_met}
+use Rattle.fr_seen_runs.specs.WorkedJudged.{JudgedLog, JudgedOffsetIsTold, LostLog, MissedLog, first_met, judged_by_numbers, judged_cluster, judged_log, log_stands, log_tells_next, lost_log, lost_offset_told, missed_log, missed_partly, second_known, second_met}
 use Rattle.fr_seen_runs.specs.WorkedLog.{entry_sighting, of_each, seen_sightings}
 use Rattle.fr_seen_runs.proofs.WorkedFaults.{late_sighting}
 use Rattle.fr_seen_runs.proofs.WorkedVerdict.{none_offending, on_doubles, on_faults, on_numbers, on_rows, on_senders}
@@ -217,11 +217,11 @@ lost_basis_is : log_basis judged_cluster lost_log ≡ lost_basis
 unfolding late_sighting log_heard is_arbitrary_in
 lost_basis_is = Prim.rw lost_sightings refl
 
-lost_progress : verdict_by (log_progress lost_basis (of_each (late_sighting 250)) none_offending) ≡ verdict.No offset_told
+lost_progress : verdict_by (log_progress lost_basis (of_each (late_sighting 250)) none_offending) ≡ verdict.No lost_offset_told
 unfolding late_sighting on_numbers on_doubles on_senders on_faults on_rows
 lost_progress = refl
 
-lost_verdict_is : verdict_of judged_cluster lost_log ≡ verdict.No offset_told
+lost_verdict_is : verdict_of judged_cluster lost_log ≡ verdict.No lost_offset_told
 unfolding verdict_of
 lost_verdict_is = Prim.rw (lost_basis_is, lost_sightings, lost_offending) lost_progress
 
