@@ -185,17 +185,17 @@ module _ (b : Basis) (seen : List Sighting) (frames : OffendingFrames) (q final 
   by-judged all later within le true span is spans = is
   by-judged all later within le false None is spans =
       absurd (
-        let from : IsFrom (double + 1) final.judged.span =
-        subst (λ (p : Progress). IsFrom (double + 1) p.judged.span) (sym all)
-        (span-stays b seen frames (progress_behind b seen frames double q) rest (double + 1) later (span-here b seen frames q double (double + 1) is spans)) in
-        let first : 2 * (double + 1) ≤ within.span.from = subst (IsFrom (double + 1)) within.spans from in
-        omega (arith, first, within.from, le)
+      let from : IsFrom (double + 1) final.judged.span =
+      subst (λ (p : Progress). IsFrom (double + 1) p.judged.span) (sym all)
+      (span-stays b seen frames (progress_behind b seen frames double q) rest (double + 1) later (span-here b seen frames q double (double + 1) is spans)) in
+      let first : 2 * (double + 1) ≤ within.span.from = subst (IsFrom (double + 1)) within.spans from in
+      omega (arith, first, within.from, le)
       )
   by-judged all later within le false (Some span) is spans =
       absurd (
-        let ended : reach_in final ≡ gap = ap reach_in all ∙ gap-stays b seen frames (progress_behind b seen frames double q) rest (gap-here b seen frames q double span is spans) in
-        let none : None ≡ Some reach = sym (ap (λ (r : Option Reach × Bool). r.0) ended) ∙ within.reaches in
-        cc none
+      let ended : reach_in final ≡ gap = ap reach_in all ∙ gap-stays b seen frames (progress_behind b seen frames double q) rest (gap-here b seen frames q double span is spans) in
+      let none : None ≡ Some reach = sym (ap (λ (r : Option Reach × Bool). r.0) ended) ∙ within.reaches in
+      cc none
       )
 
 pub within_is_judged_lem : WithinIsJudged
