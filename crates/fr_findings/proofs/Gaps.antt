@@ -1,5 +1,5 @@
 -- Within is said of judged double cycles alone: one that is not judged, behind one that is, is a gap.
-use Rattle.std.proofs.Common.{◌≡◌, ◌∙◌, ℕ, zero, suc, ◌+◌, ◌*◌, ◌/◌, ◌≤◌, ◌&&◌, Bool, true, false, List, [], ◌∷◌, ◌++◌, drop, get_or, Option, Some, None, IfSome, ⊥, refl, sym, ap, subst, arith}
+use Rattle.std.proofs.Common.{◌≡◌, ◌∙◌, ℕ, zero, suc, ◌+◌, ◌-◌, ◌*◌, ◌/◌, ◌≤◌, ◌&&◌, Bool, true, false, List, [], ◌∷◌, ◌++◌, drop, get_or, length, slice_get, Option, Some, None, IfSome, refl, sym, ap, subst, arith}
 use Rattle.std.specs.Prelude.{◌==◌, if◌then◌else◌}
 use Rattle.std.specs.List.{range_with_len}
 use Rattle.std.proofs.lemmas.Bool.Decides.{nat_tests}
@@ -134,7 +134,7 @@ record Reaches (q : Progress) (reach : Reach) : Type 0 where
   reaches : q.reach ≡ Some reach
   from : reach.from ≡ span.from
 
-reach_or : Verdict → Reach → Reach
+abbrev reach_or : Verdict → Reach → Reach
 reach_or (verdict.Within reach) other = reach
 reach_or (verdict.No fault) other = other
 reach_or (verdict.Over first count) other = other
@@ -185,17 +185,17 @@ module _ (b : Basis) (seen : List Sighting) (frames : OffendingFrames) (q final 
   by-judged all later within le true span is spans = is
   by-judged all later within le false None is spans =
       absurd (
-        let from : IsFrom (double + 1) final.judged.span =
-        subst (λ (p : Progress). IsFrom (double + 1) p.judged.span) (sym all)
-        (span-stays b seen frames (progress_behind b seen frames double q) rest (double + 1) later (span-here b seen frames q double (double + 1) is spans)) in
-        let first : 2 * (double + 1) ≤ within.span.from = subst (IsFrom (double + 1)) within.spans from in
-        omega (arith, first, within.from, le)
+      let from : IsFrom (double + 1) final.judged.span =
+      subst (λ (p : Progress). IsFrom (double + 1) p.judged.span) (sym all)
+      (span-stays b seen frames (progress_behind b seen frames double q) rest (double + 1) later (span-here b seen frames q double (double + 1) is spans)) in
+      let first : 2 * (double + 1) ≤ within.span.from = subst (IsFrom (double + 1)) within.spans from in
+      omega (arith, first, within.from, le)
       )
   by-judged all later within le false (Some span) is spans =
       absurd (
-        let ended : reach_in final ≡ gap = ap reach_in all ∙ gap-stays b seen frames (progress_behind b seen frames double q) rest (gap-here b seen frames q double span is spans) in
-        let none : None ≡ Some reach = sym (ap (λ (r : Option Reach × Bool). r.0) ended) ∙ within.reaches in
-        cc none
+      let ended : reach_in final ≡ gap = ap reach_in all ∙ gap-stays b seen frames (progress_behind b seen frames double q) rest (gap-here b seen frames q double span is spans) in
+      let none : None ≡ Some reach = sym (ap (λ (r : Option Reach × Bool). r.0) ended) ∙ within.reaches in
+      cc none
       )
 
 pub within_is_judged_lem : WithinIsJudged
@@ -207,5 +207,5 @@ within_is_judged_lem p l reach front rest double says parts le =
     let q : Progress = progress_of b seen frames no_progress front in
     let all : log_progress b seen frames ≡ progress_of b seen frames (progress_behind b seen frames double q) rest =
     ap (progress_of b seen frames no_progress) parts ∙ progress-append b seen frames no_progress front (double ∷ rest) ∙ progress-first b seen frames q double rest in
-    by-judged b seen frames q (log_progress b seen frames) double rest reach all (between-split double rest front _ _ parts)
+    by-judged b seen frames q (log_progress b seen frames) double rest reach all (between-split double rest front (slice_get seen 0) (slice_get seen (length seen - 1)) parts)
     (within-reaches (log_progress b seen frames) reach says) le (judged_at b seen frames q double) q.judged.span refl refl
