@@ -1,5 +1,5 @@
 -- Within is said of judged double cycles alone: one that is not judged, behind one that is, is a gap.
-use Rattle.std.proofs.Common.{◌≡◌, ◌∙◌, ℕ, zero, suc, ◌+◌, ◌*◌, ◌/◌, ◌≤◌, ◌&&◌, Bool, true, false, List, [], ◌∷◌, ◌++◌, drop, get_or, Option, Some, None, IfSome, ⊥, refl, sym, ap, subst, arith}
+use Rattle.std.proofs.Common.{◌≡◌, ◌∙◌, ℕ, zero, suc, ◌+◌, ◌-◌, ◌*◌, ◌/◌, ◌≤◌, ◌&&◌, Bool, true, false, List, [], ◌∷◌, ◌++◌, drop, get_or, length, slice_get, Option, Some, None, IfSome, refl, sym, ap, subst, arith}
 use Rattle.std.specs.Prelude.{◌==◌, if◌then◌else◌}
 use Rattle.std.specs.List.{range_with_len}
 use Rattle.std.proofs.lemmas.Bool.Decides.{nat_tests}
@@ -134,7 +134,7 @@ record Reaches (q : Progress) (reach : Reach) : Type 0 where
   reaches : q.reach ≡ Some reach
   from : reach.from ≡ span.from
 
-reach_or : Verdict → Reach → Reach
+abbrev reach_or : Verdict → Reach → Reach
 reach_or (verdict.Within reach) other = reach
 reach_or (verdict.No fault) other = other
 reach_or (verdict.Over first count) other = other
@@ -207,5 +207,5 @@ within_is_judged_lem p l reach front rest double says parts le =
     let q : Progress = progress_of b seen frames no_progress front in
     let all : log_progress b seen frames ≡ progress_of b seen frames (progress_behind b seen frames double q) rest =
     ap (progress_of b seen frames no_progress) parts ∙ progress-append b seen frames no_progress front (double ∷ rest) ∙ progress-first b seen frames q double rest in
-    by-judged b seen frames q (log_progress b seen frames) double rest reach all (between-split double rest front _ _ parts)
+    by-judged b seen frames q (log_progress b seen frames) double rest reach all (between-split double rest front (slice_get seen 0) (slice_get seen (length seen - 1)) parts)
     (within-reaches (log_progress b seen frames) reach says) le (judged_at b seen frames q double) q.judged.span refl refl
