@@ -7,8 +7,8 @@ from collections.abc import Iterable, Iterator
 
 from .results import (Bound, Capture, CapturedFrame, Check, CycleRow, Deviation, FailedCheck, Failing, Failure, Frame, Heard,
                       Join, Lead, LogCounts, Losses, LostBound, NodeEnd, Observation, ObservedCycle, ObservedFault, ObservedMissed,
-                      ObservedNode, ObservedSender, ObservedSpread, Report, Sent, Series, SeriesCycles, Settled, SharpBound, SharpReport, SharpSeries,
-                      SharpSettled, SharpSide, SharpWay, Skew, Startup, Trace, Upgraded, Vector, Vectors, Verdict)
+                      ObservedNode, ObservedSender, ObservedSpread, Report, Sent, Series, SeriesCycles, Settled, SharpBound, SharpReport,
+                      SharpSeries, SharpSettled, SharpSide, SharpWay, Skew, Startup, Trace, Upgraded, Vector, Vectors, Verdict)
 
 
 class Strange(ValueError):
@@ -393,7 +393,8 @@ def observation(text: str) -> Observation:
                      for double, node, low, high, least, most in lines.every(OBSERVED_NODE))
         faults.extend(ObservedFault(int(cycle), _known(node), kind, tuple(fields))
                       for cycle, node, kind, *fields in lines.every(OBSERVED_FAULT))
-        missed.extend(ObservedMissed(int(cycle), int(node), kind, _known(least)) for cycle, node, kind, least in lines.every(OBSERVED_MISSED))
+        missed.extend(ObservedMissed(int(cycle), int(node), kind, _known(least))
+                      for cycle, node, kind, least in lines.every(OBSERVED_MISSED))
         spreads.extend(ObservedSpread(*_numbers(groups)) for groups in lines.every(OBSERVED_SPREAD))
     senders = tuple(ObservedSender(int(node), channel, int(frames), _known(begin), _known(end), int(none))
                     for node, channel, frames, begin, end, none in lines.every(OBSERVED_SENDER))

@@ -141,7 +141,7 @@ def production(draw, doubles, counts=(2, 9), changes=(0, 0, 1), dampings=(0, 1, 
     values = {**PRODUCTION, "pClusterDriftDamping": draw.choice(dampings), "pDelayCompensation": compensation,
               "xDelayError": error * MILLION, CHANGE: draw.choice(changes)}
     bound, near = values["xRateBound"], draw.choice([1, 8, 40]) * MILLION
-    delays = {(one, other): max(0, compensation * MILLION + draw.choice([-1, 1]) * draw.choice([error * MILLION, draw.randrange(error * MILLION)]))
+    delays = {(one, other): compensation * MILLION + draw.choice([-1, 1]) * draw.choice([error * MILLION, draw.randrange(error * MILLION)])
               for one in range(count) for other in range(count) if one != other} if error else {}
     return Network(draw.sample(range(1, 21), count), [MILLION + draw.randint(-bound, bound) for _ in range(count)],
                    [draw.randrange(1, near) for _ in range(count)], doubles, values, delays)

@@ -241,7 +241,7 @@ def random_words(draw: random.Random) -> list[str]:
                 "design", "", "x")
     options = ("-o", "--out", "--seed", "--draw", "--from", "--cycles", "--require", "--vary", "--values", "--draws", "--seeds", "--doubles",
                "--keep", "--jobs", "--runs", "--seconds", "--double-cycles", "--nm", "--columns", "--time-unit", "--start-us", "--rate-ppm",
-               "--flutter-ns", "--standard", "--line", "--most-mib", "--json", "-p", "--help", "--", "-V", "--margin-ns", "--top", "--cluster")
+               "--flutter-ns", "--standard", "--line", "--most-mib", "--json", "-p", "--part", "--help", "--", "-V", "--margin-ns", "--top", "--cluster")
     values = (*NUMBERS, *TEXTS, "none.toml", "out", "1:2:0", "1:1e9:1e-9", "worst:1", "a=b,c", "time=a,channel=b,bytes=c", "1-", "-", ".", "/dev/null/x")
     found = [draw.choice(requests)]
     for _ in range(draw.randrange(1, 7)):

@@ -270,7 +270,8 @@ class Judged(observing.Told):
                 log.unit, log.width, log.drift = draw.choice([40_000, 4_000_000]), draw.choice([0, 4_000_000]), draw.choice([0, 50, 1000])
                 missing = log.missing(draw.choice([0, 0, 1, 3]))
                 log.rows = log.network.rows(lambda *at, errors=errors: errors.get(at, 0), lambda *at, rates=rates: rates.get(at, 0),
-                                            lambda *at, lost=lost: at not in lost, hears=lambda *frame, missing=missing: frame not in missing)
+                                            lambda *at, lost=lost: at not in lost,
+                                            hears=lambda *frame, missing=missing: frame not in missing)
                 stated = draw.choice(["", "", f"since,{2 * draw.randrange(6)},,,\n", f"arbitrary,{1 + draw.choice(nodes)},,,\n"])
                 stated += draw.choice(["", "", f"lost,{draw.choice([0, 1, 2, 14])},,,\n"])
                 stated += draw.choice(["", f"flutter,{draw.choice([0, 1, MILLION, 20 * MILLION, 1000 * MILLION])},,,\n"])

@@ -212,9 +212,9 @@ class Calls(Bench):
         params, log = (Path(EXAMPLES, "observe", f"{name}.csv") for name in ("params", "log"))
         found = flexray.observe(params, log)
         self.assertEqual(found, texts.observation(Path(EXAMPLES, "observe", "observe", "printed.txt").read_text()))
-        self.assertEqual(found.precision, flexray.bound(params).precision)
-        self.assertEqual((found.faults, found.covered, found.sync, found.verdict),
-                         ((), ("open",), ("0", "seen", "2", "2", "-", "-", "-"), ("within", "0", "2")))
+        self.assertEqual(found.precision, flexray.sharp_bound(params, found.flutter).alone.precision)
+        self.assertEqual((found.faults, found.missed, found.sync, found.verdict),
+                         ((), (), ("0", "judged", "2", "2", "-", "-", "-"), ("within", "0", "2")))
         self.assertEqual((found.judged, found.doubles), (2, 2))
         self.assertEqual(found.senders[1], flexray.ObservedSender(2, "A", 4, 0, 3, 0))
         self.assertEqual(found.numbers, ("sure",))
@@ -223,6 +223,9 @@ class Calls(Bench):
         wrong = flexray.observe(*example_call("bench/fault").files)
         self.assertEqual(wrong.verdict, ("no", "11", "offset", "3"))
         self.assertEqual(wrong.faults[0], flexray.ObservedFault(11, 3, "offset", ("29", "32", "-12", "15")))
+        self.assertEqual(wrong.missed[0], flexray.ObservedMissed(11, 3, "offset", 2))
+        stated = flexray.observe(params, "flutter,0,,,\nlost,1,,,\n" + log.read_text())
+        self.assertEqual((stated.precision, stated.flutter, stated.lost), (found.precision - 6 * found.flutter, 0, 1))
         silent = flexray.observe(params, re.sub("head,.*\n", "", log.read_text()))
         self.assertEqual((silent.cycles, silent.nodes, silent.log, silent.first, silent.last),
                          ((), (), flexray.LogCounts(0, 0, 0, 0, 0, 0), None, None))
@@ -504,7 +507,7 @@ class Alone(Bench):
     def test_what_an_observation_says(self):
         text = Path(EXAMPLES, "observe", "observe", "printed.txt").read_text()
         found = texts.observation(text)
-        self.assertEqual((found.text, found.precision), (text, 252043600))
+        self.assertEqual((found.text, found.precision, found.flutter, found.lost), (text, 45007594, 1000000, 0))
         self.assertEqual(found.log, flexray.LogCounts(8, 0, 0, 0, 0, 0))
         self.assertEqual(found.cycles, (flexray.ObservedCycle(0, 2, 1439448, 4520752, "within"),
                                         flexray.ObservedCycle(1, 2, 1439800, 5598648, "within"),
@@ -519,9 +522,9 @@ class Alone(Bench):
 
     def test_counts_of_a_log(self):
         """Other numbers in each place: a row over the precision, a double cycle without a sender, each count."""
-        found = texts.observation("precision,7,,,,,,\ncycle,4,2,8,9,over,,\ncycle,5,2,1,-,open,,\nnode,2,1,-3,5,-,-,\n"
+        found = texts.observation("precision,7,8,9,,,,\ncycle,4,2,8,9,over,,\ncycle,5,2,1,-,open,,\nnode,2,1,-3,5,-,-,\n"
                                   "node,2,64,4,6,-9,-8,\nfault,5,64,twice,B,9,8,-\nfault,5,-,skew,8,-,-,7\ncycle,6,0,0,-,open,,\ncycle,7,0,0,-,open,,\n"
-                                  "sender,64,B,3,4,5,2,\nsender,1,A,0,-,-,4,\nlog,1,2,3,4,5,6,\ncovered,no,count,1,1,,,\n"
+                                  "sender,64,B,3,4,5,2,\nsender,1,A,0,-,-,4,\nlog,1,2,3,4,5,6,\n"
                                   "numbers,premise,,,,,,\nsync,-,open,0,2,count,-,-\ncycles,4,7,0,1,3,,\nverdict,no,5,twice,64,,,\n")
         self.assertEqual([(row.cycle, row.senders, row.low, row.high, row.says) for row in found.cycles],
                          [(4, 2, 8, 9, "over"), (5, 2, 1, None, "open"), (6, 0, 0, None, "open"),
@@ -536,18 +539,19 @@ class Alone(Bench):
                                         flexray.ObservedFault(5, None, "skew", ("8", "-", "-", "7"))))
         self.assertEqual(found.senders, (flexray.ObservedSender(64, "B", 3, 4, 5, 2),
                                          flexray.ObservedSender(1, "A", 0, None, None, 4)))
-        self.assertEqual((found.covered, found.numbers, found.sync, found.verdict),
-                         (("no", "count", "1", "1"), ("premise",), ("-", "open", "0", "2", "count", "-", "-"),
-                          ("no", "5", "twice", "64")))
-        self.assertEqual((found.judged, found.doubles, found.spreads), (0, 2, ()))
+        self.assertEqual((found.numbers, found.sync, found.verdict),
+                         (("premise",), ("-", "open", "0", "2", "count", "-", "-"), ("no", "5", "twice", "64")))
+        self.assertEqual((found.precision, found.flutter, found.lost), (7, 8, 9))
+        self.assertEqual((found.judged, found.doubles, found.missed, found.spreads), (0, 2, (), ()))
 
     def test_own_numbers_of_a_log(self):
-        """Of double cycles that are judged by these, each behind its faults."""
-        found = texts.observation("precision,7,,,,,,\ncycle,4,1,0,0,within,,\ncycle,5,1,0,0,within,,\nnode,2,1,3,5,0,0,\nspread,2,5,6,0,9,,\n"
-                                  "cycle,6,1,0,0,within,,\ncycle,7,1,0,-,open,,\nfault,6,-,start,8,9,-,7\nspread,3,1,2,3,4,,\n"
-                                  "sender,1,A,4,4,7,0,\nlog,4,0,0,0,0,0,\ncovered,no,check,1,2,3,,\nnumbers,premise,,,,,,\n"
+        """Of double cycles that are judged, each behind its faults and what nodes missed."""
+        found = texts.observation("precision,7,0,0,,,,\ncycle,4,1,0,0,within,,\ncycle,5,1,0,0,within,,\nnode,2,1,3,5,0,0,\nspread,2,5,6,0,9,,\n"
+                                  "cycle,6,1,0,0,within,,\ncycle,7,1,0,-,open,,\nfault,6,-,start,8,9,-,7\nmissed,7,1,offset,2,,,\n"
+                                  "missed,7,1,rate,-,,,\nspread,3,1,2,3,4,,\nsender,1,A,4,4,7,0,\nlog,4,0,0,0,0,0,\nnumbers,premise,,,,,,\n"
                                   "sync,2,judged,2,2,-,-,-\ncycles,4,7,3,0,1,,\nverdict,no,6,start,-,,,\n")
         self.assertEqual(found.spreads, (flexray.ObservedSpread(2, 5, 6, 0, 9), flexray.ObservedSpread(3, 1, 2, 3, 4)))
+        self.assertEqual(found.missed, (flexray.ObservedMissed(7, 1, "offset", 2), flexray.ObservedMissed(7, 1, "rate", None)))
         self.assertEqual(([fault.kind for fault in found.faults], len(found.cycles), found.judged), (["start"], 4, 2))
 
     @needs_series

@@ -10,6 +10,7 @@ from flexray.results import Observation, ObservedFault, ObservedMissed, Observed
 
 from ..toml.cluster import Cluster
 from .observer import Log, analyzer_words, differences, left_lines, plain
+from ..runs.sharp import MOST as MOST_FLUTTER
 from ..pages.page import field as lines_of
 from ..pages.page import ms_of_cycle
 from ..pages.pictures import COLOURS, POINTS, draw, node_label, node_texts, plain_axes
@@ -151,7 +152,7 @@ def fault_lines(cluster: Cluster, told: Observation) -> list[str]:
 
     def of(row: ObservedMissed) -> str:
         what = "the offset term" if row.kind == "offset" else "the change of the rate term"
-        return (f"cycle {row.cycle}, node {cluster.called(row.node)}: it missed at least {senders(row.least or 0)}, by {what} that was seen")
+        return f"cycle {row.cycle}, node {cluster.called(row.node)}: it missed at least {senders(row.least or 0)}, by {what} that was seen"
     return (some_lines("CONTRADICTION", [words.of(fault) for fault in told.faults])
             + some_lines("Missed", [of(row) for row in told.missed if (row.cycle, row.node, row.kind) not in faults]))
 
@@ -196,11 +197,12 @@ def judged_lines(cluster: Cluster, told: Observation) -> list[str]:
     """Which double cycles are judged, and how far clocks lie apart in these."""
     why = told.sync[4:]
     if not told.spreads:
-        return lines_of("Judged", f"0 of {told.doubles} double cycles, since {why_unjudged(cluster, told, why)}{advice(cluster, told, why)}")
+        return lines_of("Judged", f"0 of {told.doubles} double cycles, since {why_unjudged(cluster, told, why)}"
+                                  + advice(cluster, told, why))
     most, unit = max(told.spreads, key=lambda row: row.apart), cluster.microtick_ns
     text = (f"{told.judged} of {told.doubles} double cycles, by what is seen and known of them, from double cycle {told.spreads[0].double} "
-            f"on; no macroticks of these lie further apart than {upper(us_of_ticks(most.apart, unit))} us (double cycle {most.double}), in every "
-            f"run that keeps to what is stated and {kept(told)}")
+            f"on; no macroticks of these lie further apart than {upper(us_of_ticks(most.apart, unit))} us (double cycle {most.double}), in "
+            f"every run that keeps to what is stated and {kept(told)}")
     if why[0] != "-":
         text += f"; of the others the one that came farthest is not judged, since {why_unjudged(cluster, told, why)}"
     return lines_of("Judged", text)
@@ -229,8 +231,8 @@ def verdict_text(cluster: Cluster, told: Observation) -> str:
 
 def verdict_lines(cluster: Cluster, told: Observation) -> list[str]:
     """What the log comes to."""
-    found = lines_of("Numbers", "that each frame comes within half a cycle of the schedule is taken for granted: the limits that are stated "
-                                "do not suffice to be sure of it of clocks near each other") if told.numbers[0] == "premise" else []
+    found = lines_of("Numbers", "that each frame comes within half a cycle of the schedule is taken for granted: the limits that are "
+                                "stated do not suffice to be sure of it of clocks near each other") if told.numbers[0] == "premise" else []
     return found + judged_lines(cluster, told) + lines_of("Verdict", verdict_text(cluster, told))
 
 
@@ -299,8 +301,10 @@ def page_lines(cluster: Cluster, told: Observation, log: Log, name: str, more: S
                                     f"precision, {told.over} over it, {told.open} open")
     found += unseen_lines(cluster, told)
     precision, flutter = (us_of_ticks(ticks, cluster.microtick_ns) for ticks in (told.precision, told.flutter))
-    found += lines_of("Precision", f"{decimal(precision, 3)} us, the sharp one where delays flutter by no more than {plain(1000 * flutter)} "
-                                   f"ns: a yardstick, which is promised where the checks of flexray bound PARAMS sharp {told.flutter} hold")
+    promised = (f", which is promised where the checks of flexray bound PARAMS sharp {told.flutter} hold" if told.flutter <= MOST_FLUTTER else
+                "")
+    found += lines_of("Precision", f"{decimal(precision, 3)} us, the sharp one where delays flutter by no more than "
+                                   f"{plain(1000 * flutter)} ns: a yardstick{promised}")
     return [*found, *skew_lines(cluster, told), *verdict_lines(cluster, told), *fault_lines(cluster, told), *more,
             *node_lines(cluster, told), *lines_of("Origin", ORIGIN)]
 
