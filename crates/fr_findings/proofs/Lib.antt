@@ -1,2 +1,3 @@
 pub mod Missed
 pub mod Printing
+pub mod Gaps

@@ -14,14 +14,13 @@ use Rattle.fr_bound.specs.declared.judging.Known.{Known}
 use Rattle.fr_cluster.specs.Values.{Values}
 use Rattle.fr_log.specs.View.{LogView}
 use Rattle.fr_course.specs.declared.scales.Scale.{Scale}
-use Rattle.fr_observe.specs.Faults.{fault_row, faults_in_sync, first_of_faults, sync_behind}
-use Rattle.fr_judging.specs.Knowing.{moving_faults, standing_faults, term_faults}
+use Rattle.fr_observe.specs.Faults.{fault_row, first_of_faults, own_faults}
+use Rattle.fr_judging.specs.Knowing.{moving_faults, spread_told, standing_faults, term_faults}
+use Rattle.fr_judging.specs.Missing.{missed_told}
 use Rattle.fr_observe.specs.Telling.{TellsFaults}
 use Rattle.fr_observe.specs.declared.fault.Fault.{Fault}
 use Rattle.fr_observe.specs.declared.fault.LogSpan.{LogSpan}
-use Rattle.fr_observe.specs.declared.fault.SyncFrom.{SyncFrom}
 use Rattle.fr_judging.specs.declared.knowing.Standing.{Standing}
-use Rattle.fr_judging.specs.declared.obstacle.Obstacle.{Obstacle}
 use Rattle.fr_observe.specs.declared.scene.Scene.{Scene}
 use Rattle.fr_observe.proofs.Told.{told_cut, told_then}
 use Rattle.fr_sightings.specs.Ranges.{AreSeenFrom}
@@ -33,9 +32,8 @@ use Rattle.fr_findings.specs.Counting.{AreFewCycles, counted, is_open, is_over, 
 use Rattle.fr_observe.specs.Observing.{both_say, cycle_row, cycles_text, doubles_between, seen_doubles}
 use Rattle.fr_findings.specs.Ground.{CountsFew, basis_in, double_in, scene_in}
 use Rattle.fr_observe.specs.Skews.{AreSkews}
-use Rattle.fr_findings.specs.Verdict.{Basis, DoubleCycle, double_at, double_told, double_with, even_says, is_judged, judged_by, known_told, moving_told, no_progress, odd_says, progress_of, progress_told, sightings_before, standing_told, sync_told, told_of_doubles, unless_synced}
+use Rattle.fr_findings.specs.Verdict.{Basis, DoubleCycle, double_at, double_told, double_with, even_says, judged_by, known_told, moving_told, no_progress, odd_says, progress_of, progress_told, sightings_before, standing_told, told_of_doubles}
 use Rattle.fr_findings.specs.declared.counts.Counts.{Counts}
-use Rattle.fr_judging.specs.declared.coverable.Coverable.{Coverable}
 use Rattle.fr_findings.specs.declared.ground.Double.{Double}
 use Rattle.fr_findings.specs.declared.ground.Ground.{Ground}
 use Rattle.fr_findings.specs.declared.progress.Judged.{Judged}
@@ -70,24 +68,28 @@ pub told_failed : {fault : PutFault} {a b : Sunk} {x y : Option Fault} {told : L
     → IsErr result → TellsFaults result a b x y told
 told_failed {a = a} {b = b} {x = x} {y = y} {told = told} result one is = subst (TellsFaults result a b x y) (append-nil told) (told_cut result [] one is)
 
--- no contradiction of a covered run in sync where sync is not known
-pub none-in-sync : (covered : Bool) (sync : Option SyncFrom) (faults : SyncFrom → List Fault) → sync ≡ None → faults_in_sync covered sync faults ≡ []
-none-in-sync true None faults is = refl
-none-in-sync false None faults is = refl
-none-in-sync covered (Some from) faults is = absurd (cc is)
-
--- some that were told, and then others, of which the first is kept apart
-pub told-apart : {done : Unit {0}} {a b c : Sunk} {x y u v : Option Fault} {told more : List Fault} (result : Result (Unit {0}) PutFault) → TellsFaults (Ok done) a b x y told
-    → TellsFaults result b c u v more → Puts result a c (flat_map fault_row (told ++ more))
-told-apart {a = a} {c = c} {told = told} {more = more} result one next = subst (Puts result a c) (sym (flat_map-append fault_row told more)) (then result one.puts next.puts)
-
 -- the first one of all: of those before, of its own, and of the others
-pub first-of-all : (first : Option Fault) (own more last : List Fault) → option_or (option_or first (first_of_faults own)) (option_or (first_of_faults more) (first_of_faults last))
-    ≡ option_or first (first_of_faults (own ++ (more ++ last)))
-first-of-all (Some fault) own more last = refl
-first-of-all None (fault ∷ own) more last = refl
-first-of-all None [] (fault ∷ more) last = refl
-first-of-all None [] [] last = refl
+pub first-of-all : (first : Option Fault) (own more : List Fault) → option_or (option_or first (first_of_faults own)) (first_of_faults more) ≡ option_or first (first_of_faults (own ++ more))
+first-of-all (Some fault) own more = refl
+first-of-all None (fault ∷ own) more = refl
+first-of-all None [] more = refl
+
+-- what contradicts any run, by what it is looked at with
+pub own-is : (g : Ground) (d : Double) (scene : Scene) (late : List Sighting) → scene ≡ scene_in g d
+    → own_faults scene.params.now scene.scale.now scene.log.now scene.here.now late scene.number scene.senders.now
+    ≡ own_faults (basis_in g).params (basis_in g).scale (basis_in g).log (double_in d).here late (double_in d).number (double_in d).senders
+own-is g d scene late scene_is = λ i.
+    own_faults (scene_is i).params.now (scene_is i).scale.now (scene_is i).log.now (scene_is i).here.now late (scene_is i).number (scene_is i).senders.now
+
+-- how many senders its nodes must have missed, and the numbers that it is judged by
+pub missed-is : (g : Ground) (d : Double) (scene : Scene) (st : Standing) → scene ≡ scene_in g d
+    → missed_told scene.params.now scene.log.now scene.scale.now scene.number scene.senders.now st ≡ missed_told (basis_in g).params (basis_in g).log (basis_in g).scale (double_in d).number (double_in d).senders st
+missed-is g d scene st scene_is = λ i.
+    missed_told (scene_is i).params.now (scene_is i).log.now (scene_is i).scale.now (scene_is i).number (scene_is i).senders.now st
+
+pub spread-is : (g : Ground) (d : Double) (scene : Scene) (st : Standing) → scene ≡ scene_in g d
+    → spread_told scene.params.now scene.log.now scene.number st ≡ spread_told (basis_in g).params (basis_in g).log (double_in d).number st
+spread-is g d scene st scene_is = λ i. spread_told (scene_is i).params.now (scene_is i).log.now (scene_is i).number st
 
 -- what contradicts its own numbers, by what it is looked at with
 pub known-is : (g : Ground) (d : Double) (scene : Scene) (st : Standing) (known : Option Known) → scene ≡ scene_in g d → st ≡ standing_told (basis_in g) (double_in d) known
@@ -99,14 +101,14 @@ known-is g d scene st known scene_is st_is = λ i.
 
 -- and those of skews, starts and lengths among it
 pub moving-is : (g : Ground) (d : Double) (scene : Scene) (st : Standing) (known : Option Known) → scene ≡ scene_in g d → st ≡ standing_told (basis_in g) (double_in d) known
-    → moving_faults scene.params.now scene.scale.now scene.number scene.senders.now st ≡ moving_told (basis_in g) (double_in d) known
+    → moving_faults scene.params.now scene.log.now scene.scale.now scene.number scene.senders.now st ≡ moving_told (basis_in g) (double_in d) known
 unfolding moving_told
-moving-is g d scene st known scene_is st_is = λ i. moving_faults (scene_is i).params.now (scene_is i).scale.now (scene_is i).number (scene_is i).senders.now (st_is i)
+moving-is g d scene st known scene_is st_is = λ i. moving_faults (scene_is i).params.now (scene_is i).log.now (scene_is i).scale.now (scene_is i).number (scene_is i).senders.now (st_is i)
 
 -- they are told first, and then the others
 module _ (scene : Scene) (st : Standing) where
   abbrev moving_of : List Fault
-  moving_of = moving_faults scene.params.now scene.scale.now scene.number scene.senders.now st
+  moving_of = moving_faults scene.params.now scene.log.now scene.scale.now scene.number scene.senders.now st
 
   abbrev terms_of : List Fault
   terms_of = term_faults scene.params.now scene.scale.now scene.log.now scene.span scene.before.now scene.here.now scene.number scene.senders.now st
@@ -126,49 +128,38 @@ module _ (scene : Scene) (st : Standing) where
 
 -- ---- the text of a double cycle
 
--- its rows, those of what contradicts any run, those of what else contradicts it, and then its own numbers
-module _ (rows : List ℕ) (own more : List Fault) (spread : List ℕ) where
+-- its rows, those of what contradicts any run, those of what else contradicts it, and then what its nodes missed and its own numbers
+module _ (rows : List ℕ) (own more : List Fault) (numbers : List ℕ) where
   abbrev whole : List ℕ
-  whole = rows ++ (flat_map fault_row (own ++ more) ++ spread)
+  whole = rows ++ (flat_map fault_row (own ++ more) ++ numbers)
 
-  parts : rows ++ (flat_map fault_row own ++ (flat_map fault_row more ++ spread)) ≡ whole
+  parts : rows ++ (flat_map fault_row own ++ (flat_map fault_row more ++ numbers)) ≡ whole
   parts =
       ap (λ (l : List ℕ). rows ++ l)
-      (sym (append_assoc (flat_map fault_row own) (flat_map fault_row more) spread) ∙ ap (λ (l : List ℕ). l ++ spread) (sym (flat_map-append fault_row own more)))
+      (sym (append_assoc (flat_map fault_row own) (flat_map fault_row more) numbers) ∙ ap (λ (l : List ℕ). l ++ numbers) (sym (flat_map-append fault_row own more)))
 
   pub rows-cut : {fault : PutFault} {a b : Sunk} (result : Result (Unit {0}) PutFault) → Puts (Err fault) a b rows → IsErr result → Puts result a b whole
-  rows-cut result put is = cut result (flat_map fault_row (own ++ more) ++ spread) put is
+  rows-cut result put is = cut result (flat_map fault_row (own ++ more) ++ numbers) put is
 
   pub own-cut : {done : Unit {0}} {fault : PutFault} {a b c : Sunk} (result : Result (Unit {0}) PutFault) → Puts (Ok done) a b rows → Puts (Err fault) b c (flat_map fault_row own) → IsErr result
       → Puts result a c whole
   own-cut {a = a} {c = c} result put next is =
-      subst (Puts result a c) parts (then {text = rows} result put (cut result (flat_map fault_row more ++ spread) next is))
+      subst (Puts result a c) parts (then {text = rows} result put (cut result (flat_map fault_row more ++ numbers) next is))
 
   pub more-cut : {done told : Unit {0}} {fault : PutFault} {a b c d : Sunk} (result : Result (Unit {0}) PutFault) → Puts (Ok done) a b rows → Puts (Ok told) b c (flat_map fault_row own)
       → Puts (Err fault) c d (flat_map fault_row more) → IsErr result → Puts result a d whole
   more-cut {a = a} {d = d} result put next last is =
-      subst (Puts result a d) parts (then {text = rows} result put (then {text = flat_map fault_row own} result next (cut result spread last is)))
+      subst (Puts result a d) parts (then {text = rows} result put (then {text = flat_map fault_row own} result next (cut result numbers last is)))
 
   pub whole-put : {done told all : Unit {0}} {a b c d e : Sunk} (result : Result (Unit {0}) PutFault) → Puts (Ok done) a b rows → Puts (Ok told) b c (flat_map fault_row own)
-      → Puts (Ok all) c d (flat_map fault_row more) → Puts result d e spread → Puts result a e whole
+      → Puts (Ok all) c d (flat_map fault_row more) → Puts result d e numbers → Puts result a e whole
   whole-put {a = a} {e = e} result put next last end =
       subst (Puts result a e) parts (then {text = rows} result put (then {text = flat_map fault_row own} result next (then {text = flat_map fault_row more} result last end)))
 
--- sync behind a double cycle, and what keeps it from being judged: nothing has to be looked at where sync is known
-pub sync-step : (l : LogView) (double : ℕ) (seen : Bool) (why : Option Obstacle) (sync : Option SyncFrom) → is_none why ≡ seen
-    → sync_behind l double (is_none (unless_synced sync why)) sync ≡ sync_behind l double seen sync
-sync-step l double seen why None is = ap (λ (b : Bool). sync_behind l double b None) is
-sync-step l double seen why (Some from) is = refl
-
-pub obstacle-step : (l : LogView) (double : ℕ) (seen : Bool) (why : Option Obstacle) (sync : Option SyncFrom)
-    → unless_synced (sync_behind l double seen sync) (unless_synced sync why) ≡ unless_synced (sync_behind l double seen sync) why
-obstacle-step l double seen why None = refl
-obstacle-step l double seen why (Some from) = refl
-
 -- what stays the same over a log
-abbrev pub made-basis : ℤ → Scale → Values → LogView → LogSpan → Coverable → Option Heard → Basis
-made-basis precision scale p l span covered heard =
-    record { precision = precision; scale = scale; params = p; log = l; span = span; covered = covered; heard = heard }
+abbrev pub made-basis : ℤ → Scale → Values → LogView → LogSpan → Option Heard → Basis
+made-basis precision scale p l span heard =
+    record { precision = precision; scale = scale; params = p; log = l; span = span; heard = heard }
 
 -- ---- what both cycles say
 
@@ -201,7 +192,7 @@ judged-few most false judged double a b few le = (weaker most judged.said few, o
 pub few-told : (most : ℕ) (b : Basis) (d : DoubleCycle) (progress : Progress) → CountsFew most progress → CountsFew (most + 2) (progress_told b d progress)
 unfolding progress_told both_say
 few-told most b d progress few =
-    let judged = judged-few most (is_judged b d (sync_told b d progress.sync) progress.known) progress.judged d.number (even_says b d) (odd_says b d) few.judged few.judged_doubles in
+    let judged = judged-few most (standing_told b d progress.known).is_judged progress.judged d.number (even_says b d) (odd_says b d) few.judged few.judged_doubles in
     record {
       all = few-more most progress.counts (even_says b d) (odd_says b d) few.all;
       judged = judged.0;

@@ -3,5 +3,6 @@ pub mod Counting
 pub mod Verdict
 pub mod Census
 pub mod Text
+pub mod Judged
 -- what only functions inside cite
 pub mod Ground

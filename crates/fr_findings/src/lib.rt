@@ -1,5 +1,5 @@
-//! What the log of a bus analyzer comes to, as a text: what each of its double cycles tells, from when on its cluster is in
-//! sync, which double cycles are judged, the first contradiction, and a verdict.
+//! What the log of a bus analyzer comes to, as a text: what each of its double cycles tells, which of them are judged, the first
+//! contradiction, and a verdict.
 #![tactic(auto)]
 
 mod census;
@@ -7,12 +7,14 @@ mod contradicting;
 mod counts;
 mod ends;
 mod ground;
+mod laws;
 mod observing;
 mod progress;
 mod verdict;
 mod writing;
 
 pub use counts::Counts;
+pub use laws::within_is_judged;
 pub use observing::write_observed;
 pub use progress::{Judged, OverRow, Progress, Reach};
 pub use verdict::{Partly, Verdict};

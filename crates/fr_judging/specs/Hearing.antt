@@ -19,13 +19,13 @@ are_enough correct arbitrary =
 
 -- what they hear, where a node may miss so many senders of a double cycle: all of all, without arbitrary nodes or beside them; or some,
 -- without arbitrary nodes
-abbrev pub heard_of : ℕ → ℕ → Option Heard
-heard_of arbitrary lost =
+abbrev pub heard_among : ℕ → ℕ → Option Heard
+heard_among arbitrary lost =
     if lost == 0 then (if arbitrary == 0 then Some Clean else Some Meeting)
     else (if arbitrary == 0 then Some Poor else None)
 
 abbrev pub heard_with : ℕ → ℕ → ℕ → Option Heard
-heard_with correct arbitrary lost = if are_enough correct arbitrary then heard_of arbitrary lost else None
+heard_with correct arbitrary lost = if are_enough correct arbitrary then heard_among arbitrary lost else None
 
 -- in a log; where that is not told, none of its double cycles is judged
 unfoldable pub log_heard : Values → LogView → Option Heard

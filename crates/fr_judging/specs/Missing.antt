@@ -19,33 +19,33 @@ use Rattle.fr_judging.specs.declared.missed.Term.{Term}
 use Rattle.fr_judging.specs.declared.missed.Term.TheVariants as term
 
 -- what contradicts a term of a sender that missed at most so many of the others
-abbrev pub term_fault : Term → Values → LogView → Scale → ℕ → List Sender → Sender → ℕ → Option Fault
-term_fault term.OffsetTerm p l scale double senders s lost = offset_fault p l scale double senders lost s
-term_fault term.RateTerm p l scale double senders s lost = rate_fault p l scale double senders lost s
+abbrev pub unlike_term : Term → Values → LogView → Scale → ℕ → List Sender → Sender → ℕ → Option Fault
+unlike_term term.OffsetTerm p l scale double senders s lost = offset_fault p l scale double senders lost s
+unlike_term term.RateTerm p l scale double senders s lost = rate_fault p l scale double senders lost s
 
 -- the least number that nothing contradicts, none where each is contradicted: it can't have missed more than all others
 abbrev pub least_missed : Term → Values → LogView → Scale → ℕ → List Sender → Sender → Option ℕ
 least_missed what p l scale double senders s =
-    find (λ lost. is_none (term_fault what p l scale double senders s lost)) (range_with_len 0 (length senders))
+    find (λ lost. is_none (unlike_term what p l scale double senders s lost)) (range_with_len 0 (length senders))
 
 abbrev pub missed_with : Term → ℕ → ℕ → Option ℕ → Missed
 missed_with what double node least = record { cycle = 2 * double + 1; node = node; term = what; least = least }
 
 -- told where it must have missed one at least
-abbrev pub missed_by : Term → Values → LogView → Scale → ℕ → List Sender → Sender → Option Missed
-missed_by what p l scale double senders s =
-    if is_some (term_fault what p l scale double senders s 0)
+abbrev pub missed_where : Term → Values → LogView → Scale → ℕ → List Sender → Sender → Option Missed
+missed_where what p l scale double senders s =
+    if is_some (unlike_term what p l scale double senders s 0)
     then Some (missed_with what double s.node (least_missed what p l scale double senders s))
     else None
 
 -- of all senders of a double cycle that is judged
-abbrev pub missed_of : Term → Values → LogView → Scale → ℕ → List Sender → List Missed
-missed_of what p l scale double senders = filter_map (missed_by what p l scale double senders) senders
+abbrev pub missed_of_term : Term → Values → LogView → Scale → ℕ → List Sender → List Missed
+missed_of_term what p l scale double senders = filter_map (missed_where what p l scale double senders) senders
 
 abbrev pub all_missed : Values → LogView → Scale → ℕ → List Sender → Option Known → List Missed
 all_missed p l scale double senders None = []
 all_missed p l scale double senders (Some met) =
-    missed_of term.OffsetTerm p l scale double senders ++ missed_of term.RateTerm p l scale double senders
+    missed_of_term term.OffsetTerm p l scale double senders ++ missed_of_term term.RateTerm p l scale double senders
 
 -- as records
 abbrev pub term_kind : Term → FaultKind

@@ -1,6 +1,6 @@
 ghost use Rattle.std.specs.Prelude.{◌≡◌, ◌≤◌, count_by, length, pos};
 ghost use Rattle.fr_sightings.specs.Sure.{is_sync_as};
-ghost use Rattle.fr_judging.specs.Hearing.{are_enough, heard_of, heard_with, is_beside, log_heard, synced_with, yardstick};
+ghost use Rattle.fr_judging.specs.Hearing.{are_enough, heard_among, heard_with, is_beside, log_heard, synced_with, yardstick};
 
 use fr_bound::{Heard, Known, Spread, sharp_bounds};
 use fr_cluster::{NodeList, Params};
@@ -65,8 +65,8 @@ fn are_enough(correct: u64, arbitrary: u64) -> bool
 }
 
 // What they hear, where a node may miss so many senders of a double cycle.
-fn heard_of(arbitrary: u64, lost: u64) -> Option<Heard>
-    ensures { result ≡ heard_of arbitrary lost }
+fn heard_among(arbitrary: u64, lost: u64) -> Option<Heard>
+    ensures { result ≡ heard_among arbitrary lost }
 {
     if lost == 0 {
         if arbitrary == 0 {
@@ -85,7 +85,7 @@ fn heard_with(correct: u64, arbitrary: u64, lost: u64) -> Option<Heard>
     ensures { result ≡ heard_with correct arbitrary lost }
 {
     if are_enough(correct, arbitrary) {
-        heard_of(arbitrary, lost)
+        heard_among(arbitrary, lost)
     } else {
         None
     }

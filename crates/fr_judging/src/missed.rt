@@ -6,7 +6,7 @@ ghost use Rattle.std.specs.Option.{option_to_list};
 ghost use Rattle.fr_text.specs.Pieces.{Spells};
 ghost use Rattle.fr_observe.specs.Observing.{known_count};
 ghost use Rattle.fr_observe.specs.Scenes.{IsScene};
-ghost use Rattle.fr_judging.specs.Missing.{least_missed, missed_by, missed_of, missed_row, missed_told, term_fault, term_kind};
+ghost use Rattle.fr_judging.specs.Missing.{least_missed, missed_where, missed_of_term, missed_row, missed_told, unlike_term, term_kind};
 
 use crate::knowing::{Standing, judged_met};
 use fr_base::{NodeId, PutFault, Sink};
@@ -35,12 +35,12 @@ pub struct Missed {
 }
 
 // What contradicts a term of a sender that missed at most so many of the others.
-fn term_fault(term: Term, scene: &Scene<'_>, sender: &Sender, lost: usize) -> Option<Fault>
+fn unlike_term(term: Term, scene: &Scene<'_>, sender: &Sender, lost: usize) -> Option<Fault>
     requires scene { IsScene scene.now }
     requires lost { lost ≤ 64 }
     requires among { Contains scene.now.senders.now sender.now }
     requires sender { IsProperSender scene.now.scale.now sender.now }
-    ensures { result ≡ term_fault term scene.now.params.now scene.now.log.now scene.now.scale.now scene.now.number
+    ensures { result ≡ unlike_term term scene.now.params.now scene.now.log.now scene.now.scale.now scene.now.number
         scene.now.senders.now sender.now lost }
 {
     match term {
@@ -58,21 +58,21 @@ fn least_missed(term: Term, scene: &Scene<'_>, sender: &Sender) -> Option<u64>
         scene.now.senders.now sender.now }
 {
     for lost in 0..scene.senders.len() {
-        if term_fault(term, scene, sender, lost).is_none() {
+        if unlike_term(term, scene, sender, lost).is_none() {
             return Some(lost as u64);
         }
     }
     None
 }
 
-fn missed_by(term: Term, scene: &Scene<'_>, sender: &Sender) -> Option<Missed>
+fn missed_where(term: Term, scene: &Scene<'_>, sender: &Sender) -> Option<Missed>
     requires scene { IsScene scene.now }
     requires among { Contains scene.now.senders.now sender.now }
     requires sender { IsProperSender scene.now.scale.now sender.now }
-    ensures { result ≡ missed_by term scene.now.params.now scene.now.log.now scene.now.scale.now scene.now.number
+    ensures { result ≡ missed_where term scene.now.params.now scene.now.log.now scene.now.scale.now scene.now.number
         scene.now.senders.now sender.now }
 {
-    if term_fault(term, scene, sender, 0).is_some() {
+    if unlike_term(term, scene, sender, 0).is_some() {
         Some(Missed {
             cycle: 2 * scene.number + 1,
             node: sender.node,
@@ -131,20 +131,20 @@ fn put_one<O: Sink>(missed: Option<Missed>, out: &mut O) -> Result<(), PutFault>
 
 fn put_of_term<O: Sink>(term: Term, scene: &Scene<'_>, out: &mut O) -> Result<(), PutFault>
     requires { IsScene scene.now }
-    ensures { Puts result (O.state out.old) (O.state out.new) (flat_map missed_row (missed_of term scene.now.params.now
-        scene.now.log.now scene.now.scale.now scene.now.number scene.now.senders.now)) }
+    ensures { Puts result (O.state out.old) (O.state out.new) (flat_map missed_row (missed_of_term term
+        scene.now.params.now scene.now.log.now scene.now.scale.now scene.now.number scene.now.senders.now)) }
 {
     for sender in scene.senders {
-        put_one(missed_by(term, scene, sender), out)?;
+        put_one(missed_where(term, scene, sender), out)?;
     }
     Ok(())
 }
 
 fn put_both<O: Sink>(scene: &Scene<'_>, out: &mut O) -> Result<(), PutFault>
     requires { IsScene scene.now }
-    ensures { Puts result (O.state out.old) (O.state out.new) (flat_map missed_row (missed_of Term.OffsetTerm
+    ensures { Puts result (O.state out.old) (O.state out.new) (flat_map missed_row (missed_of_term Term.OffsetTerm
         scene.now.params.now scene.now.log.now scene.now.scale.now scene.now.number scene.now.senders.now
-        ++ missed_of Term.RateTerm scene.now.params.now scene.now.log.now scene.now.scale.now scene.now.number
+        ++ missed_of_term Term.RateTerm scene.now.params.now scene.now.log.now scene.now.scale.now scene.now.number
         scene.now.senders.now)) }
 {
     put_of_term(Term::OffsetTerm, scene, out)?;

@@ -263,22 +263,22 @@ further_of p senders = count_by (λ node. is_some node.key) p.nodes - length sen
 
 -- which offset term a sender must have computed, and by how much its rate term must have grown, where it missed at most so many of the
 -- others
-abbrev pub offset_by : Values → LogView → Scale → List Sender → ℕ → Sender → Option Interval
-offset_by p l scale senders lost s =
+abbrev pub offset_due : Values → LogView → Scale → List Sender → ℕ → Sender → Option Interval
+offset_due p l scale senders lost s =
     offset_computed scale (measuring_of p (stated_flutter p l)) s.course (other_courses senders s.node) (further_of p senders) lost
 
-abbrev pub rate_by : Values → LogView → Scale → List Sender → ℕ → Sender → Option Interval
-rate_by p l scale senders lost s =
+abbrev pub rate_due : Values → LogView → Scale → List Sender → ℕ → Sender → Option Interval
+rate_due p l scale senders lost s =
     rate_computed scale (measuring_of p (stated_flutter p l)) s.course (other_courses senders s.node) (further_of p senders) lost
 
 -- neither was seen so
 abbrev pub offset_fault : Values → LogView → Scale → ℕ → List Sender → ℕ → Sender → Option Fault
 offset_fault p l scale double senders lost s =
-    unlike_fault Offset (2 * double + 1) s.node (terms_of scale s) (offset_by p l scale senders lost s)
+    unlike_fault Offset (2 * double + 1) s.node (terms_of scale s) (offset_due p l scale senders lost s)
 
 abbrev pub rate_fault : Values → LogView → Scale → ℕ → List Sender → ℕ → Sender → Option Fault
 rate_fault p l scale double senders lost s =
-    unlike_fault Rate (2 * double + 1) s.node (option_map (rate_step_seen scale s.course) s.next) (rate_by p l scale senders lost s)
+    unlike_fault Rate (2 * double + 1) s.node (option_map (rate_step_seen scale s.course) s.next) (rate_due p l scale senders lost s)
 
 -- no frame of a node is there that must have been: it sent in the double cycle before, and the observer missed none between the first
 -- and the last sighting of the log

@@ -8,7 +8,7 @@ ghost use Rattle.fr_bound.specs.SharpBounds.{most_flutter};
 ghost use Rattle.fr_course.specs.Near.{EndWithin, IsMeasuring, IsReadingScale};
 ghost use Rattle.fr_course.specs.Terms.{rate_step_seen};
 ghost use Rattle.fr_sightings.specs.Ranges.{IsProperSender};
-ghost use Rattle.fr_observe.specs.Faults.{correction_fault, further_of, length_beyond, length_fault_by, longest_cycle_of, offset_by, offset_fault, rate_by, rate_fault, shortest_cycle_of, stated_flutter, term_fault, unlike_fault};
+ghost use Rattle.fr_observe.specs.Faults.{correction_fault, further_of, length_beyond, length_fault_by, longest_cycle_of, offset_due, offset_fault, rate_due, rate_fault, shortest_cycle_of, stated_flutter, term_fault, unlike_fault};
 ghost use Rattle.fr_observe.specs.Scenes.{IsScene};
 ghost use Rattle.fr_observe.specs.Telling.{IsFewAsked, TellsFaults, sender_fault};
 
@@ -232,12 +232,12 @@ fn measuring_of(scene: &Scene<'_>) -> Measuring
 }
 
 // What a sender must have computed of its offset term, where it missed at most so many of the others.
-fn offset_by(scene: &Scene<'_>, lost: usize, sender: &Sender) -> Option<Interval>
+fn offset_due(scene: &Scene<'_>, lost: usize, sender: &Sender) -> Option<Interval>
     requires scene { IsScene scene.now }
     requires lost { lost ≤ 64 }
     requires among { Contains scene.now.senders.now sender.now }
     requires sender { IsProperSender scene.now.scale.now sender.now }
-    ensures value { result ≡ offset_by scene.now.params.now scene.now.log.now scene.now.scale.now scene.now.senders.now
+    ensures value { result ≡ offset_due scene.now.params.now scene.now.log.now scene.now.scale.now scene.now.senders.now
         lost sender.now }
     ensures near { IfSome result (EndWithin (pos 22_000_000_000_000)) }
 {
@@ -252,12 +252,12 @@ fn offset_by(scene: &Scene<'_>, lost: usize, sender: &Sender) -> Option<Interval
 }
 
 // And of the step of its rate term.
-fn rate_by(scene: &Scene<'_>, lost: usize, sender: &Sender) -> Option<Interval>
+fn rate_due(scene: &Scene<'_>, lost: usize, sender: &Sender) -> Option<Interval>
     requires scene { IsScene scene.now }
     requires lost { lost ≤ 64 }
     requires among { Contains scene.now.senders.now sender.now }
     requires sender { IsProperSender scene.now.scale.now sender.now }
-    ensures value { result ≡ rate_by scene.now.params.now scene.now.log.now scene.now.scale.now scene.now.senders.now
+    ensures value { result ≡ rate_due scene.now.params.now scene.now.log.now scene.now.scale.now scene.now.senders.now
         lost sender.now }
     ensures near { IfSome result (EndWithin (pos 22_000_000_000_000)) }
 {
@@ -284,7 +284,7 @@ fn offset_fault(scene: &Scene<'_>, lost: usize, sender: &Sender) -> Option<Fault
         2 * scene.number + 1,
         sender.node,
         terms_of(scene.scale, sender),
-        offset_by(scene, lost, sender),
+        offset_due(scene, lost, sender),
     )
 }
 
@@ -314,7 +314,7 @@ fn rate_fault(scene: &Scene<'_>, lost: usize, sender: &Sender) -> Option<Fault>
         2 * scene.number + 1,
         sender.node,
         step_of(scene.scale, sender),
-        rate_by(scene, lost, sender),
+        rate_due(scene, lost, sender),
     )
 }
 

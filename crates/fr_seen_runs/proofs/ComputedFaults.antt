@@ -1,22 +1,22 @@
--- No term that was seen contradicts a covered run, from a double cycle in sync on.
-use Rattle.std.proofs.Common.{◌≡◌, ◌⊎◌, ℕ, suc, ◌+◌, ◌*◌, ◌/◌, ◌%◌, ◌<◌, ◌≤◌, ◌==◌, Bool, true, false, ◌||◌, ℤ, pos, Option, Some, None, [], All, length, refl, ap, ◌∙◌, subst, inl, inr, arith}
+-- No term that was seen contradicts what its node must have computed in a double cycle that is judged.
+use Rattle.std.proofs.Common.{◌≡◌, ◌⊎◌, ℕ, suc, ◌+◌, ◌*◌, ◌/◌, ◌%◌, ◌<◌, ◌≤◌, ◌==◌, Bool, true, false, ◌||◌, ℤ, pos, Option, Some, None, [], All, length, refl, ap, sym, ◌∙◌, subst, inl, inr, arith}
 use Rattle.std.specs.Prelude.{◌-ℤ◌, ◌≤ℤ◌, Contains, IfSome, int_lt, filter_map, find, if◌then◌else◌}
 use Rattle.std.specs.Option.{option_and_then, option_map}
 use Rattle.std.proofs.lemmas.Int.{ints}
-use Rattle.std.proofs.lemmas.List.Elements.{All-contains, All-contains_itself}
+use Rattle.std.proofs.lemmas.List.Elements.{All-contains}
 use Rattle.fr_base.specs.Within.{IsBetween}
 use Rattle.fr_base.specs.declared.channel.Channel.{Channel}
 use Rattle.fr_base.specs.declared.channel.Channel.TheVariants.{A, B}
-use Rattle.fr_cluster.specs.Setting.{Setting}
+use Rattle.fr_cluster.specs.Setting.{Setting, correct_nodes}
 use Rattle.fr_cluster.specs.Values.{Values}
+use Rattle.fr_bound.specs.declared.judging.Heard.{Heard}
+use Rattle.fr_bound.specs.declared.judging.Known.{Known}
 use Rattle.fr_cluster.specs.declared.nodes.NodeSpec.{NodeSpec}
 use Rattle.fr_cluster.proofs.Elements.{filtered, found}
-use Rattle.fr_precision.proofs.Senders.{All-along}
 use Rattle.fr_time.specs.Slots.{action_point_of}
 use Rattle.fr_history.specs.Cycles.{Cycle, Cycles}
 use Rattle.fr_history.specs.History.{row_for}
-use Rattle.fr_history.specs.Unfollowed.{IsUnfollowedSyncAt}
-use Rattle.fr_runs.specs.Numbers.{HasDouble, IsSyncedRun}
+use Rattle.fr_runs.specs.Numbers.{HasDouble}
 use Rattle.fr_log.specs.View.{LogView}
 use Rattle.fr_course.specs.Course.{course_from}
 use Rattle.fr_course.specs.Readings.{meet_all, reading_scale}
@@ -36,20 +36,18 @@ use Rattle.fr_seen.specs.LogSeen.{GoesOnBy, SenderGoesOn, TermHolds, log_senders
 use Rattle.fr_seen.proofs.RowLaws.{observed_next_rows_hold}
 use Rattle.fr_seen.proofs.SenderLaws.{all_given, mapped_some, senders_go_on}
 use Rattle.fr_seen.proofs.TermLaws.{rate_steps_are_seen}
-use Rattle.fr_course.specs.Computed.{ValuesAreCounted, measuring_of, offset_computed, rate_computed}
-use Rattle.fr_course.specs.Middles.{MiddlesHold}
-use Rattle.fr_seen_runs.specs.Contradictions.{IsAsStated, IsObservedRun}
+use Rattle.fr_seen_runs.specs.Contradictions.{IsObservedRun, MissesFew}
 use Rattle.fr_observe.specs.declared.fault.FaultKind.{FaultKind}
-use Rattle.fr_observe.specs.Faults.{further_of, offset_fault, other_courses, rate_fault, unlike_fault, unlike_with}
+use Rattle.fr_observe.specs.Faults.{offset_due, offset_fault, rate_due, rate_fault, stated_flutter, unlike_fault, unlike_with}
 use Rattle.fr_observe.specs.declared.fault.FaultKind.TheVariants.{Offset, Rate}
-use Rattle.fr_seen_runs.specs.ComputedTerms.{IsNamedLog, OffsetIsComputed, OffsetsAreComputed, RateIsComputed, RatesAreComputed}
-use Rattle.fr_seen_runs.specs.KeptInSync.{IsDoubleThere}
-use Rattle.fr_seen_runs.specs.SyncFaults.{FromSyncOn, HasNoOffsetFault, HasNoRateFault}
-use Rattle.fr_seen_runs.proofs.ComputedLaws.{offset_is_computed, rate_is_computed}
-use Rattle.fr_seen_runs.proofs.ComputedRounds.{has_double}
+use Rattle.fr_judging.specs.Missing.{unlike_term}
+use Rattle.fr_judging.specs.declared.missed.Term.{Term}
+use Rattle.fr_judging.specs.declared.missed.Term.TheVariants.{OffsetTerm, RateTerm}
+use Rattle.fr_seen_runs.specs.ComputedTerms.{IsNamedLog, OffsetIsComputed, RateIsComputed}
+use Rattle.fr_seen_runs.specs.JudgedTerms.{IsJudgedRun, MissedIsSo, OffsetsAreComputed, RatesAreComputed}
+use Rattle.fr_seen_runs.specs.LogDoubles.{IsDoubleThere}
 use Rattle.fr_seen_runs.proofs.ComputedSenders.{there_some}
-use Rattle.fr_seen_runs.proofs.FaultsInSync.{none_given}
-use Rattle.fr_seen_runs.proofs.StaysInSync.{doubles_to, sighting_within, together}
+use Rattle.fr_seen_runs.proofs.SeenDoubles.{doubles_to, sighting_within}
 
 -- ---- what was seen and what was computed have a number in common
 
@@ -154,76 +152,69 @@ next_seen x l double =
 -- ---- what was seen and what was computed
 
 module _ (x : Setting) (h : Cycles) (base : ℕ) (delays : ℕ → Channel → Delays) (clock : ℕ → StraightClock) (l : LogView) (double : ℕ) (o : IsObservedRun x h base delays clock l) where
-  -- a double cycle and the next one, where terms are computed as the courses say
-  pub record AreComputed : Type 0 where
+  -- a double cycle and the next one, where the terms of a sender are computed as the courses say
+  pub record AreComputed (lost : ℕ) (s : Sender) : Type 0 where
     pub even : Cycle
     pub odd : Cycle
     pub has : HasDouble h (run_double base double) even odd
     pub next : IsDoubleThere h (suc (run_double base double))
-    pub offsets : All (OffsetIsComputed x l.drift odd (log_senders x l double)) (log_senders x l double)
-    pub rates : All (RateIsComputed x l.drift odd next.even (log_senders x l double)) (log_senders x l double)
+    pub offset : OffsetIsComputed x l odd (log_senders x l double) lost s
+    pub rate : RateIsComputed x l odd next.even (log_senders x l double) lost s
 
-  -- where a sender is one of both
-  abbrev pub ComputeBoth : Type 0
-  ComputeBoth = (s : Sender) (next : Course) → Contains (log_senders x l double) s → s.next ≡ Some next → AreComputed
+  -- where it is one of both
+  abbrev pub ComputesBoth : ℕ → Sender → Type 0
+  ComputesBoth lost s = (next : Course) → s.next ≡ Some next → AreComputed lost s
 
-  module _ (both_there : ComputeBoth) where
-    -- ---- offsets
+  -- ---- offsets
 
-    offset_none : (s : Sender) → Contains (log_senders x l double) s → offset_fault x.params (reading_scale l.drift x.params) double (log_senders x l double) s ≡ None
-    unfolding terms_of
-    offset_none s among = by s.next refl
-      where
-        by : (next : Option Course) → s.next ≡ next
-            → unlike_fault Offset (2 * double + 1) s.node (option_map (λ course. offset_seen (reading_scale l.drift x.params) s.course course s.onward) next)
-            (offset_computed (reading_scale l.drift x.params) (measuring_of x.params) s.course (other_courses (log_senders x l double) s.node) (further_of x.params (log_senders x l double)))
-            ≡ None
-        by None goes = refl
-        by (Some next) goes =
-            let both = both_there s next among goes in
-            let terms =
-            All-contains (TermHolds x l.drift both.odd) (log_senders x l double) s
-            (observed_next_rows_hold x h base delays clock l double both.even both.odd both.next.even both.next.odd o.timed o.log o.seen both.has both.next.has).terms among in
-            let Term : Option Course → Type 0 = λ n. IfSome (option_map (λ course. offset_seen (reading_scale l.drift x.params) s.course course s.onward) n) (λ i. IsBetween i.low i.high (row_for both.odd.told.rows s.node).offset) in
-            unlike_none Offset (2 * double + 1) s.node (Some (offset_seen (reading_scale l.drift x.params) s.course next s.onward))
-            (offset_computed (reading_scale l.drift x.params) (measuring_of x.params) s.course (other_courses (log_senders x l double) s.node) (further_of x.params (log_senders x l double)))
-            (row_for both.odd.told.rows s.node).offset (subst Term goes terms)
-            (All-contains (OffsetIsComputed x l.drift both.odd (log_senders x l double)) (log_senders x l double) s both.offsets among)
+  pub offset_none : (lost : ℕ) (s : Sender) → Contains (log_senders x l double) s → ComputesBoth lost s
+      → offset_fault x.params l (reading_scale l.drift x.params) double (log_senders x l double) lost s ≡ None
+  unfolding terms_of
+  offset_none lost s among computes = by s.next refl
+    where
+      by : (next : Option Course) → s.next ≡ next
+          → unlike_fault Offset (2 * double + 1) s.node (option_map (λ course. offset_seen (reading_scale l.drift x.params) s.course course s.onward) next)
+          (offset_due x.params l (reading_scale l.drift x.params) (log_senders x l double) lost s) ≡ None
+      by None goes = refl
+      by (Some next) goes =
+          let both = computes next goes in
+          let terms =
+          All-contains (TermHolds x l.drift both.odd) (log_senders x l double) s
+          (observed_next_rows_hold x h base delays clock l double both.even both.odd both.next.even both.next.odd o.timed o.log o.seen both.has both.next.has).terms among in
+          let Term : Option Course → Type 0 = λ n. IfSome (option_map (λ course. offset_seen (reading_scale l.drift x.params) s.course course s.onward) n) (λ i. IsBetween i.low i.high (row_for both.odd.told.rows s.node).offset) in
+          unlike_none Offset (2 * double + 1) s.node (Some (offset_seen (reading_scale l.drift x.params) s.course next s.onward))
+          (offset_due x.params l (reading_scale l.drift x.params) (log_senders x l double) lost s) (row_for both.odd.told.rows s.node).offset (subst Term goes terms) both.offset
 
-    pub no_offset_fault_by : filter_map (offset_fault x.params (reading_scale l.drift x.params) double (log_senders x l double)) (log_senders x l double) ≡ []
-    no_offset_fault_by = none_given (offset_fault x.params (reading_scale l.drift x.params) double (log_senders x l double)) (log_senders x l double) (λ s among. offset_none s among)
+  -- ---- rates
 
-    -- ---- rates
+  pub rate_none : (lost : ℕ) (s : Sender) → Contains (log_senders x l double) s → ComputesBoth lost s
+      → rate_fault x.params l (reading_scale l.drift x.params) double (log_senders x l double) lost s ≡ None
+  rate_none lost s among computes = by s.next refl
+    where
+      by : (next : Option Course) → s.next ≡ next
+          → unlike_fault Rate (2 * double + 1) s.node (option_map (rate_step_seen (reading_scale l.drift x.params) s.course) next)
+          (rate_due x.params l (reading_scale l.drift x.params) (log_senders x l double) lost s) ≡ None
+      by None goes = refl
+      by (Some next) goes =
+          let both = computes next goes in
+          let goes_on =
+          All-contains (SenderGoesOn x l.drift (clock (run_double base double)) both.even both.odd both.next.even both.next.odd) (log_senders x l double) s
+          (senders_go_on x h base delays clock l double both.even both.odd both.next.even both.next.odd o.timed o.log o.seen both.has both.next.has) among in
+          let Goes : Option Course → Type 0 = λ n. IfSome n (GoesOnBy x l.drift (clock (run_double base double)) both.even both.odd both.next.even both.next.odd s) in
+          let on = subst Goes goes goes_on in
+          unlike_none Rate (2 * double + 1) s.node (Some (rate_step_seen (reading_scale l.drift x.params) s.course next))
+          (rate_due x.params l (reading_scale l.drift x.params) (log_senders x l double) lost s)
+          ((row_for both.next.even.told.rows s.node).rate -ℤ (row_for both.odd.told.rows s.node).rate)
+          (
+          rate_steps_are_seen x.params l.drift (clock (run_double base double)) (seen_twice both.even both.odd both.next.even both.next.odd s next) s.onward on.goes
+          )
+          both.rate
 
-    rate_none : (s : Sender) → Contains (log_senders x l double) s → rate_fault x.params (reading_scale l.drift x.params) double (log_senders x l double) s ≡ None
-    rate_none s among = by s.next refl
-      where
-        by : (next : Option Course) → s.next ≡ next
-            → unlike_fault Rate (2 * double + 1) s.node (option_map (rate_step_seen (reading_scale l.drift x.params) s.course) next)
-            (rate_computed (reading_scale l.drift x.params) (measuring_of x.params) s.course (other_courses (log_senders x l double) s.node) (further_of x.params (log_senders x l double)))
-            ≡ None
-        by None goes = refl
-        by (Some next) goes =
-            let both = both_there s next among goes in
-            let goes_on =
-            All-contains (SenderGoesOn x l.drift (clock (run_double base double)) both.even both.odd both.next.even both.next.odd) (log_senders x l double) s
-            (senders_go_on x h base delays clock l double both.even both.odd both.next.even both.next.odd o.timed o.log o.seen both.has both.next.has) among in
-            let Goes : Option Course → Type 0 = λ n. IfSome n (GoesOnBy x l.drift (clock (run_double base double)) both.even both.odd both.next.even both.next.odd s) in
-            let on = subst Goes goes goes_on in
-            unlike_none Rate (2 * double + 1) s.node (Some (rate_step_seen (reading_scale l.drift x.params) s.course next))
-            (rate_computed (reading_scale l.drift x.params) (measuring_of x.params) s.course (other_courses (log_senders x l double) s.node) (further_of x.params (log_senders x l double)))
-            ((row_for both.next.even.told.rows s.node).rate -ℤ (row_for both.odd.told.rows s.node).rate)
-            (
-            rate_steps_are_seen x.params l.drift (clock (run_double base double)) (seen_twice both.even both.odd both.next.even both.next.odd s next) s.onward on.goes
-            )
-            (All-contains (RateIsComputed x l.drift both.odd both.next.even (log_senders x l double)) (log_senders x l double) s both.rates among)
-
-    pub no_rate_fault_by : filter_map (rate_fault x.params (reading_scale l.drift x.params) double (log_senders x l double)) (log_senders x l double) ≡ []
-    no_rate_fault_by = none_given (rate_fault x.params (reading_scale l.drift x.params) double (log_senders x l double)) (log_senders x l double) (λ s among. rate_none s among)
+  -- ---- the next double cycle
 
   seen_within : (d : ℕ) → IsSeenIn x.params l d → run_double base d < x.doubles
   seen_within d seen =
-      less seen.sighting.number base d x.doubles (length h) seen.is o.whole (sighting_within x h base delays clock l seen.sighting o seen.there) o.seen.seen.whole_base
+      less seen.sighting.number base d x.doubles (length h) seen.is o.whole (sighting_within x h base delays clock l o seen.sighting seen.there) o.seen.seen.whole_base
     where
       less : (n b d k long : ℕ) → n / 2 ≡ d → long ≡ 2 * k → n + b < long → b % 64 ≡ 0 → d + b / 2 < k
       less n b d k long half whole below base_is = omega (arith, half, whole, below, base_is)
@@ -237,61 +228,43 @@ module _ (x : Setting) (h : Cycles) (base : ℕ) (delays : ℕ → Channel → D
       after : (d b k : ℕ) → d + 1 + b < k → suc (d + b) < k
       after d b k less = omega (arith, less)
 
--- ---- the laws
-
-pub offsets_are_computed : ValuesAreCounted → MiddlesHold → OffsetsAreComputed
-offsets_are_computed counted holds x h base delays clock l double log s =
-    All-along (Contains (log_senders x l double)) (OffsetIsComputed x l.drift s.synced.odd (log_senders x l double)) (log_senders x l double)
-    (λ r among. offset_is_computed x h base delays clock l double log s counted holds r among) (All-contains_itself (log_senders x l double))
-
-pub rates_are_computed : ValuesAreCounted → MiddlesHold → RatesAreComputed
-rates_are_computed counted holds x h base delays clock l double next_even next_odd log s next =
-    All-along (Contains (log_senders x l double)) (RateIsComputed x l.drift s.synced.odd next_even (log_senders x l double)) (log_senders x l double)
-    (λ r among. rate_is_computed x h base delays clock l double log s counted holds next_even next_odd r next among) (All-contains_itself (log_senders x l double))
-
--- ---- in sync
+-- ---- in a double cycle that is judged
 
 module _
-    (x : Setting) (h : Cycles) (base : ℕ) (delays : ℕ → Channel → Delays) (clock : ℕ → StraightClock) (l : LogView) (from double : ℕ)
-    (o : IsObservedRun x h base delays clock l) (stated : IsAsStated x h base l) (unfollowed : IsUnfollowedSyncAt x.params h (run_double base from)) (later : from ≤ double)
-    (counted : ValuesAreCounted) (holds : MiddlesHold)
+    (what : Heard) (x : Setting) (h : Cycles) (base : ℕ) (delays : ℕ → Channel → Delays) (clock : ℕ → StraightClock) (l : LogView) (double : ℕ) (known : Known)
+    (log : IsNamedLog x h base delays clock l) (j : IsJudgedRun what x (stated_flutter x.params l) h (run_double base double) known)
   where
-    named : IsNamedLog x h base delays clock l
-    named = record { timed = o.timed; log = o.log; seen = o.seen; named = stated.named }
+    pub observed : IsObservedRun x h base delays clock l
+    observed = record { timed = log.timed; whole = j.run.whole; log = log.log; seen = log.seen }
 
-    synced : run_double base double < x.doubles → IsSyncedRun x h (run_double base double)
-    synced less = record {
-      covered = stated.covered;
-      rates = o.timed.rates;
-      lawful = o.timed.lawful;
-      within = (let whole = o.whole in omega (arith, whole));
-      synced = (together x h base delays clock l from o stated unfollowed).synced (run_double base double) (more from double (base / 2) later) less;
-    }
-      where
-        more : (a b c : ℕ) → a ≤ b → a + c ≤ b + c
-        more a b c le = omega (arith, le)
-
-    pub both_synced : ComputeBoth x h base delays clock l double o
-    both_synced s next among goes =
-        let below = next_within x h base delays clock l double o s next among goes in
-        let here = synced (before (run_double base double) x.doubles below) in
-        let later = doubles_to h x.doubles (suc (run_double base double)) o.whole below in
+    -- the terms of a sender whose node misses few of the others are computed as the courses say
+    pub computes_both : OffsetsAreComputed → RatesAreComputed → (lost : ℕ) (s : Sender) (node : NodeSpec) → Contains (log_senders x l double) s → Contains (correct_nodes x) node → node.id ≡ s.node
+        → MissesFew x (run_double base double) lost node → ComputesBoth x h base delays clock l double observed lost s
+    computes_both offsets rates lost s node among correct same misses next goes =
+        let below = next_within x h base delays clock l double observed s next among goes in
+        let here = doubles_to h x.doubles (run_double base double) j.run.whole (before (run_double base double) x.doubles below) in
+        let later = doubles_to h x.doubles (suc (run_double base double)) j.run.whole below in
         record {
-          even = here.synced.even;
-          odd = here.synced.odd;
-          has = has_double x h (run_double base double) here;
+          even = here.even;
+          odd = here.odd;
+          has = here.has;
           next = later;
-          offsets = offsets_are_computed counted holds x h base delays clock l double named here;
-          rates = rates_are_computed counted holds x h base delays clock l double later.even later.odd named here later.has;
+          offset = offsets what x h base delays clock l double lost known here.even here.odd s node log j here.has among correct same misses;
+          rate = rates what x h base delays clock l double lost known here.even here.odd later.even later.odd s node log j here.has later.has among correct same misses;
         }
       where
         before : (d k : ℕ) → suc d < k → d < k
         before d k less = omega (arith, less)
 
-pub offset_faults_are_none : ValuesAreCounted → MiddlesHold → FromSyncOn HasNoOffsetFault
-offset_faults_are_none counted holds x h base delays clock l from double o stated unfollowed later among =
-    no_offset_fault_by x h base delays clock l double o (both_synced x h base delays clock l from.double double o stated unfollowed later counted holds)
+    pub term_none : OffsetsAreComputed → RatesAreComputed → (kind : Term) (lost : ℕ) (s : Sender) (node : NodeSpec) → Contains (log_senders x l double) s → Contains (correct_nodes x) node
+        → node.id ≡ s.node → MissesFew x (run_double base double) lost node
+        → unlike_term kind x.params l (reading_scale l.drift x.params) double (log_senders x l double) s lost ≡ None
+    term_none offsets rates OffsetTerm lost s node among correct same misses =
+        offset_none x h base delays clock l double observed lost s among (computes_both offsets rates lost s node among correct same misses)
+    term_none offsets rates RateTerm lost s node among correct same misses =
+        rate_none x h base delays clock l double observed lost s among (computes_both offsets rates lost s node among correct same misses)
 
-pub rate_faults_are_none : ValuesAreCounted → MiddlesHold → FromSyncOn HasNoRateFault
-rate_faults_are_none counted holds x h base delays clock l from double o stated unfollowed later among =
-    no_rate_fault_by x h base delays clock l double o (both_synced x h base delays clock l from.double double o stated unfollowed later counted holds)
+pub missed_is_so : OffsetsAreComputed → RatesAreComputed → MissedIsSo
+missed_is_so offsets rates what kind x h base delays clock l double lost known s node fault log j among correct same is misses =
+    let e : Some fault ≡ None = sym is ∙ term_none what x h base delays clock l double known log j offsets rates kind lost s node among correct same misses in
+    cc e

@@ -28,7 +28,7 @@ use Rattle.fr_seen.proofs.ObservedLaws.{is_action}
 use Rattle.fr_seen.proofs.RunLaws.{cut_at, nodes_have_both_rows, row_at, two_at}
 use Rattle.fr_seen.proofs.SenderLaws.{some_row}
 use Rattle.fr_seen_runs.specs.InTime.{IsNearFrom, arrives_at}
-use Rattle.fr_seen_runs.specs.KeptInSync.{IsDoubleThere}
+use Rattle.fr_seen_runs.specs.LogDoubles.{IsDoubleThere}
 use Rattle.fr_seen_runs.proofs.Places.{IsPlaced, macrotick_near, placed_even, placed_odd, two_near}
 use Rattle.fr_seen_runs.proofs.Schedule.{ahead}
 use Rattle.fr_seen_runs.proofs.SeenDoubles.{double_of_cycle}

@@ -1,5 +1,5 @@
 -- The values of the nodes with rows of a double cycle that is judged, and the midpoints that they apply.
-use Rattle.std.proofs.Common.{◌≡◌, ◌≢◌, ℕ, suc, ◌*◌, ◌<◌, Bool, false, true, ℤ, pos, List, ◌∷◌, All, length, refl, ap, sym, ◌∙◌, subst, arith}
+use Rattle.std.proofs.Common.{◌≡◌, ℕ, suc, ◌*◌, ◌<◌, ℤ, pos, List, ◌∷◌, length, ap, sym, ◌∙◌, subst, arith}
 use Rattle.std.specs.Prelude.{Contains}
 use Rattle.std.proofs.lemmas.List.Elements.{All-contains_itself, All-map}
 use Rattle.fr_base.specs.declared.state.Outcome.TheVariants.{Within}
@@ -12,49 +12,35 @@ use Rattle.fr_correct.specs.Terms.{rate_term_of}
 use Rattle.fr_measure.specs.Deviations.{rate_values_by}
 use Rattle.fr_bound.specs.SharpSpreads.{sharply_near_in}
 use Rattle.fr_bound.specs.declared.judging.Heard.{Heard}
-use Rattle.fr_bound.specs.declared.judging.Heard.TheVariants.{Clean, Meeting, Poor}
 use Rattle.fr_bound.specs.declared.judging.Known.{Known}
-use Rattle.fr_precision.specs.Round.{Hearer, Round}
+use Rattle.fr_precision.specs.Round.{Hearer}
 use Rattle.fr_precision.specs.Step.{Member}
 use Rattle.fr_precision.proofs.Senders.{All-along}
 use Rattle.fr_history.specs.Cycles.{Cycle, Cycles}
 use Rattle.fr_history.specs.History.{row_for}
 use Rattle.fr_history.specs.Standing.{has_row, row_nodes}
-use Rattle.fr_runs.specs.Gathered.{round_at, row_hearer}
+use Rattle.fr_runs.specs.Gathered.{row_hearer}
 use Rattle.fr_runs.specs.Numbers.{HasDouble, HasRowIn}
 use Rattle.fr_runs.specs.Rounds.{IsDoubleOf}
 use Rattle.fr_runs.proofs.Courses.{is_correct_row}
 use Rattle.fr_runs.proofs.Parts.{cycle_within}
-use Rattle.fr_runs.proofs.RowsDrawn.{member_at}
-use Rattle.fr_runs.proofs.Rows.{contains_map, has_row as row_there}
+use Rattle.fr_runs.proofs.Rows.{has_row as row_there}
 use Rattle.fr_runs.proofs.Standing.{told_has}
 use Rattle.fr_runs.proofs.Whole.{prior_of}
-use Rattle.fr_sharp.specs.JudgedSteps.{AppliesMidpoints, GoesOnJudged, IsRoundBy}
+use Rattle.fr_sharp.specs.JudgedSteps.{AppliesMidpoints, GoesOnJudged}
 use Rattle.fr_sharp.specs.SharpHistories.{EndsWell}
-use Rattle.fr_sharp.specs.SharpRound.{as_member, IsRoundInReach}
+use Rattle.fr_sharp.specs.SharpRound.{as_member}
 use Rattle.fr_sharp.specs.SharpRun.{AllUncut}
-use Rattle.fr_sharp.specs.SteadyRuns.{row_hearers, row_members}
+use Rattle.fr_sharp.specs.SteadyRuns.{row_hearers, row_members, AreRowsInReach}
 use Rattle.fr_sharp.proofs.JudgedLaws.{unfollowed_goes_on_lem}
-use Rattle.fr_sharp.proofs.RoundLemmas.{hearer}
 use Rattle.fr_sharp.proofs.RowsSupplied.{LawfulRows}
 use Rattle.fr_sharp.proofs.RunDoubles.{goes_on, member_among, members_found}
 use Rattle.fr_sharp.proofs.TimedRuns.{have_rows, rows_of}
-use Rattle.fr_judging.specs.Knowing.{stated_flutter}
-use Rattle.fr_seen_runs.specs.ComputedValues.{ComputesOffset, ComputesRate}
+use Rattle.fr_seen_runs.specs.ComputedValues.{ComputesOffset, ComputesRate, OffsetsAreMidpoints, RatesGrowByMidpoints}
 use Rattle.fr_seen_runs.specs.JudgedTerms.{IsJudgedRun}
-use Rattle.fr_seen_runs.proofs.ComputedRounds.{computes_offset, computes_rate, here, next_here, AreHearing}
+use Rattle.fr_seen_runs.proofs.ComputedRounds.{computes_offset, computes_rate, here, next_here, AreApplying}
 
--- action points lie within the reach, and each is supplied with all deviations, without arbitrary nodes or beside them
-all_supplied : (what : Heard) (r : Round) (flutter : ℕ) (reach : ℤ) (rows : List Hearer) → what ≢ Poor → IsRoundBy what r flutter reach rows
-    → (beside : Bool) × IsRoundInReach beside r flutter reach rows
-all_supplied Clean r flutter reach rows all round = (false, round)
-all_supplied Meeting r flutter reach rows all round = (true, round)
-all_supplied Poor r flutter reach rows all round = absurd (all refl)
-
-module _ (what : Heard) (x : Setting) (h : Cycles) (double : ℕ) (known : Known) (j : IsJudgedRun what x h double known) where
-  abbrev flutter : ℕ
-  flutter = stated_flutter x.params
-
+module _ (what : Heard) (x : Setting) (flutter : ℕ) (h : Cycles) (double : ℕ) (known : Known) (j : IsJudgedRun what x flutter h double known) where
   abbrev reach : ℤ
   reach = pos (sharply_near_in x.params known.spread)
 
@@ -84,17 +70,26 @@ module _ (what : Heard) (x : Setting) (h : Cycles) (double : ℕ) (known : Known
         goes.applies (as_member x.params (row_hearer x even odd node.id))
         (subst Has (sym (members_found x h double earlier even odd d)) (member_among x flutter earlier even odd double rows node here))
 
-    pub are_hearing : AreHearing x earlier even odd reach
-    are_hearing =
-        let r = all_supplied what (round_at x earlier even odd) flutter reach (row_hearers x earlier even odd) j.all (goes.round earlier even odd d) in
-        let at : NodeSpec → Hearer = λ node. row_hearer x even odd node.id in
-        record {
-          round = r.1.round;
-          among = among;
-          hears = λ node here. hearer r.0 (round_at x earlier even odd) flutter reach (row_hearers x earlier even odd) r.1 (at node) (contains_map at (row_nodes x earlier) node here);
-          offset = λ node here. (applies node here).offset;
-          grows = λ node here. let own = applies node here in record { middle = own.middle; is = own.is_middle; near = own.grown };
-        }
+    abbrev next_rate : NodeSpec → ℤ
+    next_rate node = (as_member x.params (row_hearer x even odd node.id)).rate_term.value
+
+    pub are_applying : AreApplying x earlier even odd next_rate
+    are_applying = record {
+      among = among;
+      offset = λ node here. (applies node here).offset;
+      grows = λ node here. let own = applies node here in record { middle = own.middle; is = own.is_middle; near = own.grown };
+    }
+
+    reached : AreRowsInReach x earlier even odd reach
+    reached = goes.reached earlier even odd d
+
+    pub offset_computed : (node : NodeSpec) → HasRowIn x even node → ComputesOffset x double even odd node
+    offset_computed = computes_offset x flutter earlier even odd double reach next_rate rows reached are_applying
+
+    pub rate_computed : (node : NodeSpec) → HasRowIn x even node
+        → ((next_even next_odd : Cycle) → HasDouble h (suc double) next_even next_odd → (row_for next_even.told.rows node.id).rate ≡ next_rate node)
+        → ComputesRate x flutter h double even odd node
+    rate_computed = computes_rate x flutter earlier even odd double reach next_rate rows reached are_applying h
 
     -- ---- and in the next one
 
@@ -124,25 +119,24 @@ module _ (what : Heard) (x : Setting) (h : Cycles) (double : ℕ) (known : Known
         )
 
     rate_next : (even2 odd2 : Cycle) → IsDoubleOf h (suc double) (odd ∷ even ∷ earlier) even2 odd2 → (node : NodeSpec) → Contains (row_nodes x earlier) node
-        → (row_for even2.told.rows node.id).rate ≡ (member_at x even odd node).rate_term.value
+        → (row_for even2.told.rows node.id).rate ≡ (as_member x.params (row_hearer x even odd node.id)).rate_term.value
     rate_next even2 odd2 next node here =
         let reached = goes.reached earlier even odd d in
         (goes_on x flutter earlier even odd double rows reached.active_even reached.active_odd uncut even2 odd2 (rows_of x flutter h j.run (suc double) (odd ∷ even ∷ earlier) even2 odd2 next)
         (have_rows x flutter h j.run double j.each earlier even odd d) node here).next.even_rate
 
-  -- ---- of the double cycle
+-- ---- the laws
 
-  module _ (even odd : Cycle) (two : HasDouble h double even odd) (node : NodeSpec) (has : HasRowIn x even node) where
-    pub judged_offset : ComputesOffset x even odd node
-    judged_offset =
-        let at = here h double even odd two in
-        computes_offset x at.earlier even odd reach (are_hearing at.earlier even odd at.is) node has
+pub offsets_are_midpoints : OffsetsAreMidpoints
+offsets_are_midpoints what x flutter h double known even odd node j two has =
+    let at = here h double even odd two in
+    offset_computed what x flutter h double known j at.earlier even odd at.is node has
 
-    pub judged_rate : ComputesRate x h double even odd node
-    judged_rate =
-        let at = here h double even odd two in
-        computes_rate x at.earlier even odd reach (are_hearing at.earlier even odd at.is) h double node has
-        (λ even2 odd2 next.
-        let there = next_here h double even odd even2 odd2 two next in
-        let before = prior_of h double there.earlier even odd even2 odd2 there.is in
-        rate_next there.earlier even odd before even2 odd2 there.is node (among there.earlier even odd before node has))
+pub rates_grow_by_midpoints : RatesGrowByMidpoints
+rates_grow_by_midpoints what x flutter h double known even odd node j two has =
+    let at = here h double even odd two in
+    rate_computed what x flutter h double known j at.earlier even odd at.is node has
+    (λ even2 odd2 next.
+    let there = next_here h double even odd even2 odd2 two next in
+    let before = prior_of h double there.earlier even odd even2 odd2 there.is in
+    rate_next what x flutter h double known j there.earlier even odd before even2 odd2 there.is node (among what x flutter h double known j there.earlier even odd before node has))

@@ -1,8 +1,7 @@
 -- Which frames of key slots must be in a log where the observer missed none.
-use Rattle.std.proofs.Common.{◌≡◌, ◌⊎◌, ℕ, suc, ◌+◌, ◌-◌, ◌*◌, ◌/◌, ◌%◌, ◌==◌, ◌<◌, ◌≤◌, Bool, true, false, if◌then◌else◌, Option, Some, None, IsSome, ℤ, pos, List, [], ◌∷◌, All, length, refl, ap, sym, ◌∙◌, subst, inl, inr, arith}
-use Rattle.std.specs.Prelude.{◌+ℤ◌, ◌&&◌, not, is_some, Contains, filter, find}
+use Rattle.std.proofs.Common.{◌≡◌, ◌⊎◌, ℕ, suc, ◌+◌, ◌-◌, ◌*◌, ◌/◌, ◌%◌, ◌==◌, Bool, true, false, if◌then◌else◌, Option, Some, None, IsSome, List, [], ◌∷◌, All, refl, ap, sym, ◌∙◌, subst, inl, inr, arith}
+use Rattle.std.specs.Prelude.{◌&&◌, not, is_some, Contains, filter, find}
 use Rattle.std.specs.Option.{option_map}
-use Rattle.std.proofs.lemmas.Int.{ints}
 use Rattle.std.proofs.lemmas.List.Elements.{All-contains}
 use Rattle.fr_base.specs.Rows.{channel_rank}
 use Rattle.fr_base.specs.declared.channel.Channel.{Channel}
@@ -12,7 +11,7 @@ use Rattle.fr_cluster.specs.Questions.{has_channel}
 use Rattle.fr_cluster.specs.Setting.{Setting, correct_nodes, is_correct}
 use Rattle.fr_cluster.specs.declared.nodes.NodeSpec.{NodeSpec}
 use Rattle.fr_cluster.specs.declared.join.Join.{Join}
-use Rattle.fr_cluster.proofs.Elements.{filtered, found, kept_filtered}
+use Rattle.fr_cluster.proofs.Elements.{found, kept_filtered}
 use Rattle.fr_history.specs.Cycles.{Cycle, Cycles, cycle_at}
 use Rattle.fr_history.specs.History.{row_for, row_of}
 use Rattle.fr_history.specs.Offers.{is_on}
@@ -32,15 +31,10 @@ use Rattle.fr_sightings.specs.Sightings.{sightings_of}
 use Rattle.fr_sightings.specs.declared.sighting.Sighting.{Sighting}
 use Rattle.fr_sightings.proofs.Proper.{both}
 use Rattle.fr_seen.specs.Clocks.{StraightClock}
-use Rattle.fr_seen.specs.Observed.{IsSentIn}
-use Rattle.fr_seen.specs.LogSeen.{HasBoth, IsAmongSent, run_double}
+use Rattle.fr_seen.specs.LogSeen.{HasBoth, run_double}
 use Rattle.fr_seen.specs.RunRows.{IsTimedRun}
-use Rattle.fr_seen.proofs.RunLaws.{cut_at, nodes_have_both_rows}
 use Rattle.fr_seen.proofs.SenderLaws.{some_row}
-use Rattle.fr_seen.proofs.SightingLaws.{sightings_are_sent}
 use Rattle.fr_seen_runs.specs.Contradictions.{IsInside, IsObservedRun, MissesNone, NamesArbitrary}
-use Rattle.fr_seen_runs.specs.KeptInSync.{IsCycleOf, IsDoubleThere, KeyFramesAreThere, WasSeen}
-use Rattle.fr_seen_runs.proofs.StaysInSync.{doubles_to, keeps, last_there, sighting_within}
 
 -- ---- lists
 
@@ -115,6 +109,10 @@ row_goes_on x h double even odd next_even next_odd node (o ∷ e ∷ rest) run h
 
 -- ---- a node that sends
 
+-- a number is that of one of the cycles of a double cycle
+abbrev pub IsCycleOf : ℕ → ℕ → Type 0
+IsCycleOf double number = (number ≡ 2 * double) ⊎ (number ≡ 2 * double + 1)
+
 half_of : (n k : ℕ) → IsCycleOf k n → n / 2 ≡ k
 half_of n k (inl is) = omega (arith, is)
 half_of n k (inr is) = omega (arith, is)
@@ -134,66 +132,11 @@ module _
     (x : Setting) (h : Cycles) (base : ℕ) (delays : ℕ → Channel → Delays) (clock : ℕ → StraightClock) (l : LogView)
     (o : IsObservedRun x h base delays clock l)
   where
-    -- the double cycle of a cycle of the log, in the run
-    double_at : (number double : ℕ) → number / 2 ≡ double → number + base < length h → IsDoubleThere h (run_double base double)
-    double_at number double is less = doubles_to h x.doubles (run_double base double) o.whole (half number double base x.doubles (length h) is o.seen.seen.whole_base o.whole less)
-      where
-        half : (n k b d long : ℕ) → n / 2 ≡ k → b % 64 ≡ 0 → long ≡ 2 * d → n + b < long → k + b / 2 < d
-        half n k b d long is whole long_is less = omega (arith, is, whole, long_is, less)
-
     twice : (double : ℕ) → 2 * run_double base double ≡ 2 * double + base
     twice double = by base double o.seen.seen.whole_base
       where
         by : (b k : ℕ) → b % 64 ≡ 0 → 2 * (k + b / 2) ≡ 2 * k + b
         by b k whole = omega (arith, whole)
-
-    -- whoever was seen in a double cycle has rows in both of its cycles
-    seen_has_rows : (double : ℕ) (node : ℕ) (there : IsDoubleThere h (run_double base double)) → WasSeen (sightings_in (sightings_of x.params l) double) node
-        → HasBoth there.even there.odd node
-    seen_has_rows double node there was =
-        let parts = filtered (is_in double) (sightings_of x.params l) was.sighting was.there in
-        let of = All-contains (IsAmongSent o.seen.sent) (sightings_of x.params l) was.sighting (sightings_are_sent x h base delays clock l o.timed.sane o.log o.seen) parts.0 in
-        let sent = All-contains (IsSentIn x h base) o.seen.sent of.sent o.seen.seen.sent of.there in
-        let ways = nodes_have_both_rows x h (run_double base double) there.even there.odd node o.timed there.has in
-        let named : row_of sent.told.told.rows node ≡ Some of.sent.row = ap (row_of sent.told.told.rows) (sym (of.is.told.by_node ∙ was.of_node)) ∙ sent.has_row in
-        let at : of.sent.cycle ≡ was.sighting.number + base = counted of.sent.cycle was.sighting.number base of.sent.frame.number sent.numbered of.is.number in
-        elim (halves was.sighting.number double (same_number (was.sighting.number / 2) double parts.1)) [
-          | inl even ↦
-              let same : sent.told ≡ there.even =
-              some_same sent.told there.even (sym sent.has_cycle ∙ ap (cycle_at h) (at ∙ ap (λ n. n + base) even ∙ sym (twice double)) ∙ there.has.has_even) in
-              let row : is_some (row_of there.even.told.rows node) ≡ true = subst (λ (c : Cycle). is_some (row_of c.told.rows node) ≡ true) same (ap is_some named) in
-              record { in_even = row; in_odd = ways.0 row }
-          | inr odd ↦
-              let same : sent.told ≡ there.odd =
-              some_same sent.told there.odd (sym sent.has_cycle ∙ ap (cycle_at h) (at ∙ odd_at was.sighting.number double base (run_double base double) odd (twice double)) ∙ there.has.has_odd) in
-              let row : is_some (row_of there.odd.told.rows node) ≡ true = subst (λ (c : Cycle). is_some (row_of c.told.rows node) ≡ true) same (ap is_some named) in
-              record { in_even = ways.1 row; in_odd = row }
-        ]
-      where
-        counted : (c n b : ℕ) (number : ℤ) → pos c ≡ number +ℤ pos b → number ≡ pos n → c ≡ n + b
-        counted c n b number a e = omega (arith, ints, a, e)
-
-        odd_at : (n k b r : ℕ) → n ≡ suc (2 * k) → 2 * r ≡ 2 * k + b → n + b ≡ suc (2 * r)
-        odd_at n k b r is two = omega (arith, is, two)
-
-        halves : (n k : ℕ) → n / 2 ≡ k → (n ≡ 2 * k) ⊎ (n ≡ suc (2 * k))
-        halves n k is = grind arith
-
-        some_same : (one other : Cycle) → Some one ≡ Some other → one ≡ other
-        some_same one other is = cc is
-
-    -- and in both of the next double cycle
-    rows_go_on : (double : ℕ) (node : NodeSpec) (there : IsDoubleThere h (run_double base double)) (next : IsDoubleThere h (run_double base (suc double)))
-        → Contains (correct_nodes x) node → HasBoth there.even there.odd node.id → HasBoth next.even next.odd node.id
-    rows_go_on double node there next correct had =
-        let cut = cut_at h (run_double base (suc double)) next.even next.odd next.has in
-        let ways = nodes_have_both_rows x h (run_double base (suc double)) next.even next.odd node.id o.timed next.has in
-        let row = row_goes_on x h (run_double base double) there.even there.odd next.even next.odd node cut.earlier o.timed there.has correct had.in_odd
-        (subst (λ k. IsDoubleOf h k cut.earlier next.even next.odd) (later double (base / 2)) cut.is) in
-        record { in_even = row; in_odd = ways.0 row }
-      where
-        later : (k b : ℕ) → suc k + b ≡ suc (k + b)
-        later k b = omega arith
 
     pub correct_by : (node : NodeSpec) → NamesArbitrary x l → Contains x.params.nodes node → is_arbitrary_in l node.id ≡ false → Contains (correct_nodes x) node
     correct_by node named there is =
@@ -215,14 +158,6 @@ module _
               All-contains (λ (r : NodeRow). r.state ≡ Active) c.told.rows (row_for c.told.rows node) all
               (found (λ (r : NodeRow). r.node == node) c.told.rows (row_for c.told.rows node) is).1;
         }
-
-    number_within : (number : ℕ) → IsInside (sightings_of x.params l) number → number + base < length h
-    number_within number inside =
-        less number inside.last.number base (length h) inside.before
-        (sighting_within x h base delays clock l inside.last o (last_there (sightings_of x.params l) (length (sightings_of x.params l) - 1) inside.last inside.is_last))
-      where
-        less : (n m b long : ℕ) → n < m → m + b < long → n + b < long
-        less n m b long a e = omega (arith, a, e)
 
     there_by : (number : ℕ) (node : NodeSpec) (channel : Channel) (even odd : Cycle) (double : ℕ) → MissesNone x h base l → IsInside (sightings_of x.params l) number
         → Contains (correct_nodes x) node → IsSome node.key → is_on x node.id channel ≡ true → HasDouble h (run_double base double) even odd → IsCycleOf double number
@@ -252,25 +187,3 @@ module _
         there_by number node channel even odd double unmissed inside (correct_by node named among sync.correct) sync.keyed on has of rows even_active
         odd_active
         )
-
-pub key_frames_are_there : KeyFramesAreThere
-key_frames_are_there x h base delays clock l from before number node channel o s u le whole among own was of inside has =
-    let correct = correct_by x h base delays clock l o node s.named among (is_sync l node own).correct in
-    let within = number_within x h base delays clock l o number inside in
-    let half : number / 2 ≡ suc before = half_of number (suc before) of in
-    let next = double_at x h base delays clock l o number (suc before) half within in
-    let early = double_at x h base delays clock l o (2 * before) before (half_of_twice before) (less number before base (length h) half within) in
-    let had = seen_has_rows x h base delays clock l o before node.id early was in
-    let rows = rows_go_on x h base delays clock l o before node early next correct had in
-    let sync = (keeps x h base delays clock l from o s u (suc before) next.even next.odd (le_suc from before le) next.has).gathered.in_sync in
-    frames_by x h base delays clock l o (suc before) number node channel next.even next.odd s.named (s.unmissed whole) among own next.has rows sync.active_even sync.active_odd of
-    inside has
-  where
-    half_of_twice : (k : ℕ) → (2 * k) / 2 ≡ k
-    half_of_twice k = omega arith
-
-    less : (n k b long : ℕ) → n / 2 ≡ suc k → n + b < long → 2 * k + b < long
-    less n k b long is within = omega (arith, is, within)
-
-    le_suc : (a b : ℕ) → a ≤ b → a ≤ suc b
-    le_suc a b le = omega (arith, le)

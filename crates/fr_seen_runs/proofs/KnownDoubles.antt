@@ -35,10 +35,10 @@ use Rattle.fr_judging.specs.declared.obstacle.ObstacleKind.TheVariants as obstac
 use Rattle.fr_seen.specs.LogSeen.{log_senders, run_double}
 use Rattle.fr_sharp.specs.JudgedSteps.{EachHasRow, IsKnownAt}
 use Rattle.fr_sharp.specs.Lengths.{IsAboutCycle}
-use Rattle.fr_seen_runs.specs.KeptInSync.{IsDoubleThere}
+use Rattle.fr_seen_runs.specs.LogDoubles.{IsDoubleThere}
 use Rattle.fr_seen_runs.specs.KnownDoubles.{SeenIsKnown}
 use Rattle.fr_seen_runs.proofs.SeenDoubles.{seen_double_there}
-use Rattle.fr_seen_runs.proofs.SyncedNodes.{AreRowsSeen, even_long, lengths_near, rows_seen, starts_near}
+use Rattle.fr_seen_runs.proofs.SeenNodes.{AreRowsSeen, even_long, lengths_near, rows_seen, starts_near}
 
 -- ---- numbers
 
@@ -154,7 +154,7 @@ module _ (x : Setting) (h : Cycles) (drift k : ℕ) (senders : List Sender) (the
         active_odd = seen.active_odd;
         rows = record {
           starts_lie = starts_near x drift there.even there.odd senders seen (pos (from_none starts)) (up_to starts);
-          lengths_lie = (lengths_near x drift there.even there.odd senders seen (pos (from_none lengths)) (up_to lengths)).0;
+          lengths_lie = lengths_near x drift there.even there.odd senders seen (pos (from_none lengths)) (up_to lengths);
           about =
               even_long x drift there.even there.odd senders seen (IsAboutCycle x.params (pos (most_beyond x.params Scaled senders)))
               (about_by x.params Scaled senders);
@@ -166,7 +166,7 @@ module _ (x : Setting) (h : Cycles) (drift k : ℕ) (senders : List Sender) (the
 
   each_has_row : EachHasRow x h k
   each_has_row node correct earlier even odd is =
-      let active = (seen.each_active node correct).0 in
+      let active = seen.each_active node correct in
       let same : even ≡ there.even = some_same even there.even (sym (even_is h k earlier even odd is) ∙ there.has.has_even) in
       ap is_some (ap (λ (c : Cycle). row_of c.told.rows node.id) same ∙ active.has_row)
     where

@@ -43,12 +43,13 @@ use Rattle.fr_sharp.specs.JudgedSteps.{EachHasRow, IsKnownAt}
 use Rattle.fr_sharp.specs.Lengths.{IsAboutCycle}
 use Rattle.fr_sharp.specs.SharpHistories.{KeepsApart}
 use Rattle.fr_seen_runs.specs.Contradictions.{IsObservedRun, MissesNone, NamesArbitrary}
-use Rattle.fr_seen_runs.specs.KeptInSync.{IsAsLong, LieAsSeen}
+use Rattle.fr_seen_runs.specs.LogDoubles.{IsAsLong, LieAsSeen}
 use Rattle.fr_seen_runs.specs.KnownDoubles.{HasNoFaultBeyond, HasNoSkewAbove, NoFaultBeyond, NoKnownFault, NoKnownFrameMissing, NoSkewFaultWithin}
-use Rattle.fr_seen_runs.proofs.FaultsInSync.{none_given, none_missing, none_of, not_less}
+use Rattle.fr_seen_runs.proofs.ComputedLists.{none_given}
+use Rattle.fr_seen_runs.proofs.MissingFrames.{none_missing, none_of, not_less}
 use Rattle.fr_seen_runs.proofs.KeyFrames.{correct_by, frames_by, is_sync}
 use Rattle.fr_seen_runs.proofs.SendersApart.{lie_as_seen}
-use Rattle.fr_seen_runs.proofs.StaysInSync.{natural, run_among, sender_row, senders_among, skew_by, some_within, trans}
+use Rattle.fr_seen_runs.proofs.SenderRows.{natural, run_among, sender_row, senders_among, skew_by, some_within, trans}
 
 -- what is told of a cycle at a macrotick is the skew there
 told_skew : (p : Values) (h : Cycles) (cycle macrotick : ℕ) (c : Cycle) (bound : ℤ) → cycle_at h cycle ≡ Some c → skew_at p (told_of h) cycle macrotick ≤ℤ bound
@@ -133,7 +134,7 @@ module _
         → missing_frames x.params l (log_span (sightings_of x.params l)) before (sightings_in (sightings_of x.params l) double) double ≡ []
     missing_none before named unmissed each =
         none_missing x.params l (log_span (sightings_of x.params l)) before (sightings_in (sightings_of x.params l) double) double
-        (λ node whole there own was.
+        (λ node whole there own.
         none_of (sightings_of x.params l) double node
         (λ number channel of inside on.
         frames_by x h base delays clock l o double number node channel at.even at.odd named (unmissed whole) there own has (has_both node named each there own) at.active_even

@@ -7,7 +7,7 @@ use Rattle.std.specs.Option.{option_or, option_to_list}
 use Rattle.std.proofs.lemmas.Int.{ints}
 use Rattle.std.proofs.lemmas.List.Elements.{All-append, All-cons, All-nil}
 use Rattle.fr_base.specs.declared.channel.Channel.{Channel}
-use Rattle.fr_judging.specs.Coverables.{log_precision}
+use Rattle.fr_judging.specs.Hearing.{log_precision}
 use Rattle.fr_cluster.specs.Setting.{Setting}
 use Rattle.fr_cluster.proofs.Elements.{Contains-here, Contains-there}
 use Rattle.fr_history.specs.Cycles.{Cycle, Cycles}
@@ -31,9 +31,9 @@ use Rattle.fr_seen.specs.LogSeen.{log_senders, run_double, sender_rows}
 use Rattle.fr_seen.specs.Skews.{HasSkew}
 use Rattle.fr_seen.proofs.RowLaws.{observed_rows_hold}
 use Rattle.fr_seen_runs.specs.Contradictions.{IsObservedRun}
-use Rattle.fr_seen_runs.specs.KeptInSync.{IsDoubleThere}
+use Rattle.fr_seen_runs.specs.LogDoubles.{IsDoubleThere}
 use Rattle.fr_seen_runs.specs.OverRows.{HasOver, RowIsOver, OverIsCounted, OverIsSo, over_at, over_in, over_rows}
-use Rattle.fr_seen_runs.proofs.StaysInSync.{doubles_are_there}
+use Rattle.fr_seen_runs.proofs.SeenDoubles.{doubles_are_there}
 use Rattle.fr_seen_runs.proofs.ToldVerdicts.{over_told_by}
 
 -- ---- which they are

@@ -1,4 +1,4 @@
--- No fault that any run excludes is told of a log that is seen of a run; and where a double cycle is seen in sync, it is.
+-- No fault that any run excludes is told of a log that is seen of a run.
 use Rattle.std.proofs.Common.{◌≡◌, ℕ, List, [], ◌++◌, map, ap, ◌∙◌}
 use Rattle.std.specs.Prelude.{filter_map}
 use Rattle.std.specs.List.{flat_map}
@@ -17,11 +17,10 @@ use Rattle.fr_seen.proofs.SightingLaws.{no_frame_is_untimely}
 use Rattle.fr_seen_runs.specs.Contradictions.{IsObservedRun}
 use Rattle.fr_observe.specs.Faults.{correction_fault, cycle_fault, irregular_fault, node_faults, own_faults, slot_faults, twice_fault}
 use Rattle.fr_sightings.specs.Sightings.{untimely_of}
-use Rattle.fr_seen_runs.specs.NotContradicted.{OwnFaultsAreNone, SlotFaultsAreNone, SyncIsSeen}
+use Rattle.fr_seen_runs.specs.NotContradicted.{OwnFaultsAreNone, SlotFaultsAreNone}
 use Rattle.fr_seen_runs.proofs.SeenDoubles.{seen_double_there}
 use Rattle.fr_seen_runs.proofs.OwnClocks.{nodes_none}
 use Rattle.fr_seen_runs.proofs.OwnSightings.{corrections_none, twices_none}
-use Rattle.fr_seen_runs.proofs.SyncedNodes.{sync_is_seen_at}
 
 -- no frame of such a log is untimely
 none_untimely : (x : Setting) (h : Cycles) (base : ℕ) (delays : ℕ → Channel → Delays) (clock : ℕ → StraightClock) (l : LogView) → IsObservedRun x h base delays clock l
@@ -48,7 +47,3 @@ own_faults_are_none x h base delays clock l double run among =
 pub slot_faults_are_none : SlotFaultsAreNone
 unfolding slot_faults
 slot_faults_are_none x h l double own = ap (λ seen. map (irregular_fault x.params) (sightings_in seen double)) (no_frame_is_irregular x h l own)
-
-pub sync_is_seen : SyncIsSeen
-sync_is_seen x h base delays clock l double faults run named among synced =
-    sync_is_seen_at x h base delays clock l run double named (seen_double_there x h base delays clock l run double among) faults synced

@@ -1,12 +1,12 @@
 -- What holds behind some double cycles of a log, one after the other.
-use Rattle.std.proofs.Common.{◌≡◌, ℕ, zero, suc, ◌+◌, ◌-◌, true, Option, Some, None, List, [], ◌∷◌, ◌++◌, length, refl, ap, sym, ◌∙◌, subst, arith}
+use Rattle.std.proofs.Common.{◌≡◌, ℕ, zero, suc, ◌+◌, ◌-◌, Option, Some, None, List, [], ◌∷◌, ◌++◌, All, length, refl, ap, sym, ◌∙◌, subst, arith}
 use Rattle.std.specs.Prelude.{Contains, slice_get}
 use Rattle.std.specs.List.{range_with_len}
 use Rattle.std.specs.Option.{option_or}
+use Rattle.std.proofs.lemmas.List.Elements.{All-append, All-nil}
 use Rattle.fr_base.specs.declared.channel.Channel.{Channel}
 use Rattle.fr_bound.specs.declared.judging.Known.{Known}
 use Rattle.fr_cluster.specs.Setting.{Setting}
-use Rattle.fr_cluster.specs.Values.{Values}
 use Rattle.fr_cluster.proofs.Elements.{Contains-here, Contains-there}
 use Rattle.fr_history.specs.Cycles.{Cycles}
 use Rattle.fr_log.specs.View.{LogView}
@@ -17,23 +17,13 @@ use Rattle.fr_sightings.specs.Sightings.{sightings_of}
 use Rattle.fr_sightings.specs.declared.sighting.Sighting.{Sighting}
 use Rattle.fr_seen.specs.Clocks.{StraightClock}
 use Rattle.fr_seen_runs.specs.Contradictions.{IsObservedRun}
-use Rattle.fr_observe.specs.declared.fault.SyncFrom.{SyncFrom}
 use Rattle.fr_observe.specs.declared.fault.Fault.{Fault}
-use Rattle.fr_observe.specs.Faults.{faults_in_sync, first_of_faults, slot_faults}
-use Rattle.fr_findings.specs.Verdict.{Basis, DoubleCycle, double_at, double_faults, faults_told, in_sync_told, known_told, log_basis, own_told, progress_behind, progress_of, progress_told, sync_told}
-use Rattle.fr_judging.specs.Coverables.{heard_by, is_coverable}
-use Rattle.fr_judging.specs.declared.coverable.Coverable.{Coverable}
-use Rattle.fr_judging.specs.declared.coverable.Coverable.TheVariants as coverable
+use Rattle.fr_observe.specs.Faults.{first_of_faults, slot_faults}
+use Rattle.fr_findings.specs.Verdict.{Basis, DoubleCycle, double_at, double_faults, faults_told, known_told, log_basis, own_told, progress_behind, progress_of, progress_told}
 use Rattle.fr_findings.specs.declared.progress.Progress.{Progress}
 use Rattle.fr_sightings.specs.Sightings.{OffendingFrames, irregular_of, offending_frames_of}
 use Rattle.fr_seen_runs.specs.ToldFaults.{faults_from}
 use Rattle.fr_seen_runs.proofs.OwnFaults.{own_faults_are_none}
-
--- where a run can be covered, double cycles are judged by sync alone
-pub unheard : (p : Values) (l : LogView) (c : Coverable) → is_coverable c ≡ true → heard_by p l c ≡ None
-unheard p l coverable.Open is = refl
-unheard p l (coverable.Check number left right) is = absurd (cc is)
-unheard p l (coverable.Count correct arbitrary) is = absurd (cc is)
 
 -- ---- double cycles
 
@@ -100,23 +90,30 @@ module _ (b : Basis) (seen : List Sighting) (offending : OffendingFrames) where
   first_is [] progress = or_none progress.first
   first_is (double ∷ doubles) progress =
       first_is doubles (progress_behind b seen offending double progress)
-      ∙ or_both progress.first (double_faults b seen offending double (sync_told b (double_at b seen offending double) progress.sync) progress.known)
+      ∙ or_both progress.first (double_faults b seen offending double progress.known)
       (faults_from b seen offending (progress_behind b seen offending double progress) doubles)
 
-  -- what holds of none of them, and of some with others, and of those of each double cycle, holds of all
-  module _ (Q : List Fault → Type 0) (none : Q []) (both : (some more : List Fault) → Q some → Q more → Q (some ++ more)) (P : ℕ → Progress → Type 0) where
+-- ---- what is told of each one by what is known of it
+
+module _ (b : Basis) (seen : List Sighting) (offending : OffendingFrames) {X : Type 0} (told : ℕ → Progress → List X) where
+  -- that of all, one after the other
+  unfoldable pub told_from : Progress → List ℕ → List X
+  told_from progress [] = []
+  told_from progress (double ∷ doubles) = told double progress ++ told_from (progress_behind b seen offending double progress) doubles
+
+  -- what holds of each that is told of one, and of nothing, holds of all
+  module _ (Q : X → Type 0) (P : ℕ → Progress → Type 0) where
     abbrev Steps : List ℕ → Type 0
     Steps doubles =
         (double : ℕ) (before : Progress) → Contains doubles double → P double before
-        → Q (double_faults b seen offending double (sync_told b (double_at b seen offending double) before.sync) before.known) × P (suc double) (progress_behind b seen offending double before)
+        → All Q (told double before) × P (suc double) (progress_behind b seen offending double before)
 
-    told_each : (count first : ℕ) (progress : Progress) → Steps (range_with_len first count) → P first progress → Q (faults_from b seen offending progress (range_with_len first count))
-    unfolding faults_from
-    told_each zero first progress step holds = none
+    told_each : (count first : ℕ) (progress : Progress) → Steps (range_with_len first count) → P first progress → All Q (told_from progress (range_with_len first count))
+    unfolding told_from
+    told_each zero first progress step holds = All-nil Q
     told_each (suc count) first progress step holds =
         let one = step first progress (Contains-here first (range_with_len (first + 1) count)) holds in
-        both (double_faults b seen offending first (sync_told b (double_at b seen offending first) progress.sync) progress.known)
-        (faults_from b seen offending (progress_behind b seen offending first progress) (range_with_len (first + 1) count)) one.0
+        All-append Q (told first progress) (told_from (progress_behind b seen offending first progress) (range_with_len (first + 1) count)) one.0
         (told_each count (first + 1) (progress_behind b seen offending first progress)
         (λ double before among. step double before (Contains-there first (range_with_len (first + 1) count) double among))
         (subst (λ n. P n (progress_behind b seen offending first progress)) (next first) one.1))
@@ -124,9 +121,9 @@ module _ (b : Basis) (seen : List Sighting) (offending : OffendingFrames) where
         next : (n : ℕ) → suc n ≡ n + 1
         next n = omega arith
 
-    pub told_all : (doubles : List ℕ) (progress : Progress) → AreInTurn doubles → Steps doubles → ((first : ℕ) → P first progress) → Q (faults_from b seen offending progress doubles)
+    pub told_all : (doubles : List ℕ) (progress : Progress) → AreInTurn doubles → Steps doubles → ((first : ℕ) → P first progress) → All Q (told_from progress doubles)
     told_all doubles progress turn step holds =
-        subst (λ ds. Q (faults_from b seen offending progress ds)) (sym turn.are)
+        subst (λ ds. All Q (told_from progress ds)) (sym turn.are)
         (told_each turn.count turn.first progress (λ double before among. step double before (subst (λ ds. Contains ds double) (sym turn.are) among)) (holds turn.first))
 
 -- ---- the faults of one
@@ -151,13 +148,8 @@ module _ (x : Setting) (h : Cycles) (base : ℕ) (delays : ℕ → Channel → D
   own_left double among =
       ap (λ own. own ++ slot_faults x.params (Irregular double)) (own_faults_are_none x h base delays clock l double run among)
 
-  -- and those of sync, or of what is known
-  abbrev pub rest_told : ℕ → Option SyncFrom → Option Known → List Fault
-  rest_told double sync known =
-      faults_in_sync (is_coverable (log_basis x.params l).covered) sync (in_sync_told (log_basis x.params l) (At double)) ++ known_told (log_basis x.params l) (At double) known
-
-  pub faults_left : (double : ℕ) (sync : Option SyncFrom) (known : Option Known) → Contains (seen_doubles Seen) double
-      → faults_told (log_basis x.params l) (At double) sync known ≡ slot_faults x.params (Irregular double) ++ rest_told double sync known
+  -- and those of what is known
+  pub faults_left : (double : ℕ) (known : Option Known) → Contains (seen_doubles Seen) double
+      → faults_told (log_basis x.params l) (At double) known ≡ slot_faults x.params (Irregular double) ++ known_told (log_basis x.params l) (At double) known
   unfolding faults_told
-  faults_left double sync known among =
-      ap (λ own. own ++ rest_told double sync known) (own_left double among)
+  faults_left double known among = ap (λ own. own ++ known_told (log_basis x.params l) (At double) known) (own_left double among)

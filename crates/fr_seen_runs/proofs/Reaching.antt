@@ -1,13 +1,11 @@
 -- Where the verdict of a log is within, the skew stays within the precision in each of its cycles, in each run that the log is seen of.
-use Rattle.std.proofs.Common.{◌≡◌, ◌⊎◌, ℕ, suc, ◌+◌, ◌*◌, ◌/◌, ◌%◌, ◌==◌, ◌≤◌, ◌&&◌, ◌||◌, Bool, true, false, Option, Some, None, ℤ, pos, List, [], ◌∷◌, All, map, refl, ap, sym, ◌∙◌, subst, inl, inr, arith}
-use Rattle.std.specs.Prelude.{Contains, IfSome, int_lt, is_some, if◌then◌else◌}
-use Rattle.std.specs.Option.{option_map, option_or}
+use Rattle.std.proofs.Common.{◌≡◌, ◌⊎◌, ℕ, suc, ◌+◌, ◌*◌, ◌/◌, ◌%◌, ◌==◌, ◌≤◌, Bool, true, false, Option, Some, None, ℤ, pos, List, [], ◌∷◌, All, map, refl, ap, sym, ◌∙◌, subst, inl, inr, arith}
+use Rattle.std.specs.Prelude.{Contains, IfSome, int_lt, if◌then◌else◌}
+use Rattle.std.specs.Option.{option_map}
 use Rattle.std.proofs.lemmas.List.Elements.{All-head}
 use Rattle.fr_base.specs.declared.channel.Channel.{Channel}
-use Rattle.fr_bound.specs.declared.judging.Heard.{Heard}
 use Rattle.fr_cluster.specs.Setting.{Setting}
 use Rattle.fr_history.specs.Cycles.{Cycles}
-use Rattle.fr_history.specs.Unfollowed.{IsUnfollowedSyncAt}
 use Rattle.fr_log.specs.View.{LogView}
 use Rattle.fr_course.specs.Readings.{reading_scale}
 use Rattle.fr_course.specs.Spread.{most_odd_skew}
@@ -23,20 +21,17 @@ use Rattle.fr_sightings.specs.declared.sighting.Sighting.{Sighting}
 use Rattle.fr_seen.specs.Clocks.{StraightClock}
 use Rattle.fr_seen.specs.LogSeen.{SaysSo, log_senders, run_double, sender_rows}
 use Rattle.fr_seen.proofs.WordLaws.{even_words_hold, odd_words_hold}
-use Rattle.fr_seen_runs.specs.Contradictions.{IsObservedRun, NamesArbitrary}
-use Rattle.fr_seen_runs.specs.KeptInSync.{IsDoubleThere}
-use Rattle.fr_seen_runs.specs.NotContradicted.{WithinIsInSync, WithinIsSo, WithinIsThere}
-use Rattle.fr_observe.specs.declared.fault.SyncFrom.{SyncFrom}
-use Rattle.fr_observe.specs.Faults.{is_sync_seen, seen_sync, stated_sync, sync_behind}
-use Rattle.fr_findings.specs.Verdict.{Basis, DoubleCycle, by_heard, double_at, even_says, further_within, is_judged, judged_by, log_basis, log_progress, no_progress, odd_says, own_told, progress_behind, progress_told, reach_behind, reach_behind_both, reach_by, reach_where, standing_told, sync_told, verdict_of}
-use Rattle.fr_judging.specs.Coverables.{coverable_of, is_coverable, log_precision}
+use Rattle.fr_seen_runs.specs.Contradictions.{IsObservedRun}
+use Rattle.fr_seen_runs.specs.LogDoubles.{IsDoubleThere}
+use Rattle.fr_seen_runs.specs.NotContradicted.{WithinIsSo, WithinIsThere}
+use Rattle.fr_findings.specs.Verdict.{Basis, DoubleCycle, double_at, even_says, further_within, judged_by, log_basis, log_progress, no_progress, odd_says, progress_behind, progress_told, reach_behind, reach_by, reach_where, standing_told, verdict_of}
+use Rattle.fr_judging.specs.Hearing.{log_precision}
 use Rattle.fr_findings.specs.declared.progress.Judged.{Judged}
 use Rattle.fr_findings.specs.declared.progress.Progress.{Progress}
 use Rattle.fr_findings.specs.declared.progress.Reach.{Reach}
 use Rattle.fr_sightings.specs.Sightings.{OffendingFrames, offending_frames_of}
 use Rattle.fr_seen_runs.proofs.OwnSightings.{here_there, next_there}
-use Rattle.fr_seen_runs.proofs.OwnFaults.{sync_is_seen}
-use Rattle.fr_seen_runs.proofs.Progressing.{behind_all, seen_in_turn, unheard}
+use Rattle.fr_seen_runs.proofs.Progressing.{behind_all, seen_in_turn}
 use Rattle.fr_seen_runs.proofs.ToldVerdicts.{within_told}
 
 -- ---- the reach of what cycles say
@@ -86,11 +81,13 @@ module _ (said : ℕ → Says) where
   reached_behind next reach true is = ended next (suc next) reach true is
   reached_behind next reach false is = reached_by next reach (said next) refl is
 
-  reached_both : (sync : Option SyncFrom) (double : ℕ) (reach : Option Reach) (is_ended : Bool) → (sync ≡ None → reach ≡ None) → IsReached (2 * double) reach is_ended
-      → IsReached (2 * suc double) (reach_behind_both sync double (said (2 * double)) (said (2 * double + 1)) (reach, is_ended)).0
-      (reach_behind_both sync double (said (2 * double)) (said (2 * double + 1)) (reach, is_ended)).1
-  reached_both None double reach is_ended none is = subst (λ r. IsReached (2 * suc double) r is_ended) (sym (none refl)) (none_reached (2 * suc double) is_ended)
-  reached_both (Some from) double reach is_ended none is =
+  -- behind both cycles of a double cycle: before the first that is judged nothing is reached
+  reached_where : (now : Bool) (span : Option Reach) (double : ℕ) (reach : Option Reach) (is_ended : Bool) → (span ≡ None → reach ≡ None) → IsReached (2 * double) reach is_ended
+      → IsReached (2 * suc double) (reach_where now span double (said (2 * double)) (said (2 * double + 1)) (reach, is_ended)).0
+      (reach_where now span double (said (2 * double)) (said (2 * double + 1)) (reach, is_ended)).1
+  reached_where false None double reach is_ended none is = subst (λ r. IsReached (2 * suc double) r is_ended) (sym (none refl)) (none_reached (2 * suc double) is_ended)
+  reached_where false (Some s) double reach is_ended none is = none_reached (2 * suc double) true
+  reached_where true span double reach is_ended none is =
       let even = reach_behind (reach, is_ended) (2 * double) (said (2 * double)) in
       let first = reached_behind (2 * double) reach is_ended is in
       let next : suc (2 * double) ≡ 2 * double + 1 = one (2 * double) in
@@ -161,72 +158,32 @@ module _ (x : Setting) (h : Cycles) (base : ℕ) (delays : ℕ → Channel → D
       odd d = grind arith
 
   -- behind each double cycle; before the first that is judged nothing is reached
-  abbrev Before : Option Heard → Option SyncFrom → Option Reach → Type 0
-  Before None sync span = sync ≡ None
-  Before (Some what) sync span = span ≡ None
-
   pub record Reaches (double : ℕ) (progress : Progress) : Type 0 where
-    pub none : Before Log.heard progress.sync progress.judged.span → progress.reach ≡ None
+    pub none : progress.judged.span ≡ None → progress.reach ≡ None
     pub is : IsReached cycle_says (2 * double) progress.reach progress.is_ended
 
-  unsynced : (double : ℕ) (sync : Option SyncFrom) → sync_told Log (At double) sync ≡ None → sync ≡ None
-  unfolding sync_told
-  unsynced double None is = refl
-  unsynced double (Some from) is = absurd (cc is)
-
-  none_behind : (sync : Option SyncFrom) (double : ℕ) (even odd : Says) (reach : Option Reach) (is_ended : Bool) → sync ≡ None → reach ≡ None
-      → (reach_behind_both sync double even odd (reach, is_ended)).0 ≡ None
-  none_behind None double even odd reach is_ended is none = none
-  none_behind (Some from) double even odd reach is_ended is none = absurd (cc is)
-
-  -- by sync, or by its own numbers
-  abbrev Passed : Option Heard → Option SyncFrom → Bool → Option Reach → ℕ → Says → Says → (Option Reach × Bool) → (Option Reach × Bool)
-  Passed heard sync now span double even odd reach = by_heard heard (reach_behind_both sync double even odd reach) (reach_where now span double even odd reach)
-
-  any_from : SyncFrom
-  any_from = record { double = 0; is_stated = false }
-
-  reached_passed : (heard : Option Heard) (after sync : Option SyncFrom) (now : Bool) (span : Option Reach) (double : ℕ) (reach : Option Reach) (is_ended : Bool) → (after ≡ None → sync ≡ None)
-      → (Before heard sync span → reach ≡ None) → IsReached cycle_says (2 * double) reach is_ended
-      → IsReached cycle_says (2 * suc double) (Passed heard after now span double (cycle_says (2 * double)) (cycle_says (2 * double + 1)) (reach, is_ended)).0
-      (Passed heard after now span double (cycle_says (2 * double)) (cycle_says (2 * double + 1)) (reach, is_ended)).1
-  reached_passed None after sync now span double reach is_ended stays none is = reached_both cycle_says after double reach is_ended (λ gone. none (stays gone)) is
-  reached_passed (Some what) after sync true span double reach is_ended stays none is =
-      reached_both cycle_says (Some any_from) double reach is_ended (λ gone. absurd (cc gone)) is
-  reached_passed (Some what) after sync false None double reach is_ended stays none is = reached_both cycle_says None double reach is_ended (λ gone. none refl) is
-  reached_passed (Some what) after sync false (Some s) double reach is_ended stays none is = none_reached cycle_says (2 * suc double) true
-
-  none_passed : (heard : Option Heard) (after sync : Option SyncFrom) (all now : Bool) (judged : Judged) (said : List Says) (double : ℕ) (even odd : Says) (reach : Option Reach) (is_ended : Bool)
-      → (now ≡ true → all ≡ true) → (after ≡ None → sync ≡ None) → (Before heard sync judged.span → reach ≡ None) → Before heard after (judged_by all judged double said).span
-      → (Passed heard after now judged.span double even odd (reach, is_ended)).0 ≡ None
-  none_passed None after sync all now judged said double even odd reach is_ended fits stays none gone = none_behind after double even odd reach is_ended gone (none (stays gone))
-  none_passed (Some what) after sync true now judged said double even odd reach is_ended fits stays none gone = absurd (cc gone)
-  none_passed (Some what) after sync false true judged said double even odd reach is_ended fits stays none gone = absurd (let e = fits refl in cc e)
-  none_passed (Some what) after sync false false judged said double even odd reach is_ended fits stays none gone = by judged.span gone (none gone)
+  none_where : (now : Bool) (judged : Judged) (said : List Says) (double : ℕ) (even odd : Says) (reach : Option Reach) (is_ended : Bool) → (judged.span ≡ None → reach ≡ None)
+      → (judged_by now judged double said).span ≡ None → (reach_where now judged.span double even odd (reach, is_ended)).0 ≡ None
+  none_where true judged said double even odd reach is_ended none gone = absurd (cc gone)
+  none_where false judged said double even odd reach is_ended none gone = by judged.span gone (none gone)
     where
       by : (span : Option Reach) → span ≡ None → reach ≡ None → (reach_where false span double even odd (reach, is_ended)).0 ≡ None
       by None gone is = is
       by (Some s) gone is = absurd (cc gone)
 
-  or_right : (a b : Bool) → b ≡ true → (a || b) ≡ true
-  or_right true b is = refl
-  or_right false b is = is
-
   reaches_behind : (double : ℕ) (progress : Progress) → Contains (seen_doubles Seen) double → Reaches double progress → Reaches (suc double) (progress_behind Log Seen Offending double progress)
   unfolding progress_told double_at
   reaches_behind double progress among before =
       let d = At double in
-      let sync = sync_told Log d progress.sync in
       let now = (standing_told Log d progress.known).is_judged in
       let span = progress.judged.span in
-      let both = reached_passed Log.heard sync progress.sync now span double progress.reach progress.is_ended (unsynced double progress.sync) before.none before.is in
-      let Behind : Says → Says → Type 0 = λ even odd. IsReached cycle_says (2 * suc double)
-      (Passed Log.heard sync now span double even odd (progress.reach, progress.is_ended)).0 (Passed Log.heard sync now span double even odd (progress.reach, progress.is_ended)).1 in
+      let both = reached_where cycle_says now span double progress.reach progress.is_ended before.none before.is in
+      let Next : Says → Says → Type 0 = λ even odd. IsReached cycle_says (2 * suc double)
+      (reach_where now span double even odd (progress.reach, progress.is_ended)).0 (reach_where now span double even odd (progress.reach, progress.is_ended)).1 in
       record {
         none = λ gone.
-            none_passed Log.heard sync progress.sync (is_judged Log d sync progress.known) now progress.judged (both_say Log.precision Log.scale d.senders) double (even_says Log d) (odd_says Log d)
-            progress.reach progress.is_ended (or_right (is_coverable Log.covered && is_some sync) now) (unsynced double progress.sync) before.none gone;
-        is = subst (Behind (even_says Log d)) (odd_cycle_says double) (subst (λ even. Behind even (cycle_says (2 * double + 1))) (even_cycle_says double) both);
+            none_where now progress.judged (both_say Log.precision Log.scale d.senders) double (even_says Log d) (odd_says Log d) progress.reach progress.is_ended before.none gone;
+        is = subst (Next (even_says Log d)) (odd_cycle_says double) (subst (λ even. Next even (cycle_says (2 * double + 1))) (even_cycle_says double) both);
       }
 
   pub reached : (r : Reach) → (log_progress Log Seen Offending).reach ≡ Some r → (cycle : ℕ) → r.from ≤ cycle → cycle ≤ r.to → cycle_says cycle ≡ Within
@@ -277,131 +234,6 @@ module _ (x : Setting) (h : Cycles) (base : ℕ) (delays : ℕ → Channel → D
       by None there is = absurd (cc is)
       by (Some next) there is = there
 
-  -- ---- from the first cycle on
-
-  module _ (named : NamesArbitrary x l) (unstated : l.since ≡ None) (covers : is_coverable (coverable_of x.params l) ≡ true) where
-    -- the reach begins with the first cycle in sync
-    pub record IsFromFirst (first : ℕ) (reach : Option Reach) (is_ended : Bool) : Type 0 where
-      pub begins : IfSome reach (λ r. r.from ≡ first)
-      pub gone : reach ≡ None → is_ended ≡ true
-
-    still_ended : (first : ℕ) (reach : Option Reach) (is_ended : Bool) → IsFromFirst first reach is_ended → IsFromFirst first reach true
-    still_ended first reach is_ended is = record { begins = is.begins; gone = λ none. refl }
-
-    never_none : (reach : Reach) (is_ended : Bool) → Some reach ≡ None → is_ended ≡ true
-    never_none reach is_ended is = absurd (cc is)
-
-    from_by : (first cycle : ℕ) (reach : Option Reach) (says : Says) → IsFromFirst first reach false → IsFromFirst first (reach_by reach cycle says).0 (reach_by reach cycle says).1
-    from_by first cycle None Within is = absurd (let e = is.gone refl in cc e)
-    from_by first cycle (Some r) Within is = record { begins = is.begins; gone = never_none (record { from = r.from; to = cycle }) false }
-    from_by first cycle reach Over is = still_ended first reach false is
-    from_by first cycle reach Open is = still_ended first reach false is
-
-    from_behind : (first cycle : ℕ) (reach : Option Reach) (is_ended : Bool) (says : Says) → IsFromFirst first reach is_ended
-        → IsFromFirst first (reach_behind (reach, is_ended) cycle says).0 (reach_behind (reach, is_ended) cycle says).1
-    from_behind first cycle reach true says is = still_ended first reach true is
-    from_behind first cycle reach false says is = from_by first cycle reach says is
-
-    from_new : (cycle : ℕ) (says : Says) → IsFromFirst cycle (reach_behind (None, false) cycle says).0 (reach_behind (None, false) cycle says).1
-    from_new cycle Within = record { begins = refl; gone = never_none (record { from = cycle; to = cycle }) false }
-    from_new cycle Over = record { begins = tt; gone = λ none. refl }
-    from_new cycle Open = record { begins = tt; gone = λ none. refl }
-
-    pub record BeginsIn (from : SyncFrom) (reach : Option Reach) (is_ended : Bool) : Type 0 where
-      pub there : IsUnfollowedSyncAt x.params h (run_double base from.double)
-      pub is : IsFromFirst (2 * from.double) reach is_ended
-
-    pub record Begins (sync : Option SyncFrom) (reach : Option Reach) (is_ended : Bool) : Type 0 where
-      pub none : sync ≡ None → (reach ≡ None) × (is_ended ≡ false)
-      pub some : IfSome sync (λ from. BeginsIn from reach is_ended)
-
-    -- behind both cycles of a double cycle
-    abbrev BeginsBehind : Option SyncFrom → ℕ → Says → Says → Option Reach → Bool → Type 0
-    BeginsBehind sync double even odd reach is_ended =
-        Begins sync (reach_behind_both sync double even odd (reach, is_ended)).0 (reach_behind_both sync double even odd (reach, is_ended)).1
-
-    some_never : (from : SyncFrom) (reach : Option Reach) (is_ended : Bool) → Some from ≡ None → (reach ≡ None) × (is_ended ≡ false)
-    some_never from reach is_ended is = absurd (cc is)
-
-    goes_on : (from : SyncFrom) (double : ℕ) (even odd : Says) (reach : Option Reach) (is_ended : Bool) → BeginsIn from reach is_ended → BeginsBehind (Some from) double even odd reach is_ended
-    goes_on from double even odd reach is_ended is =
-        let one = reach_behind (reach, is_ended) (2 * double) even in
-        let two = reach_behind one (2 * double + 1) odd in
-        record {
-          none = some_never from two.0 two.1;
-          some = record {
-            there = is.there;
-            is = from_behind (2 * from.double) (2 * double + 1) one.0 one.1 odd (from_behind (2 * from.double) (2 * double) reach is_ended even is.is);
-          };
-        }
-
-    begins_new : (double : ℕ) (even odd : Says) → IsUnfollowedSyncAt x.params h (run_double base double)
-        → BeginsBehind (Some (record { double = double; is_stated = false })) double even odd None false
-    begins_new double even odd there =
-        let from : SyncFrom = record { double = double; is_stated = false } in
-        let one = reach_behind (None, false) (2 * double) even in
-        let two = reach_behind one (2 * double + 1) odd in
-        record {
-          none = some_never from two.0 two.1;
-          some = record { there = there; is = from_behind (2 * double) (2 * double + 1) one.0 one.1 odd (from_new (2 * double) even) };
-        }
-
-    begins_by : (since : Option ℕ) → since ≡ None → (double : ℕ) (seen : Bool) (even odd : Says) → (seen ≡ true → IsUnfollowedSyncAt x.params h (run_double base double))
-        → BeginsBehind (option_or (stated_sync since double) (seen_sync seen double)) double even odd None false
-    begins_by (Some cycle) none double seen even odd there = absurd (cc none)
-    begins_by None none double true even odd there = begins_new double even odd (there refl)
-    begins_by None none double false even odd there = record { none = λ is. (refl, refl); some = tt }
-
-    begins_step : (sync : Option SyncFrom) (double : ℕ) (seen : Bool) (even odd : Says) (reach : Option Reach) (is_ended : Bool)
-        → (seen ≡ true → IsUnfollowedSyncAt x.params h (run_double base double)) → Begins sync reach is_ended
-        → BeginsBehind (sync_behind l double seen sync) double even odd reach is_ended
-    begins_step (Some from) double seen even odd reach is_ended there before = goes_on from double even odd reach is_ended before.some
-    begins_step None double seen even odd reach is_ended there before =
-        let none = before.none refl in
-        let sync = option_or (stated_sync l.since double) (seen_sync seen double) in
-        subst (λ r. BeginsBehind sync double even odd r is_ended) (sym none.0)
-        (subst (λ e. BeginsBehind sync double even odd None e) (sym none.1) (begins_by l.since unstated double seen even odd there))
-
-    abbrev IsSeen : ℕ → Bool
-    IsSeen double = is_sync_seen Log.params Log.scale Log.log (At double).here (At double).number (At double).senders (own_told Log (At double))
-
-    is_seen : (double : ℕ) → Contains (seen_doubles Seen) double → IsSeen double ≡ true → IsUnfollowedSyncAt x.params h (run_double base double)
-    unfolding double_at senders_of
-    is_seen double among seen = sync_is_seen x h base delays clock l double (own_told Log (At double)) run named among seen
-
-    abbrev BeginsAt : ℕ → Progress → Type 0
-    BeginsAt double progress = Begins progress.sync progress.reach progress.is_ended
-
-    begins_behind : (double : ℕ) (progress : Progress) → Contains (seen_doubles Seen) double → BeginsAt double progress → BeginsAt (suc double) (progress_behind Log Seen Offending double progress)
-    unfolding progress_told sync_told double_at
-    begins_behind double progress among before =
-        let sync = sync_told Log (At double) progress.sync in
-        let reach : Option Reach × Bool = (progress.reach, progress.is_ended) in
-        let now = (standing_told Log (At double) progress.known).is_judged in
-        let Is : Option Heard → Type 0 = λ heard. Begins sync (Passed heard sync now progress.judged.span double (even_says Log (At double)) (odd_says Log (At double)) reach).0
-        (Passed heard sync now progress.judged.span double (even_says Log (At double)) (odd_says Log (At double)) reach).1 in
-        subst Is (sym (unheard x.params l (coverable_of x.params l) covers))
-        (begins_step progress.sync double (IsSeen double) (even_says Log (At double)) (odd_says Log (At double)) progress.reach progress.is_ended (is_seen double among) before)
-
-    pub begun : Begins (log_progress Log Seen Offending).sync (log_progress Log Seen Offending).reach (log_progress Log Seen Offending).is_ended
-    begun = (behind_all Log Seen Offending BeginsAt (seen_doubles Seen) no_progress (seen_in_turn Seen) begins_behind (λ first. record { none = λ is. (refl, refl); some = tt })).holds
-
-    pub in_sync_from : (r : Reach) → (log_progress Log Seen Offending).reach ≡ Some r → IsUnfollowedSyncAt x.params h (run_double base (r.from / 2))
-    in_sync_from r reached = by progress.sync begun
-      where
-        progress : Progress
-        progress = log_progress Log Seen Offending
-
-        half : (a d : ℕ) → a ≡ 2 * d → d ≡ a / 2
-        half a d is = omega (arith, is)
-
-        by : (sync : Option SyncFrom) → Begins sync (log_progress Log Seen Offending).reach (log_progress Log Seen Offending).is_ended
-            → IsUnfollowedSyncAt x.params h (run_double base (r.from / 2))
-        by None begins = absurd (let none = sym reached ∙ (begins.none refl).0 in cc none)
-        by (Some from) begins =
-            let first : r.from ≡ 2 * from.double = subst (λ o. IfSome o (λ r. r.from ≡ 2 * from.double)) reached begins.some.is.begins in
-            subst (λ d. IsUnfollowedSyncAt x.params h (run_double base d)) (half r.from from.double first) begins.some.there
-
 pub within_is_so : WithinIsSo
 unfolding verdict_of double_at senders_of
 within_is_so x h base delays clock l r double even odd run is has =
@@ -432,9 +264,3 @@ unfolding verdict_of
 within_is_there x h base delays clock l r cycle run is from to =
     let progress = log_progress (log_basis x.params l) (sightings_of x.params l) (offending_frames_of x.params l) in
     cycle_there x h base delays clock l run cycle (reached x h base delays clock l run r (within_told progress r is) cycle from to)
-
-pub within_is_in_sync : WithinIsInSync
-unfolding verdict_of
-within_is_in_sync x h base delays clock l r run named unstated covers is =
-    let progress = log_progress (log_basis x.params l) (sightings_of x.params l) (offending_frames_of x.params l) in
-    in_sync_from x h base delays clock l run named unstated covers r (within_told progress r is)

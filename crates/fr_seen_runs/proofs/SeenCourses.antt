@@ -26,7 +26,7 @@ use Rattle.fr_seen.proofs.CourseLaws.{courses_are_there}
 use Rattle.fr_seen.proofs.ObservedLaws.{seen_courses_hold}
 use Rattle.fr_seen.proofs.SenderLaws.{is_picked, own_is, sender_has_both, sender_has_rows}
 use Rattle.fr_seen_runs.specs.Contradictions.{IsObservedRun}
-use Rattle.fr_seen_runs.specs.KeptInSync.{IsDoubleThere}
+use Rattle.fr_seen_runs.specs.LogDoubles.{IsDoubleThere}
 use Rattle.fr_seen_runs.proofs.SeenDoubles.{double_of_cycle, frame_sent}
 
 -- a node with its course and its rows

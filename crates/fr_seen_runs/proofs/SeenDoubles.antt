@@ -1,5 +1,5 @@
 -- The double cycles of a log are there in each run that it is seen of.
-use Rattle.std.proofs.Common.{◌≡◌, ℕ, suc, ◌+◌, ◌-◌, ◌*◌, ◌/◌, ◌%◌, ◌<◌, ◌≤◌, Option, Some, None, ℤ, pos, List, length, refl, arith}
+use Rattle.std.proofs.Common.{◌≡◌, ℕ, suc, ◌+◌, ◌-◌, ◌*◌, ◌/◌, ◌%◌, ◌<◌, ◌≤◌, Option, Some, None, ℤ, pos, List, length, refl, subst, arith}
 use Rattle.std.specs.Prelude.{◌+ℤ◌, Contains, slice_get}
 use Rattle.std.specs.List.{range_with_len}
 use Rattle.std.proofs.lemmas.Int.{ints}
@@ -22,7 +22,7 @@ use Rattle.fr_seen.specs.Observed.{IsSentIn, SentFrame}
 use Rattle.fr_seen.specs.LogSeen.{IsAmongSent, run_double}
 use Rattle.fr_seen.proofs.SightingLaws.{sightings_are_sent}
 use Rattle.fr_seen_runs.specs.Contradictions.{IsObservedRun}
-use Rattle.fr_seen_runs.specs.KeptInSync.{IsDoubleThere}
+use Rattle.fr_seen_runs.specs.LogDoubles.{DoublesAreThere, IsDoubleThere}
 
 -- ---- lists
 
@@ -40,7 +40,14 @@ double_there h double less =
     before : (a b : ℕ) → suc a < b → a < b
     before a b less = omega (arith, less)
 
--- a run of whole double cycles has both cycles of that of each of its cycles
+-- a run of whole double cycles has each of them
+pub doubles_to : (h : Cycles) (doubles double : ℕ) → length h ≡ 2 * doubles → double < doubles → IsDoubleThere h double
+doubles_to h doubles double whole below = double_there h double (less (length h) doubles double whole below)
+  where
+    less : (n d k : ℕ) → n ≡ 2 * d → k < d → suc (2 * k) < n
+    less n d k a b = omega (arith, a, b)
+
+-- and both cycles of that of each of its cycles
 whole_double : (cycle double long doubles : ℕ) → cycle < long → long ≡ 2 * doubles → double ≤ cycle / 2 → suc (2 * double) < long
 whole_double cycle double long doubles less whole before = omega (arith, less, whole, before)
 
@@ -81,6 +88,13 @@ module _ (x : Setting) (h : Cycles) (base : ℕ) (delays : ℕ → Channel → D
       counted : (c n b : ℕ) (number : ℤ) → pos c ≡ number +ℤ pos b → number ≡ pos n → c ≡ n + b
       counted c n b number is same = omega (arith, ints)
 
+  -- a sighting is one of a cycle of the run
+  pub sighting_within : (s : Sighting) → Contains (sightings_of x.params l) s → s.number + base < length h
+  sighting_within s there =
+      let of = sighting_sent s there in
+      let sent = frame_sent of.sent of.there in
+      subst (λ n. n < length h) (sighting_cycle s of) (cycle_within h of.sent.cycle sent.told sent.has_cycle)
+
   -- the double cycles up to that of a sighting are there
   pub double_up_to : (s : Sighting) (double : ℕ) → Contains (sightings_of x.params l) s → double ≤ double_of s → IsDoubleThere h (run_double base double)
   double_up_to s double there before =
@@ -96,3 +110,6 @@ module _ (x : Setting) (h : Cycles) (base : ℕ) (delays : ℕ → Channel → D
   seen_double_there double among =
       let last = last_double (sightings_of x.params l) double among in
       double_up_to last.0 double last.1.0 last.1.1
+
+pub doubles_are_there : DoublesAreThere
+doubles_are_there x h base delays clock l double run among = seen_double_there x h base delays clock l run double among

@@ -27,7 +27,7 @@ use Rattle.fr_seen.proofs.CourseLaws.{apart_reads}
 use Rattle.fr_seen.proofs.CornerLaws.{corners_lie_lem}
 use Rattle.fr_seen.proofs.Pairs.{pair_within, pairs_least}
 use Rattle.fr_seen.proofs.Readings.{least_ticks_lem, most_ticks_lem, readings_have_ticks}
-use Rattle.fr_seen_runs.specs.KeptInSync.{IsAsLong, LieAsSeen, SendersLieAsSeen, lengths_in, starts_in}
+use Rattle.fr_seen_runs.specs.LogDoubles.{IsAsLong, LieAsSeen, SendersLieAsSeen, lengths_in, starts_in}
 
 no_less : (a : ℤ) → pos 0 <ℤ a → pos 0 ≤ℤ a
 no_less a h = omega (arith, ints)

@@ -1,25 +1,30 @@
--- The worked run that a log is seen of: its cycles, and that it is timed and covered.
-use Rattle.std.proofs.Common.{◌≡◌, ℕ, zero, suc, pos, true, false, None, Some, [], ◌∷◌, refl, inl, lit≤, arith}
+-- The worked run that a log is seen of: its cycles, that it is timed and steady, and that it begins in sync by the sharper bounds.
+use Rattle.std.proofs.Common.{◌≡◌, ℕ, ◌*◌, pos, true, false, Some, IsSome, [], ◌∷◌, refl, sym, subst, inl, lit≤}
 use Rattle.std.specs.Prelude.{Contains}
 use Rattle.std.proofs.lemmas.List.Elements.{All-contains}
 use Rattle.fr_base.specs.declared.channel.Channel.{Channel}
 use Rattle.fr_base.specs.declared.channel.Channel.TheVariants.{A, B}
-use Rattle.fr_bound.specs.Checks.{AllChecksHold}
+use Rattle.fr_skew.specs.Sync.{are_in_sync_by_even}
 use Rattle.fr_cluster.specs.Sane.{IsSane}
 use Rattle.fr_cluster.specs.Setting.{IsSetting}
+use Rattle.fr_cluster.specs.Values.{amount}
+use Rattle.fr_cluster.specs.declared.names.ParamName.TheVariants as name
 use Rattle.fr_cluster.specs.declared.nodes.NodeSpec.{NodeSpec}
 use Rattle.fr_precision.specs.Reception.{IsDelay}
 use Rattle.fr_precision.proofs.Worked.{is_sane, two}
 use Rattle.fr_history.specs.Lawful.{IsLawful}
 use Rattle.fr_history.specs.Next.{cycles_of, next_cycle}
 use Rattle.fr_history.specs.Worked.{on_a}
-use Rattle.fr_history.specs.Unfollowed.{IsUnfollowedSyncAt, first_unfollowed_sync_of}
+use Rattle.fr_history.specs.Cycles.{Cycle, cycle_at}
+use Rattle.fr_history.specs.History.{row_of}
 use Rattle.fr_history.proofs.Computing.{on_cycles, on_told}
-use Rattle.fr_history.proofs.UnfollowedSync.{first_unfollowed_sync_is}
+use Rattle.fr_runs.proofs.Parts.{even_is}
 use Rattle.fr_runs.specs.Links.{IsCarried, IsLinked}
-use Rattle.fr_runs.specs.References.{AreReferenced}
-use Rattle.fr_runs.specs.Supplied.{IsCovered}
-use Rattle.fr_runs.proofs.Covers.{coverage_suffices}
+use Rattle.fr_sharp.specs.JudgedSteps.{EachHasRow, IsKnownAt, synced_as}
+use Rattle.fr_sharp.specs.SharpTested.{first_free_of, first_sharp_sync_of}
+use Rattle.fr_sharp.specs.SteadyRuns.{IsSteadySetting}
+use Rattle.fr_sharp.proofs.FreeLemmas.{first_sharp_sync_is}
+use Rattle.fr_sharp.proofs.JudgedLaws.{sharp_sync_is_known_lem}
 use Rattle.fr_seen.specs.RunRows.{IsTimedRun}
 use Rattle.fr_seen_runs.specs.WorkedLog.{seen_cluster, seen_cycle, seen_cycles, seen_run}
 
@@ -51,15 +56,6 @@ pub cycles_are : cycles_of seen_run 4 ≡ seen_cycles
 unfolding cycles_of
 cycles_are = Prim.rw (cycle_0_is, cycle_1_is, cycle_2_is, cycle_3_is) refl
 
--- ---- it begins in sync, and none follows
-
-first_sync : first_unfollowed_sync_of seen_cluster seen_cycles ≡ Some 0
-unfolding on_told
-first_sync = refl
-
-pub is_in_sync_first : IsUnfollowedSyncAt seen_cluster seen_cycles 0
-is_in_sync_first = (first_unfollowed_sync_is seen_cluster seen_cycles 0 first_sync).unfollowed
-
 -- ---- it is timed
 
 pub run_is_timed : IsLawful seen_run seen_cycles → IsTimedRun seen_run seen_cycles
@@ -73,32 +69,21 @@ run_is_timed lawful = record {
   changes = λ node cycle among less. record { low = record { le = tt }; high = record { le = tt } };
 }
 
--- ---- it is covered
+-- ---- it is steady
 
-checks_hold : AllChecksHold seen_cluster
-checks_hold zero from to = absurd (omega (arith, from))
-checks_hold (suc zero) from to = refl
-checks_hold (suc (suc zero)) from to = refl
-checks_hold (suc (suc (suc zero))) from to = refl
-checks_hold (suc (suc (suc (suc zero)))) from to = refl
-checks_hold (suc (suc (suc (suc (suc zero))))) from to = refl
-checks_hold (suc (suc (suc (suc (suc (suc n)))))) from to = absurd (omega (arith, to))
+-- by how much delays flutter at most, where the log does not state it
+abbrev pub seen_flutter : ℕ
+seen_flutter = 2 * amount seen_cluster name.xDelayError
 
 no_delay : (channel : Channel) → IsDelay seen_cluster channel (pos 0)
 no_delay A = record { low = record { le = tt }; high = record { le = tt } }
 no_delay B = record { low = record { le = tt }; high = record { le = tt } }
 
-are_referenced : AreReferenced seen_run
-are_referenced = record {
-  references = λ node join among is. absurd (let e : None ≡ Some join = is in cc);
-  delays = λ sender receiver slot channel cycle sends hears key other by_sender by_receiver less. no_delay channel;
-}
-
 -- what holds of each of its nodes
 pub each_node : (P : NodeSpec → Type 0) → P (on_a 1) → P (on_a 2) → (node : NodeSpec) → Contains seen_cluster.nodes node → P node
 each_node P one other node among = All-contains P seen_cluster.nodes node (two P (on_a 1) (on_a 2) one other) among
 
-on_channel : (node : NodeSpec) → Contains seen_cluster.nodes node → node.on_a ≡ true
+pub on_channel : (node : NodeSpec) → Contains seen_cluster.nodes node → node.on_a ≡ true
 on_channel node among =
     each_node (λ (n : NodeSpec). n.on_a ≡ true) refl refl node among
 
@@ -110,15 +95,40 @@ is_carried sender receiver slot double link = record {
   odd = refl;
 }
 
-pub run_is_covered : IsCovered seen_run
-run_is_covered = coverage_suffices seen_run (record {
-  sane = cluster_is_sane;
-  checks = checks_hold;
-  join_checks = λ joins. absurd (let e : false ≡ true = joins in cc);
-  few = inl (refl, lit≤ tt);
-  least = λ node cycle among less. record { le = tt };
-  most = λ node cycle among less. record { le = tt };
-  changes = λ node cycle among less. record { low = record { le = tt }; high = record { le = tt } };
-  referenced = are_referenced;
-  links = λ sender receiver slot double link less. is_carried sender receiver slot double link;
-})
+pub run_is_steady : IsSteadySetting seen_run seen_flutter
+run_is_steady = record {
+  timed = record {
+    sane = cluster_is_sane;
+    few = inl (refl, lit≤ tt);
+    least = λ node cycle among less. record { le = tt };
+    most = λ node cycle among less. record { le = tt };
+    changes = λ node cycle among less. record { low = record { le = tt }; high = record { le = tt } };
+    delays = λ sender receiver slot channel cycle link share less. no_delay channel;
+    flutters = λ sender receiver slot channel double link share less. record { low = record { le = tt }; high = record { le = tt } };
+  };
+  links = λ double less sender receiver slot link. is_carried sender receiver slot double link;
+}
+
+-- each node has a key slot, and so a value of its own
+pub has_key : (node : NodeSpec) → Contains seen_cluster.nodes node → IsSome node.key
+has_key node among = each_node (λ (n : NodeSpec). IsSome n.key) refl refl node among
+
+-- ---- it begins in sync, and each node has a row
+
+first_sync : first_sharp_sync_of false seen_cluster seen_flutter seen_cycles ≡ Some 0
+unfolding on_told first_free_of are_in_sync_by_even
+first_sync = refl
+
+pub first_is_known : IsKnownAt seen_run seen_cycles 0 (synced_as false seen_cluster seen_flutter 0)
+first_is_known =
+    sharp_sync_is_known_lem false seen_run seen_flutter 0 seen_cycles 0 (first_sharp_sync_is false seen_cluster seen_flutter seen_cycles 0 first_sync).unfollowed.synced
+
+pub first_has_rows : EachHasRow seen_run seen_cycles 0
+unfolding cycle_at
+first_has_rows node correct earlier even odd is =
+    let same : even ≡ seen_cycle 0 = some_same even (seen_cycle 0) (sym (even_is seen_cycles 0 earlier even odd is)) in
+    subst (λ (c : Cycle). IsSome (row_of c.told.rows node.id)) (sym same)
+    (each_node (λ (n : NodeSpec). IsSome (row_of (seen_cycle 0).told.rows n.id)) refl refl node correct)
+  where
+    some_same : (one other : Cycle) → Some one ≡ Some other → one ≡ other
+    some_same one other is = cc is

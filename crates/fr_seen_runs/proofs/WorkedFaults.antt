@@ -1,9 +1,11 @@
 -- The worked contradictions, computed; and what no run is seen of.
-use Rattle.std.proofs.Common.{◌≡◌, ◌∙◌, ◌<◌, ◌≤◌, ℕ, ◌+◌, pos, true, false, None, List, [], ◌∷◌, refl, sym, ap, lit≤, lit<}
+use Rattle.std.proofs.Common.{◌≡◌, ◌∙◌, ◌<◌, ◌≤◌, ℕ, ◌+◌, pos, true, false, None, Some, List, [], ◌∷◌, refl, sym, ap, lit≤, lit<}
+use Rattle.fr_bound.specs.declared.judging.Heard.TheVariants.{Clean}
 use Rattle.std.proofs.lemmas.List.Elements.{All-cons, All-nil}
 use Rattle.fr_base.specs.declared.channel.Channel.{Channel}
 use Rattle.fr_base.specs.declared.channel.Channel.TheVariants.{A, B}
 use Rattle.fr_cluster.specs.Setting.{Setting}
+use Rattle.fr_cluster.specs.Values.{Values}
 use Rattle.fr_history.specs.Cycles.{Cycles}
 use Rattle.fr_history.proofs.Computing.{on_frames}
 use Rattle.fr_log.specs.Rows.{AreEntryBytes}
@@ -11,25 +13,22 @@ use Rattle.fr_log.specs.View.{IsEntry, IsLog, LogView, is_arbitrary_in}
 use Rattle.fr_log.specs.declared.entry.Entry.{Entry}
 use Rattle.fr_course.specs.Readings.{reading_scale}
 use Rattle.fr_course.specs.declared.stamps.Delays.{Delays}
-use Rattle.fr_observe.specs.Faults.{asks_own_slots, asks_sync}
+use Rattle.fr_observe.specs.Faults.{asks_own_slots, asks_judged}
 use Rattle.fr_observe.specs.declared.fault.Fault.{Fault}
 use Rattle.fr_sightings.specs.Judging.{judgement_of}
 use Rattle.fr_sightings.specs.Sightings.{OffendingFrames, fate_of, fates_from, irregular_of, offending_frames_of, sightings_of, untimely_of}
 use Rattle.fr_sightings.specs.declared.sighting.Sighting.{Sighting}
-use Rattle.fr_findings.specs.Verdict.{Basis, double_at, faults_told, known_told, log_basis, log_progress, moving_told, own_told, progress_of, progress_told, standing_told, sync_told, verdict_by, verdict_of}
-use Rattle.fr_judging.specs.Coverables.{coverable_of, first_failing, log_heard}
-use Rattle.fr_judging.specs.Knowing.{judged_terms, known_missing, known_next, moving_faults, standing_faults, standing_of, term_faults}
-use Rattle.fr_judging.specs.declared.coverable.Coverable.TheVariants as coverable
+use Rattle.fr_findings.specs.Verdict.{Basis, log_basis, log_progress, verdict_by, verdict_of}
+use Rattle.fr_judging.specs.Hearing.{log_heard}
 use Rattle.fr_findings.specs.declared.verdict.Verdict.TheVariants as verdict
 use Rattle.fr_seen.specs.Clocks.{StraightClock}
 use Rattle.fr_seen.specs.OwnSlots.{SlotsAreOwn}
-use Rattle.fr_seen_runs.specs.Contradictions.{IsObservedRun}
+use Rattle.fr_seen_runs.specs.Contradictions.{IsAsLogStates, IsObservedRun}
 use Rattle.fr_seen_runs.specs.NotContradicted.{NoRunHasOwnFaults, NoRunIsContradicted}
-use Rattle.fr_seen_runs.specs.WorkedFaults.{IsSeenOfNoCovered, IsSeenOfNone, IsSeenOfNoneWithOwnSlots, TellsFault, correction_told, form_entry, form_told, last_entry, last_log, late_entry, late_log, offset_told, stranger_entry, stranger_told}
+use Rattle.fr_seen_runs.specs.WorkedFaults.{IsSeenOfNone, IsSeenOfNoneWithOwnSlots, TellsFault, correction_told, form_entry, form_told, last_entry, last_log, late_entry, late_log, offset_told, stranger_entry, stranger_told}
 use Rattle.fr_seen_runs.specs.WorkedLog.{by_double, entry_sighting, of_each, of_node, seen_cluster}
-use Rattle.fr_seen_runs.proofs.Standings.{covered_is_as_log_states}
 use Rattle.fr_seen_runs.proofs.WorkedSeen.{all_of, bytes_of_1, bytes_of_2, log_with}
-use Rattle.fr_seen_runs.proofs.WorkedVerdict.{none_offending, on_faults, on_rows, on_senders}
+use Rattle.fr_seen_runs.proofs.WorkedVerdict.{none_offending, on_doubles, on_faults, on_numbers, on_rows, on_senders}
 
 -- ---- sightings
 
@@ -40,13 +39,12 @@ late_sighting later node cycle =
 
 abbrev late_basis : ℕ → Basis
 late_basis later = record {
-  precision = pos 252_043_600;
+  precision = pos 45_007_594;
   scale = reading_scale 0 seen_cluster;
   params = seen_cluster;
   log = late_log later;
   span = record { first = 0; last = 3 };
-  covered = coverable.Open;
-  heard = None;
+  heard = Some Clean;
 }
 
 -- ---- late by 250 units
@@ -60,15 +58,11 @@ unfolding untimely_of irregular_of fates_from fate_of judgement_of is_arbitrary_
 offset_offending = refl
 
 offset_basis : log_basis seen_cluster (late_log 250) ≡ late_basis 250
-unfolding late_sighting coverable_of first_failing is_arbitrary_in
+unfolding late_sighting log_heard is_arbitrary_in
 offset_basis = Prim.rw offset_sightings refl
 
-pub offset_unheard : log_heard seen_cluster (late_log 250) ≡ None
-unfolding late_sighting coverable_of first_failing is_arbitrary_in
-offset_unheard = refl
-
 offset_progress : verdict_by (log_progress (late_basis 250) (of_each (late_sighting 250)) none_offending) ≡ verdict.No offset_told
-unfolding late_sighting verdict_by progress_of progress_told sync_told own_told faults_told known_told moving_told known_next standing_told standing_of standing_faults moving_faults term_faults judged_terms known_missing double_at on_senders on_faults on_rows
+unfolding late_sighting on_numbers on_doubles on_senders on_faults on_rows
 offset_progress = refl
 
 offset_verdict : verdict_of seen_cluster (late_log 250) ≡ verdict.No offset_told
@@ -105,11 +99,11 @@ unfolding untimely_of irregular_of fates_from fate_of judgement_of is_arbitrary_
 correction_offending = refl
 
 correction_basis : log_basis seen_cluster (late_log 7_500) ≡ late_basis 7_500
-unfolding late_sighting coverable_of first_failing is_arbitrary_in
+unfolding late_sighting log_heard is_arbitrary_in
 correction_basis = Prim.rw correction_sightings refl
 
 correction_progress : verdict_by (log_progress (late_basis 7_500) (of_each (late_sighting 7_500)) none_offending) ≡ verdict.No correction_told
-unfolding late_sighting verdict_by progress_of progress_told sync_told own_told faults_told known_told moving_told known_next standing_told standing_of standing_faults moving_faults term_faults judged_terms known_missing double_at on_senders on_faults on_rows
+unfolding late_sighting on_numbers on_doubles on_senders on_faults on_rows
 correction_progress = refl
 
 correction_verdict : verdict_of seen_cluster (late_log 7_500) ≡ verdict.No correction_told
@@ -144,13 +138,12 @@ first_sightings =
 
 abbrev last_basis : Entry → Basis
 last_basis last = record {
-  precision = pos 252_043_600;
+  precision = pos 45_007_594;
   scale = reading_scale 0 seen_cluster;
   params = seen_cluster;
   log = last_log last;
   span = record { first = 0; last = 3 };
-  covered = coverable.Open;
-  heard = None;
+  heard = Some Clean;
 }
 
 -- it is a log where that frame comes no earlier than the one before it
@@ -191,11 +184,11 @@ unfolding untimely_of irregular_of fates_from fate_of judgement_of is_arbitrary_
 stranger_offending = refl
 
 stranger_basis : log_basis seen_cluster (last_log stranger_entry) ≡ last_basis stranger_entry
-unfolding coverable_of first_failing is_arbitrary_in
+unfolding log_heard is_arbitrary_in
 stranger_basis = Prim.rw stranger_sightings refl
 
 stranger_progress : verdict_by (log_progress (last_basis stranger_entry) first_sightings stranger_frames) ≡ verdict.No stranger_told
-unfolding verdict_by progress_of progress_told sync_told own_told faults_told known_told moving_told known_next standing_told standing_of standing_faults moving_faults term_faults judged_terms known_missing double_at on_senders on_faults on_rows
+unfolding on_numbers on_doubles on_senders on_faults on_rows
 stranger_progress = refl
 
 stranger_verdict : verdict_of seen_cluster (last_log stranger_entry) ≡ verdict.No stranger_told
@@ -219,11 +212,11 @@ unfolding untimely_of irregular_of fates_from fate_of judgement_of is_arbitrary_
 form_offending = refl
 
 form_basis : log_basis seen_cluster (last_log form_entry) ≡ last_basis form_entry
-unfolding coverable_of first_failing is_arbitrary_in
+unfolding log_heard is_arbitrary_in
 form_basis = Prim.rw form_sightings refl
 
 form_progress : verdict_by (log_progress (last_basis form_entry) first_sightings form_frames) ≡ verdict.No form_told
-unfolding verdict_by progress_of progress_told sync_told own_told faults_told known_told moving_told known_next standing_told standing_of standing_faults moving_faults term_faults judged_terms known_missing double_at on_senders on_faults on_rows
+unfolding on_numbers on_doubles on_senders on_faults on_rows
 form_progress = refl
 
 form_verdict : verdict_of seen_cluster (last_log form_entry) ≡ verdict.No form_told
@@ -248,28 +241,30 @@ form_is_told = record { log = form_log; verdict = form_verdict }
 
 -- ---- so no run gives it
 
-pub none_covered :
-    NoRunIsContradicted → (l : LogView) (fault : Fault) → asks_own_slots fault.kind ≡ false → log_heard seen_cluster l ≡ None
-    → verdict_of seen_cluster l ≡ verdict.No fault → IsSeenOfNoCovered l
-none_covered law l fault slots checked told x h base delays clock same observed stated =
-    law x h base delays clock l fault observed (covered_is_as_log_states x h base l (ap (λ p. log_heard p l) same ∙ checked) stated) (λ asks. let e : true ≡ false = sym asks ∙ slots in absurd (cc e)) (ap (λ p. verdict_of p l) same ∙ told)
+-- that is as the log states, of whatever cluster
+pub none_stated :
+    NoRunIsContradicted → (p : Values) (l : LogView) (fault : Fault) → asks_own_slots fault.kind ≡ false → verdict_of p l ≡ verdict.No fault
+    → (x : Setting) (h : Cycles) (base : ℕ) (delays : ℕ → Channel → Delays) (clock : ℕ → StraightClock) → x.params ≡ p
+    → IsObservedRun x h base delays clock l → IsAsLogStates x h base l → ⊥
+none_stated law p l fault slots told x h base delays clock same observed stated =
+    law x h base delays clock l fault observed stated (λ asks. let e : true ≡ false = sym asks ∙ slots in absurd (cc e)) (ap (λ q. verdict_of q l) same ∙ told)
 
 -- where the slots are own, or the fault does not ask for it
 none_where :
-    NoRunHasOwnFaults → (l : LogView) (fault : Fault) → asks_sync fault.kind ≡ false → verdict_of seen_cluster l ≡ verdict.No fault
+    NoRunHasOwnFaults → (l : LogView) (fault : Fault) → asks_judged fault.kind ≡ false → verdict_of seen_cluster l ≡ verdict.No fault
     → (x : Setting) (h : Cycles) (base : ℕ) (delays : ℕ → Channel → Delays) (clock : ℕ → StraightClock) → x.params ≡ seen_cluster
     → IsObservedRun x h base delays clock l → (asks_own_slots fault.kind ≡ true → SlotsAreOwn x h l) → ⊥
 none_where law l fault asks told x h base delays clock same observed own =
     let e : false ≡ true = sym asks ∙ law x h base delays clock l fault observed own (ap (λ p. verdict_of p l) same ∙ told) in cc e
 
 pub none_at_all :
-    NoRunHasOwnFaults → (l : LogView) (fault : Fault) → asks_sync fault.kind ≡ false → asks_own_slots fault.kind ≡ false
+    NoRunHasOwnFaults → (l : LogView) (fault : Fault) → asks_judged fault.kind ≡ false → asks_own_slots fault.kind ≡ false
     → verdict_of seen_cluster l ≡ verdict.No fault → IsSeenOfNone l
 none_at_all law l fault asks slots told x h base delays clock same observed =
     none_where law l fault asks told x h base delays clock same observed (λ own. let e : true ≡ false = sym own ∙ slots in absurd (cc e))
 
 pub none_with_own_slots :
-    NoRunHasOwnFaults → (l : LogView) (fault : Fault) → asks_sync fault.kind ≡ false → verdict_of seen_cluster l ≡ verdict.No fault
+    NoRunHasOwnFaults → (l : LogView) (fault : Fault) → asks_judged fault.kind ≡ false → verdict_of seen_cluster l ≡ verdict.No fault
     → IsSeenOfNoneWithOwnSlots l
 none_with_own_slots law l fault asks told x h base delays clock same observed own =
     none_where law l fault asks told x h base delays clock same observed (λ asked. own)

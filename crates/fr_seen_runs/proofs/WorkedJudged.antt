@@ -1,41 +1,25 @@
--- The worked log of a cluster in which a check fails, computed; and what no run of it is seen of.
-use Rattle.std.proofs.Common.{◌≡◌, ◌∙◌, pos, true, false, None, Some, List, [], ◌∷◌, refl, sym, ap}
-use Rattle.std.specs.Prelude.{⊤, codes}
+-- The worked log of a cluster in which a classical check fails, computed.
+use Rattle.std.proofs.Common.{◌≡◌, ℕ, pos, None, Some, List, [], ◌∷◌, refl}
+use Rattle.std.specs.Prelude.{codes}
 use Rattle.std.specs.Fmt.{digits}
-use Rattle.fr_bound.specs.SharpBounds.{last_of}
-use Rattle.fr_bound.specs.declared.judging.Heard.TheVariants.{Clean}
+use Rattle.fr_bound.specs.declared.judging.Heard.TheVariants.{Clean, Poor}
 use Rattle.fr_history.proofs.Computing.{on_frames}
 use Rattle.fr_log.specs.View.{LogView, is_arbitrary_in}
 use Rattle.fr_course.specs.Readings.{reading_scale}
-use Rattle.fr_observe.specs.Faults.{asks_own_slots}
-use Rattle.fr_judging.specs.Knowing.{judged_skews, judged_terms, known_apart, known_missing, known_next, known_seen, most_beyond, moving_faults, spread_row, spread_told, standing_faults, standing_of, term_faults}
-use Rattle.fr_judging.specs.Obstacles.{first_unseen}
-use Rattle.fr_observe.specs.declared.fault.Fault.{Fault}
+use Rattle.fr_observe.specs.Observing.{senders_of}
+use Rattle.fr_judging.specs.Knowing.{spread_row, spread_told}
+use Rattle.fr_judging.specs.Missing.{missed_row, missed_told}
 use Rattle.fr_sightings.specs.Judging.{judgement_of}
 use Rattle.fr_sightings.specs.Sightings.{fate_of, fates_from, irregular_of, offending_frames_of, sightings_of, untimely_of}
 use Rattle.fr_sightings.specs.declared.sighting.Sighting.{Sighting}
-use Rattle.fr_judging.specs.Coverables.{coverable_of, first_failing, log_heard}
-use Rattle.fr_findings.specs.Verdict.{Basis, double_at, faults_told, known_next_told, known_told, log_basis, log_progress, moving_told, obstacle_told, own_told, progress_of, progress_told, standing_told, sync_told, verdict_by, verdict_of}
-use Rattle.fr_judging.specs.declared.coverable.Coverable.TheVariants as coverable
+use Rattle.fr_judging.specs.Hearing.{log_heard}
+use Rattle.fr_findings.specs.Verdict.{Basis, double_at, known_next_told, log_basis, log_progress, standing_told, verdict_by, verdict_of}
 use Rattle.fr_findings.specs.declared.verdict.Verdict.TheVariants as verdict
-use Rattle.fr_seen_runs.specs.NotContradicted.{NoRunIsContradicted}
 use Rattle.fr_seen_runs.specs.WorkedFaults.{late_log, offset_told}
-use Rattle.fr_seen_runs.specs.WorkedJudged.{IsSeenOfNoneAsStated, JudgedLog, JudgedOffsetIsTold, MissedLog, first_met, judged_by_numbers, judged_cluster, judged_log, log_stands, log_tells_next, missed_log, missed_partly, second_known, second_met}
+use Rattle.fr_seen_runs.specs.WorkedJudged.{JudgedLog, JudgedOffsetIsTold, LostLog, MissedLog, first_met, judged_by_numbers, judged_cluster, judged_log, log_stands, log_tells_next, lost_log, lost_offset_told, missed_log, missed_partly, second_known, second_met}
 use Rattle.fr_seen_runs.specs.WorkedLog.{entry_sighting, of_each, seen_sightings}
 use Rattle.fr_seen_runs.proofs.WorkedFaults.{late_sighting}
-use Rattle.fr_seen_runs.proofs.WorkedVerdict.{none_offending, on_faults, on_rows, on_senders}
-
--- ---- what is computed with
-
--- how a double cycle stands by its own numbers
-unfoldable pub on_numbers : ⊤
-unfolding standing_told standing_of standing_faults moving_faults term_faults known_seen known_next known_apart known_missing judged_skews judged_terms most_beyond first_unseen last_of
-on_numbers = tt
-
--- and the whole of it
-unfoldable pub on_doubles : ⊤
-unfolding verdict_by progress_of progress_told sync_told own_told faults_told known_told moving_told obstacle_told double_at
-on_doubles = tt
+use Rattle.fr_seen_runs.proofs.WorkedVerdict.{none_offending, on_doubles, on_faults, on_numbers, on_rows, on_senders}
 
 -- ---- its sightings
 
@@ -47,12 +31,8 @@ none_offend : offending_frames_of judged_cluster judged_log ≡ none_offending
 unfolding untimely_of irregular_of fates_from fate_of judgement_of is_arbitrary_in on_frames
 none_offend = refl
 
-pub check_fails : coverable_of judged_cluster judged_log ≡ coverable.Check 3 (pos 19_996_000) (pos 253_543_800)
-unfolding coverable_of first_failing is_arbitrary_in
-check_fails = refl
-
-hears_all : log_heard judged_cluster judged_log ≡ Some Clean
-unfolding coverable_of first_failing is_arbitrary_in
+pub hears_all : log_heard judged_cluster judged_log ≡ Some Clean
+unfolding log_heard is_arbitrary_in
 hears_all = refl
 
 -- but for the frame of node 1 in cycle 2
@@ -70,12 +50,11 @@ judged_basis l = record {
   params = judged_cluster;
   log = l;
   span = record { first = 0; last = 3 };
-  covered = coverable.Check 3 (pos 19_996_000) (pos 253_543_800);
   heard = Some Clean;
 }
 
 basis_is : log_basis judged_cluster judged_log ≡ judged_basis judged_log
-unfolding coverable_of first_failing is_arbitrary_in
+unfolding log_heard is_arbitrary_in
 basis_is = Prim.rw sightings_are refl
 
 first_by : standing_told (judged_basis judged_log) (double_at (judged_basis judged_log) seen_sightings none_offending 0) None ≡ judged_by_numbers None first_met
@@ -103,11 +82,11 @@ second_is = Prim.rw (basis_is, sightings_are, none_offend) second_by
 
 -- ---- as rows
 
-first_row_is : spread_told judged_cluster 0 (judged_by_numbers None first_met) ≡ codes "spread,0,3520552,80000,0,5680952,,\n"
+first_row_is : spread_told judged_cluster judged_log 0 (judged_by_numbers None first_met) ≡ codes "spread,0,3520552,80000,0,5680952,,\n"
 unfolding spread_told spread_row digits
 first_row_is = refl
 
-second_row_is : spread_told judged_cluster 1 (judged_by_numbers (Some second_known) second_met) ≡ codes "spread,1,1520552,80000,0,5080800,,\n"
+second_row_is : spread_told judged_cluster judged_log 1 (judged_by_numbers (Some second_known) second_met) ≡ codes "spread,1,1520552,80000,0,5080800,,\n"
 unfolding spread_told spread_row digits
 second_row_is = refl
 
@@ -124,7 +103,7 @@ verdict_is = Prim.rw (basis_is, sightings_are, none_offend) verdict_by_progress
 
 pub judged_log_is : JudgedLog
 judged_log_is = record {
-  check = check_fails;
+  check = refl;
   heard = hears_all;
   first = first_is;
   next = next_is;
@@ -145,7 +124,7 @@ unfolding untimely_of irregular_of fates_from fate_of judgement_of is_arbitrary_
 missed_offending = refl
 
 missed_basis_is : log_basis judged_cluster missed_log ≡ judged_basis missed_log
-unfolding coverable_of first_failing is_arbitrary_in
+unfolding log_heard is_arbitrary_in
 missed_basis_is = Prim.rw missed_sightings_are refl
 
 missed_next_by : known_next_told (judged_basis missed_log) (double_at (judged_basis missed_log) missed_sightings none_offending 0) None ≡ Some second_known
@@ -161,7 +140,7 @@ missed_second_by = refl
 missed_second_is : log_stands judged_cluster missed_log 1 (Some second_known) ≡ judged_by_numbers (Some second_known) second_known
 missed_second_is = Prim.rw (missed_basis_is, missed_sightings_are, missed_offending) missed_second_by
 
-missed_row_is : spread_told judged_cluster 1 (judged_by_numbers (Some second_known) second_known) ≡ codes "spread,1,4080600,13002198,0,32085396,,\n"
+missed_row_is : spread_told judged_cluster missed_log 1 (judged_by_numbers (Some second_known) second_known) ≡ codes "spread,1,4080600,13002198,0,32085396,,\n"
 unfolding spread_told spread_row digits
 missed_row_is = refl
 
@@ -192,21 +171,63 @@ unfolding untimely_of irregular_of fates_from fate_of judgement_of is_arbitrary_
 late_offending = refl
 
 late_basis_is : log_basis judged_cluster (late_log 250) ≡ judged_basis (late_log 250)
-unfolding late_sighting coverable_of first_failing is_arbitrary_in
+unfolding late_sighting log_heard is_arbitrary_in
 late_basis_is = Prim.rw late_sightings refl
 
 late_progress : verdict_by (log_progress (judged_basis (late_log 250)) (of_each (late_sighting 250)) none_offending) ≡ verdict.No offset_told
 unfolding late_sighting on_numbers on_doubles on_senders on_faults on_rows
 late_progress = refl
 
-pub judged_offset_is_told : JudgedOffsetIsTold
+late_verdict_is : verdict_of judged_cluster (late_log 250) ≡ verdict.No offset_told
 unfolding verdict_of
-judged_offset_is_told = Prim.rw (late_basis_is, late_sightings, late_offending) late_progress
+late_verdict_is = Prim.rw (late_basis_is, late_sightings, late_offending) late_progress
 
--- ---- so no run gives it
+-- how many senders node 2 must have missed
+abbrev missed_by_rows : Basis → List ℕ
+missed_by_rows b =
+    let seen : List Sighting = of_each (late_sighting 250) in
+    missed_told judged_cluster b.log (reading_scale 0 judged_cluster) 0 (senders_of (reading_scale 0 judged_cluster) judged_cluster b.log seen 0)
+    (standing_told b (double_at b seen none_offending 0) None)
 
-pub none_as_stated :
-    NoRunIsContradicted → (l : LogView) (fault : Fault) → asks_own_slots fault.kind ≡ false → verdict_of judged_cluster l ≡ verdict.No fault
-    → IsSeenOfNoneAsStated l
-none_as_stated law l fault slots told x h base delays clock same observed stated =
-    law x h base delays clock l fault observed stated (λ asks. let e : true ≡ false = sym asks ∙ slots in absurd (cc e)) (ap (λ p. verdict_of p l) same ∙ told)
+late_missed : missed_by_rows (judged_basis (late_log 250)) ≡ codes "missed,1,2,offset,-,,,\n"
+unfolding late_sighting missed_told missed_row senders_of digits on_numbers on_doubles on_senders on_faults on_rows
+late_missed = refl
+
+pub judged_offset_is_told : JudgedOffsetIsTold
+judged_offset_is_told = record { verdict = late_verdict_is; missed_row = Prim.rw (late_basis_is, late_sightings, late_offending) late_missed }
+
+-- ---- where it may have missed a sender
+
+lost_hears : log_heard judged_cluster lost_log ≡ Some Poor
+unfolding log_heard is_arbitrary_in
+lost_hears = refl
+
+lost_sightings : sightings_of judged_cluster lost_log ≡ of_each (late_sighting 250)
+unfolding late_sighting sightings_of fates_from fate_of judgement_of is_arbitrary_in on_frames
+lost_sightings = refl
+
+lost_offending : offending_frames_of judged_cluster lost_log ≡ none_offending
+unfolding untimely_of irregular_of fates_from fate_of judgement_of is_arbitrary_in on_frames
+lost_offending = refl
+
+abbrev lost_basis : Basis
+lost_basis = let b : Basis = judged_basis lost_log in record b { heard = Some Poor }
+
+lost_basis_is : log_basis judged_cluster lost_log ≡ lost_basis
+unfolding late_sighting log_heard is_arbitrary_in
+lost_basis_is = Prim.rw lost_sightings refl
+
+lost_progress : verdict_by (log_progress lost_basis (of_each (late_sighting 250)) none_offending) ≡ verdict.No lost_offset_told
+unfolding late_sighting on_numbers on_doubles on_senders on_faults on_rows
+lost_progress = refl
+
+lost_verdict_is : verdict_of judged_cluster lost_log ≡ verdict.No lost_offset_told
+unfolding verdict_of
+lost_verdict_is = Prim.rw (lost_basis_is, lost_sightings, lost_offending) lost_progress
+
+lost_missed : missed_by_rows lost_basis ≡ codes "missed,1,2,offset,-,,,\n"
+unfolding late_sighting missed_told missed_row senders_of digits on_numbers on_doubles on_senders on_faults on_rows
+lost_missed = refl
+
+pub lost_log_is : LostLog
+lost_log_is = record { heard = lost_hears; verdict = lost_verdict_is; missed_row = Prim.rw (lost_basis_is, lost_sightings, lost_offending) lost_missed }

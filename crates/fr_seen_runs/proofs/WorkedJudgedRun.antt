@@ -1,6 +1,5 @@
 -- The run that the worked log is seen of, in the cluster whose offset limit is too small: as the log states.
-use Rattle.std.proofs.Common.{◌≡◌, ℕ, pos, true, false, None, List, [], ◌∷◌, refl, sym, ap, ◌∙◌, inl, lit≤, subst}
-use Rattle.std.specs.Prelude.{Contains}
+use Rattle.std.proofs.Common.{◌≡◌, ℕ, pos, true, false, None, List, [], ◌∷◌, refl, sym, inl, lit≤, subst}
 use Rattle.std.specs.List.{AllZip}
 use Rattle.std.proofs.lemmas.List.Elements.{All-weaker}
 use Rattle.fr_base.specs.declared.channel.Channel.{Channel}
@@ -23,16 +22,15 @@ use Rattle.fr_sightings.specs.Judging.{judgement_of}
 use Rattle.fr_sightings.specs.Senders.{observer_of}
 use Rattle.fr_sightings.specs.Sightings.{fate_of}
 use Rattle.fr_sightings.specs.declared.sighting.Sighting.{Sighting}
-use Rattle.fr_judging.specs.Knowing.{stated_flutter}
-use Rattle.fr_judging.specs.Coverables.{coverable_of, is_coverable}
+use Rattle.fr_observe.specs.Faults.{stated_flutter}
 use Rattle.fr_seen.specs.LogSeen.{IsLogSeen, IsToldOf, judged_of}
 use Rattle.fr_seen.specs.Observed.{IsSeenOf, IsSentIn, SentFrame}
 use Rattle.fr_seen.specs.RunRows.{IsTimedRun}
 use Rattle.fr_seen_runs.specs.Contradictions.{IsAsLogStates}
 use Rattle.fr_seen_runs.specs.WorkedJudged.{JudgedRun, judged_cluster, judged_log, judged_run}
-use Rattle.fr_seen_runs.specs.WorkedLog.{no_delays, seen_cluster, seen_cycle, seen_cycles, seen_run, seen_sent, seen_sightings, true_clock}
-use Rattle.fr_seen_runs.proofs.WorkedCycles.{cluster_is_sane, each_node}
-use Rattle.fr_seen_runs.proofs.WorkedJudged.{check_fails}
+use Rattle.fr_seen_runs.specs.WorkedLog.{no_delays, seen_cycle, seen_cycles, seen_run, seen_sent, seen_sightings, true_clock}
+use Rattle.fr_seen_runs.proofs.SteadyRuns.{steady_runs_miss_none}
+use Rattle.fr_seen_runs.proofs.WorkedCycles.{cluster_is_sane, has_key, on_channel}
 use Rattle.fr_seen_runs.proofs.WorkedSeen.{are_sent, log_is, log_is_seen, seen_of_run, told_of_sent}
 use Rattle.fr_seen_runs.proofs.WorkedVerdict.{named_none}
 
@@ -158,10 +156,6 @@ log_is_seen_judged = record {
 
 -- ---- as it states
 
-on_channel : (node : NodeSpec) → Contains seen_cluster.nodes node → node.on_a ≡ true
-on_channel node among =
-    each_node (λ (n : NodeSpec). n.on_a ≡ true) refl refl node among
-
 is_carried : (sender receiver : NodeSpec) (slot double : ℕ) → IsLinked judged_run sender receiver slot → IsCarried judged_run sender receiver double
 is_carried sender receiver slot double link = record {
   channel = A;
@@ -174,7 +168,7 @@ no_delay : (channel : Channel) → IsDelay judged_cluster channel (pos 0)
 no_delay A = record { low = record { le = tt }; high = record { le = tt } }
 no_delay B = record { low = record { le = tt }; high = record { le = tt } }
 
-run_is_steady : IsSteadySetting judged_run (stated_flutter judged_cluster)
+run_is_steady : IsSteadySetting judged_run (stated_flutter judged_cluster judged_log)
 run_is_steady = record {
   timed = record {
     sane = judged_is_sane;
@@ -188,14 +182,13 @@ run_is_steady = record {
   links = λ double less sender receiver slot link. is_carried sender receiver slot double link;
 }
 
-not_coverable : is_coverable (coverable_of judged_cluster judged_log) ≡ true → ⊥
-not_coverable covers = let e : false ≡ true = sym (ap is_coverable check_fails) ∙ covers in cc e
-
 as_states : IsAsLogStates judged_run seen_cycles 0 judged_log
 as_states = record {
   named = λ node among. named_none None false node.id;
-  synced = λ covers. absurd (not_coverable covers);
-  steady = λ what hears. run_is_steady;
+  timed = λ what heard. run_is_steady.timed;
+  missed = λ what double node heard less correct. steady_runs_miss_none judged_run (stated_flutter judged_cluster judged_log) double 0 node run_is_steady less correct;
+  none_deaf = λ double heard less node correct. inl (has_key node correct);
+  since = λ what heard. tt;
   unmissed = λ all. absurd (let e : false ≡ true = all in cc e);
 }
 

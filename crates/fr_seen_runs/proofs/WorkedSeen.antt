@@ -113,6 +113,8 @@ log_with since whole is even entries ascend = record {
   drift = record { from = lit≤ tt; to = lit≤ tt };
   error = record { from = lit≤ tt; to = lit≤ tt };
   jitter = tt;
+  flutter = tt;
+  lost = record { from = lit≤ tt; to = lit≤ tt };
   since = even;
   arbitrary_long = refl;
   on_a_long = refl;

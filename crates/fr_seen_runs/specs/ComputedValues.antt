@@ -1,6 +1,9 @@
--- What a node with a row computes at the end of a double cycle in sync: of which values its terms are the midpoints.
-use Rattle.std.specs.Prelude.{◌≡◌, ◌≤◌, ◌-ℤ◌, ℕ, suc, ℤ, pos, true, length, Option, Some, count_by, is_some}
+-- What a node with a row computes at the end of a double cycle that is judged, whatever frames are lost on their way to it: of which
+-- values its terms are the midpoints.
+use Rattle.std.specs.Prelude.{◌≡◌, ◌≢◌, ◌-ℤ◌, ℕ, suc, ℤ, pos, true, Option, Some, IfSome, IsSome}
 use Rattle.fr_base.specs.Within.{IsWithin}
+use Rattle.fr_bound.specs.declared.judging.Heard.{Heard}
+use Rattle.fr_bound.specs.declared.judging.Known.{Known}
 use Rattle.fr_cluster.specs.Questions.{key_slot_of, own_index}
 use Rattle.fr_cluster.specs.Setting.{Setting}
 use Rattle.fr_cluster.specs.Values.{Values}
@@ -10,11 +13,13 @@ use Rattle.fr_midpoint.specs.Midpoint.{IsMidpoint}
 use Rattle.fr_measure.specs.Deviations.{deviations_of}
 use Rattle.fr_measure.specs.Values.{offset_at, rate_at, values_of}
 use Rattle.fr_precision.specs.Offsets.{IsDeviation}
-use Rattle.fr_precision.specs.Rates.{PlacesLength}
 use Rattle.fr_precision.specs.Rows.{Sender}
 use Rattle.fr_history.specs.Cycles.{Cycle, Cycles}
 use Rattle.fr_history.specs.History.{row_for}
-use Rattle.fr_runs.specs.Numbers.{HasDouble, HasRowIn, IsSyncedRun}
+use Rattle.fr_runs.specs.Links.{IsCarried}
+use Rattle.fr_runs.specs.Numbers.{HasDouble, HasRowIn}
+use Rattle.fr_sharp.specs.Steady.{PlacesEven}
+use Rattle.fr_seen_runs.specs.JudgedTerms.{IsJudgedRun}
 
 -- the offset and the rate values of a node at the end of a double cycle, by key index
 abbrev pub told_offsets : Setting → Cycle → Cycle → NodeSpec → ℕ → Option ℤ
@@ -31,32 +36,32 @@ pub record IsKeyedAt (x : Setting) (c : Cycle) (node : NodeSpec) (slot index : �
   pub key : node.key ≡ Some slot
   pub slot_is : key_slot_of x.params index ≡ Some slot
 
--- there is one that says what it should
-pub record SaysAt (at : ℕ → Option ℤ) (index : ℕ) (Says : ℤ → Type 0) : Type 0 where
-  pub value : ℤ
-  pub is : at index ≡ Some value
-  pub says : Says value
+-- of a sender a value says what it should, if there is one; and where a channel carries the frames of both cycles, there is one
+pub record IsHeardOf (x : Setting) (double : ℕ) (sender receiver : NodeSpec) (value : Option ℤ) (Says : ℤ → Type 0) : Type 0 where
+  pub says : IfSome value Says
+  pub carried : IsCarried x sender receiver double → IsSome value
 
--- so many values as there are nodes with a key slot, or fewer
-abbrev pub AreFewValues : Values → (ℕ → Option ℤ) → Type 0
-AreFewValues p at = length (values_of at) ≤ count_by (λ (node : NodeSpec). is_some node.key) p.nodes
+-- values stand at the indexes of key slots alone
+abbrev pub AreKeyed : Values → (ℕ → Option ℤ) → Type 0
+AreKeyed p at = (index : ℕ) (value : ℤ) → at index ≡ Some value → (slot : ℕ) × (key_slot_of p index ≡ Some slot)
 
--- its own offset value is 0, it has a deviation of each other node with a row and a key slot, and few further ones; and it
--- applies their midpoint
-pub record ComputesOffset (x : Setting) (even odd : Cycle) (node : NodeSpec) : Type 0 where
+-- its own offset value is 0, those of other nodes with rows and key slots are their deviations, and there are further ones of key slots
+-- alone; and it applies their midpoint
+pub record ComputesOffset (x : Setting) (double : ℕ) (even odd : Cycle) (node : NodeSpec) : Type 0 where
   pub own : (slot index : ℕ) → IsKeyedAt x even node slot index → told_offsets x even odd node index ≡ Some (pos 0)
   pub heard :
-      (other : NodeSpec) (slot index : ℕ) → IsKeyedAt x even other slot index
-      → SaysAt (told_offsets x even odd node) index
+      (other : NodeSpec) (slot index : ℕ) → IsKeyedAt x even other slot index → other.id ≢ node.id
+      → IsHeardOf x double other node (told_offsets x even odd node index)
       (IsDeviation x.params true (pos (action_point_of x.params slot)) (row_for odd.told.rows node.id)
       (row_for odd.told.rows other.id))
-  pub few : AreFewValues x.params (told_offsets x even odd node)
+  pub keyed : AreKeyed x.params (told_offsets x even odd node)
   pub applied : IsMidpoint (values_of (told_offsets x even odd node)) (row_for odd.told.rows node.id).offset
 
 abbrev pub OffsetsAreMidpoints : Type 0
 OffsetsAreMidpoints =
-    (x : Setting) (h : Cycles) (double : ℕ) (s : IsSyncedRun x h double) (node : NodeSpec)
-    → HasRowIn x s.synced.even node → ComputesOffset x s.synced.even s.synced.odd node
+    (what : Heard) (x : Setting) (flutter : ℕ) (h : Cycles) (double : ℕ) (known : Known) (even odd : Cycle) (node : NodeSpec)
+    → IsJudgedRun what x flutter h double known → HasDouble h double even odd → HasRowIn x even node
+    → ComputesOffset x double even odd node
 
 -- the sender of a key slot, by the rows of its node
 abbrev pub told_sender : Setting → Cycle → Cycle → NodeSpec → ℕ → Sender
@@ -67,15 +72,15 @@ told_sender x even odd node slot =
       action = pos (action_point_of x.params slot);
     }
 
--- so are its rate values, each of which places the length of a node's odd cycle; and its rate grows by their midpoint, but for
--- damping
-pub record ComputesRate (x : Setting) (h : Cycles) (double : ℕ) (even odd : Cycle) (node : NodeSpec) : Type 0 where
+-- so are its rate values, each of which places what lies between a node's action points, and the length of its even cycle; and its rate
+-- grows by their midpoint, but for damping
+pub record ComputesRate (x : Setting) (flutter : ℕ) (h : Cycles) (double : ℕ) (even odd : Cycle) (node : NodeSpec) : Type 0 where
   pub own : (slot index : ℕ) → IsKeyedAt x even node slot index → told_rates x even odd node index ≡ Some (pos 0)
   pub heard :
-      (other : NodeSpec) (slot index : ℕ) → IsKeyedAt x even other slot index
-      → SaysAt (told_rates x even odd node) index
-      (PlacesLength x.params (row_for odd.told.rows node.id) (told_sender x even odd other slot))
-  pub few : AreFewValues x.params (told_rates x even odd node)
+      (other : NodeSpec) (slot index : ℕ) → IsKeyedAt x even other slot index → other.id ≢ node.id
+      → IsHeardOf x double other node (told_rates x even odd node index)
+      (PlacesEven x.params flutter (told_sender x even odd other slot) (row_for odd.told.rows node.id))
+  pub keyed : AreKeyed x.params (told_rates x even odd node)
   pub middle : ℤ
   pub is_middle : IsMidpoint (values_of (told_rates x even odd node)) middle
   pub grown :
@@ -85,5 +90,6 @@ pub record ComputesRate (x : Setting) (h : Cycles) (double : ℕ) (even odd : Cy
 
 abbrev pub RatesGrowByMidpoints : Type 0
 RatesGrowByMidpoints =
-    (x : Setting) (h : Cycles) (double : ℕ) (s : IsSyncedRun x h double) (node : NodeSpec)
-    → HasRowIn x s.synced.even node → ComputesRate x h double s.synced.even s.synced.odd node
+    (what : Heard) (x : Setting) (flutter : ℕ) (h : Cycles) (double : ℕ) (known : Known) (even odd : Cycle) (node : NodeSpec)
+    → IsJudgedRun what x flutter h double known → HasDouble h double even odd → HasRowIn x even node
+    → ComputesRate x flutter h double even odd node

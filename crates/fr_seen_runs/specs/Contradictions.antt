@@ -73,16 +73,21 @@ IsSyncedAsStated x h base l what cycle =
 
 -- what faults ask of the run and of what the log states, where it is told what nodes hear: the correct sync nodes that do not join
 -- outweigh the arbitrary ones; oscillators, their changes and delays keep within what is stated; of each double cycle each correct node
--- misses at most so many correct sync nodes as the log says, and where frames may be lost, none is left without any value
-pub record IsAsLogStates (x : Setting) (h : Cycles) (base : ℕ) (l : LogView) : Type 0 where
+-- misses at most so many correct sync nodes as the log says, and where frames may be lost, none is left without any value. What nodes
+-- miss is asked of the double cycles of the run before one of them alone
+pub record IsAsLogStatesBefore (x : Setting) (h : Cycles) (base : ℕ) (l : LogView) (until : ℕ) : Type 0 where
   pub named : NamesArbitrary x l
   pub timed : (what : Heard) → log_heard x.params l ≡ Some what → IsTimedSetting x (stated_flutter x.params l)
   pub missed :
-      (what : Heard) (double : ℕ) (node : NodeSpec) → log_heard x.params l ≡ Some what → double < x.doubles
+      (what : Heard) (double : ℕ) (node : NodeSpec) → log_heard x.params l ≡ Some what → double < until
       → Contains (correct_nodes x) node → MissesFew x double l.lost node
-  pub none_deaf : (double : ℕ) → log_heard x.params l ≡ Some heard.Poor → double < x.doubles → NoneIsDeaf x double
+  pub none_deaf : (double : ℕ) → log_heard x.params l ≡ Some heard.Poor → double < until → NoneIsDeaf x double
   pub since : (what : Heard) → log_heard x.params l ≡ Some what → IfSome l.since (IsSyncedAsStated x h base l what)
   pub unmissed : l.whole ≡ true → MissesNone x h base l
+
+-- in all of them
+abbrev pub IsAsLogStates : Setting → Cycles → ℕ → LogView → Type 0
+IsAsLogStates x h base l = IsAsLogStatesBefore x h base l x.doubles
 
 -- a run of which all frames are carried misses none
 abbrev pub SteadyRunsMissNone : Type 0

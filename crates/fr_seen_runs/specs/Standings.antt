@@ -1,5 +1,5 @@
 -- Double cycles of a log that are judged by their own numbers: what is known of them is so, and nothing contradicts it.
-use Rattle.std.specs.Prelude.{◌≡◌, ◌<◌, ◌≤◌, ℕ, suc, true, All, List, [], ◌∷◌, ◌++◌, map, Contains, Option, Some, None, IfSome}
+use Rattle.std.specs.Prelude.{◌≡◌, ◌<◌, ◌≤◌, ℕ, suc, false, true, All, List, [], ◌∷◌, ◌++◌, map, Contains, Option, Some, None, IfSome}
 use Rattle.std.specs.Option.{option_map, option_to_list}
 use Rattle.fr_base.specs.declared.channel.Channel.{Channel}
 use Rattle.fr_bound.specs.Judged.{apart_through}
@@ -26,10 +26,12 @@ use Rattle.fr_judging.specs.Hearing.{log_heard}
 use Rattle.fr_findings.specs.Verdict.{Basis, double_at, log_basis, log_span, no_progress, progress_behind, sightings_before, standing_told}
 use Rattle.fr_findings.specs.declared.progress.Progress.{Progress}
 use Rattle.fr_sharp.specs.JudgedSteps.{EachHasRow, IsKnownAt}
+use Rattle.fr_sharp.specs.Losses.{NoneIsDeaf}
 use Rattle.fr_sharp.specs.SharpHistories.{KeepsApart}
+use Rattle.fr_sharp.specs.SteadyRuns.{MayHaveArbitrary}
 use Rattle.fr_seen.specs.Clocks.{StraightClock}
 use Rattle.fr_seen.specs.LogSeen.{log_senders, run_double}
-use Rattle.fr_seen_runs.specs.Contradictions.{IsAsLogStates, IsObservedRun, MissesFew}
+use Rattle.fr_seen_runs.specs.Contradictions.{IsAsLogStates, IsAsLogStatesBefore, IsObservedRun, MissesFew}
 
 -- so much is known of a double cycle of the log, where the run has it: in the run each correct node has a row in it
 abbrev pub IsKnownIn : Setting → Cycles → ℕ → ℕ → Known → Type 0
@@ -110,23 +112,23 @@ pub record Missing : Type 0 where
   pub number : ℕ
   pub missed : Missed
 
-abbrev pub missing_of : Basis → List Sighting → OffendingFrames → Progress → ℕ → List Missing
-missing_of b seen offending progress double =
+abbrev pub missed_rows_of : Basis → List Sighting → OffendingFrames → Progress → ℕ → List Missing
+missed_rows_of b seen offending progress double =
     map (λ missed. record { number = double; missed = missed })
     (
     all_missed b.params b.log b.scale double (double_at b seen offending double).senders
     (judged_met (standing_told b (double_at b seen offending double) progress.known))
     )
 
-unfoldable pub missing_from : Basis → List Sighting → OffendingFrames → Progress → List ℕ → List Missing
-missing_from b seen offending progress [] = []
-missing_from b seen offending progress (double ∷ doubles) =
-    missing_of b seen offending progress double
-    ++ missing_from b seen offending (progress_behind b seen offending double progress) doubles
+unfoldable pub missed_rows_from : Basis → List Sighting → OffendingFrames → Progress → List ℕ → List Missing
+missed_rows_from b seen offending progress [] = []
+missed_rows_from b seen offending progress (double ∷ doubles) =
+    missed_rows_of b seen offending progress double
+    ++ missed_rows_from b seen offending (progress_behind b seen offending double progress) doubles
 
 unfoldable pub log_missing : Values → LogView → List Missing
 log_missing p l =
-    missing_from (log_basis p l) (sightings_of p l) (offending_frames_of p l) no_progress (seen_doubles (sightings_of p l))
+    missed_rows_from (log_basis p l) (sightings_of p l) (offending_frames_of p l) no_progress (seen_doubles (sightings_of p l))
 
 -- in the run the node missed no fewer; where none is told, there is no such run
 abbrev pub IsNoLess : Option ℕ → ℕ → Type 0
@@ -138,7 +140,12 @@ MissingIsSo x base m =
     (node : NodeSpec) (lost : ℕ) → Contains (correct_nodes x) node → node.id ≡ m.missed.node
     → MissesFew x (run_double base m.number) lost node → IsNoLess m.missed.least lost
 
+-- each row is so in each run that the log is seen of, as it states in the double cycles before that of the row, without arbitrary sync
+-- nodes, and in which none is deaf in that one; how many its nodes may miss in that one is not asked
 abbrev pub MissingsAreSo : Type 0
 MissingsAreSo =
     (x : Setting) (h : Cycles) (base : ℕ) (delays : ℕ → Channel → Delays) (clock : ℕ → StraightClock) (l : LogView)
-    → IsObservedRun x h base delays clock l → IsAsLogStates x h base l → All (MissingIsSo x base) (log_missing x.params l)
+    (m : Missing)
+    → IsObservedRun x h base delays clock l → MayHaveArbitrary false x
+    → IsAsLogStatesBefore x h base l (run_double base m.number) → NoneIsDeaf x (run_double base m.number)
+    → Contains (log_missing x.params l) m → MissingIsSo x base m

@@ -1,6 +1,6 @@
 -- The worked log, read of a cluster whose offset limit is too small for its own precision: a classical check fails. How its double cycles
 -- stand, and what a node must have missed.
-use Rattle.std.specs.Prelude.{◌≡◌, ℕ, codes, pos, true, false, [], ◌∷◌, None, Option, Some}
+use Rattle.std.specs.Prelude.{◌≡◌, ℕ, codes, pos, neg_ℤ, true, false, [], ◌∷◌, None, Option, Some}
 use Rattle.fr_base.specs.declared.channel.Channel.{Channel}
 use Rattle.fr_bound.specs.declared.judging.Heard.TheVariants.{Clean, Poor}
 use Rattle.fr_bound.specs.declared.judging.Known.{Known}
@@ -13,6 +13,7 @@ use Rattle.fr_course.specs.declared.stamps.Delays.{Delays}
 use Rattle.fr_course.specs.Readings.{reading_scale}
 use Rattle.fr_observe.specs.Observing.{senders_of}
 use Rattle.fr_sightings.specs.Sightings.{offending_frames_of, sightings_of}
+use Rattle.fr_observe.specs.declared.fault.Fault.{Fault}
 use Rattle.fr_judging.specs.Knowing.{spread_told}
 use Rattle.fr_judging.specs.declared.knowing.Standing.{Standing}
 use Rattle.fr_bound.specs.Checks.{holds_of}
@@ -116,12 +117,21 @@ pub record JudgedOffsetIsTold : Type 0 where
       (log_stands judged_cluster (late_log 250) 0 None)
       ≡ codes "missed,1,2,offset,-,,,\n"
 
--- where the log says that a node may miss a sender, each may have missed the other one, and nothing contradicts it
+-- where the log says that a node may miss a sender, less is known of that term, but not so little
 abbrev pub lost_log : LogView
 lost_log = let log : LogView = late_log 250 in record log { lost = 1 }
 
+abbrev pub lost_offset_told : Fault
+lost_offset_told = let fault : Fault = offset_told in record fault { from = Some (neg_ℤ (pos 5)) }
+
 pub record LostLog : Type 0 where
   pub heard : log_heard judged_cluster lost_log ≡ Some Poor
+  pub verdict : verdict_of judged_cluster lost_log ≡ verdict.No lost_offset_told
+  pub missed_row :
+      missed_told judged_cluster lost_log (reading_scale 0 judged_cluster) 0
+      (senders_of (reading_scale 0 judged_cluster) judged_cluster lost_log (sightings_of judged_cluster lost_log) 0)
+      (log_stands judged_cluster lost_log 0 None)
+      ≡ codes "missed,1,2,offset,-,,,\n"
 
 -- a log is seen of no run of the cluster that is as it states
 abbrev pub IsSeenOfNoneAsStated : LogView → Type 0

@@ -52,9 +52,9 @@ pub fn worked_strangers()
 /// double cycles are judged by their own numbers, and the verdict is within, in cycles 0 to 2. The log is seen of a run of
 /// this cluster that is as it states: so what is asked of such runs can be met. Without the frame of node 1 in cycle 2, the
 /// second double cycle is judged by what is known of it from the first, and the verdict is partly: within in one cycle. If
-/// the frames of node 2 come 250 ns later from cycle 2 on, the verdict is no, by its offset term, and a row says how many
-/// senders it must have missed. That log is seen of no such run. Where it says that a node may miss a sender, what nodes hear
-/// is told by that.
+/// the frames of node 2 come 250 ns later from cycle 2 on, the verdict is no, by its offset term, and a row says that no
+/// number of senders that it missed explains that. That log is seen of no such run. Where it says that a node may miss a
+/// sender, less is known of the term, and the verdict is no still.
 pub fn worked_judged_contradictions()
     ensures plain { JudgedLog }
     ensures run { JudgedRun }

@@ -1,65 +1,44 @@
-use Rattle.std.proofs.Common.{◌≡◌, ◌∙◌, List, ◌++◌, Ok, is_none, ap, subst, rules}
+use Rattle.std.proofs.Common.{◌≡◌, ◌∙◌, List, Ok, is_none, ap, subst, rules}
 use Rattle.std.specs.List.{flat_map}
 use Rattle.std.specs.Option.{option_or}
 use Rattle.fr_base.specs.Device.{Puts}
-use Rattle.fr_observe.specs.Faults.{fault_row, faults_in_sync, first_of_faults, is_nil}
-use Rattle.fr_judging.specs.Knowing.{known_next, known_obstacle}
+use Rattle.fr_observe.specs.Faults.{fault_row, first_of_faults, is_nil}
+use Rattle.fr_judging.specs.Knowing.{known_next}
 use Rattle.fr_judging.specs.Obstacles.{farther}
 use Rattle.fr_observe.specs.declared.fault.Fault.{Fault}
-use Rattle.fr_observe.proofs.Told.{clean-is, told_cut}
+use Rattle.fr_observe.proofs.Told.{clean-is}
 use Rattle.fr_findings.specs.Ground.{basis_in, double_in}
-use Rattle.fr_findings.specs.Verdict.{by_heard, faults_told, in_sync_told, known_next_told, known_told, moving_told, obstacle_told, own_told, sync_told}
-use Rattle.fr_judging.specs.Coverables.{is_coverable}
-use Rattle.fr_findings.proofs.Printing.{first-of-all, known-is, moving-cut, moving-is, moving-then, told-apart, told_failed}
+use Rattle.fr_findings.specs.Verdict.{faults_told, known_next_told, known_told, moving_told, obstacle_told, own_told}
+use Rattle.fr_findings.proofs.Printing.{first-of-all, known-is, moving-cut, moving-is, moving-then, told_failed}
 use Rattle.fr_findings.proofs.contradicting.put_faults.Goals as goal
-
-pub returns-in_err-put_where_synced-clause-puts : goal.returns-in_err-put_where_synced-clause-puts
-returns-in_err-put_where_synced-clause-puts g c =
-    let b = basis_in c.args.ground.now in
-    let d = double_in c.args.double.now in
-    let result = c.from_residual.result in
-    let known : List Fault = known_told b d c.args.progress.now.known in
-    subst (λ (faults : List Fault). Puts result (g.O.Sink.state c.args.out.now) (g.O.Sink.state c.put_where_synced.new.out) (flat_map fault_row faults))
-    (λ i. faults_in_sync (is_coverable b.covered) (c.sync_of-sync.ensures.sync i) (in_sync_told b d) ++ known)
-    (told_cut result known c.in_err-put_where_synced.ensures c.from_residual.ensures.0).puts
 
 pub returns-in_err-put_moving_faults-clause-puts : goal.returns-in_err-put_moving_faults-clause-puts
 returns-in_err-put_moving_faults-clause-puts g c =
-    let b = basis_in c.args.ground.now in
-    let d = double_in c.args.double.now in
-    let result = c.from_residual-in_err-put_moving_faults.result in
+    let result = c.from_residual.result in
     let known = known-is c.args.ground.now c.args.double.now c.scene_of-scene.result c.args.standing.now c.args.progress.now.known c.scene_of-scene.ensures.value c.requires.standing in
-    subst (λ (faults : List Fault). Puts result (g.O.Sink.state c.args.out.now) (g.O.Sink.state c.put_moving_faults.new.out) (flat_map fault_row faults))
-    (λ i. faults_in_sync (is_coverable b.covered) (c.sync_of-sync.ensures.sync i) (in_sync_told b d) ++ known i)
-    (told-apart result c.in_ok-put_where_synced.ensures (moving-cut c.scene_of-scene.result c.args.standing.now result c.in_err-put_moving_faults.ensures c.from_residual-in_err-put_moving_faults.ensures.0))
+    subst (λ (faults : List Fault). Puts result (g.O.Sink.state c.args.out.now) (g.O.Sink.state c.put_moving_faults.new.out) (flat_map fault_row faults)) known
+    (moving-cut c.scene_of-scene.result c.args.standing.now result c.in_err-put_moving_faults.ensures c.from_residual.ensures.0).puts
 
 pub returns-in_err-put_term_faults-clause-puts : goal.returns-in_err-put_term_faults-clause-puts
 returns-in_err-put_term_faults-clause-puts g c =
-    let b = basis_in c.args.ground.now in
-    let d = double_in c.args.double.now in
     let result = c.from_residual-in_err-put_term_faults.result in
     let known = known-is c.args.ground.now c.args.double.now c.scene_of-scene.result c.args.standing.now c.args.progress.now.known c.scene_of-scene.ensures.value c.requires.standing in
-    subst (λ (faults : List Fault). Puts result (g.O.Sink.state c.args.out.now) (g.O.Sink.state c.put_term_faults.new.out) (flat_map fault_row faults))
-    (λ i. faults_in_sync (is_coverable b.covered) (c.sync_of-sync.ensures.sync i) (in_sync_told b d) ++ known i)
-    (told-apart result c.in_ok-put_where_synced.ensures (told_failed result (moving-then c.scene_of-scene.result c.args.standing.now _ c.in_ok-put_moving_faults.ensures c.in_err-put_term_faults.ensures) c.from_residual-in_err-put_term_faults.ensures.0))
+    subst (λ (faults : List Fault). Puts result (g.O.Sink.state c.args.out.now) (g.O.Sink.state c.put_term_faults.new.out) (flat_map fault_row faults)) known
+    (told_failed result (moving-then c.scene_of-scene.result c.args.standing.now _ c.in_ok-put_moving_faults.ensures c.in_err-put_term_faults.ensures) c.from_residual-in_err-put_term_faults.ensures.0).puts
 
 pub returns-clause-puts : goal.returns-clause-puts
 returns-clause-puts g c =
-    let b = basis_in c.args.ground.now in
-    let d = double_in c.args.double.now in
     let known = known-is c.args.ground.now c.args.double.now c.scene_of-scene.result c.args.standing.now c.args.progress.now.known c.scene_of-scene.ensures.value c.requires.standing in
-    subst (λ (faults : List Fault). Puts (Ok tt) (g.O.Sink.state c.args.out.now) (g.O.Sink.state c.put_term_faults.new.out) (flat_map fault_row faults))
-    (λ i. faults_in_sync (is_coverable b.covered) (c.sync_of-sync.ensures.sync i) (in_sync_told b d) ++ known i)
-    (told-apart (Ok tt) c.in_ok-put_where_synced.ensures (moving-then c.scene_of-scene.result c.args.standing.now (Ok tt) c.in_ok-put_moving_faults.ensures c.in_ok-put_term_faults.ensures))
+    subst (λ (faults : List Fault). Puts (Ok tt) (g.O.Sink.state c.args.out.now) (g.O.Sink.state c.put_term_faults.new.out) (flat_map fault_row faults)) known
+    (moving-then c.scene_of-scene.result c.args.standing.now (Ok tt) c.in_ok-put_moving_faults.ensures c.in_ok-put_term_faults.ensures).puts
 
 pub returns-clause-progress : goal.returns-clause-progress
-unfolding faults_told obstacle_told
+unfolding faults_told
 returns-clause-progress g c =
     let b = basis_in c.args.ground.now in
     let d = double_in c.args.double.now in
     let progress = c.args.progress.now in
     let own : List Fault = own_told b d in
-    let synced : List Fault = faults_in_sync (is_coverable b.covered) c.sync_of-sync.result.0 (in_sync_told b d) in
     let known = known-is c.args.ground.now c.args.double.now c.scene_of-scene.result c.args.standing.now progress.known c.scene_of-scene.ensures.value c.requires.standing in
     let moving =
     moving-is c.args.ground.now c.args.double.now c.scene_of-scene.result c.args.standing.now progress.known c.scene_of-scene.ensures.value c.requires.standing in
@@ -69,18 +48,10 @@ returns-clause-progress g c =
     let none : c.is_none.result ≡ is_none c.put_moving_faults.new.first = search rules in
     let clear : c.is_none.result ≡ is_nil (moving_told b d progress.known) = none ∙ ap is_none moved ∙ clean-is (moving_told b d progress.known) in
     let next : c.known_next-progress.result ≡ known_next_told b d progress.known =
-    c.known_next-progress.ensures ∙ (λ i. known_next b.params (c.requires.standing i) (clear i)) in
+    c.known_next-progress.ensures ∙ (λ i. known_next b.params b.log (c.requires.standing i) (clear i)) in
     let before : c.earlier-before.result ≡ option_or progress.first (first_of_faults own) = c.earlier-before.ensures ∙ ap (option_or progress.first) c.requires.told in
-    let behind : c.earlier-behind.result ≡ option_or (first_of_faults synced) (first_of_faults (known_told b d progress.known)) =
-    c.earlier-behind.ensures ∙ (λ i. option_or (c.in_ok-put_where_synced.ensures.first i) (against i)) in
-    let first : c.earlier-progress.result ≡ option_or progress.first (first_of_faults (faults_told b d (sync_told b d progress.sync) progress.known)) =
-    c.earlier-progress.ensures
-    ∙ (λ i. option_or (before i) (behind i))
-    ∙ first-of-all progress.first own synced (known_told b d progress.known)
-    ∙ (λ i. option_or progress.first (first_of_faults (faults_told b d (c.sync_of-sync.ensures.sync i) progress.known))) in
-    let why : c.obstacle_of-obstacle.result ≡ obstacle_told b d (sync_told b d progress.sync) progress.known =
-    c.obstacle_of-obstacle.ensures
-    ∙ (λ i. by_heard b.heard (c.sync_of-sync.ensures.obstacle i) (known_obstacle b.params b.log d.here d.number (c.requires.standing i) (c.requires.told i))) in
-    let farthest : c.farther-progress.result ≡ farther progress.obstacle (obstacle_told b d (sync_told b d progress.sync) progress.known) =
-    c.farther-progress.ensures ∙ ap (farther progress.obstacle) why in
-    λ i. record progress { sync = c.sync_of-sync.ensures.sync i; known = next i; first = first i; obstacle = farthest i }
+    let first : c.earlier-progress.result ≡ option_or progress.first (first_of_faults (faults_told b d progress.known)) =
+    c.earlier-progress.ensures ∙ (λ i. option_or (before i) (against i)) ∙ first-of-all progress.first own (known_told b d progress.known) in
+    let farthest : c.farther-progress.result ≡ farther progress.obstacle (obstacle_told b d progress.known) =
+    c.farther-progress.ensures ∙ ap (farther progress.obstacle) c.obstacle_of-obstacle.ensures in
+    λ i. record progress { known = next i; first = first i; obstacle = farthest i }

@@ -11,6 +11,6 @@ returns-in_err-put_census g c = cut _ _ c.in_err-put_census.ensures c.from_resid
 pub returns : goal.returns
 returns g c =
     let text : List ℕ = census_text c.args.ground.now.params.now c.args.ground.now.log.now c.args.seen.now in
-    let end : Bool → List ℕ = λ sure. end_told c.args.seen.now c.args.tally.now c.args.covered c.args.ground.now.heard sure c.args.progress.now in
+    let end : Bool → List ℕ = λ sure. end_told c.args.seen.now c.args.tally.now sure c.args.progress.now in
     subst (λ (rest : List ℕ). Puts c.put_lines.result (g.O.Sink.state c.args.out.now) (g.O.Sink.state c.put_lines.new.out) (text ++ rest)) (c.end_lines.ensures ∙ ap end c.are_numbers_sure-sure.ensures)
     (then {text = text} c.put_lines.result c.in_ok-put_census.ensures c.put_lines.ensures)

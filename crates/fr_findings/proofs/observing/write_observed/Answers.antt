@@ -8,7 +8,6 @@ use Rattle.fr_sightings.specs.Sightings.{IsSighting, OffendingFrames, irregular_
 use Rattle.fr_sightings.specs.declared.sighting.Sighting.{Sighting}
 use Rattle.fr_findings.specs.Ground.{ComeInOrder}
 use Rattle.fr_findings.specs.Text.{observe_text, text_with}
-use Rattle.fr_judging.specs.Coverables.{coverable_of}
 use Rattle.fr_findings.proofs.Printing.{offending-of}
 use Rattle.fr_findings.proofs.observing.write_observed.Goals as goal
 
@@ -43,4 +42,4 @@ returns g c =
     let irregular_is : c.irregular.result.now ≡ irregular_of p l = c.irregular.ensures ∙ ap (λ (frames : OffendingFrames). frames.irregular) c.requires.offending in
     let tally_is : c.tally.result ≡ tally_of p l = c.tally.ensures ∙ c.requires.tally in
     subst (Puts c.put_told.result (g.O.Sink.state c.args.out.now) (g.O.Sink.state c.put_told.new.out))
-    (λ i. text_with p l (list_is i) (offending-of (untimely_is i) (irregular_is i)) (tally_is i) (coverable_of p l)) c.put_told.ensures
+    (λ i. text_with p l (list_is i) (offending-of (untimely_is i) (irregular_is i)) (tally_is i)) c.put_told.ensures

@@ -1,17 +1,22 @@
-use Rattle.std.proofs.Common.{◌≡◌, ◌∙◌, ◌&&◌, ◌||◌, ℕ, ℤ, ◌+◌, ◌*◌, List, ◌++◌, Ok, is_some, w64, subst, rules}
+use Rattle.std.proofs.Common.{◌≡◌, ◌∙◌, ℕ, ℤ, ◌+◌, ◌*◌, List, ◌++◌, Ok, w64, subst, rules}
 use Rattle.std.specs.List.{flat_map}
 use Rattle.std.specs.Option.{option_or}
 use mir.Val.{of_z, to_z}
 use Rattle.fr_base.specs.Device.{Puts}
 use Rattle.fr_observe.specs.Faults.{fault_row}
 use Rattle.fr_judging.specs.Knowing.{spread_told}
+use Rattle.fr_judging.specs.Missing.{missed_told}
+use Rattle.fr_judging.specs.declared.knowing.Standing.{Standing}
 use Rattle.fr_observe.specs.Observing.{both_say, double_rows}
 use Rattle.fr_observe.specs.declared.fault.Fault.{Fault}
-use Rattle.fr_findings.specs.Ground.{basis_in, double_in, further_told, reach_passed, with_both, with_faults}
-use Rattle.fr_findings.specs.Verdict.{double_told, faults_told, is_judged, over_row, over_told, own_told, progress_told, reach_told, standing_told, sync_told}
-use Rattle.fr_judging.specs.Coverables.{is_coverable}
+use Rattle.fr_findings.specs.Ground.{basis_in, double_in, reach_passed, with_both, with_faults}
+use Rattle.fr_findings.specs.Verdict.{Basis, DoubleCycle, double_told, faults_told, known_told, over_row, over_told, own_told, progress_told, reach_told, standing_told}
 use Rattle.fr_findings.proofs.Printing.{ended, more-cut, own-cut, rows-cut, whole-put}
 use Rattle.fr_findings.proofs.writing.put_double.Goals as goal
+
+-- what its nodes missed, and its own numbers
+abbrev numbers_of : Basis → DoubleCycle → Standing → List ℕ
+numbers_of b d st = missed_told b.params b.log b.scale d.number d.senders st ++ spread_told b.params b.log d.number st
 
 pub returns-in_err-put_rows-clause-puts : goal.returns-in_err-put_rows-clause-puts
 unfolding double_told faults_told
@@ -23,10 +28,10 @@ returns-in_err-put_rows-clause-puts g c =
     let back : to_z w64 (of_z w64 k) ≡ k = search rules in
     let result = c.from_residual.result in
     let own : List Fault = own_told b d in
-    let more : List Fault = further_told b d (sync_told b d p.sync) p.known in
-    let spread : List ℕ = spread_told b.params d.number (standing_told b d p.known) in
-    subst (λ (n : ℤ). Puts result (g.O.Sink.state c.args.out.now) (g.O.Sink.state c.put_rows.new.out) (double_rows n b.scale d.number d.senders ++ (flat_map fault_row (own ++ more) ++ spread))) back
-    (rows-cut (double_rows (to_z w64 (of_z w64 k)) b.scale d.number d.senders) own more spread result c.in_err-put_rows.ensures c.from_residual.ensures.0)
+    let more : List Fault = known_told b d p.known in
+    let numbers : List ℕ = numbers_of b d (standing_told b d p.known) in
+    subst (λ (n : ℤ). Puts result (g.O.Sink.state c.args.out.now) (g.O.Sink.state c.put_rows.new.out) (double_rows n b.scale d.number d.senders ++ (flat_map fault_row (own ++ more) ++ numbers))) back
+    (rows-cut (double_rows (to_z w64 (of_z w64 k)) b.scale d.number d.senders) own more numbers result c.in_err-put_rows.ensures c.from_residual.ensures.0)
 
 pub returns-in_err-put_own-clause-puts : goal.returns-in_err-put_own-clause-puts
 unfolding double_told faults_told
@@ -38,10 +43,10 @@ returns-in_err-put_own-clause-puts g c =
     let back : to_z w64 (of_z w64 k) ≡ k = search rules in
     let result = c.from_residual-in_err-put_own.result in
     let own : List Fault = own_told b d in
-    let more : List Fault = further_told b d (sync_told b d p.sync) p.known in
-    let spread : List ℕ = spread_told b.params d.number (standing_told b d p.known) in
-    subst (λ (n : ℤ). Puts result (g.O.Sink.state c.args.out.now) (g.O.Sink.state c.put_own.new.out) (double_rows n b.scale d.number d.senders ++ (flat_map fault_row (own ++ more) ++ spread))) back
-    (own-cut (double_rows (to_z w64 (of_z w64 k)) b.scale d.number d.senders) own more spread result c.in_ok-put_rows.ensures c.in_err-put_own.ensures.puts
+    let more : List Fault = known_told b d p.known in
+    let numbers : List ℕ = numbers_of b d (standing_told b d p.known) in
+    subst (λ (n : ℤ). Puts result (g.O.Sink.state c.args.out.now) (g.O.Sink.state c.put_own.new.out) (double_rows n b.scale d.number d.senders ++ (flat_map fault_row (own ++ more) ++ numbers))) back
+    (own-cut (double_rows (to_z w64 (of_z w64 k)) b.scale d.number d.senders) own more numbers result c.in_ok-put_rows.ensures c.in_err-put_own.ensures.puts
     c.from_residual-in_err-put_own.ensures.0)
 
 pub returns-in_err-put_faults-clause-puts : goal.returns-in_err-put_faults-clause-puts
@@ -54,28 +59,28 @@ returns-in_err-put_faults-clause-puts g c =
     let back : to_z w64 (of_z w64 k) ≡ k = search rules in
     let result = c.from_residual-in_err-put_faults.result in
     let own : List Fault = own_told b d in
-    let more : List Fault = further_told b d (sync_told b d p.sync) p.known in
-    let spread : List ℕ = spread_told b.params d.number (standing_told b d p.known) in
-    subst (λ (n : ℤ). Puts result (g.O.Sink.state c.args.out.now) (g.O.Sink.state c.put_faults.new.out) (double_rows n b.scale d.number d.senders ++ (flat_map fault_row (own ++ more) ++ spread))) back
-    (more-cut (double_rows (to_z w64 (of_z w64 k)) b.scale d.number d.senders) own more spread result c.in_ok-put_rows.ensures c.in_ok-put_own.ensures.puts c.in_err-put_faults.ensures.puts
+    let more : List Fault = known_told b d p.known in
+    let numbers : List ℕ = numbers_of b d (standing_told b d p.known) in
+    subst (λ (n : ℤ). Puts result (g.O.Sink.state c.args.out.now) (g.O.Sink.state c.put_faults.new.out) (double_rows n b.scale d.number d.senders ++ (flat_map fault_row (own ++ more) ++ numbers))) back
+    (more-cut (double_rows (to_z w64 (of_z w64 k)) b.scale d.number d.senders) own more numbers result c.in_ok-put_rows.ensures c.in_ok-put_own.ensures.puts c.in_err-put_faults.ensures.puts
     c.from_residual-in_err-put_faults.ensures.0)
 
-pub returns-in_err-put_spread-clause-puts : goal.returns-in_err-put_spread-clause-puts
+pub returns-in_err-put_numbers-clause-puts : goal.returns-in_err-put_numbers-clause-puts
 unfolding double_told faults_told
-returns-in_err-put_spread-clause-puts g c =
+returns-in_err-put_numbers-clause-puts g c =
     let b = basis_in c.args.ground.now in
     let d = double_in c.args.double.now in
     let p = c.args.progress.now in
     let k = c.args.ground.now.precision in
     let back : to_z w64 (of_z w64 k) ≡ k = search rules in
-    let result = c.from_residual-in_err-put_spread.result in
+    let result = c.from_residual-in_err-put_numbers.result in
     let own : List Fault = own_told b d in
-    let more : List Fault = further_told b d (sync_told b d p.sync) p.known in
-    let spread : List ℕ = spread_told b.params d.number c.standing_of-standing.result in
-    subst (Puts result (g.O.Sink.state c.args.out.now) (g.O.Sink.state c.put_spread.new.out))
-    (λ i. double_rows (back i) b.scale d.number d.senders ++ (flat_map fault_row (own ++ more) ++ spread_told b.params d.number (c.standing_of-standing.ensures.value i)))
-    (whole-put (double_rows (to_z w64 (of_z w64 k)) b.scale d.number d.senders) own more spread result c.in_ok-put_rows.ensures c.in_ok-put_own.ensures.puts c.in_ok-put_faults.ensures.puts
-    (ended {text = spread} result c.in_err-put_spread.ensures c.from_residual-in_err-put_spread.ensures.0))
+    let more : List Fault = known_told b d p.known in
+    let numbers : List ℕ = numbers_of b d c.standing_of-standing.result in
+    subst (Puts result (g.O.Sink.state c.args.out.now) (g.O.Sink.state c.put_numbers.new.out))
+    (λ i. double_rows (back i) b.scale d.number d.senders ++ (flat_map fault_row (own ++ more) ++ numbers_of b d (c.standing_of-standing.ensures.value i)))
+    (whole-put (double_rows (to_z w64 (of_z w64 k)) b.scale d.number d.senders) own more numbers result c.in_ok-put_rows.ensures c.in_ok-put_own.ensures.puts c.in_ok-put_faults.ensures.puts
+    (ended {text = numbers} result c.in_err-put_numbers.ensures c.from_residual-in_err-put_numbers.ensures.0))
 
 pub returns-clause-puts : goal.returns-clause-puts
 unfolding double_told faults_told
@@ -86,12 +91,12 @@ returns-clause-puts g c =
     let k = c.args.ground.now.precision in
     let back : to_z w64 (of_z w64 k) ≡ k = search rules in
     let own : List Fault = own_told b d in
-    let more : List Fault = further_told b d (sync_told b d p.sync) p.known in
-    let spread : List ℕ = spread_told b.params d.number c.standing_of-standing.result in
-    subst (Puts (Ok tt) (g.O.Sink.state c.args.out.now) (g.O.Sink.state c.put_spread.new.out))
-    (λ i. double_rows (back i) b.scale d.number d.senders ++ (flat_map fault_row (own ++ more) ++ spread_told b.params d.number (c.standing_of-standing.ensures.value i)))
-    (whole-put (double_rows (to_z w64 (of_z w64 k)) b.scale d.number d.senders) own more spread (Ok tt) c.in_ok-put_rows.ensures c.in_ok-put_own.ensures.puts c.in_ok-put_faults.ensures.puts
-    c.in_ok-put_spread.ensures)
+    let more : List Fault = known_told b d p.known in
+    let numbers : List ℕ = numbers_of b d c.standing_of-standing.result in
+    subst (Puts (Ok tt) (g.O.Sink.state c.args.out.now) (g.O.Sink.state c.put_numbers.new.out))
+    (λ i. double_rows (back i) b.scale d.number d.senders ++ (flat_map fault_row (own ++ more) ++ numbers_of b d (c.standing_of-standing.ensures.value i)))
+    (whole-put (double_rows (to_z w64 (of_z w64 k)) b.scale d.number d.senders) own more numbers (Ok tt) c.in_ok-put_rows.ensures c.in_ok-put_own.ensures.puts c.in_ok-put_faults.ensures.puts
+    c.in_ok-put_numbers.ensures)
 
 pub returns-clause-progress : goal.returns-clause-progress
 unfolding progress_told both_say
@@ -101,11 +106,9 @@ returns-clause-progress g c =
     let p = c.args.progress.now in
     let faults_are : c.put_faults.new.progress ≡ with_faults b d p = c.in_ok-put_faults.ensures.progress in
     let standing : c.standing_of-standing.result ≡ standing_told b d p.known = c.standing_of-standing.ensures.value in
-    let judged : c.is_judged-judged.result ≡ is_judged b d (sync_told b d p.sync) p.known =
-    c.is_judged-judged.ensures ∙ (λ i. (is_coverable b.covered && is_some (faults_are i).sync) || (standing i).is_judged) in
-    let reach : c.reach_passed-reach.result ≡ reach_told b d (sync_told b d p.sync) p =
+    let reach : c.reach_passed-reach.result ≡ reach_told b d p =
     c.reach_passed-reach.ensures
-    ∙ (λ i. reach_passed b.heard (faults_are i) d.number (standing i).is_judged (c.both_say-said.ensures.even i) (c.both_say-said.ensures.odd i)) in
+    ∙ (λ i. reach_passed (faults_are i) d.number (standing i).is_judged (c.both_say-said.ensures.even i) (c.both_say-said.ensures.odd i)) in
     let over : c.first_over-over.result ≡ over_told b d =
     c.first_over-over.ensures
     ∙ (
@@ -113,4 +116,4 @@ returns-clause-progress g c =
     (over_row (2 * d.number + 1) (c.requires.double.skews.odd_low i) (c.both_say-said.ensures.odd i))
     ) in
     c.pass.ensures
-    ∙ (λ i. with_both (faults_are i) d.number (judged i) (c.both_say-said.ensures.even i) (c.both_say-said.ensures.odd i) (reach i) (over i))
+    ∙ (λ i. with_both (faults_are i) d.number (standing i).is_judged (c.both_say-said.ensures.even i) (c.both_say-said.ensures.odd i) (reach i) (over i))

@@ -1,6 +1,6 @@
 use Rattle.std.proofs.Common.{◌≡◌, ◌≤◌, count_by, take}
 use Rattle.fr_sightings.specs.Sure.{is_sync_as}
-use Rattle.fr_judging.proofs.coverable.sync_count.Given as goal
+use Rattle.fr_judging.proofs.hearing.sync_count.Given as goal
 
 -- those among the nodes so far
 abbrev pub invariant-loop-place : goal.invariant-loop-place

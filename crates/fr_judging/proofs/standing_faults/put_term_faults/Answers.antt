@@ -8,7 +8,7 @@ pub returns-in_err-put_judged_terms : goal.returns-in_err-put_judged_terms
 unfolding term_faults
 returns-in_err-put_judged_terms g c =
     let s = c.args.scene.now in
-    let same = ap (λ (met : Option Known). judged_terms s.params.now s.scale.now s.number s.senders.now met) c.judged_met.ensures in
+    let same = ap (λ (met : Option Known). judged_terms s.params.now s.log.now s.scale.now s.number s.senders.now met) c.judged_met.ensures in
     told_cut _ (known_missing s.params.now s.log.now s.span s.before.now s.here.now s.number c.args.standing.now.known) (told_all same c.in_err-put_judged_terms.ensures)
     c.from_residual.ensures.0
 
@@ -16,5 +16,5 @@ pub returns : goal.returns
 unfolding term_faults
 returns g c =
     let s = c.args.scene.now in
-    let same = ap (λ (met : Option Known). judged_terms s.params.now s.scale.now s.number s.senders.now met) c.judged_met.ensures in
+    let same = ap (λ (met : Option Known). judged_terms s.params.now s.log.now s.scale.now s.number s.senders.now met) c.judged_met.ensures in
     told_then _ (told_all same c.in_ok-put_judged_terms.ensures) c.put_known_missing.ensures

@@ -1,7 +1,7 @@
 use Rattle.std.proofs.Common.{◌≡◌, None, take}
 use Rattle.std.specs.List.{fold}
 use Rattle.fr_judging.specs.Obstacles.{or_unseen}
-use Rattle.fr_judging.proofs.synced.first_unseen.Given as goal
+use Rattle.fr_judging.proofs.unseen.first_unseen.Given as goal
 
 -- that of the nodes so far
 abbrev pub invariant-loop-place : goal.invariant-loop-place

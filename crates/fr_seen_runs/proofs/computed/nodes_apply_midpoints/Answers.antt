@@ -1,4 +1,4 @@
-use Rattle.fr_seen_runs.proofs.ComputedRounds.{offsets_are_midpoints, rates_grow_by_midpoints}
+use Rattle.fr_seen_runs.proofs.JudgedRounds.{offsets_are_midpoints, rates_grow_by_midpoints}
 use Rattle.fr_seen_runs.proofs.computed.nodes_apply_midpoints.Goals as goal
 
 pub returns-clause-offset : goal.returns-clause-offset

@@ -1,7 +1,6 @@
 use Rattle.fr_seen_runs.proofs.Contradicted.{spreads_are_so as spreads_are_so_lem}
 use Rattle.fr_seen_runs.proofs.KnownKept.{standings_are_so}
-use Rattle.fr_seen_runs.proofs.SyncKept.{sync_is_kept}
 use Rattle.fr_seen_runs.proofs.known.spreads_are_so.Goals as goal
 
 pub returns : goal.returns
-returns c = spreads_are_so_lem sync_is_kept standings_are_so
+returns c = spreads_are_so_lem standings_are_so

@@ -1,13 +1,14 @@
 use Rattle.std.proofs.Common.{refl}
-use Rattle.fr_seen_runs.proofs.WorkedFaults.{correction_is_told, form_is_told, none_with_own_slots, none_at_all, none_covered, offset_is_told, offset_unheard, stranger_is_told}
+use Rattle.fr_seen_runs.proofs.WorkedFaults.{correction_is_told, form_is_told, none_at_all, none_stated, none_with_own_slots, offset_is_told, stranger_is_told}
 use Rattle.fr_seen_runs.specs.WorkedFaults.{correction_told, form_entry, form_told, last_log, late_log, offset_told, stranger_entry, stranger_told}
+use Rattle.fr_seen_runs.specs.WorkedLog.{seen_cluster}
 use Rattle.fr_seen_runs.proofs.worked.worked_contradictions.Goals as goal
 
 pub returns-clause-offset : goal.returns-clause-offset
 returns-clause-offset c = offset_is_told
 
-pub returns-clause-of_no_covered : goal.returns-clause-of_no_covered
-returns-clause-of_no_covered c = none_covered c.no_run_is_contradicted.ensures.sync (late_log 250) offset_told refl offset_unheard offset_is_told.verdict
+pub returns-clause-of_none_stated : goal.returns-clause-of_none_stated
+returns-clause-of_none_stated c = none_stated c.no_run_is_contradicted.ensures.sync seen_cluster (late_log 250) offset_told refl offset_is_told.verdict
 
 pub returns-clause-correction : goal.returns-clause-correction
 returns-clause-correction c = correction_is_told
