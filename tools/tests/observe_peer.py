@@ -559,7 +559,8 @@ class Double:
                 yield node, onward and step(self.clock, course, onward), [(0, 0)] + [value.rate(course, other) for other in others]
 
     def terms(self, kind):
-        """Of each term that is not the one that was computed, by how many of the others its node may have missed."""
+        """Of each term that is not the one that was computed, by how many of the others its node may have missed: where more may have been,
+        limits are no narrower."""
         further, more, ways = len(self.params.key_nodes()) - len(self.active), kind == "rate" and self.params.damping, []
         measured = [one for one in self.measured(kind) if one[1]]
         for lost in range(max(len(self.active), self.log.lost + 1)):
@@ -569,6 +570,7 @@ class Double:
                     low, high = computed[0] - more, computed[1] + more
                     if seen[1] < low or high < seen[0]:
                         ways[lost][node] = 2 * self.double + 1, node, kind, *seen, low, high
+            measured = [one for one in measured if one[0] in ways[lost]]
         return ways
 
     def missed(self, ways):

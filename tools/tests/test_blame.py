@@ -1,12 +1,13 @@
 """Which node it may have been: logs of networks whose nodes correct wrongly (tools/tests/clocks_peer.py) are held against each node, and
-what is told of it is what another program reckons of that log; and hints at what is stated wrongly of an analyzer. FLEXLAB_BLAME_LOGS
-is how many networks are taken (6)."""
+what is told of it is what another program reckons of that log; hints at what is stated wrongly of an analyzer; and logs in parts.
+FLEXLAB_BLAME_LOGS is how many networks are taken (6)."""
 import dataclasses
 import json
 import os
 import random
 import unittest
 import unittest.mock
+from fractions import Fraction
 
 import clocks_peer as clocks
 import observe_peer as peer
@@ -319,6 +320,70 @@ class Hints(Log):
             first = hints.first_of(told(*faults, senders=senders))
             self.assertEqual((*first, first.is_most), (*wanted, is_most))
         self.assertIsNone(hints.first_of(told("8,1,form", "9,2,stranger", "9,3,form")))
+
+
+class Parts(Log):
+    """A log that is cut, at a silence or where --part says so, is one log for each part."""
+
+    def cut(self, changed=lambda ns: ns, wrong=lambda double, node: 0, more=""):
+        """A table of 20 double cycles, and when a frame of the middle one comes, in seconds of the file."""
+        network = self.network(3)
+        self.write("net.toml", toml_of(network) + more)
+        rows = network.rows(wrong)
+        frames = kept_frames(self, network, rows)
+        self.table(network, rows, lambda ns, node, channel: changed(ns - frames[0][0]) + frames[0][0])
+        return Fraction(changed(frames[len(frames) // 2][0] - frames[0][0]), 10**9)
+
+    def test_each_is_a_log_of_its_own(self):
+        at = float(self.cut())
+        found, told = self.object("--part", str(at), status=0), ("cycles", "nodes", "spreads", "senders", "log", "sync", "verdict", "faults")
+        logs = [self.read(part["folder"], "log.csv") for part in found["parts"]]
+        for place, words in enumerate((("--to", str(at)), ("--from", str(at)))):
+            alone = self.object(*words, status=0)
+            self.assertEqual(self.read("seen", "log.csv"), logs[place])
+            self.assertEqual([alone[name] for name in told], [found["parts"][place][name] for name in told])
+        self.assertEqual([part["cycles"][0]["cycle"] for part in found["parts"]], [0, 20])
+        self.assertTrue(all(log.count("whole,,,,") == 1 for log in logs))
+        page = self.one_line(self.observe("--part", str(at), status=0))
+        self.assertRegex(page, rf"^Part 1 of 2, from 0 s to 0\.\d+ s Log .* Part 2 of 2, from {at:g}\d* s to 0\.\d+ s Log .* Parts 2, since .*"
+                               r"a count begins anew: 2 within\. Each .* Verdict the worst, of part 1: in cycles 0 to 18 the clocks")
+        self.assertIn("and of each part in part-1 to part-2", page)
+        # A log of one part says nothing of parts.
+        self.assertNotIn("Part", self.observe(status=0))
+        self.assertEqual(self.object(status=0)["parts"], [])
+
+    def test_the_worst_verdict(self):
+        """It stands at the end, and decides the status; what is before the cut is not contradicted by what is behind it."""
+        at = str(float(self.cut(wrong=lambda double, node: 40 if (double, node) == (14, 1) else 0)))
+        found = self.object("--part", at)
+        self.assertEqual([part["verdict"][0] for part in found["parts"]], ["within", "no"])
+        self.assertEqual((found["verdict"], found["faults"][0]["cycle"]), (found["parts"][1]["verdict"], 29))
+        page = self.one_line(self.observe("--part", at))
+        self.assertRegex(page, "Parts 2, .*: 1 no, 1 within\\. .* Verdict the worst, of part 2: NO: no run .* contradiction is in cycle 29 ")
+
+    def test_at_a_silence_and_where_it_is_said(self):
+        """Behind the middle a silence comes, and the log is cut in the first half too."""
+        at = self.cut(lambda ns: ns + 400_000_000 * (ns >= 100_000_000))
+        found = self.object("--part", "0.05", status=0)
+        self.assertEqual([part["cycles"][0]["cycle"] for part in found["parts"]], [0, 10, 20])
+        self.assertRegex(self.one_line(self.observe("--part", "0.05", status=0)), rf"Part 3 of 3, from {float(at):g}\d* s to 0\.")
+        # It is cut once where both say so, and in the order of times.
+        found = self.object("--part", f"{float(at)}", "--part", "0.05", "--part", "0.05", status=0)
+        self.assertEqual(len(found["parts"]), 3)
+
+    def test_sync_is_stated_of_the_part_that_has_the_cycle(self):
+        for cycle, wanted in ((4, [True, False]), (30, [False, True]), (50, [False, False])):
+            at = str(float(self.cut(more=f"in_sync_from_cycle = {cycle}\n")))
+            found = self.object("--part", at, status=0)
+            self.assertEqual([f"since,{cycle}" in self.read(part["folder"], "log.csv") for part in found["parts"]], wanted)
+
+    def test_times_that_cut_nothing(self):
+        self.cut()
+        for second in ("0", "900"):
+            told = self.flexlab("observe", *COLUMNS, "-o", "seen", "bus.csv", "net.toml", "--part", second, status=2)[1]
+            self.assertIn(f"--part {second}: the frames that are taken do not come before it and from it on", told)
+        told = self.flexlab("observe", *COLUMNS, "-o", "seen", "bus.csv", "net.toml", "--part", "x", status=2)[1]
+        self.assertIn("is no number of seconds", told)
 
 
 if __name__ == "__main__":
