@@ -89,7 +89,7 @@ def all_parts(program: str, cluster: Cluster, params: str, folder: str, seconds:
     if not cuts:
         return [one]
     found, since = list[Part](), observer.since
-    for number, (_, some) in enumerate(parts_of(observer, frames, cuts), 1):
+    for number, some in enumerate(parts_of(frames, cuts), 1):
         place = os.path.join(folder, f"part-{number}")
         make_folder(place)
         part = asked(program, cluster, params, place, (replace(observer, since=None), replace(some, left=dict(some.left))))

@@ -12,7 +12,7 @@ from ..base.units import decimal
 from ..pages.page import ms_of_cycle
 from ..toml.cluster import Cluster
 from .numbering import SILENCE, sender_of, senders_of
-from .observer import Frames, Observer, is_damaged
+from .observer import Frames, is_damaged
 
 # The words of a verdict, the worst first.
 WORST = ("no", "over", "open", "partly", "within")
@@ -38,16 +38,16 @@ def said(frames: Frames, seconds: Sequence[Fraction]) -> list[Fraction]:
     return found
 
 
-def parts_of(observer: Observer, frames: Frames, cuts: Sequence[Fraction]) -> Iterator[tuple[Observer, Frames]]:
-    """The frames between the cuts, each with its observer. What was left out of the file is said of the first part; frames that are lost
-    anywhere make no part one that misses none."""
+def parts_of(frames: Frames, cuts: Sequence[Fraction]) -> Iterator[Frames]:
+    """The frames between the cuts. What was left out of the file is said of the first part; frames that are lost anywhere make no part one
+    that misses none."""
     found = sorted(frames.found, key=lambda frame: frame.ns)
     for place, (begin, end) in enumerate(pairwise([None, *sorted(set(cuts)), None])):
         some = [frame for frame in found if (begin is None or frame.ns >= begin) and (end is None or frame.ns < end)]
         if place == 0:
-            yield observer, replace(frames, found=some, left=dict(frames.left), is_lossy=frames.is_torn)
+            yield replace(frames, found=some, left=dict(frames.left), is_lossy=frames.is_torn)
         elif some:
-            yield observer, replace(frames, found=some, left={}, wraps=0, falls=0, part="", is_lossy=frames.is_torn)
+            yield replace(frames, found=some, left={}, wraps=0, falls=0, part="", is_lossy=frames.is_torn)
 
 
 def short(seconds: Fraction) -> str:
