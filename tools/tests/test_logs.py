@@ -226,7 +226,8 @@ class Logs(Bench):
                 found = self.observed(self.sent(text))
                 self.assertEqual(found["log"]["judged"], found["entries"])
                 self.assertEqual((found["faults"], found["differs"], found["blame"], found["first"], found["anew_s"]), ([], [], [], None, None))
-                self.assertIn(found["verdict"][0], ("within", "partly", "open"))
+                # Clocks may begin further apart than the precision.
+                self.assertIn(found["verdict"][0], ("within", "partly", "open", "over"))
                 held += self.hold(found)
         self.assertGreater(held, 30 * CLUSTERS)
 
