@@ -1,7 +1,7 @@
 -- No frame is told as missing where each is there that is asked for.
-use Rattle.std.proofs.Common.{◌≡◌, ℕ, ◌+◌, ◌-◌, ◌*◌, ◌<◌, ◌≤◌, ℤ, Bool, true, false, if◌then◌else◌, Option, Some, None, IsSome, List, [], ◌∷◌, ◌++◌, length, refl, ap, sym, ◌∙◌, inl, inr, arith}
-use Rattle.std.specs.Prelude.{◌≤ℤ◌, ◌&&◌, int_lt, nat_lt, is_some, get_or, Contains, filter_map}
-use Rattle.std.specs.List.{cons_option, flat_map, slice_get}
+use Rattle.std.proofs.Common.{◌≡◌, ℕ, ◌+◌, ◌-◌, ◌*◌, ◌<◌, ℤ, Bool, true, false, if◌then◌else◌, Option, Some, None, IsSome, List, [], ◌∷◌, ◌++◌, length, refl, ap, sym, ◌∙◌, inl, inr, arith}
+use Rattle.std.specs.Prelude.{◌≤ℤ◌, ◌&&◌, int_lt, nat_lt, is_some, get_or, Contains}
+use Rattle.std.specs.List.{flat_map, slice_get}
 use Rattle.std.specs.Option.{option_to_list}
 use Rattle.std.proofs.lemmas.Int.{ints}
 use Rattle.std.proofs.lemmas.Option.{slice_get-get_or, slice_get_within}

@@ -1,7 +1,7 @@
 -- The rows of what nodes missed: in each run that a log is seen of, as it states before the double cycle of a row, its node misses no
 -- fewer senders.
 use Rattle.std.proofs.Common.{◌≡◌, ◌∙◌, ℕ, zero, suc, ◌+◌, ◌-◌, ◌*◌, ◌/◌, ◌==◌, ◌<◌, ◌≤◌, Bool, true, false, if◌then◌else◌, Option, Some, None, List, [], ◌∷◌, ◌++◌, All, length, map, refl, ap, sym, subst, inl, inr, arith}
-use Rattle.std.specs.Prelude.{not, Contains, IfSome, filter, filter_map, find, is_none, is_some, nat_lt}
+use Rattle.std.specs.Prelude.{not, Contains, IfSome, filter, find, is_none, is_some, nat_lt}
 use Rattle.std.specs.List.{range_with_len}
 use Rattle.std.specs.Option.{option_map}
 use Rattle.std.proofs.lemmas.List.{length-map}
@@ -10,9 +10,8 @@ use Rattle.fr_base.specs.declared.channel.Channel.{Channel}
 use Rattle.fr_bound.specs.declared.judging.Heard.{Heard}
 use Rattle.fr_bound.specs.declared.judging.Heard.TheVariants.{Poor}
 use Rattle.fr_bound.specs.declared.judging.Known.{Known}
-use Rattle.fr_cluster.specs.Setting.{Setting, correct_nodes}
+use Rattle.fr_cluster.specs.Setting.{Setting}
 use Rattle.fr_cluster.specs.Values.{Values}
-use Rattle.fr_cluster.specs.declared.nodes.NodeSpec.{NodeSpec}
 use Rattle.fr_cluster.proofs.Elements.{Contains-none}
 use Rattle.fr_cluster.proofs.KeyNodes.{Contains-cons_cases}
 use Rattle.fr_history.specs.Cycles.{Cycles}
@@ -45,7 +44,7 @@ use Rattle.fr_sharp.specs.JudgedSteps.{IsHeardIn}
 use Rattle.fr_seen.specs.Clocks.{StraightClock}
 use Rattle.fr_seen.specs.LogSeen.{log_senders, run_double}
 use Rattle.fr_seen.proofs.SenderLaws.{all_given}
-use Rattle.fr_seen_runs.specs.Contradictions.{IsAsLogStatesBefore, IsObservedRun, MissesFew}
+use Rattle.fr_seen_runs.specs.Contradictions.{IsAsLogStatesBefore, IsObservedRun}
 use Rattle.fr_seen_runs.specs.Standings.{IsKnownOfLog, IsNoLess, Missing, MissingIsSo, MissingsAreSo, log_missing, log_standing, missed_rows_from, missed_rows_of}
 use Rattle.fr_seen_runs.proofs.Contradicted.{AreStanding, known_step}
 use Rattle.fr_seen_runs.proofs.Progressing.{seen_in_turn, told_all, told_from}

@@ -1,6 +1,6 @@
 -- The rows of a log that say over: the verdict has the first of them and how many there are, and each is so in each run that the log
 -- is seen of.
-use Rattle.std.proofs.Common.{◌≡◌, ◌∙◌, ℕ, suc, ◌+◌, ◌*◌, ◌/◌, ◌<ℤ◌, ℤ, pos, Bool, true, false, Option, Some, None, List, [], ◌∷◌, ◌++◌, All, length, refl, ap, sym, subst, arith, append_assoc, length-append}
+use Rattle.std.proofs.Common.{◌≡◌, ◌∙◌, ℕ, suc, ◌+◌, ◌*◌, ◌/◌, ◌<ℤ◌, ℤ, pos, Bool, true, false, Option, Some, None, List, [], ◌∷◌, ◌++◌, All, length, refl, sym, subst, arith, length-append}
 use Rattle.std.specs.Prelude.{Contains, count_by, int_le, int_lt, slice_get, if◌then◌else◌}
 use Rattle.std.specs.List.{flat_map}
 use Rattle.std.specs.Option.{option_or, option_to_list}
@@ -23,7 +23,7 @@ use Rattle.fr_sightings.specs.Sightings.{OffendingFrames, offending_frames_of, s
 use Rattle.fr_sightings.specs.declared.sender.Sender.{Sender}
 use Rattle.fr_sightings.specs.declared.sighting.Sighting.{Sighting}
 use Rattle.fr_findings.specs.Counting.{is_over}
-use Rattle.fr_findings.specs.Verdict.{Basis, DoubleCycle, double_at, even_says, log_basis, log_progress, no_progress, odd_says, over_row, over_told, progress_behind, progress_of, progress_told, verdict_of}
+use Rattle.fr_findings.specs.Verdict.{Basis, DoubleCycle, double_at, even_says, log_basis, log_progress, no_progress, odd_says, over_row, progress_behind, progress_of, progress_told, verdict_of}
 use Rattle.fr_findings.specs.declared.progress.OverRow.{OverRow}
 use Rattle.fr_findings.specs.declared.progress.Progress.{Progress}
 use Rattle.fr_seen.specs.Clocks.{StraightClock}
@@ -32,7 +32,7 @@ use Rattle.fr_seen.specs.Skews.{HasSkew}
 use Rattle.fr_seen.proofs.RowLaws.{observed_rows_hold}
 use Rattle.fr_seen_runs.specs.Contradictions.{IsObservedRun}
 use Rattle.fr_seen_runs.specs.LogDoubles.{IsDoubleThere}
-use Rattle.fr_seen_runs.specs.OverRows.{HasOver, RowIsOver, OverIsCounted, OverIsSo, over_at, over_in, over_rows}
+use Rattle.fr_seen_runs.specs.OverRows.{RowIsOver, OverIsCounted, OverIsSo, over_at, over_in, over_rows}
 use Rattle.fr_seen_runs.proofs.SeenDoubles.{doubles_are_there}
 use Rattle.fr_seen_runs.proofs.ToldVerdicts.{over_told_by}
 

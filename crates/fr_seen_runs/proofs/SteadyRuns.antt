@@ -1,5 +1,5 @@
 -- Of a run all of whose frames are carried no sender is missed.
-use Rattle.std.proofs.Common.{ℕ, ◌≤◌, List, [], length, arith}
+use Rattle.std.proofs.Common.{ℕ, ◌≤◌, [], arith}
 use Rattle.fr_seen_runs.specs.Contradictions.{SteadyRunsMissNone}
 
 pub steady_runs_miss_none : SteadyRunsMissNone

@@ -19,7 +19,7 @@ use Rattle.fr_observe.specs.Observing.{courses_of, seen_doubles}
 use Rattle.fr_sightings.specs.Sightings.{sightings_of}
 use Rattle.fr_sightings.specs.declared.sender.Sender.{Sender}
 use Rattle.fr_seen.specs.Clocks.{IsWithinDrift, StraightClock}
-use Rattle.fr_seen.specs.LogSeen.{IsSenderOn, log_senders, run_double, sender_rows}
+use Rattle.fr_seen.specs.LogSeen.{IsSenderOn, run_double, sender_rows}
 use Rattle.fr_seen_runs.specs.Contradictions.{IsObservedRun}
 
 -- ---- senders on their courses, in sync or not

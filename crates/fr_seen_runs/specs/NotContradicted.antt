@@ -1,5 +1,5 @@
 -- That no run contradicts a log that is seen of it: what its faults exclude, when it is in sync, and what its verdict says.
-use Rattle.std.specs.Prelude.{◌≡◌, ◌+◌, ◌*◌, ◌/◌, ◌≤◌, ℕ, suc, pos, true, false, List, [], Contains, None, Some}
+use Rattle.std.specs.Prelude.{◌≡◌, ◌+◌, ◌*◌, ◌/◌, ◌≤◌, ℕ, suc, pos, true, false, [], Contains, Some}
 use Rattle.fr_base.specs.declared.channel.Channel.{Channel}
 use Rattle.fr_cluster.specs.Setting.{Setting}
 use Rattle.fr_cluster.specs.Values.{Values}

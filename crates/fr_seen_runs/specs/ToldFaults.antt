@@ -11,7 +11,7 @@ use Rattle.fr_sightings.specs.declared.sighting.Sighting.{Sighting}
 use Rattle.fr_observe.specs.Faults.{asks_judged, asks_own_slots, first_of_faults}
 use Rattle.fr_observe.specs.Observing.{seen_doubles}
 use Rattle.fr_observe.specs.declared.fault.Fault.{Fault}
-use Rattle.fr_findings.specs.Verdict.{Basis, double_at, double_faults, log_basis, no_progress, progress_behind, verdict_of}
+use Rattle.fr_findings.specs.Verdict.{Basis, double_faults, log_basis, no_progress, progress_behind, verdict_of}
 use Rattle.fr_findings.specs.declared.progress.Progress.{Progress}
 use Rattle.fr_findings.specs.declared.verdict.Verdict.TheVariants as verdict
 use Rattle.fr_seen.specs.Clocks.{StraightClock}
