@@ -104,7 +104,7 @@ class Asc(Bench):
 
     @needs("tshark")
     def test_a_fault_is_one_in_both(self):
-        made = self.sent(SHORT + OBSERVER + "missed_none = true\nin_sync_from_cycle = 2\n")
+        made = self.sent(SHORT + OBSERVER + "missed_none = true\nin_sync_from_cycle = 4\n")
         less = [packet for packet in made if packet.frame[1] != 3 or packet.frame[4] & 63 < 11]
         self.write("bus.asc", text_of(rows_of(less)))
         packets.write_capture(self.path("bus.pcap"), [(packet.ns, packet.channel, packet.frame) for packet in less])

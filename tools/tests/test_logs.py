@@ -226,7 +226,8 @@ class Logs(Bench):
                 found = self.observed(self.sent(text))
                 self.assertEqual(found["log"]["judged"], found["entries"])
                 self.assertEqual((found["faults"], found["differs"], found["blame"], found["first"], found["anew_s"]), ([], [], [], None, None))
-                self.assertIn(found["verdict"][0], ("within", "partly", "open"))
+                # Clocks may begin further apart than the precision.
+                self.assertIn(found["verdict"][0], ("within", "partly", "open", "over"))
                 held += self.hold(found)
         self.assertGreater(held, 30 * CLUSTERS)
 
@@ -236,17 +237,17 @@ class Logs(Bench):
         self.assertIn("Analyzer stamps of 10 ns, its clock within 20 ppm, delays from 100 to 200 ns", page)
         self.assertIn("Frames 160 say where a clock was, 0 are damaged", page)
         self.assertIn("Left out 40 frames of static slots that are no key slots", page)
-        self.assertIn("Cycles 0 to 19, by the cycle counts: 19 within the precision, 0 over it, 1 open", page)
-        self.assertIn("Precision 3.526 us, the sharp one where delays flutter by no more than 25 ns: a yardstick, which is promised where the "
+        self.assertIn("Cycles 0 to 19, by the cycle counts: 17 within the precision, 0 over it, 3 open", page)
+        self.assertIn("Precision 4.256 us, the sharp one where delays flutter by no more than 25 ns: a yardstick, which is promised where the "
                       "checks of flexray bound PARAMS sharp 1000000 hold", page)
         self.assertIn("Judged 0 of 10 double cycles, since node 5 has no key slot, so no frame shows its clock; it moves no clock, so leave it "
                       "out of the file; or in_sync_from_cycle of [observer] can state where the cluster is in sync Verdict open: no double "
-                      "cycle is judged, since node 5 has no key slot, so no frame shows its clock; in 19 cycles the clocks of the nodes that "
+                      "cycle is judged, since node 5 has no key slot, so no frame shows its clock; in 17 cycles the clocks of the nodes that "
                       "sent lay within the precision", page)
         self.assertNotIn("Not seen", page)
         text = self.flexray("observe", "seen/params.csv", "seen/log.csv")[1]
         self.assertEqual(text, self.read("seen", "observed.csv"))
-        self.assertIn("Precision       3.526 us, the sharp one", self.read("seen", "observed.txt"))
+        self.assertIn("Precision       4.256 us, the sharp one", self.read("seen", "observed.txt"))
 
     def test_what_is_stated_of_the_analyzer(self):
         path = self.sent(SHORT + OBSERVER + "error_ns = 2.5\njitter_ns = 5\nflutter_ns = 12.5\nlost = 2\n")
@@ -272,10 +273,15 @@ class Logs(Bench):
         text = edited(("double_cycles = 200", "double_cycles = 10"),
                       ("id = 5\nchannels = \"A\"\n", "id = 5\nchannels = \"A\"\nkey_slot = 5\n"))
         path = self.sent(text + OBSERVER.replace("resolution_ns = 10", "resolution_ns = 1"))
-        page = self.one_line(self.flexlab("observe", "-o", "seen", path, "net.toml")[0])
+        page = self.one_line(self.flexlab("observe", "-o", "seen", path, "net.toml", status=1)[0])
         self.assertIn("Judged 10 of 10 double cycles, by what is seen and known of them, from double cycle 0 on; no macroticks of these lie "
                       "further apart than", page)
-        self.assertIn("Verdict in cycles 0 to 18 the clocks of the nodes that sent lay within the precision", page)
+        self.assertRegex(page, r"Verdict partly: of the judged ones of cycles 0 to 19 the clocks of the nodes that sent lay within the precision "
+                               r"in \d+, for certain; of \d it is not certain")
+        # From the third double cycle on they are in sync.
+        page = self.one_line(self.flexlab("observe", "-o", "seen", "--from", "0.0199", path, "net.toml")[0])
+        self.assertIn("Judged 8 of 8 double cycles, by what is seen and known of them, from double cycle 2 on", page)
+        self.assertIn("Verdict in cycles 4 to 18 the clocks of the nodes that sent lay within the precision", page)
 
     def test_a_cluster_of_production_shape(self):
         """It is judged by what is seen of it; a node that drops out is told of, too."""
@@ -302,12 +308,12 @@ class Logs(Bench):
 
     def test_a_node_that_drops_out(self):
         """Where the analyzer missed nothing, that is told in the cycle in which it is so, and without that it is not."""
-        path = self.sent(SHORT + OBSERVER + "missed_none = true\nin_sync_from_cycle = 2\n")
+        path = self.sent(SHORT + OBSERVER + "missed_none = true\nin_sync_from_cycle = 4\n")
         made = [packet for packet in packets.read_capture(path)[1]
                 if packet.frame[1] != 3 or packet.frame[4] & 63 < 11]
         packets.write_capture(self.path("less.pcap"), [(packet.ns, packet.channel, packet.frame) for packet in made])
         page = self.one_line(self.flexlab("observe", "-o", "seen", "less.pcap", "net.toml", status=1)[0])
-        self.assertIn("it missed no frame; the cluster is in sync in the double cycle of cycle 2", page)
+        self.assertIn("it missed no frame; the cluster is in sync in the double cycle of cycle 4", page)
         self.assertIn("Verdict NO: no run of this cluster", page)
         self.assertRegex(page, r"CONTRADICTION cycle 11, node \d: its frame on channel A is not there")
         self.assertRegex(page, r"Not seen node \d on channel A in 9 cycles")
@@ -316,14 +322,14 @@ class Logs(Bench):
         self.write("net.toml", SHORT + OBSERVER)
         self.assertEqual(self.observed("less.pcap")["faults"], [])
         # Where sync is stated and it is not told whether frames were missed, the cycle before the gap is open.
-        self.write("net.toml", SHORT + OBSERVER + "in_sync_from_cycle = 2\n")
+        self.write("net.toml", SHORT + OBSERVER + "in_sync_from_cycle = 4\n")
         page = self.one_line(self.flexlab("observe", "-o", "seen", "less.pcap", "net.toml", status=1)[0])
-        self.assertRegex(page, r"Judged 9 of 10 double cycles, by what is seen and known of them, from double cycle 1 on; .* of the others the "
+        self.assertRegex(page, r"Judged 8 of 10 double cycles, by what is seen and known of them, from double cycle 2 on; .* of the others the "
                                r"one that came farthest is not judged, since node \d")
-        self.assertIn("Verdict partly: of the judged ones of cycles 2 to 19 the clocks of the nodes that sent lay within the precision in ", page)
-        self.flexlab("observe", "-o", "seen", "--require", "judged=9", "less.pcap", "net.toml")
-        line = self.flexlab("observe", "-o", "seen", "--require", "judged=10", "less.pcap", "net.toml", status=7)[1]
-        self.assertEqual(line, "flexlab: not met: judged=10: 9 of 10 double cycles are judged\n")
+        self.assertIn("Verdict partly: of the judged ones of cycles 4 to 19 the clocks of the nodes that sent lay within the precision in ", page)
+        self.flexlab("observe", "-o", "seen", "--require", "judged=8", "less.pcap", "net.toml")
+        line = self.flexlab("observe", "-o", "seen", "--require", "judged=9", "less.pcap", "net.toml", status=7)[1]
+        self.assertEqual(line, "flexlab: not met: judged=9: 8 of 10 double cycles are judged\n")
         line = self.flexlab("observe", "-o", "seen", "--require", "covered", "less.pcap", "net.toml", status=2)[1]
         self.assertEqual(line, "flexlab: --require covered: it is none of judged=COUNT\n")
         # Nor where frames were left out, whatever is stated.
