@@ -301,8 +301,8 @@ def page_lines(cluster: Cluster, told: Observation, log: Log, name: str, more: S
                                     f"precision, {told.over} over it, {told.open} open")
     found += unseen_lines(cluster, told)
     precision, flutter = (us_of_ticks(ticks, cluster.microtick_ns) for ticks in (told.precision, told.flutter))
-    promised = (f", which is promised where the checks of flexray bound PARAMS sharp {told.flutter} hold" if told.flutter <= MOST_FLUTTER else
-                "")
+    asked = f", which is promised where the checks of flexray bound PARAMS sharp {told.flutter} hold"
+    promised = asked if told.flutter <= MOST_FLUTTER else ""
     found += lines_of("Precision", f"{decimal(precision, 3)} us, the sharp one where delays flutter by no more than "
                                    f"{plain(1000 * flutter)} ns: a yardstick{promised}")
     return [*found, *skew_lines(cluster, told), *verdict_lines(cluster, told), *fault_lines(cluster, told), *more,
