@@ -14,6 +14,7 @@ use crate::ends::known_cycle;
 use fr_base::{Channel, NodeId, PutFault, Sink, Slot};
 use fr_cluster::{NodeSpec, Params};
 use fr_log::Log;
+use fr_observe::LogSpan;
 use fr_sightings::{Sighting, first_stamp, look_at, node_at, node_count};
 use fr_text::Piece::{Natural, Word};
 use fr_text::{Line, Piece, letter_of, put_line, row_of};
@@ -97,24 +98,17 @@ fn is_lacking(here: &[Sighting], node: NodeId, channel: Channel, cycle: u32) -> 
 }
 
 // Whether a cycle is one of the log, from that of its first sighting to that of its last.
-fn is_of_log(first: u32, last: u32, cycle: u32) -> bool
-    ensures { result ≡ is_of_log first last cycle }
+fn is_of_log(span: LogSpan, cycle: u32) -> bool
+    ensures { result ≡ is_of_log span.first span.last cycle }
 {
-    first <= cycle && cycle <= last
+    span.first <= cycle && cycle <= span.last
 }
 
-fn lacks_in(
-    first: u32,
-    last: u32,
-    here: &[Sighting],
-    node: NodeId,
-    channel: Channel,
-    cycle: u32,
-) -> u64
-    ensures value { result ≡ lacks_in first last here.now node channel cycle }
+fn lacks_in(span: LogSpan, here: &[Sighting], node: NodeId, channel: Channel, cycle: u32) -> u64
+    ensures value { result ≡ lacks_in span.first span.last here.now node channel cycle }
     ensures most { result ≤ 1 }
 {
-    if is_of_log(first, last, cycle) && is_lacking(here, node, channel, cycle) {
+    if is_of_log(span, cycle) && is_lacking(here, node, channel, cycle) {
         1
     } else {
         0
@@ -122,37 +116,30 @@ fn lacks_in(
 }
 
 #[tactic(auto, unfolding(crate::specs::Census::lacks_both))]
-fn lacks_both(
-    first: u32,
-    last: u32,
-    here: &[Sighting],
-    node: NodeId,
-    channel: Channel,
-    double: u32,
-) -> u64
+fn lacks_both(span: LogSpan, here: &[Sighting], node: NodeId, channel: Channel, double: u32) -> u64
     requires { double < 1_000_000 }
-    ensures value { result ≡ lacks_both first last here.now node channel double }
+    ensures value { result ≡ lacks_both span.first span.last here.now node channel double }
     ensures most { result ≤ 2 }
 {
-    lacks_in(first, last, here, node, channel, 2 * double)
-        + lacks_in(first, last, here, node, channel, 2 * double + 1)
+    lacks_in(span, here, node, channel, 2 * double)
+        + lacks_in(span, here, node, channel, 2 * double + 1)
 }
 
 // In how many cycles of the log, from its first to its last, there is none.
-fn missed_between(seen: &[Sighting], first: u32, last: u32, node: NodeId, channel: Channel) -> u64
+fn missed_between(seen: &[Sighting], span: LogSpan, node: NodeId, channel: Channel) -> u64
     requires ascend { DoublesAscend seen.now }
-    requires from { AreSeenFrom (double_cycle_of first) seen.now }
-    requires first { double_cycle_of first ≤ double_cycle_of last }
-    requires last { last ≤ 199_999 }
-    ensures { result ≡ missed_among first last seen.now node channel
-        (range_with_len (double_cycle_of first) (double_cycle_of last + 1 - double_cycle_of first)) }
+    requires from { AreSeenFrom (double_cycle_of span.first) seen.now }
+    requires first { double_cycle_of span.first ≤ double_cycle_of span.last }
+    requires last { span.last ≤ 199_999 }
+    ensures { result ≡ missed_among span.first span.last seen.now node channel
+        (range_with_len (double_cycle_of span.first) (double_cycle_of span.last + 1 - double_cycle_of span.first)) }
 {
     let mut rest = seen;
-    let mut double = first / 2;
+    let mut double = span.first / 2;
     let mut missed = 0;
-    while double <= last / 2 {
+    while double <= span.last / 2 {
         let look = look_at(rest, double);
-        missed += lacks_both(first, last, look.here, node, channel, double);
+        missed += lacks_both(span, look.here, node, channel, double);
         rest = look.behind;
         double += 1;
     }
@@ -170,7 +157,13 @@ fn missed_of(seen: &[Sighting], node: NodeId, channel: Channel) -> u64
         None => 0,
         Some(first) => match seen.last() {
             None => 0,
-            Some(last) => missed_between(seen, first.number, last.number, node, channel),
+            Some(last) => {
+                let span = LogSpan {
+                    first: first.number,
+                    last: last.number,
+                };
+                missed_between(seen, span, node, channel)
+            }
         },
     }
 }

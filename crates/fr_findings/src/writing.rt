@@ -37,37 +37,22 @@ fn put_nodes<O: Sink>(
 // The rows of both cycles of a double cycle.
 #[tactic(auto, unfolding(fr_observe::specs::Observing::cycles_text))]
 fn put_cycles<O: Sink>(
-    scale: &Scale,
-    precision: i64,
-    double: u32,
-    senders: &[Sender],
-    skews: &Skews,
+    ground: &Ground<'_>,
+    double: &Double<'_>,
     out: &mut O,
 ) -> Result<(), PutFault>
-    requires double { double < 1_000_000 }
-    requires skews { AreSkews scale.now senders.now skews.now }
+    requires { IsDouble ground.now double.now }
     ensures { Puts result (O.state out.old) (O.state out.new)
-        (cycles_text precision scale.now double senders.now) }
+        (cycles_text ground.now.precision ground.now.scale.now double.now.number double.now.senders.now) }
 {
-    let count = senders.len();
+    let (precision, count, skews) = (ground.precision, double.senders.len(), double.skews);
+    let (even, odd) = (2 * double.number, 2 * double.number + 1);
     put_line(
-        &cycle_row(
-            precision,
-            2 * double,
-            count,
-            skews.even_low,
-            skews.even_high,
-        ),
+        &cycle_row(precision, even, count, skews.even_low, skews.even_high),
         out,
     )?;
     put_line(
-        &cycle_row(
-            precision,
-            2 * double + 1,
-            count,
-            skews.odd_low,
-            skews.odd_high,
-        ),
+        &cycle_row(precision, odd, count, skews.odd_low, skews.odd_high),
         out,
     )
 }
@@ -75,22 +60,17 @@ fn put_cycles<O: Sink>(
 // The rows of a double cycle.
 #[tactic(auto, unfolding(fr_observe::specs::Observing::double_rows))]
 fn put_rows<O: Sink>(
-    scale: &Scale,
-    precision: i64,
-    double: u32,
-    senders: &[Sender],
-    skews: &Skews,
+    ground: &Ground<'_>,
+    double: &Double<'_>,
     out: &mut O,
 ) -> Result<(), PutFault>
-    requires scale { IsReadingScale scale.now }
-    requires double { double < 1_000_000 }
-    requires senders { All (IsProperSender scale.now) senders.now }
-    requires skews { AreSkews scale.now senders.now skews.now }
+    requires ground { IsGround ground.now }
+    requires double { IsDouble ground.now double.now }
     ensures { Puts result (O.state out.old) (O.state out.new)
-        (double_rows precision scale.now double senders.now) }
+        (double_rows ground.now.precision ground.now.scale.now double.now.number double.now.senders.now) }
 {
-    put_cycles(scale, precision, double, senders, skews, out)?;
-    put_nodes(scale, double, senders, out)
+    put_cycles(ground, double, out)?;
+    put_nodes(ground.scale, double.number, double.senders, out)
 }
 
 // What both cycles of a double cycle say.
@@ -141,9 +121,7 @@ fn put_double<'a, O: Sink>(
     ensures progress { OnOk result (progress.new ≡
         progress_told (basis_in ground.now) (double_in double.now) progress.old) }
 {
-    let (scale, senders, skews) = (ground.scale, double.senders, double.skews);
-    let precision = ground.precision;
-    put_rows(scale, precision, double.number, senders, skews, out)?;
+    put_rows(ground, double, out)?;
     let mut told = None;
     put_own(ground, double, &mut told, out)?;
     let standing = standing_of(ground, double, progress.known, &told);

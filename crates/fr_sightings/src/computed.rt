@@ -18,16 +18,23 @@ pub(crate) enum Measured {
     RateValue,
 }
 
-/// Which offset terms a sender must have computed in a double cycle (sections 8.6.1 and 8.6.2), by its course and those of
-/// the other senders, where it heard at most so many further nodes and missed at most so many of the senders; in
-/// microticks, none without limits.
+/// How what a sender received in a double cycle may differ from what the log shows.
+#[derive(Clone, Copy)]
+pub struct Reception {
+    /// How many nodes it heard at most beside the senders.
+    pub further: usize,
+    /// How many of the senders it missed at most.
+    pub lost: usize,
+}
+
+/// Which offset terms a sender must have computed in a double cycle (sections 8.6.1 and 8.6.2), by its course, those of
+/// the other senders, and by how its reception may differ; in microticks, none without limits.
 pub fn offset_computed(
     scale: &Scale,
     measuring: &Measuring,
     senders: &[Sender],
     sender: &Sender,
-    further: usize,
-    lost: usize,
+    reception: Reception,
 ) -> Option<Interval>
     requires scale { IsReadingScale scale.now }
     requires measuring { IsMeasuring measuring.now }
@@ -35,14 +42,14 @@ pub fn offset_computed(
     requires senders { All (IsProperSender scale.now) senders.now }
     requires among { Contains senders.now sender.now }
     requires sender { IsProperSender scale.now sender.now }
-    requires further { further ≤ 64 }
-    requires lost { lost ≤ 64 }
+    requires further { reception.further ≤ 64 }
+    requires lost { reception.lost ≤ 64 }
     ensures value { result ≡ offset_computed scale.now measuring.now sender.now.course
-        (heard_courses senders.now sender.now.node) further lost }
+        (heard_courses senders.now sender.now.node) reception.further reception.lost }
     ensures near { IfSome result (EndWithin (pos 21_000_000_000_000)) }
 {
     let known = values_seen(Measured::Deviation, scale, measuring, senders, sender);
-    middle(further, lost, known.as_slice())
+    middle(reception.further, reception.lost, known.as_slice())
 }
 
 /// By how much its rate term must have grown (sections 8.6.1 and 8.6.3); in microticks, none without limits.
@@ -51,8 +58,7 @@ pub fn rate_computed(
     measuring: &Measuring,
     senders: &[Sender],
     sender: &Sender,
-    further: usize,
-    lost: usize,
+    reception: Reception,
 ) -> Option<Interval>
     requires scale { IsReadingScale scale.now }
     requires measuring { IsMeasuring measuring.now }
@@ -60,14 +66,17 @@ pub fn rate_computed(
     requires senders { All (IsProperSender scale.now) senders.now }
     requires among { Contains senders.now sender.now }
     requires sender { IsProperSender scale.now sender.now }
-    requires further { further ≤ 64 }
-    requires lost { lost ≤ 64 }
+    requires further { reception.further ≤ 64 }
+    requires lost { reception.lost ≤ 64 }
     ensures value { result ≡ rate_computed scale.now measuring.now sender.now.course
-        (heard_courses senders.now sender.now.node) further lost }
+        (heard_courses senders.now sender.now.node) reception.further reception.lost }
     ensures near { IfSome result (EndWithin (pos 22_000_000_000_000)) }
 {
     let known = values_seen(Measured::RateValue, scale, measuring, senders, sender);
-    undamped(measuring, middle(further, lost, known.as_slice()))
+    undamped(
+        measuring,
+        middle(reception.further, reception.lost, known.as_slice()),
+    )
 }
 
 // The values of a sender: its own one, and one of each other sender.

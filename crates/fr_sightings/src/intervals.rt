@@ -11,6 +11,14 @@ use fr_base::{Channel, NodeId};
 use fr_course::{Delays, Interval, Observer, meet, span_of, stamped};
 use fr_log::{DelayLimits, Log};
 
+/// A cycle of a log, and sightings among which those of its frames are.
+#[derive(Clone, Copy)]
+pub struct SeenCycle<'a> {
+    /// Its number in the log.
+    pub number: u32,
+    pub seen: &'a [Sighting],
+}
+
 // The clock of the observer of a log.
 fn observer(log: &Log) -> Observer
     ensures value { result ≡ observer_of log.now }
@@ -106,23 +114,22 @@ fn box_on(
 
 fn span_on(
     log: &Log,
-    seen: &[Sighting],
-    later_seen: &[Sighting],
     node: NodeId,
-    cycle: u32,
-    later: u32,
     channel: Channel,
+    cycle: &SeenCycle<'_>,
+    later: &SeenCycle<'_>,
 ) -> Option<Interval>
-    requires seen { AreLogStamps log.now seen.now }
-    requires later_seen { AreLogStamps log.now later_seen.now }
-    ensures value { result ≡ span_on log.now seen.now later_seen.now node cycle later channel }
+    requires seen { AreLogStamps log.now cycle.now.seen.now }
+    requires later_seen { AreLogStamps log.now later.now.seen.now }
+    ensures value { result ≡
+        span_on log.now cycle.now.seen.now later.now.seen.now node cycle.now.number later.now.number channel }
     ensures near { IfSome result IsSpan }
 {
     match delays_in(log, node, channel) {
         None => None,
-        Some(delays) => match timed_stamp(log, seen, node, channel, cycle) {
+        Some(delays) => match timed_stamp(log, cycle.seen, node, channel, cycle.number) {
             None => None,
-            Some(stamp) => match timed_stamp(log, later_seen, node, channel, later) {
+            Some(stamp) => match timed_stamp(log, later.seen, node, channel, later.number) {
                 None => None,
                 Some(later) => Some(span_of(&observer(log), &delays, stamp, later)),
             },
@@ -161,23 +168,21 @@ pub fn seen_box(log: &Log, seen: &[Sighting], node: NodeId, cycle: u32) -> Optio
 }
 
 /// How much later than that in a cycle that in another one lies, in ticks of the observer's clock, by frames on one
-/// channel in both; None where there are none. The sightings are those among which the frames of either cycle are.
+/// channel in both; None where there are none.
 #[tactic(auto, unfolding(crate::specs::Senders::seen_span))]
 pub fn seen_span(
     log: &Log,
-    seen: &[Sighting],
-    later_seen: &[Sighting],
     node: NodeId,
-    cycle: u32,
-    later: u32,
+    cycle: &SeenCycle<'_>,
+    later: &SeenCycle<'_>,
 ) -> Option<Interval>
-    requires seen { AreLogStamps log.now seen.now }
-    requires later_seen { AreLogStamps log.now later_seen.now }
-    ensures value { result ≡ seen_span log.now seen.now later_seen.now node cycle later }
+    requires seen { AreLogStamps log.now cycle.now.seen.now }
+    requires later_seen { AreLogStamps log.now later.now.seen.now }
+    ensures value { result ≡ seen_span log.now cycle.now.seen.now later.now.seen.now node cycle.now.number later.now.number }
     ensures near { IfSome result IsSpan }
 {
     on_both_channels(
-        span_on(log, seen, later_seen, node, cycle, later, Channel::A),
-        span_on(log, seen, later_seen, node, cycle, later, Channel::B),
+        span_on(log, node, Channel::A, cycle, later),
+        span_on(log, node, Channel::B, cycle, later),
     )
 }

@@ -1,4 +1,4 @@
-ghost use Rattle.std.specs.Prelude.{◌≡◌, ◌≤◌, ◌<◌, ◌++◌, ℤ, pos, All, IfSome, Some, length, slice_get};
+ghost use Rattle.std.specs.Prelude.{◌≡◌, ◌≤◌, ◌<◌, ◌+◌, ◌*◌, ◌++◌, ℤ, pos, All, IfSome, Some, length, slice_get};
 ghost use Rattle.std.specs.Option.{option_to_list};
 ghost use Rattle.arrayvec.specs.ArrayVec.{array_vec_len};
 ghost use Rattle.fr_base.specs.Within.{IsBetween};
@@ -9,9 +9,9 @@ ghost use Rattle.fr_course.specs.Near.{IsBox, IsReadingScale, IsSpan};
 ghost use Rattle.fr_course.specs.declared.scales.Scale.{Scale as Measure};
 ghost use Rattle.fr_time.specs.Slots.{action_point_of};
 ghost use Rattle.fr_sightings.specs.Ranges.{AreLogStamps, HasStaticKey, IsCourseAt, IsProperSender, IsScaleOf};
-ghost use Rattle.fr_sightings.specs.Senders.{course_in, if_there, own_slot, seen_sender_by, seen_sender, seen_senders};
+ghost use Rattle.fr_sightings.specs.Senders.{course_in, if_there, own_slot, seen_sender_by, seen_sender, seen_senders, seen_span};
 
-use crate::intervals::{seen_box, seen_span};
+use crate::intervals::{SeenCycle, seen_box, seen_span};
 use crate::sender::Sender;
 use crate::sighting::Sighting;
 use arrayvec::ArrayVec;
@@ -20,6 +20,21 @@ use fr_cluster::{NodeList, NodeSpec, Params};
 use fr_course::{Course, Interval, Scale, course_from, is_there};
 use fr_log::Log;
 use fr_time::action_point;
+
+/// A cluster and a log of it: its numbers as readings of the clock of the log, its parameters, and the log.
+#[derive(Clone, Copy)]
+pub struct Observed<'a> {
+    pub scale: &'a Scale,
+    pub params: &'a Params,
+    pub log: &'a Log,
+}
+
+/// A node and the slot in which it sends sync frames.
+#[derive(Clone, Copy)]
+struct KeySlot {
+    node: NodeId,
+    slot: Slot,
+}
 
 // The course of a node that sends at a macrotick.
 fn course_by(
@@ -50,31 +65,35 @@ fn action_in(scale: &Scale, params: &Params, slot: Slot) -> i128
     i128::from(action_point(params, slot))
 }
 
-// The course of a node that sends in a slot, by the sightings of a double cycle.
+// The course of a node by its key slot and the sightings of a double cycle.
 #[tactic(auto, unfolding(crate::specs::Senders::course_in))]
 fn course_in(
-    scale: &Scale,
-    params: &Params,
-    log: &Log,
+    observed: &Observed<'_>,
     seen: &[Sighting],
     double: u32,
-    node: NodeId,
-    slot: Slot,
+    key: &KeySlot,
 ) -> Option<Course>
-    requires scale { IsScaleOf params.now scale.now }
-    requires seen { AreLogStamps log.now seen.now }
+    requires scale { IsScaleOf observed.now.params.now observed.now.scale.now }
+    requires seen { AreLogStamps observed.now.log.now seen.now }
     requires double { double ≤ 1_000_000 }
-    requires slot { slot ≤ amount params.now name.gNumberOfStaticSlots }
-    ensures value { result ≡ course_in scale.now params.now log.now seen.now double node slot }
-    ensures proper { IfSome result (IsCourseAt scale.now (pos (action_point_of params.now slot))) }
+    requires slot { key.now.slot ≤ amount observed.now.params.now name.gNumberOfStaticSlots }
+    ensures value { result ≡ course_in observed.now.scale.now observed.now.params.now observed.now.log.now seen.now double
+        key.now.node key.now.slot }
+    ensures proper { IfSome result
+        (IsCourseAt observed.now.scale.now (pos (action_point_of observed.now.params.now key.now.slot))) }
 {
     let (even, odd) = (2 * double, 2 * double + 1);
     course_by(
-        scale,
-        action_in(scale, params, slot),
-        seen_box(log, seen, node, even),
-        seen_box(log, seen, node, odd),
-        seen_span(log, seen, seen, node, even, odd),
+        observed.scale,
+        action_in(observed.scale, observed.params, key.slot),
+        seen_box(observed.log, seen, key.node, even),
+        seen_box(observed.log, seen, key.node, odd),
+        seen_span(
+            observed.log,
+            key.node,
+            &SeenCycle { number: even, seen },
+            &SeenCycle { number: odd, seen },
+        ),
     )
 }
 
@@ -97,50 +116,72 @@ fn if_there(course: Option<Course>) -> Option<Course>
 
 // That course, where something lies in each of its intervals.
 fn known_course(
-    scale: &Scale,
-    params: &Params,
-    log: &Log,
+    observed: &Observed<'_>,
     seen: &[Sighting],
     double: u32,
-    node: NodeId,
-    slot: Slot,
+    key: &KeySlot,
 ) -> Option<Course>
-    requires scale { IsScaleOf params.now scale.now }
-    requires seen { AreLogStamps log.now seen.now }
+    requires scale { IsScaleOf observed.now.params.now observed.now.scale.now }
+    requires seen { AreLogStamps observed.now.log.now seen.now }
     requires double { double ≤ 1_000_000 }
-    requires slot { slot ≤ amount params.now name.gNumberOfStaticSlots }
-    ensures value { result ≡ if_there (course_in scale.now params.now log.now seen.now double node slot) }
-    ensures proper { IfSome result (IsCourseAt scale.now (pos (action_point_of params.now slot))) }
+    requires slot { key.now.slot ≤ amount observed.now.params.now name.gNumberOfStaticSlots }
+    ensures value { result ≡ if_there (course_in observed.now.scale.now observed.now.params.now observed.now.log.now
+        seen.now double key.now.node key.now.slot) }
+    ensures proper { IfSome result
+        (IsCourseAt observed.now.scale.now (pos (action_point_of observed.now.params.now key.now.slot))) }
 {
-    if_there(course_in(scale, params, log, seen, double, node, slot))
+    if_there(course_in(observed, seen, double, key))
 }
 
-// A node that sends in a slot, if it has a course in a double cycle.
-fn seen_sender_by(
-    scale: &Scale,
-    params: &Params,
+// How far the action point of a node in the next even cycle lies behind that in the odd one.
+fn onward_span(
     log: &Log,
     here: &[Sighting],
     next: &[Sighting],
     double: u32,
     node: NodeId,
-    slot: Slot,
-) -> Option<Sender>
-    requires scale { IsScaleOf params.now scale.now }
+) -> Option<Interval>
     requires here { AreLogStamps log.now here.now }
     requires next { AreLogStamps log.now next.now }
     requires double { double < 1_000_000 }
-    requires slot { slot ≤ amount params.now name.gNumberOfStaticSlots }
-    ensures value { result ≡ seen_sender_by scale.now params.now log.now here.now next.now double node slot }
-    ensures proper { IfSome result (IsProperSender scale.now) }
+    ensures value { result ≡ seen_span log.now here.now next.now node (2 * double + 1) (2 * double + 2) }
+    ensures near { IfSome result IsSpan }
 {
-    match known_course(scale, params, log, here, double, node, slot) {
+    let odd = SeenCycle {
+        number: 2 * double + 1,
+        seen: here,
+    };
+    let even = SeenCycle {
+        number: 2 * double + 2,
+        seen: next,
+    };
+    seen_span(log, node, &odd, &even)
+}
+
+// A node by its key slot, if it has a course in a double cycle.
+fn seen_sender_by(
+    observed: &Observed<'_>,
+    here: &[Sighting],
+    next: &[Sighting],
+    double: u32,
+    key: &KeySlot,
+) -> Option<Sender>
+    requires scale { IsScaleOf observed.now.params.now observed.now.scale.now }
+    requires here { AreLogStamps observed.now.log.now here.now }
+    requires next { AreLogStamps observed.now.log.now next.now }
+    requires double { double < 1_000_000 }
+    requires slot { key.now.slot ≤ amount observed.now.params.now name.gNumberOfStaticSlots }
+    ensures value { result ≡ seen_sender_by observed.now.scale.now observed.now.params.now observed.now.log.now
+        here.now next.now double key.now.node key.now.slot }
+    ensures proper { IfSome result (IsProperSender observed.now.scale.now) }
+{
+    match known_course(observed, here, double, key) {
         None => None,
         Some(course) => Some(Sender {
-            node,
+            node: key.node,
             course,
-            next: known_course(scale, params, log, next, double + 1, node, slot),
-            onward: seen_span(log, here, next, node, 2 * double + 1, 2 * double + 2),
+            next: known_course(observed, next, double + 1, key),
+            onward: onward_span(observed.log, here, next, double, key.node),
         }),
     }
 }
@@ -159,25 +200,27 @@ fn own_slot(log: &Log, node: &NodeSpec) -> Option<Slot>
 // A node, if it is a sender of a double cycle.
 #[tactic(auto, unfolding(crate::specs::Senders::seen_sender))]
 fn seen_sender(
-    scale: &Scale,
-    params: &Params,
-    log: &Log,
+    observed: &Observed<'_>,
     here: &[Sighting],
     next: &[Sighting],
     double: u32,
     node: &NodeSpec,
 ) -> Option<Sender>
-    requires scale { IsScaleOf params.now scale.now }
-    requires here { AreLogStamps log.now here.now }
-    requires next { AreLogStamps log.now next.now }
+    requires scale { IsScaleOf observed.now.params.now observed.now.scale.now }
+    requires here { AreLogStamps observed.now.log.now here.now }
+    requires next { AreLogStamps observed.now.log.now next.now }
     requires double { double < 1_000_000 }
-    requires node { HasStaticKey params.now node.now }
-    ensures value { result ≡ seen_sender scale.now params.now log.now here.now next.now double node.now }
-    ensures proper { IfSome result (IsProperSender scale.now) }
+    requires node { HasStaticKey observed.now.params.now node.now }
+    ensures value { result ≡ seen_sender observed.now.scale.now observed.now.params.now observed.now.log.now here.now
+        next.now double node.now }
+    ensures proper { IfSome result (IsProperSender observed.now.scale.now) }
 {
-    match own_slot(log, node) {
+    match own_slot(observed.log, node) {
         None => None,
-        Some(slot) => seen_sender_by(scale, params, log, here, next, double, node.id, slot),
+        Some(slot) => {
+            let node = node.id;
+            seen_sender_by(observed, here, next, double, &KeySlot { node, slot })
+        }
     }
 }
 
@@ -222,25 +265,24 @@ fn keep(sender: Option<Sender>, senders: &mut ArrayVec<Sender, ROW_ROOM>)
 /// The number of the double cycle is that of the log.
 #[tactic(auto, unfolding(crate::specs::Senders::seen_senders))]
 pub fn seen_senders(
-    scale: &Scale,
-    params: &Params,
-    log: &Log,
+    observed: &Observed<'_>,
     here: &[Sighting],
     next: &[Sighting],
     double: u32,
 ) -> ArrayVec<Sender, ROW_ROOM>
-    requires scale { IsScaleOf params.now scale.now }
-    requires here { AreLogStamps log.now here.now }
-    requires next { AreLogStamps log.now next.now }
+    requires scale { IsScaleOf observed.now.params.now observed.now.scale.now }
+    requires here { AreLogStamps observed.now.log.now here.now }
+    requires next { AreLogStamps observed.now.log.now next.now }
     requires double { double < 1_000_000 }
-    ensures value { result.items ≡ seen_senders scale.now params.now log.now here.now next.now double }
-    ensures proper { All (IsProperSender scale.now) result.items }
+    ensures value { result.items ≡ seen_senders observed.now.scale.now observed.now.params.now observed.now.log.now
+        here.now next.now double }
+    ensures proper { All (IsProperSender observed.now.scale.now) result.items }
 {
     let mut senders = ArrayVec::new();
-    for place in 0..node_count(params) {
-        let node = static_node(params, place);
+    for place in 0..node_count(observed.params) {
+        let node = static_node(observed.params, place);
         keep(
-            seen_sender(scale, params, log, here, next, double, node),
+            seen_sender(observed, here, next, double, node),
             &mut senders,
         );
     }

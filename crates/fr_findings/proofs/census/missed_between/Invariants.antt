@@ -12,12 +12,12 @@ invariant-loop-double l = record {
   from : AreSeenFrom l.double l.rest;
   ascend : DoublesAscend l.rest;
   same : (later : ℕ) → l.double ≤ later → sightings_in l.rest later ≡ sightings_in l.seen later;
-  within : l.double ≤ double_cycle_of l.last + 1;
-  started : double_cycle_of l.first ≤ l.double;
-  few : l.missed ≤ 2 * (l.double - double_cycle_of l.first);
-  total : l.missed + missed_among l.first l.last l.seen l.node l.channel (up_to l.double (double_cycle_of l.last))
-      ≡ missed_among l.first l.last l.seen l.node l.channel (up_to (double_cycle_of l.first) (double_cycle_of l.last));
+  within : l.double ≤ double_cycle_of l.span.last + 1;
+  started : double_cycle_of l.span.first ≤ l.double;
+  few : l.missed ≤ 2 * (l.double - double_cycle_of l.span.first);
+  total : l.missed + missed_among l.span.first l.span.last l.seen l.node l.channel (up_to l.double (double_cycle_of l.span.last))
+      ≡ missed_among l.span.first l.span.last l.seen l.node l.channel (up_to (double_cycle_of l.span.first) (double_cycle_of l.span.last));
 }
 
 abbrev pub decreases-loop-double : goal.decreases-loop-double
-decreases-loop-double l = double_cycle_of l.last + 1 - l.double
+decreases-loop-double l = double_cycle_of l.span.last + 1 - l.double

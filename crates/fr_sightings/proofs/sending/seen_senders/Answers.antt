@@ -8,9 +8,9 @@ use Rattle.fr_sightings.proofs.sending.seen_senders.Goals as goal
 
 pub loop-place-preserved : goal.loop-place-preserved
 loop-place-preserved c =
-    let scale = c.args.scale.now in
-    let nodes = c.args.params.now.nodes in
-    let h : NodeSpec → Option Sender = seen_sender scale c.args.params.now c.args.log.now c.args.here.now c.args.next.now c.args.double in
+    let scale = c.args.observed.now.scale.now in
+    let nodes = c.args.observed.now.params.now.nodes in
+    let h : NodeSpec → Option Sender = seen_sender scale c.args.observed.now.params.now c.args.observed.now.log.now c.args.here.now c.args.next.now c.args.double in
     let place = c.loop-place.place in
     let node = c.static_node-node.result.now in
     let lt : place < length nodes = omega arith in

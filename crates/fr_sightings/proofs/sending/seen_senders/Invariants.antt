@@ -6,7 +6,7 @@ use Rattle.fr_sightings.proofs.sending.seen_senders.Given as goal
 -- the senders among the nodes so far
 abbrev pub invariant-loop-place : goal.invariant-loop-place
 invariant-loop-place l = record {
-  value : l.senders.items ≡ filter_map (seen_sender l.scale l.params l.log l.here l.next l.double) (take l.place l.params.nodes);
+  value : l.senders.items ≡ filter_map (seen_sender l.observed.scale.now l.observed.params.now l.observed.log.now l.here l.next l.double) (take l.place l.observed.params.now.nodes);
   few : length l.senders.items ≤ l.place;
-  proper : All (IsProperSender l.scale) l.senders.items;
+  proper : All (IsProperSender l.observed.scale.now) l.senders.items;
 }
