@@ -6,7 +6,7 @@ use Rattle.fr_observe.specs.Faults.{first_of_faults}
 use Rattle.fr_judging.specs.Obstacles.{farther}
 use Rattle.fr_observe.specs.Skews.{AreSkews}
 use Rattle.fr_findings.specs.Counting.{AreFewCycles, counted}
-use Rattle.fr_findings.specs.Verdict.{Basis, DoubleCycle, double_with, faults_told, judged_by, known_next_told, obstacle_told, reach_where}
+use Rattle.fr_findings.specs.Verdict.{Basis, DoubleCycle, double_with, judged_by, known_next_told, known_told, own_told, reach_where, standing_told}
 use Rattle.fr_findings.specs.declared.ground.Around.{Around}
 use Rattle.fr_findings.specs.declared.ground.Double.{Double}
 use Rattle.fr_findings.specs.declared.ground.Ground.{Ground}
@@ -104,12 +104,15 @@ pub record AreWalked (g : Ground) (double : ℕ) (seen : List Sighting) : Type 0
 
 -- ---- what is known behind a double cycle, step by step
 
+abbrev pub with_own : Basis → DoubleCycle → Progress → Progress
+with_own b d progress = record progress { first = option_or progress.first (first_of_faults (own_told b d)) }
+
 abbrev pub with_faults : Basis → DoubleCycle → Progress → Progress
 with_faults b d progress =
     record progress {
       known = known_next_told b d progress.known;
-      first = option_or progress.first (first_of_faults (faults_told b d progress.known));
-      obstacle = farther progress.obstacle (obstacle_told b d progress.known);
+      first = option_or progress.first (first_of_faults (known_told b d progress.known));
+      obstacle = farther progress.obstacle (standing_told b d progress.known).obstacle;
     }
 
 abbrev pub reach_passed : Progress → ℕ → Bool → Says → Says → (Option Reach × Bool)

@@ -11,7 +11,7 @@ use Rattle.fr_course.specs.Readings.{reading_scale}
 use Rattle.fr_course.specs.declared.scales.Scale.{Scale}
 use Rattle.fr_judging.specs.Hearing.{log_heard, yardstick}
 use Rattle.fr_observe.specs.Faults.{fault_row, first_of_faults, is_nil, own_faults, slot_faults}
-use Rattle.fr_judging.specs.Knowing.{known_next, known_obstacle, moving_faults, spread_told, standing_faults, standing_of}
+use Rattle.fr_judging.specs.Knowing.{known_next, moving_faults, spread_told, standing_faults, standing_of}
 use Rattle.fr_judging.specs.Missing.{missed_told}
 use Rattle.fr_findings.specs.Counting.{counted, no_cycles_told}
 use Rattle.fr_observe.specs.Observing.{both_say, double_rows, even_high, even_low, odd_high, odd_low, says_of, seen_doubles}
@@ -138,11 +138,6 @@ known_next_told b d known = known_next b.params b.log (standing_told b d known) 
 unfoldable pub faults_told : Basis → DoubleCycle → Option Known → List Fault
 faults_told b d known = own_told b d ++ known_told b d known
 
--- what keeps it from being judged
-unfoldable pub obstacle_told : Basis → DoubleCycle → Option Known → Option Obstacle
-obstacle_told b d known =
-    known_obstacle b.params b.log d.here d.number (standing_told b d known) (first_of_faults (own_told b d))
-
 -- ---- what is known behind it
 
 abbrev pub none_judged : Judged
@@ -229,7 +224,7 @@ progress_told b d progress =
       doubles = progress.doubles + 1;
       judged =
           judged_by (standing_told b d progress.known).is_judged progress.judged d.number (both_say b.precision b.scale d.senders);
-      obstacle = farther progress.obstacle (obstacle_told b d progress.known);
+      obstacle = farther progress.obstacle (standing_told b d progress.known).obstacle;
     }
 
 -- its rows, behind them those of its faults, then how many senders its nodes must have missed, and then the numbers that it is judged by

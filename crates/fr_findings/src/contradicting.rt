@@ -8,15 +8,15 @@ ghost use Rattle.fr_observe.specs.Telling.{TellsFaults};
 ghost use Rattle.fr_judging.specs.Knowing.{JudgedBySmall, spread_told};
 ghost use Rattle.fr_judging.specs.Missing.{missed_told};
 ghost use Rattle.fr_findings.specs.Ground.{IsDouble, IsGround, basis_in, double_in, scene_in, with_faults};
-ghost use Rattle.fr_findings.specs.Verdict.{known_told, obstacle_told, own_told, standing_told};
+ghost use Rattle.fr_findings.specs.Verdict.{known_told, own_told, standing_told};
 
 use crate::ground::{Double, Ground, Offending};
 use crate::progress::Progress;
 use fr_base::{PutFault, Sink};
 use fr_bound::Known;
 use fr_judging::{
-    Obstacle, Standing, known_next, known_obstacle, put_missed, put_moving_faults, put_spread,
-    put_term_faults, standing,
+    Obstacle, Standing, known_next, put_missed, put_moving_faults, put_spread, put_term_faults,
+    standing,
 };
 use fr_observe::{Fault, Scene, put_own_faults, put_slot_faults};
 
@@ -42,7 +42,7 @@ pub(crate) fn put_own<'a, O: Sink>(
 }
 
 // The first one of two.
-fn earlier(first: Option<Fault>, told: Option<Fault>) -> Option<Fault>
+pub(crate) fn earlier(first: Option<Fault>, told: Option<Fault>) -> Option<Fault>
     ensures { result ≡ option_or first told }
 {
     match first {
@@ -88,30 +88,11 @@ pub(crate) fn standing_of<'a>(
     standing(&scene_of(ground, double), ground.heard, known, *told)
 }
 
-// What keeps it from being judged.
-#[tactic(auto, unfolding(crate::specs::Verdict::obstacle_told))]
-fn obstacle_of<'a>(
-    ground: &'a Ground<'a>,
-    double: &'a Double<'a>,
-    known: Option<Known>,
-    standing: &Standing,
-    told: &Option<Fault>,
-) -> Option<Obstacle>
-    requires ground { IsGround ground.now }
-    requires double { IsDouble ground.now double.now }
-    requires standing { standing.now ≡ standing_told (basis_in ground.now) (double_in double.now) known }
-    requires told { told.now ≡ first_of_faults (own_told (basis_in ground.now) (double_in double.now)) }
-    ensures { result ≡ obstacle_told (basis_in ground.now) (double_in double.now) known }
-{
-    known_obstacle(&scene_of(ground, double), standing, *told)
-}
-
-// The faults of a double cycle beside those that contradict any run, the first of which is `told`.
+// The faults of a double cycle that stands so, beside those that contradict any run.
 pub(crate) fn put_faults<'a, O: Sink>(
     ground: &'a Ground<'a>,
     double: &'a Double<'a>,
     standing: &Standing,
-    told: &Option<Fault>,
     progress: &mut Progress,
     out: &mut O,
 ) -> Result<(), PutFault>
@@ -119,7 +100,6 @@ pub(crate) fn put_faults<'a, O: Sink>(
     requires double { IsDouble ground.now double.now }
     requires standing { standing.now ≡ standing_told (basis_in ground.now) (double_in double.now) progress.old.known }
     requires small { JudgedBySmall standing.now }
-    requires told { told.now ≡ first_of_faults (own_told (basis_in ground.now) (double_in double.now)) }
     ensures puts { Puts result (O.state out.old) (O.state out.new)
         (flat_map fault_row (known_told (basis_in ground.now) (double_in double.now) progress.old.known)) }
     ensures progress { OnOk result (progress.new ≡
@@ -130,11 +110,9 @@ pub(crate) fn put_faults<'a, O: Sink>(
     put_moving_faults(&scene, standing, &mut moved, out)?;
     let mut against = moved;
     put_term_faults(&scene, standing, &mut against, out)?;
-    let obstacle = obstacle_of(ground, double, progress.known, standing, told);
     progress.known = known_next(ground.params, ground.log, standing, moved.is_none());
-    let before = earlier(progress.first, *told);
-    progress.first = earlier(before, against);
-    progress.obstacle = Obstacle::farther(progress.obstacle, obstacle);
+    progress.first = earlier(progress.first, against);
+    progress.obstacle = Obstacle::farther(progress.obstacle, standing.obstacle);
     Ok(())
 }
 

@@ -24,6 +24,20 @@ pub(crate) struct Offending<'a> {
     pub(crate) irregular: &'a [Sighting],
 }
 
+/// The frames of a log that tell something: its sightings, and its offending frames.
+#[derive(Clone, Copy)]
+pub(crate) struct Frames<'a> {
+    pub(crate) seen: &'a [Sighting],
+    pub(crate) offending: Offending<'a>,
+}
+
+/// The double cycles of a log, from the first to the last.
+#[derive(Clone, Copy)]
+pub(crate) struct Doubles {
+    pub(crate) first: u32,
+    pub(crate) last: u32,
+}
+
 // The sightings that a double cycle is looked at with: those of the one before, its own, those of the next one, and its
 // offending frames.
 #[derive(Clone, Copy)]

@@ -13,7 +13,7 @@ ghost use Rattle.fr_sightings.specs.Ranges.{IsScaleOf};
 
 use crate::census::put_census;
 use crate::ends::{cycles_told, log_row, numbers_row, sync_row, verdict_row};
-use crate::ground::{Ground, Offending};
+use crate::ground::{Doubles, Frames, Ground, Offending};
 use crate::progress::Progress;
 use crate::verdict::Verdict;
 use crate::writing::put_doubles;
@@ -57,35 +57,32 @@ fn log_span(seen: &[Sighting]) -> LogSpan
 #[tactic(auto, unfolding(fr_observe::specs::Observing::seen_doubles))]
 fn put_all<O: Sink>(
     ground: &Ground<'_>,
-    seen: &[Sighting],
-    offending: &Offending<'_>,
+    frames: &Frames<'_>,
     progress: &mut Progress,
     out: &mut O,
 ) -> Result<(), PutFault>
     requires ground { IsGround ground.now }
-    requires seen { ComeInOrder ground.now.log.now seen.now }
-    requires offending { OffendInOrder ground.now.log.now (offending_given offending.now) }
+    requires seen { ComeInOrder ground.now.log.now frames.now.seen.now }
+    requires offending { OffendInOrder ground.now.log.now (offending_given frames.now.offending) }
     requires progress { progress.old ≡ no_progress }
     ensures puts { Puts result (O.state out.old) (O.state out.new)
-        (told_of_doubles (basis_in ground.now) seen.now (offending_given offending.now) no_progress
-        (seen_doubles seen.now)) }
+        (told_of_doubles (basis_in ground.now) frames.now.seen.now (offending_given frames.now.offending) no_progress
+        (seen_doubles frames.now.seen.now)) }
     ensures progress { OnOk result (progress.new ≡
-        progress_of (basis_in ground.now) seen.now (offending_given offending.now) no_progress
-        (seen_doubles seen.now)) }
+        progress_of (basis_in ground.now) frames.now.seen.now (offending_given frames.now.offending) no_progress
+        (seen_doubles frames.now.seen.now)) }
 {
-    match seen.first() {
+    match frames.seen.first() {
         None => Ok(()),
-        Some(first) => match seen.last() {
+        Some(first) => match frames.seen.last() {
             None => Ok(()),
-            Some(last) => put_doubles(
-                ground,
-                seen,
-                offending,
-                first.number / 2,
-                last.number / 2,
-                progress,
-                out,
-            ),
+            Some(last) => {
+                let doubles = Doubles {
+                    first: first.number / 2,
+                    last: last.number / 2,
+                };
+                put_doubles(ground, frames, doubles, progress, out)
+            }
         },
     }
 }
@@ -126,57 +123,54 @@ fn put_end<O: Sink>(
 #[tactic(auto, unfolding(crate::specs::Text::all_told))]
 fn put_rest<O: Sink>(
     ground: &Ground<'_>,
-    seen: &[Sighting],
-    offending: &Offending<'_>,
+    frames: &Frames<'_>,
     tally: &Tally,
     out: &mut O,
 ) -> Result<(), PutFault>
     requires ground { IsGround ground.now }
-    requires seen { ComeInOrder ground.now.log.now seen.now }
-    requires offending { OffendInOrder ground.now.log.now (offending_given offending.now) }
+    requires seen { ComeInOrder ground.now.log.now frames.now.seen.now }
+    requires offending { OffendInOrder ground.now.log.now (offending_given frames.now.offending) }
     ensures { Puts result (O.state out.old) (O.state out.new)
-        (all_told (basis_in ground.now) seen.now (offending_given offending.now) tally.now) }
+        (all_told (basis_in ground.now) frames.now.seen.now (offending_given frames.now.offending) tally.now) }
 {
     let mut progress = Progress::none();
-    put_all(ground, seen, offending, &mut progress, out)?;
-    put_end(ground, seen, tally, &progress, out)
+    put_all(ground, frames, &mut progress, out)?;
+    put_end(ground, frames.seen, tally, &progress, out)
 }
 
 #[tactic(auto, unfolding(crate::specs::Text::whole_told))]
 fn put_whole<O: Sink>(
     ground: &Ground<'_>,
-    seen: &[Sighting],
-    offending: &Offending<'_>,
+    frames: &Frames<'_>,
     tally: &Tally,
     out: &mut O,
 ) -> Result<(), PutFault>
     requires ground { IsGround ground.now }
-    requires seen { ComeInOrder ground.now.log.now seen.now }
-    requires offending { OffendInOrder ground.now.log.now (offending_given offending.now) }
+    requires seen { ComeInOrder ground.now.log.now frames.now.seen.now }
+    requires offending { OffendInOrder ground.now.log.now (offending_given frames.now.offending) }
     ensures { Puts result (O.state out.old) (O.state out.new)
-        (whole_told (basis_in ground.now) seen.now (offending_given offending.now) tally.now) }
+        (whole_told (basis_in ground.now) frames.now.seen.now (offending_given frames.now.offending) tally.now) }
 {
     let flutter = stated_flutter(ground.params, ground.log);
     put_line(
         &precision_row(ground.precision, flutter, ground.log.lost()),
         out,
     )?;
-    put_rest(ground, seen, offending, tally, out)
+    put_rest(ground, frames, tally, out)
 }
 
-// What these sightings of a log tell, its offending frames, and what became of its entries.
+// What these frames of a log tell, and what became of its entries.
 fn put_told<O: Sink>(
     params: &Params,
     log: &Log,
-    seen: &[Sighting],
-    offending: &Offending<'_>,
+    frames: &Frames<'_>,
     tally: &Tally,
     out: &mut O,
 ) -> Result<(), PutFault>
-    requires seen { ComeInOrder log.now seen.now }
-    requires offending { OffendInOrder log.now (offending_given offending.now) }
+    requires seen { ComeInOrder log.now frames.now.seen.now }
+    requires offending { OffendInOrder log.now (offending_given frames.now.offending) }
     ensures { Puts result (O.state out.old) (O.state out.new)
-        (text_with params.now log.now seen.now (offending_given offending.now) tally.now) }
+        (text_with params.now log.now frames.now.seen.now (offending_given frames.now.offending) tally.now) }
 {
     let scale = scale_of(params, log);
     let heard = heard(params, log);
@@ -185,10 +179,10 @@ fn put_told<O: Sink>(
         scale: &scale,
         params,
         log,
-        span: log_span(seen),
+        span: log_span(frames.seen),
         heard,
     };
-    put_whole(&ground, seen, offending, tally, out)
+    put_whole(&ground, frames, tally, out)
 }
 
 /// Writes what a log tells of a cluster's clocks, what contradicts it, and its verdict, by its sightings: records of
@@ -204,16 +198,12 @@ pub fn write_observed<O: Sink>(
     requires { AreGathered params.now log.now sightings.now }
     ensures { Puts result (O.state out.old) (O.state out.new) (observe_text params.now log.now) }
 {
-    let offending = Offending {
-        untimely: sightings.untimely(),
-        irregular: sightings.irregular(),
+    let frames = Frames {
+        seen: sightings.as_slice(),
+        offending: Offending {
+            untimely: sightings.untimely(),
+            irregular: sightings.irregular(),
+        },
     };
-    put_told(
-        params,
-        log,
-        sightings.as_slice(),
-        &offending,
-        &sightings.tally(),
-        out,
-    )
+    put_told(params, log, &frames, &sightings.tally(), out)
 }

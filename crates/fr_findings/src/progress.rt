@@ -62,6 +62,17 @@ pub struct Progress {
     pub obstacle: Option<Obstacle>,
 }
 
+/// What a double cycle comes to.
+#[derive(Clone, Copy)]
+pub(crate) struct Outcome {
+    /// Its number.
+    pub(crate) double: u32,
+    /// Whether it is judged.
+    pub(crate) is_judged: bool,
+    /// What its even and its odd cycle say.
+    pub(crate) said: (Says, Says),
+}
+
 impl Judged {
     // None.
     fn none() -> Judged
@@ -105,41 +116,47 @@ impl Progress {
         }
     }
 
-    // How far rows say within, and whether one of them said something else, behind a double cycle whose even and odd cycle
-    // say this.
-    pub(crate) fn reach_passed(
-        &self,
-        double: u32,
-        is_judged: bool,
-        said: (Says, Says),
-    ) -> (Option<Reach>, bool)
-        requires { double < 1_000_000 }
-        ensures { result ≡ reach_passed self.now double is_judged said.0 said.1 }
+    // How far rows say within, and whether one of them said something else, behind a double cycle.
+    pub(crate) fn reach_passed(&self, outcome: &Outcome) -> (Option<Reach>, bool)
+        requires { outcome.now.double < 1_000_000 }
+        ensures { result ≡ reach_passed self.now outcome.now.double outcome.now.is_judged outcome.now.said.0
+            outcome.now.said.1 }
     {
         let reach = (self.reach, self.is_ended);
-        behind_judged(is_judged, self.judged.span, double, said, reach)
+        behind_judged(
+            outcome.is_judged,
+            self.judged.span,
+            outcome.double,
+            outcome.said,
+            reach,
+        )
     }
 
-    // Behind a double cycle whose even and odd cycle say this, the first row of which that says over is this one, and behind
-    // which rows reach so far.
+    // Behind a double cycle the first row of which that says over is this one, and behind which rows reach so far.
     pub(crate) fn pass(
         &mut self,
-        double: u32,
-        is_judged: bool,
-        said: (Says, Says),
+        outcome: &Outcome,
         reach: (Option<Reach>, bool),
         over: Option<OverRow>,
     )
-        requires double { double < 1_000_000 }
+        requires double { outcome.now.double < 1_000_000 }
         requires few { CountsFew 900_000 self.old }
-        ensures { self.new ≡ with_both self.old double is_judged said.0 said.1 reach over }
+        ensures { self.new ≡ with_both self.old outcome.now.double outcome.now.is_judged outcome.now.said.0
+            outcome.now.said.1 reach over }
     {
+        let (even, odd) = outcome.said;
         self.reach = reach.0;
         self.is_ended = reach.1;
         self.doubles += 1;
-        judge(is_judged, double, said.0, said.1, &mut self.judged);
+        judge(
+            outcome.is_judged,
+            outcome.double,
+            even,
+            odd,
+            &mut self.judged,
+        );
         self.over = self.over.or(over);
-        count_both(said.0, said.1, &mut self.counts);
+        count_both(even, odd, &mut self.counts);
     }
 }
 

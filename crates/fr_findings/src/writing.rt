@@ -9,13 +9,13 @@ ghost use Rattle.fr_observe.specs.Skews.{AreSkews};
 ghost use Rattle.fr_findings.specs.Verdict.{double_told, even_says, no_progress, odd_says, over_row, progress_of, progress_told, told_of_doubles};
 ghost use Rattle.fr_sightings.specs.Ranges.{IsProperSender};
 
-use crate::contradicting::{put_faults, put_numbers, put_own, standing_of};
-use crate::ground::{Around, Double, Ground, Offending};
-use crate::progress::{OverRow, Progress};
+use crate::contradicting::{earlier, put_faults, put_numbers, put_own, standing_of};
+use crate::ground::{Around, Double, Doubles, Frames, Ground, Offending};
+use crate::progress::{Outcome, OverRow, Progress};
 use fr_base::{PutFault, Sink};
 use fr_course::Scale;
 use fr_observe::{Says, Skews, cycle_row, node_row, skews_of};
-use fr_sightings::{Sender, Sighting, look_at, look_from, seen_senders};
+use fr_sightings::{Observed, Sender, Sighting, look_at, look_from, seen_senders};
 use fr_text::put_line;
 
 fn put_nodes<O: Sink>(
@@ -59,11 +59,7 @@ fn put_cycles<O: Sink>(
 
 // The rows of a double cycle.
 #[tactic(auto, unfolding(fr_observe::specs::Observing::double_rows))]
-fn put_rows<O: Sink>(
-    ground: &Ground<'_>,
-    double: &Double<'_>,
-    out: &mut O,
-) -> Result<(), PutFault>
+fn put_rows<O: Sink>(ground: &Ground<'_>, double: &Double<'_>, out: &mut O) -> Result<(), PutFault>
     requires ground { IsGround ground.now }
     requires double { IsDouble ground.now double.now }
     ensures { Puts result (O.state out.old) (O.state out.new)
@@ -125,12 +121,18 @@ fn put_double<'a, O: Sink>(
     let mut told = None;
     put_own(ground, double, &mut told, out)?;
     let standing = standing_of(ground, double, progress.known, &told);
-    put_faults(ground, double, &standing, &told, progress, out)?;
+    progress.first = earlier(progress.first, told);
+    put_faults(ground, double, &standing, progress, out)?;
     put_numbers(ground, double, &standing, out)?;
-    let said = both_say(ground, double, skews);
-    let over = first_over(double.number, skews, said.0, said.1);
-    let reach = progress.reach_passed(double.number, standing.is_judged, said);
-    progress.pass(double.number, standing.is_judged, said, reach, over);
+    let said = both_say(ground, double, double.skews);
+    let over = first_over(double.number, double.skews, said.0, said.1);
+    let outcome = Outcome {
+        double: double.number,
+        is_judged: standing.is_judged,
+        said,
+    };
+    let reach = progress.reach_passed(&outcome);
+    progress.pass(&outcome, reach, over);
     Ok(())
 }
 
@@ -151,14 +153,12 @@ fn put_around<O: Sink>(
     ensures progress { OnOk result (progress.new ≡
         progress_told (basis_in ground.now) (double_around ground.now around.now number) progress.old) }
 {
-    let list = seen_senders(
-        ground.scale,
-        ground.params,
-        ground.log,
-        around.here,
-        around.next,
-        number,
-    );
+    let observed = Observed {
+        scale: ground.scale,
+        params: ground.params,
+        log: ground.log,
+    };
+    let list = seen_senders(&observed, around.here, around.next, number);
     let skews = skews_of(ground.scale, list.as_slice());
     let double = Double {
         number,
@@ -174,32 +174,30 @@ fn put_around<O: Sink>(
 // The double cycles from the first to the last.
 pub(crate) fn put_doubles<O: Sink>(
     ground: &Ground<'_>,
-    seen: &[Sighting],
-    offending: &Offending<'_>,
-    first: u32,
-    last: u32,
+    frames: &Frames<'_>,
+    doubles: Doubles,
     progress: &mut Progress,
     out: &mut O,
 ) -> Result<(), PutFault>
     requires ground { IsGround ground.now }
-    requires seen { AreWalked ground.now first seen.now }
-    requires offending { OffendInOrder ground.now.log.now (offending_given offending.now) }
-    requires first { first ≤ last }
-    requires last { last < 100_000 }
+    requires seen { AreWalked ground.now doubles.first frames.now.seen.now }
+    requires offending { OffendInOrder ground.now.log.now (offending_given frames.now.offending) }
+    requires first { doubles.first ≤ doubles.last }
+    requires last { doubles.last < 100_000 }
     requires progress { progress.old ≡ no_progress }
     ensures puts { Puts result (O.state out.old) (O.state out.new)
-        (told_of_doubles (basis_in ground.now) seen.now (offending_given offending.now) no_progress
-        (range_with_len first (last + 1 - first))) }
+        (told_of_doubles (basis_in ground.now) frames.now.seen.now (offending_given frames.now.offending) no_progress
+        (range_with_len doubles.first (doubles.last + 1 - doubles.first))) }
     ensures progress { OnOk result (progress.new ≡
-        progress_of (basis_in ground.now) seen.now (offending_given offending.now) no_progress
-        (range_with_len first (last + 1 - first))) }
+        progress_of (basis_in ground.now) frames.now.seen.now (offending_given frames.now.offending) no_progress
+        (range_with_len doubles.first (doubles.last + 1 - doubles.first))) }
 {
     let mut before: &[Sighting] = &[];
-    let mut rest = seen;
-    let mut rest_untimely = look_from(offending.untimely, first);
-    let mut rest_irregular = look_from(offending.irregular, first);
-    let mut double = first;
-    while double <= last {
+    let mut rest = frames.seen;
+    let mut rest_untimely = look_from(frames.offending.untimely, doubles.first);
+    let mut rest_irregular = look_from(frames.offending.irregular, doubles.first);
+    let mut double = doubles.first;
+    while double <= doubles.last {
         let look = look_at(rest, double);
         let untimely = look_at(rest_untimely, double);
         let irregular = look_at(rest_irregular, double);

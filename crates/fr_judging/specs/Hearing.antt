@@ -11,6 +11,9 @@ use Rattle.fr_cluster.specs.Values.{Values}
 use Rattle.fr_log.specs.View.{LogView}
 use Rattle.fr_sightings.specs.Sure.{is_sync_as}
 use Rattle.fr_observe.specs.Faults.{stated_flutter}
+use Rattle.fr_judging.specs.declared.obstacle.Obstacle.{Obstacle}
+use Rattle.fr_judging.specs.declared.obstacle.ObstacleKind.{ObstacleKind}
+use Rattle.fr_judging.specs.declared.obstacle.ObstacleKind.TheVariants as obstacle
 
 -- so many correct sync nodes suffice for so many arbitrary ones
 abbrev pub are_enough : ℕ → ℕ → Bool
@@ -30,6 +33,19 @@ heard_with correct arbitrary lost = if are_enough correct arbitrary then heard_a
 -- in a log; where that is not told, none of its double cycles is judged
 unfoldable pub log_heard : Values → LogView → Option Heard
 log_heard p l = heard_with (count_by (is_sync_as l false) p.nodes) (count_by (is_sync_as l true) p.nodes) l.lost
+
+-- what keeps each of them from being judged then: the correct sync nodes do not suffice, or, where they do, frames may be lost beside
+-- arbitrary ones
+abbrev pub unheard_kind : ℕ → ℕ → ObstacleKind
+unheard_kind correct arbitrary = if are_enough correct arbitrary then obstacle.Lost else obstacle.Count
+
+unfoldable pub log_unheard : Values → LogView → Obstacle
+log_unheard p l =
+    record {
+      kind = unheard_kind (count_by (is_sync_as l false) p.nodes) (count_by (is_sync_as l true) p.nodes);
+      cycle = None;
+      node = None;
+    }
 
 -- whether there may be arbitrary sync nodes
 abbrev pub is_beside : Option Heard → Bool

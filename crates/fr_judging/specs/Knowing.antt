@@ -18,8 +18,8 @@ use Rattle.fr_sightings.specs.declared.sender.Sender.{Sender}
 use Rattle.fr_sightings.specs.declared.sighting.Sighting.{Sighting}
 use Rattle.fr_observe.specs.Faults.{beyond_fault, length_beyond, longest_cycle_of, missing_frames, offset_fault, rate_fault, shortest_cycle_of, skew_fault, stated_flutter}
 use Rattle.fr_observe.specs.Observing.{courses_of, even_high, even_low, odd_high, odd_low, row}
-use Rattle.fr_judging.specs.Hearing.{synced_with}
-use Rattle.fr_judging.specs.Obstacles.{faulty, first_unseen, of_several, too_few}
+use Rattle.fr_judging.specs.Hearing.{log_unheard, synced_with}
+use Rattle.fr_judging.specs.Obstacles.{faulty, first_unseen, of_several}
 use Rattle.fr_observe.specs.declared.fault.Fault.{Fault}
 use Rattle.fr_observe.specs.declared.fault.FaultKind.TheVariants.{Lengths, Start}
 use Rattle.fr_observe.specs.declared.fault.LogSpan.{LogSpan}
@@ -74,15 +74,38 @@ abbrev pub is_judged_by : Values → LogView → Option Known → Bool
 is_judged_by p l None = false
 is_judged_by p l (Some met) = is_judged_double p (stated_flutter p l) met
 
+-- what keeps it from that: a check but the first fails with its starts and lengths, or these are too much for the rate limit
+abbrev pub unfit : Values → LogView → ℕ → Option Known → Option Obstacle
+unfit p l double None = None
+unfit p l double (Some met) =
+    if all_but_first_hold (stated_flutter p l) (sharply_near_in p met.spread) p
+    then of_several obstacle.Drift double
+    else of_several obstacle.Reach double
+
+-- first a node that was not seen, then a fault that is told always, then its numbers
+abbrev pub hidden_by : Values → LogView → List Sighting → ℕ → Option Fault → Option Obstacle
+hidden_by p l here double told = option_or (first_unseen l here double p.nodes) (faulty told)
+
+abbrev pub unjudged_by : Bool → Values → LogView → ℕ → Option Obstacle → Option Known → Option Obstacle
+unjudged_by judged p l double hidden met = if judged then None else option_or hidden (unfit p l double met)
+
 -- how a double cycle stands: what is known of it from the one before and by what the log states, that met with what is seen of it, and
--- whether it is judged by this. Where it is not told what its nodes hear, nothing is known
-abbrev pub standing_with : Values → LogView → Option Heard → Option Known → Option Known → Standing
-standing_with p l heard known met = record { heard = heard; known = known; met = met; is_judged = is_judged_by p l met }
+-- whether it is judged by this, or what keeps it from that. Where it is not told what its nodes hear, nothing is known
+abbrev pub standing_with : Values → LogView → ℕ → Heard → Option Obstacle → Option Known → Option Known → Standing
+standing_with p l double what hidden known met =
+    record {
+      heard = Some what;
+      known = known;
+      met = met;
+      is_judged = is_judged_by p l met;
+      obstacle = unjudged_by (is_judged_by p l met) p l double hidden met;
+    }
 
 unfoldable pub standing_of : Values → Scale → LogView → List Sighting → ℕ → List Sender → Option Heard → Option Known → Option Fault → Standing
-standing_of p scale l here double senders None known told = record { heard = None; known = None; met = None; is_judged = false }
+standing_of p scale l here double senders None known told =
+    record { heard = None; known = None; met = None; is_judged = false; obstacle = Some (log_unheard p l) }
 standing_of p scale l here double senders (Some what) known told =
-    standing_with p l (Some what) (met_with known (known_as_stated p l what double))
+    standing_with p l double what (hidden_by p l here double told) (met_with known (known_as_stated p l what double))
     (met_with (met_with known (known_as_stated p l what double)) (known_seen p scale l here double senders told))
 
 -- the numbers that it is judged by
@@ -100,24 +123,6 @@ known_next_by p l (Some what) judged = option_map (known_after what p (stated_fl
 
 unfoldable pub known_next : Values → LogView → Standing → Bool → Option Known
 known_next p l st is_clear = if is_clear then known_next_by p l st.heard (judged_met st) else None
-
--- what keeps it from being judged: a check but the first fails with its starts and lengths, or these are too much for the rate limit
-abbrev pub unfit : Values → LogView → ℕ → Option Known → Option Obstacle
-unfit p l double None = None
-unfit p l double (Some met) =
-    if all_but_first_hold (stated_flutter p l) (sharply_near_in p met.spread) p
-    then of_several obstacle.Drift double
-    else of_several obstacle.Reach double
-
--- first that it is not told what its nodes hear, then a node that was not seen, then a fault, then its numbers
-abbrev pub unjudged_by : Values → LogView → List Sighting → ℕ → Standing → Option Fault → Option Heard → Option Obstacle
-unjudged_by p l here double st told None = Some too_few
-unjudged_by p l here double st told (Some what) =
-    if st.is_judged then None
-    else option_or (option_or (first_unseen l here double p.nodes) (faulty told)) (unfit p l double st.met)
-
-unfoldable pub known_obstacle : Values → LogView → List Sighting → ℕ → Standing → Option Fault → Option Obstacle
-known_obstacle p l here double st told = unjudged_by p l here double st told st.heard
 
 -- ---- what contradicts it
 

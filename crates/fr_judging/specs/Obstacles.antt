@@ -1,5 +1,5 @@
--- Why a double cycle of a log is not judged, in the order of how far it came: too few sync nodes, or what keeps it from being judged by
--- its own numbers.
+-- Why a double cycle of a log is not judged, in the order of how far it came: too few sync nodes, frames that may be lost beside arbitrary
+-- ones, or what keeps it from being judged by its own numbers.
 use Rattle.std.specs.Prelude.{ℕ, ◌+◌, ◌*◌, nat_lt, List, codes, Option, Some, None, is_some, if◌then◌else◌}
 use Rattle.std.specs.List.{fold}
 use Rattle.std.specs.Option.{option_or}
@@ -18,10 +18,11 @@ use Rattle.fr_judging.specs.declared.obstacle.ObstacleKind.TheVariants as obstac
 -- how far a double cycle came that one of a kind keeps from being judged
 abbrev pub obstacle_rank : ObstacleKind → ℕ
 obstacle_rank obstacle.Count = 0
-obstacle_rank obstacle.Unseen = 1
-obstacle_rank obstacle.Fault = 2
-obstacle_rank obstacle.Reach = 3
-obstacle_rank obstacle.Drift = 4
+obstacle_rank obstacle.Lost = 1
+obstacle_rank obstacle.Unseen = 2
+obstacle_rank obstacle.Fault = 3
+obstacle_rank obstacle.Reach = 4
+obstacle_rank obstacle.Drift = 5
 
 -- that of the double cycle that came farther; of equal ones the first
 abbrev pub farther : Option Obstacle → Option Obstacle → Option Obstacle
@@ -56,14 +57,11 @@ faulty (Some fault) = Some (record { kind = obstacle.Fault; cycle = Some fault.c
 abbrev pub of_several : ObstacleKind → ℕ → Option Obstacle
 of_several why double = Some (record { kind = why; cycle = Some (2 * double); node = None })
 
--- of a whole log: the correct sync nodes do not suffice
-abbrev pub too_few : Obstacle
-too_few = record { kind = obstacle.Count; cycle = None; node = None }
-
 -- ---- as records
 
 abbrev pub obstacle_word : ObstacleKind → List ℕ
 obstacle_word obstacle.Count = codes "count"
+obstacle_word obstacle.Lost = codes "lost"
 obstacle_word obstacle.Unseen = codes "unseen"
 obstacle_word obstacle.Fault = codes "fault"
 obstacle_word obstacle.Reach = codes "reach"

@@ -1,7 +1,8 @@
 ghost use Rattle.std.specs.Prelude.{◌≡◌, ◌≤◌, count_by, length, pos};
 ghost use Rattle.fr_sightings.specs.Sure.{is_sync_as};
-ghost use Rattle.fr_judging.specs.Hearing.{are_enough, heard_among, heard_with, is_beside, log_heard, synced_with, yardstick};
+ghost use Rattle.fr_judging.specs.Hearing.{are_enough, heard_among, heard_with, is_beside, log_heard, log_unheard, synced_with, unheard_kind, yardstick};
 
+use crate::obstacle::{Obstacle, ObstacleKind};
 use fr_bound::{Heard, Known, Spread, sharp_bounds};
 use fr_cluster::{NodeList, Params};
 use fr_log::Log;
@@ -19,6 +20,32 @@ pub fn heard(params: &Params, log: &Log) -> Option<Heard>
         sync_nodes(params, log, true),
         log.lost(),
     )
+}
+
+// Why it is not told what they hear.
+fn unheard_kind(correct: u64, arbitrary: u64) -> ObstacleKind
+    ensures { result ≡ unheard_kind correct arbitrary }
+{
+    if !are_enough(correct, arbitrary) {
+        ObstacleKind::Count
+    } else {
+        ObstacleKind::Lost
+    }
+}
+
+// What keeps each double cycle of such a log from being judged.
+#[tactic(auto, unfolding(crate::specs::Hearing::log_unheard))]
+pub(crate) fn unheard(params: &Params, log: &Log) -> Obstacle
+    ensures { result ≡ log_unheard params.now log.now }
+{
+    Obstacle {
+        kind: unheard_kind(
+            sync_nodes(params, log, false),
+            sync_nodes(params, log, true),
+        ),
+        cycle: None,
+        node: None,
+    }
 }
 
 /// The precision that rows of skews are told by, in ticks: the sharper one.

@@ -1,6 +1,7 @@
 ghost use Rattle.std.specs.Prelude.{◌≡◌};
 ghost use Rattle.fr_judging.specs.Knowing.{judged_met};
 
+use crate::obstacle::Obstacle;
 use fr_bound::{Heard, Known};
 
 /// How a double cycle of a log stands.
@@ -14,6 +15,8 @@ pub struct Standing {
     pub met: Option<Known>,
     /// Whether it is judged by this.
     pub is_judged: bool,
+    /// What keeps it from being judged; none where it is.
+    pub obstacle: Option<Obstacle>,
 }
 
 // The numbers that it is judged by.

@@ -15,4 +15,4 @@ pub use knowing::Standing;
 pub use missed::{Missed, Term, put_missed};
 pub use obstacle::{Obstacle, ObstacleKind};
 pub use standing_faults::{put_moving_faults, put_spread, put_term_faults};
-pub use standings::{known_next, known_obstacle, standing};
+pub use standings::{known_next, standing};

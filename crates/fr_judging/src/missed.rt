@@ -6,7 +6,7 @@ ghost use Rattle.std.specs.Option.{option_to_list};
 ghost use Rattle.fr_text.specs.Pieces.{Spells};
 ghost use Rattle.fr_observe.specs.Observing.{known_count};
 ghost use Rattle.fr_observe.specs.Scenes.{IsScene};
-ghost use Rattle.fr_judging.specs.Missing.{least_missed, missed_where, missed_of_term, missed_row, missed_told, unlike_term, term_kind};
+ghost use Rattle.fr_judging.specs.Missing.{least_missed, missed_by, missed_where, missed_of_term, missed_row, missed_told, unlike_term, term_kind};
 
 use crate::knowing::{Standing, judged_met};
 use fr_base::{NodeId, PutFault, Sink};
@@ -65,6 +65,22 @@ fn least_missed(term: Term, scene: &Scene<'_>, sender: &Sender) -> Option<u64>
     None
 }
 
+fn missed_by(term: Term, double: u32, node: NodeId, least: Option<u64>) -> Option<Missed>
+    requires { double < 1_000_000 }
+    ensures { result ≡ missed_by term double node least }
+{
+    if least == Some(0) {
+        None
+    } else {
+        Some(Missed {
+            cycle: 2 * double + 1,
+            node,
+            term,
+            least,
+        })
+    }
+}
+
 fn missed_where(term: Term, scene: &Scene<'_>, sender: &Sender) -> Option<Missed>
     requires scene { IsScene scene.now }
     requires among { Contains scene.now.senders.now sender.now }
@@ -72,16 +88,8 @@ fn missed_where(term: Term, scene: &Scene<'_>, sender: &Sender) -> Option<Missed
     ensures { result ≡ missed_where term scene.now.params.now scene.now.log.now scene.now.scale.now scene.now.number
         scene.now.senders.now sender.now }
 {
-    if unlike_term(term, scene, sender, 0).is_some() {
-        Some(Missed {
-            cycle: 2 * scene.number + 1,
-            node: sender.node,
-            term,
-            least: least_missed(term, scene, sender),
-        })
-    } else {
-        None
-    }
+    let least = least_missed(term, scene, sender);
+    missed_by(term, scene.number, sender.node, least)
 }
 
 fn term_kind(term: Term) -> FaultKind

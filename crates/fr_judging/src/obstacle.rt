@@ -3,11 +3,13 @@ ghost use Rattle.fr_judging.specs.Obstacles.{farther, obstacle_word, obstacle_ra
 
 use fr_base::NodeId;
 
-/// Why a double cycle is not judged, in the order of how far it came; the first is so of a whole log.
+/// Why a double cycle is not judged, in the order of how far it came; the first two are so of a whole log.
 #[derive(Clone, Copy, Debug, PartialEq, Eq)]
 pub enum ObstacleKind {
-    /// The correct nodes with a key slot do not outweigh the arbitrary ones, or frames may be lost beside arbitrary ones.
+    /// The correct nodes with a key slot do not outweigh the arbitrary ones.
     Count,
+    /// Frames may be lost beside arbitrary nodes.
+    Lost,
     /// The node was not seen.
     Unseen,
     /// Something contradicts any run.
@@ -26,6 +28,7 @@ impl ObstacleKind {
     {
         match self {
             ObstacleKind::Count => b"count",
+            ObstacleKind::Lost => b"lost",
             ObstacleKind::Unseen => b"unseen",
             ObstacleKind::Fault => b"fault",
             ObstacleKind::Reach => b"reach",
@@ -39,10 +42,11 @@ impl ObstacleKind {
     {
         match self {
             ObstacleKind::Count => 0,
-            ObstacleKind::Unseen => 1,
-            ObstacleKind::Fault => 2,
-            ObstacleKind::Reach => 3,
-            ObstacleKind::Drift => 4,
+            ObstacleKind::Lost => 1,
+            ObstacleKind::Unseen => 2,
+            ObstacleKind::Fault => 3,
+            ObstacleKind::Reach => 4,
+            ObstacleKind::Drift => 5,
         }
     }
 }

@@ -9,14 +9,14 @@ ghost use Rattle.fr_bound.specs.SharpSpreads.{sharply_near_in};
 ghost use Rattle.fr_course.specs.Near.{EndWithin, IsReadingScale};
 ghost use Rattle.fr_sightings.specs.Ranges.{IsProperSender};
 ghost use Rattle.fr_observe.specs.Faults.{stated_flutter};
-ghost use Rattle.fr_judging.specs.Knowing.{JudgedBySmall, beyond_of, is_judged_by, is_stated_at, known_as_stated, known_by, known_next, known_next_by, known_obstacle, known_seen, most_beyond, standing_of, standing_with, unfit, unjudged_by};
+ghost use Rattle.fr_judging.specs.Knowing.{JudgedBySmall, beyond_of, is_judged_by, is_stated_at, known_as_stated, known_by, known_next, known_next_by, known_seen, most_beyond, standing_of, standing_with, unfit, unjudged_by};
 ghost use Rattle.fr_judging.specs.Obstacles.{first_unseen};
 ghost use Rattle.fr_observe.specs.Scenes.{IsScene};
 
-use crate::hearing::synced_with;
+use crate::hearing::{synced_with, unheard};
 use crate::knowing::{Standing, judged_met};
 use crate::obstacle::{Obstacle, ObstacleKind};
-use crate::unseen::{faulty, first_unseen, of_several, too_few};
+use crate::unseen::{faulty, first_unseen, of_several};
 use fr_bound::{
     Heard, Known, Spread, is_judged, known_after, met_with, near_by, sharp_side_within,
     shortest_microtick,
@@ -96,23 +96,16 @@ fn known_by(params: &Params, scale: &Scale, senders: &[Sender]) -> Known
     }
 }
 
-// Nothing contradicts a double cycle, and all its nodes were seen.
-fn is_told(scene: &Scene<'_>, told: Option<Fault>) -> bool
-    requires scene { IsScene scene.now }
-    ensures { result ≡ (is_none told && is_none (first_unseen scene.now.log.now scene.now.here.now scene.now.number
-        scene.now.params.now.nodes)) }
-{
-    told.is_none() && first_unseen(scene.params, scene.log, scene.here, scene.number).is_none()
-}
-
-// What is seen of such a one.
+// What is seen of a double cycle that nothing contradicts, where all its nodes were seen.
 #[tactic(auto, unfolding(crate::specs::Knowing::known_seen))]
-fn known_seen(scene: &Scene<'_>, told: Option<Fault>) -> Option<Known>
+fn known_seen(scene: &Scene<'_>, unseen: Option<Obstacle>, told: Option<Fault>) -> Option<Known>
     requires scene { IsScene scene.now }
+    requires unseen { unseen ≡ first_unseen scene.now.log.now scene.now.here.now scene.now.number
+        scene.now.params.now.nodes }
     ensures { result ≡ known_seen scene.now.params.now scene.now.scale.now scene.now.log.now scene.now.here.now
         scene.now.number scene.now.senders.now told }
 {
-    if is_told(scene, told) {
+    if told.is_none() && unseen.is_none() {
         Some(known_by(scene.params, scene.scale, scene.senders))
     } else {
         None
@@ -153,89 +146,6 @@ fn known_as_stated(params: &Params, log: &Log, heard: Heard, double: u32) -> Opt
         None
     }
 }
-
-fn standing_with(
-    params: &Params,
-    log: &Log,
-    heard: Heard,
-    known: Option<Known>,
-    met: Option<Known>,
-) -> Standing
-    ensures value { result ≡ standing_with params.now log.now (Some heard) known met }
-    ensures small { JudgedBySmall result }
-{
-    Standing {
-        heard: Some(heard),
-        known,
-        met,
-        is_judged: is_judged_by(params, log, met),
-    }
-}
-
-/// How a double cycle stands, by what its nodes hear of each other, by what is known of it from the one before and by what the log
-/// states, and by what is seen of it, where this is the first fault in it that contradicts any run. Where it is not told what is
-/// heard, nothing is known of it and it is not judged.
-#[tactic(auto, unfolding(crate::specs::Knowing::standing_of))]
-pub fn standing(
-    scene: &Scene<'_>,
-    heard: Option<Heard>,
-    known: Option<Known>,
-    told: Option<Fault>,
-) -> Standing
-    requires scene { IsScene scene.now }
-    ensures value { result ≡ standing_of scene.now.params.now scene.now.scale.now scene.now.log.now scene.now.here.now
-        scene.now.number scene.now.senders.now heard known told }
-    ensures small { JudgedBySmall result }
-{
-    match heard {
-        None => Standing {
-            heard: None,
-            known: None,
-            met: None,
-            is_judged: false,
-        },
-        Some(what) => {
-            let stated = known_as_stated(scene.params, scene.log, what, scene.number);
-            let known = met_with(known, stated);
-            let met = met_with(known, known_seen(scene, told));
-            standing_with(scene.params, scene.log, what, known, met)
-        }
-    }
-}
-
-fn known_next_by(
-    params: &Params,
-    log: &Log,
-    heard: Option<Heard>,
-    judged: Option<Known>,
-) -> Option<Known>
-    requires small { IfSome judged IsSmall }
-    ensures { result ≡ known_next_by params.now log.now heard judged }
-{
-    match heard {
-        None => None,
-        Some(what) => match judged {
-            None => None,
-            Some(met) => Some(known_after(params, what, stated_flutter(params, log), met)),
-        },
-    }
-}
-
-/// What is known of the next double cycle behind one that stands so, where it is clear: neither its skews nor its starts and
-/// lengths contradict its numbers. None behind one that is not judged.
-#[tactic(auto, unfolding(crate::specs::Knowing::known_next))]
-pub fn known_next(params: &Params, log: &Log, standing: &Standing, is_clear: bool) -> Option<Known>
-    requires small { JudgedBySmall standing.now }
-    ensures { result ≡ known_next params.now log.now standing.now is_clear }
-{
-    if is_clear {
-        known_next_by(params, log, standing.heard, judged_met(standing))
-    } else {
-        None
-    }
-}
-
-// ---- what keeps it from being judged
 
 // A sharper check holds with a reach, in ticks.
 fn holds(params: &Params, flutter: u64, reach: u64, number: u8) -> bool
@@ -287,34 +197,106 @@ fn unfit(params: &Params, log: &Log, double: u32, met: Option<Known>) -> Option<
     }
 }
 
-// What keeps it from that, where it is told what its nodes hear.
-fn unjudged(scene: &Scene<'_>, standing: &Standing, told: Option<Fault>) -> Option<Obstacle>
-    requires scene { IsScene scene.now }
-    ensures { (what : Heard) → result ≡ unjudged_by scene.now.params.now scene.now.log.now scene.now.here.now
-        scene.now.number standing.now told (Some what) }
-{
-    if standing.is_judged {
-        return None;
-    }
-    first_unseen(scene.params, scene.log, scene.here, scene.number)
-        .or(faulty(told))
-        .or(unfit(scene.params, scene.log, scene.number, standing.met))
-}
-
-/// What keeps a double cycle that stands so from being judged, where this is the first fault in it that contradicts any run; none
-/// where it is judged.
-#[tactic(auto, unfolding(crate::specs::Knowing::known_obstacle))]
-pub fn known_obstacle(
+// What keeps it from that: what of it is hidden, or its numbers.
+fn unjudged_by(
+    is_judged: bool,
     scene: &Scene<'_>,
-    standing: &Standing,
-    told: Option<Fault>,
+    hidden: Option<Obstacle>,
+    met: Option<Known>,
 ) -> Option<Obstacle>
     requires scene { IsScene scene.now }
-    ensures { result ≡ known_obstacle scene.now.params.now scene.now.log.now scene.now.here.now scene.now.number
-        standing.now told }
+    ensures { result ≡ unjudged_by is_judged scene.now.params.now scene.now.log.now scene.now.number hidden met }
 {
-    match standing.heard {
-        None => Some(too_few()),
-        Some(_) => unjudged(scene, standing, told),
+    if is_judged {
+        None
+    } else {
+        hidden.or(unfit(scene.params, scene.log, scene.number, met))
+    }
+}
+
+fn standing_with(
+    scene: &Scene<'_>,
+    heard: Heard,
+    hidden: Option<Obstacle>,
+    known: Option<Known>,
+    met: Option<Known>,
+) -> Standing
+    requires scene { IsScene scene.now }
+    ensures value { result ≡
+        standing_with scene.now.params.now scene.now.log.now scene.now.number heard hidden known met }
+    ensures small { JudgedBySmall result }
+{
+    let is_judged = is_judged_by(scene.params, scene.log, met);
+    Standing {
+        heard: Some(heard),
+        known,
+        met,
+        is_judged,
+        obstacle: unjudged_by(is_judged, scene, hidden, met),
+    }
+}
+
+/// How a double cycle stands, by what its nodes hear of each other, by what is known of it from the one before and by what the log
+/// states, and by what is seen of it, where this is the first fault in it that contradicts any run. Where it is not told what is
+/// heard, nothing is known of it and it is not judged.
+#[tactic(auto, unfolding(crate::specs::Knowing::standing_of))]
+pub fn standing(
+    scene: &Scene<'_>,
+    heard: Option<Heard>,
+    known: Option<Known>,
+    told: Option<Fault>,
+) -> Standing
+    requires scene { IsScene scene.now }
+    ensures value { result ≡ standing_of scene.now.params.now scene.now.scale.now scene.now.log.now scene.now.here.now
+        scene.now.number scene.now.senders.now heard known told }
+    ensures small { JudgedBySmall result }
+{
+    match heard {
+        None => Standing {
+            heard: None,
+            known: None,
+            met: None,
+            is_judged: false,
+            obstacle: Some(unheard(scene.params, scene.log)),
+        },
+        Some(what) => {
+            let unseen = first_unseen(scene.params, scene.log, scene.here, scene.number);
+            let stated = known_as_stated(scene.params, scene.log, what, scene.number);
+            let known = met_with(known, stated);
+            let met = met_with(known, known_seen(scene, unseen, told));
+            standing_with(scene, what, unseen.or(faulty(told)), known, met)
+        }
+    }
+}
+
+fn known_next_by(
+    params: &Params,
+    log: &Log,
+    heard: Option<Heard>,
+    judged: Option<Known>,
+) -> Option<Known>
+    requires small { IfSome judged IsSmall }
+    ensures { result ≡ known_next_by params.now log.now heard judged }
+{
+    match heard {
+        None => None,
+        Some(what) => match judged {
+            None => None,
+            Some(met) => Some(known_after(params, what, stated_flutter(params, log), met)),
+        },
+    }
+}
+
+/// What is known of the next double cycle behind one that stands so, where it is clear: neither its skews nor its starts and
+/// lengths contradict its numbers. None behind one that is not judged.
+#[tactic(auto, unfolding(crate::specs::Knowing::known_next))]
+pub fn known_next(params: &Params, log: &Log, standing: &Standing, is_clear: bool) -> Option<Known>
+    requires small { JudgedBySmall standing.now }
+    ensures { result ≡ known_next params.now log.now standing.now is_clear }
+{
+    if is_clear {
+        known_next_by(params, log, standing.heard, judged_met(standing))
+    } else {
+        None
     }
 }

@@ -1,7 +1,7 @@
 ghost use Rattle.std.specs.Prelude.{◌≡◌, ◌<◌};
 ghost use Rattle.fr_sightings.specs.Ranges.{AreLogStamps};
 ghost use Rattle.fr_observe.specs.Faults.{is_seen_whole};
-ghost use Rattle.fr_judging.specs.Obstacles.{faulty, first_unseen, of_several, or_unseen, too_few, unseen_cycle, unseen_node};
+ghost use Rattle.fr_judging.specs.Obstacles.{faulty, first_unseen, of_several, or_unseen, unseen_cycle, unseen_node};
 
 use crate::obstacle::{Obstacle, ObstacleKind};
 use fr_cluster::{NodeSpec, Params};
@@ -107,16 +107,5 @@ pub(crate) fn faulty(told: Option<Fault>) -> Option<Obstacle>
             cycle: Some(fault.cycle),
             node: fault.node,
         }),
-    }
-}
-
-// The correct sync nodes of a log do not suffice.
-pub(crate) fn too_few() -> Obstacle
-    ensures { result ≡ too_few }
-{
-    Obstacle {
-        kind: ObstacleKind::Count,
-        cycle: None,
-        node: None,
     }
 }

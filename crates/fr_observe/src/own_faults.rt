@@ -1,10 +1,10 @@
-ghost use Rattle.std.specs.Prelude.{◌≡◌, ◌*◌, ◌≤◌, ◌<◌, Some, All, IfSome, filter_map, length, map, pos};
+ghost use Rattle.std.specs.Prelude.{◌≡◌, ◌+◌, ◌*◌, ◌≤◌, ◌<◌, Some, All, IfSome, filter_map, length, map, pos};
 ghost use Rattle.std.specs.List.{flat_map};
 ghost use Rattle.fr_course.specs.Course.{apart_by};
 ghost use Rattle.fr_course.specs.Near.{EndWithin, IsBox, IsReadingScale, IsSpan};
 ghost use Rattle.fr_log.specs.Rows.{last_stamp};
 ghost use Rattle.fr_sightings.specs.Ranges.{AreLogStamps};
-ghost use Rattle.fr_sightings.specs.Senders.{first_stamp};
+ghost use Rattle.fr_sightings.specs.Senders.{first_stamp, seen_span};
 ghost use Rattle.fr_observe.specs.Faults.{IsFirst, box_fault, clock_faults, cycle_fault, limit_fault, limit_with, node_faults, own_faults, twice_by, twice_fault};
 ghost use Rattle.fr_observe.specs.Scenes.{IsScene};
 ghost use Rattle.fr_observe.specs.Telling.{TellsFaults};
@@ -18,7 +18,8 @@ use fr_cluster::{NodeSpec, Params};
 use fr_course::{Interval, Scale, allowed, between, is_empty, meet, meet_if, seen_apart};
 use fr_log::Log;
 use fr_sightings::{
-    FirstList, Sighting, first_stamp, is_judged, node_at, node_count, seen_box, seen_span,
+    FirstList, SeenCycle, Sighting, first_stamp, is_judged, node_at, node_count, seen_box,
+    seen_span,
 };
 
 // By its frames on both channels an action point of a node lies nowhere.
@@ -109,6 +110,24 @@ fn limit_fault(
     }
 }
 
+// How much later its action point in the odd cycle lies than in the even one.
+fn span_between(log: &Log, here: &[Sighting], double: u32, node: NodeId) -> Option<Interval>
+    requires here { AreLogStamps log.now here.now }
+    requires double { double < 1_000_000 }
+    ensures value { result ≡ seen_span log.now here.now here.now node (2 * double) (2 * double + 1) }
+    ensures near { IfSome result IsSpan }
+{
+    let even = SeenCycle {
+        number: 2 * double,
+        seen: here,
+    };
+    let odd = SeenCycle {
+        number: 2 * double + 1,
+        seen: here,
+    };
+    seen_span(log, node, &even, &odd)
+}
+
 // What contradicts any clock of a node in a double cycle.
 #[tactic(auto, unfolding(crate::specs::Faults::clock_faults))]
 fn put_clock<O: Sink>(
@@ -129,7 +148,7 @@ fn put_clock<O: Sink>(
     let (even, odd) = (2 * double, 2 * double + 1);
     let at_even = seen_box(log, here, node, even);
     let at_odd = seen_box(log, here, node, odd);
-    let span = seen_span(log, here, here, node, even, odd);
+    let span = span_between(log, here, double, node);
     tell(box_fault(even, node, at_even), first, out)?;
     tell(box_fault(odd, node, at_odd), first, out)?;
     tell(

@@ -21,7 +21,7 @@ use fr_bound::{longest_microtick, shortest_microtick};
 use fr_cluster::{ParamName, Params};
 use fr_course::{Interval, Measuring, Scale, is_empty, length_ticks, rate_step_seen};
 use fr_log::Log;
-use fr_sightings::{Sender, keyed_count, offset_computed, rate_computed};
+use fr_sightings::{Reception, Sender, keyed_count, offset_computed, rate_computed};
 
 /// What is asked of a sender.
 #[derive(Clone, Copy)]
@@ -231,6 +231,20 @@ fn measuring_of(scene: &Scene<'_>) -> Measuring
     Measuring::of(scene.params, stated_flutter(scene.params, scene.log))
 }
 
+// How what a sender received may differ from what is seen, where it missed at most so many of the others.
+fn reception_of(scene: &Scene<'_>, lost: usize) -> Reception
+    requires scene { IsScene scene.now }
+    requires lost { lost ≤ 64 }
+    ensures further { result.further ≡ further_of scene.now.params.now scene.now.senders.now }
+    ensures few { result.further ≤ 64 }
+    ensures lost { result.lost ≡ lost }
+{
+    Reception {
+        further: further_of(scene.params, scene.senders),
+        lost,
+    }
+}
+
 // What a sender must have computed of its offset term, where it missed at most so many of the others.
 fn offset_due(scene: &Scene<'_>, lost: usize, sender: &Sender) -> Option<Interval>
     requires scene { IsScene scene.now }
@@ -246,8 +260,7 @@ fn offset_due(scene: &Scene<'_>, lost: usize, sender: &Sender) -> Option<Interva
         &measuring_of(scene),
         scene.senders,
         sender,
-        further_of(scene.params, scene.senders),
-        lost,
+        reception_of(scene, lost),
     )
 }
 
@@ -266,8 +279,7 @@ fn rate_due(scene: &Scene<'_>, lost: usize, sender: &Sender) -> Option<Interval>
         &measuring_of(scene),
         scene.senders,
         sender,
-        further_of(scene.params, scene.senders),
-        lost,
+        reception_of(scene, lost),
     )
 }
 

@@ -1,43 +1,30 @@
--- The least number of senders that a node must have missed: in each run it misses no fewer, and where there is none, there is no such run.
+-- The least number of senders that a node must have missed: it is the first one that nothing contradicts, and none beyond all others
+-- tells more.
 use Rattle.std.proofs.Common.{◌≡◌, ℕ, zero, suc, ◌+◌, ◌-◌, ◌<◌, ◌≤◌, ◌==◌, min, Bool, true, false, not, cond, Option, Some, None, List, ◌∷◌, length, map, refl, ap, sym, ◌∙◌, inl, inr, arith}
-use Rattle.std.specs.Prelude.{◌*◌, Contains, find, is_none}
+use Rattle.std.specs.Prelude.{◌*◌, Contains, find}
 use Rattle.std.specs.List.{filter, range_with_len}
 use Rattle.std.specs.Option.{option_map}
 use Rattle.std.proofs.lemmas.Bool.{cases_lt, eqb-true}
 use Rattle.std.proofs.lemmas.List.{length-map}
 use Rattle.std.proofs.lemmas.List.Sums.{length-filter}
-use Rattle.fr_base.specs.declared.channel.Channel.{Channel}
-use Rattle.fr_bound.specs.declared.judging.Heard.{Heard}
-use Rattle.fr_bound.specs.declared.judging.Known.{Known}
-use Rattle.fr_cluster.specs.Setting.{Setting, correct_nodes}
 use Rattle.fr_cluster.specs.Values.{Values}
-use Rattle.fr_cluster.specs.declared.nodes.NodeSpec.{NodeSpec}
 use Rattle.fr_precision.proofs.Counting.{count_less}
-use Rattle.fr_history.specs.Cycles.{Cycles}
 use Rattle.fr_log.specs.View.{LogView}
 use Rattle.fr_course.specs.Computed.{deviation_seen, further_by, measuring_of, own_value, rate_value_seen}
 use Rattle.fr_course.specs.Middles.{middle}
-use Rattle.fr_course.specs.Readings.{reading_scale}
 use Rattle.fr_course.specs.Terms.{rate_step_seen}
 use Rattle.fr_course.specs.declared.courses.Course.{Course}
 use Rattle.fr_course.specs.declared.intervals.Interval.{Interval}
 use Rattle.fr_course.specs.declared.scales.Scale.{Scale}
-use Rattle.fr_course.specs.declared.stamps.Delays.{Delays}
 use Rattle.fr_course.proofs.Middling.{middle-least}
 use Rattle.fr_sightings.specs.declared.sender.Sender.{Sender}
 use Rattle.fr_observe.specs.Faults.{further_of, other_courses, stated_flutter, unlike_fault}
 use Rattle.fr_observe.specs.Observing.{terms_of}
 use Rattle.fr_observe.specs.declared.fault.FaultKind.TheVariants.{Offset, Rate}
-use Rattle.fr_judging.specs.Missing.{least_missed, unlike_term}
+use Rattle.fr_judging.specs.Missing.{unlike_term}
 use Rattle.fr_judging.specs.declared.missed.Term.{Term}
 use Rattle.fr_judging.specs.declared.missed.Term.TheVariants.{OffsetTerm, RateTerm}
-use Rattle.fr_seen.specs.Clocks.{StraightClock}
-use Rattle.fr_seen.specs.LogSeen.{log_senders, run_double}
-use Rattle.fr_seen_runs.specs.ComputedTerms.{IsNamedLog}
-use Rattle.fr_seen_runs.specs.Contradictions.{MissesFew}
-use Rattle.fr_seen_runs.specs.JudgedTerms.{IsJudgedRun, OffsetsAreComputed, RatesAreComputed}
 use Rattle.fr_seen_runs.specs.Standings.{IsNoLess}
-use Rattle.fr_seen_runs.proofs.ComputedFaults.{term_none}
 use Rattle.fr_seen_runs.proofs.ComputedLists.{all_pass}
 
 -- ---- the first number that passes a test
@@ -73,7 +60,7 @@ none_found test a (suc n) is k from less = by (test a) refl is (λ rest later. n
     by false fails rest later = at (a == k) refl fails (later rest)
 
 -- a number that passes is no less than the first one; where it counts no more than so many, there is a first one
-least_no_less : (test : ℕ → Bool) (n most lost : ℕ) → most < n → test (min lost most) ≡ test lost → test lost ≡ true → (least : Option ℕ) → find test (range_with_len 0 n) ≡ least → IsNoLess least lost
+pub least_no_less : (test : ℕ → Bool) (n most lost : ℕ) → most < n → test (min lost most) ≡ test lost → test lost ≡ true → (least : Option ℕ) → find test (range_with_len 0 n) ≡ least → IsNoLess least lost
 least_no_less test n most lost less same passes None is =
     let below : min lost most < 0 + n = omega (arith, less) in
     let fails = none_found test 0 n is (min lost most) (omega arith) below in
@@ -126,18 +113,3 @@ module _ (p : Values) (l : LogView) (scale : Scale) (double : ℕ) (senders : Li
     where
       equal : (a : ℕ) → (a == a) ≡ true
       equal a = grind arith
-
--- ---- what it must have missed
-
-pub missed_no_less : (what : Heard) (x : Setting) (h : Cycles) (base : ℕ) (delays : ℕ → Channel → Delays) (clock : ℕ → StraightClock) (l : LogView) (double : ℕ) (known : Known)
-    → OffsetsAreComputed → RatesAreComputed → IsNamedLog x h base delays clock l → IsJudgedRun what x (stated_flutter x.params l) h (run_double base double) known
-    → (kind : Term) (lost : ℕ) (s : Sender) (node : NodeSpec) → Contains (log_senders x l double) s → Contains (correct_nodes x) node → node.id ≡ s.node
-    → MissesFew x (run_double base double) lost node → IsNoLess (least_missed kind x.params l (reading_scale l.drift x.params) double (log_senders x l double) s) lost
-missed_no_less what x h base delays clock l double known offsets rates log j kind lost s node among correct same misses =
-    let scale = reading_scale l.drift x.params in
-    let senders = log_senders x l double in
-    let test : ℕ → Bool = λ n. is_none (unlike_term kind x.params l scale double senders s n) in
-    least_no_less test (length senders) (length (other_courses senders s.node)) lost (fewer_others x.params l scale double senders s among)
-    (ap is_none (same_term x.params l scale double senders s kind lost))
-    (ap is_none (term_none what x h base delays clock l double known log j offsets rates kind lost s node among correct same misses))
-    (least_missed kind x.params l scale double senders s) refl

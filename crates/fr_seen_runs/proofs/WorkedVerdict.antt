@@ -18,7 +18,7 @@ use Rattle.fr_sightings.specs.Senders.{course_in, delays_in, first_stamp, seen_b
 use Rattle.fr_sightings.specs.Judging.{judgement_of}
 use Rattle.fr_sightings.specs.Sightings.{OffendingFrames, fate_of, fates_from, irregular_of, offending_frames_of, sightings_of, untimely_of}
 use Rattle.fr_sightings.specs.declared.sighting.Sighting.{Sighting}
-use Rattle.fr_findings.specs.Verdict.{Basis, double_at, faults_told, known_told, log_basis, log_progress, moving_told, obstacle_told, own_told, progress_of, progress_told, standing_told, verdict_by, verdict_of}
+use Rattle.fr_findings.specs.Verdict.{Basis, double_at, faults_told, known_told, log_basis, log_progress, moving_told, own_told, progress_of, progress_told, standing_told, verdict_by, verdict_of}
 use Rattle.fr_judging.specs.Hearing.{log_heard}
 use Rattle.fr_judging.specs.Knowing.{judged_skews, judged_terms, known_apart, known_missing, known_next, known_seen, most_beyond, moving_faults, standing_faults, standing_of, term_faults}
 use Rattle.fr_judging.specs.Obstacles.{first_unseen}
@@ -59,7 +59,7 @@ on_numbers = tt
 
 -- and the whole of it
 unfoldable pub on_doubles : ⊤
-unfolding verdict_by progress_of progress_told own_told faults_told known_told moving_told obstacle_told double_at
+unfolding verdict_by progress_of progress_told own_told faults_told known_told moving_told double_at
 on_doubles = tt
 
 -- ---- its sightings

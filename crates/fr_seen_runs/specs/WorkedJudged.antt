@@ -55,7 +55,8 @@ second_met = known_from 1_520_552 80_000 0
 
 -- a double cycle that is judged by its own numbers
 abbrev pub judged_by_numbers : Option Known → Known → Standing
-judged_by_numbers known met = record { heard = Some Clean; known = known; met = Some met; is_judged = true }
+judged_by_numbers known met =
+    record { heard = Some Clean; known = known; met = Some met; is_judged = true; obstacle = None }
 
 -- how a double cycle of a log stands, by what is known of it; and what is known of the next one, where nothing contradicts this
 abbrev pub log_stands : Values → LogView → ℕ → Option Known → Standing

@@ -8,8 +8,8 @@ use Rattle.fr_judging.specs.Obstacles.{farther}
 use Rattle.fr_observe.specs.declared.fault.Fault.{Fault}
 use Rattle.fr_observe.proofs.Told.{clean-is}
 use Rattle.fr_findings.specs.Ground.{basis_in, double_in}
-use Rattle.fr_findings.specs.Verdict.{faults_told, known_next_told, known_told, moving_told, obstacle_told, own_told}
-use Rattle.fr_findings.proofs.Printing.{first-of-all, known-is, moving-cut, moving-is, moving-then, told_failed}
+use Rattle.fr_findings.specs.Verdict.{known_next_told, known_told, moving_told, standing_told}
+use Rattle.fr_findings.proofs.Printing.{known-is, moving-cut, moving-is, moving-then, told_failed}
 use Rattle.fr_findings.proofs.contradicting.put_faults.Goals as goal
 
 pub returns-in_err-put_moving_faults-clause-puts : goal.returns-in_err-put_moving_faults-clause-puts
@@ -33,12 +33,10 @@ returns-clause-puts g c =
     (moving-then c.scene_of-scene.result c.args.standing.now (Ok tt) c.in_ok-put_moving_faults.ensures c.in_ok-put_term_faults.ensures).puts
 
 pub returns-clause-progress : goal.returns-clause-progress
-unfolding faults_told
 returns-clause-progress g c =
     let b = basis_in c.args.ground.now in
     let d = double_in c.args.double.now in
     let progress = c.args.progress.now in
-    let own : List Fault = own_told b d in
     let known = known-is c.args.ground.now c.args.double.now c.scene_of-scene.result c.args.standing.now progress.known c.scene_of-scene.ensures.value c.requires.standing in
     let moving =
     moving-is c.args.ground.now c.args.double.now c.scene_of-scene.result c.args.standing.now progress.known c.scene_of-scene.ensures.value c.requires.standing in
@@ -49,9 +47,8 @@ returns-clause-progress g c =
     let clear : c.is_none.result ≡ is_nil (moving_told b d progress.known) = none ∙ ap is_none moved ∙ clean-is (moving_told b d progress.known) in
     let next : c.known_next-progress.result ≡ known_next_told b d progress.known =
     c.known_next-progress.ensures ∙ (λ i. known_next b.params b.log (c.requires.standing i) (clear i)) in
-    let before : c.earlier-before.result ≡ option_or progress.first (first_of_faults own) = c.earlier-before.ensures ∙ ap (option_or progress.first) c.requires.told in
-    let first : c.earlier-progress.result ≡ option_or progress.first (first_of_faults (faults_told b d progress.known)) =
-    c.earlier-progress.ensures ∙ (λ i. option_or (before i) (against i)) ∙ first-of-all progress.first own (known_told b d progress.known) in
-    let farthest : c.farther-progress.result ≡ farther progress.obstacle (obstacle_told b d progress.known) =
-    c.farther-progress.ensures ∙ ap (farther progress.obstacle) c.obstacle_of-obstacle.ensures in
+    let first : c.earlier-progress.result ≡ option_or progress.first (first_of_faults (known_told b d progress.known)) =
+    c.earlier-progress.ensures ∙ ap (option_or progress.first) against in
+    let farthest : c.farther-progress.result ≡ farther progress.obstacle (standing_told b d progress.known).obstacle =
+    c.farther-progress.ensures ∙ (λ i. farther progress.obstacle (c.requires.standing i).obstacle) in
     λ i. record progress { known = next i; first = first i; obstacle = farthest i }

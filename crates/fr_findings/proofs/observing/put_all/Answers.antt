@@ -10,26 +10,26 @@ use Rattle.fr_findings.proofs.observing.put_all.Goals as goal
 
 pub put_doubles-requires-clause-seen : goal.put_doubles-requires-clause-seen
 put_doubles-requires-clause-seen g c =
-    let first : slice_get c.args.seen.now 0 ≡ Some c.in-Some.first.now = sym c.first.ensures.value ∙ ap option_copied c.in-Some.is in
+    let first : slice_get c.args.frames.now.seen.now 0 ≡ Some c.in-Some.first.now = sym c.first.ensures.value ∙ ap option_copied c.in-Some.is in
     record {
       timed = c.requires.seen.timed;
       ascend = c.requires.seen.ascend;
-      from = from-first c.args.seen.now c.in-Some.first.now first c.requires.seen.ascend;
+      from = from-first c.args.frames.now.seen.now c.in-Some.first.now first c.requires.seen.ascend;
     }
 
 pub put_doubles-requires-clause-first : goal.put_doubles-requires-clause-first
 put_doubles-requires-clause-first g c =
-    let first : slice_get c.args.seen.now 0 ≡ Some c.in-Some.first.now = sym c.first.ensures.value ∙ ap option_copied c.in-Some.is in
-    let last : slice_get c.args.seen.now (length c.args.seen.now - 1) ≡ Some c.in-Some-last.last.now = sym c.last.ensures.value ∙ ap option_copied c.in-Some-last.is in
-    first-last c.args.seen.now c.in-Some.first.now c.in-Some-last.last.now first last c.requires.seen.ascend
+    let first : slice_get c.args.frames.now.seen.now 0 ≡ Some c.in-Some.first.now = sym c.first.ensures.value ∙ ap option_copied c.in-Some.is in
+    let last : slice_get c.args.frames.now.seen.now (length c.args.frames.now.seen.now - 1) ≡ Some c.in-Some-last.last.now = sym c.last.ensures.value ∙ ap option_copied c.in-Some-last.is in
+    first-last c.args.frames.now.seen.now c.in-Some.first.now c.in-Some-last.last.now first last c.requires.seen.ascend
 
 pub returns-in-None-clause-puts : goal.returns-in-None-clause-puts
 returns-in-None-clause-puts g c =
-    let none : slice_get c.args.seen.now 0 ≡ None = sym c.first.ensures.value ∙ ap option_copied c.in-None.is in
+    let none : slice_get c.args.frames.now.seen.now 0 ≡ None = sym c.first.ensures.value ∙ ap option_copied c.in-None.is in
     let a = g.O.Sink.state c.args.out.now in
-    subst (Puts (Ok tt) a a) (sym (none-told (basis_in c.args.ground.now) c.args.seen.now (offending_given c.args.offending.now) no_progress none)) (puts_none a)
+    subst (Puts (Ok tt) a a) (sym (none-told (basis_in c.args.ground.now) c.args.frames.now.seen.now (offending_given c.args.frames.now.offending) no_progress none)) (puts_none a)
 
 pub returns-in-None-clause-progress : goal.returns-in-None-clause-progress
 returns-in-None-clause-progress g c =
-    let none : slice_get c.args.seen.now 0 ≡ None = sym c.first.ensures.value ∙ ap option_copied c.in-None.is in
-    c.requires.progress ∙ sym (none-known (basis_in c.args.ground.now) c.args.seen.now (offending_given c.args.offending.now) no_progress none)
+    let none : slice_get c.args.frames.now.seen.now 0 ≡ None = sym c.first.ensures.value ∙ ap option_copied c.in-None.is in
+    c.requires.progress ∙ sym (none-known (basis_in c.args.ground.now) c.args.frames.now.seen.now (offending_given c.args.frames.now.offending) no_progress none)

@@ -18,8 +18,8 @@ pub returns : goal.returns
 unfolding all_told
 returns g c =
     let b = basis_in c.args.ground.now in
-    let text : List ℕ = told_of_doubles b c.args.seen.now (offending_given c.args.offending.now) no_progress (seen_doubles c.args.seen.now) in
-    let census : List ℕ = census_text b.params b.log c.args.seen.now in
-    subst (λ (progress : Progress). Puts c.put_end.result (g.O.Sink.state c.args.out.now) (g.O.Sink.state c.put_end.new.out) (text ++ (census ++ end_told c.args.seen.now c.args.tally.now (are_numbers_sure b.params b.log) progress)))
+    let text : List ℕ = told_of_doubles b c.args.frames.now.seen.now (offending_given c.args.frames.now.offending) no_progress (seen_doubles c.args.frames.now.seen.now) in
+    let census : List ℕ = census_text b.params b.log c.args.frames.now.seen.now in
+    subst (λ (progress : Progress). Puts c.put_end.result (g.O.Sink.state c.args.out.now) (g.O.Sink.state c.put_end.new.out) (text ++ (census ++ end_told c.args.frames.now.seen.now c.args.tally.now (are_numbers_sure b.params b.log) progress)))
     c.in_ok-put_all.ensures.progress
     (then {text = text} c.put_end.result c.in_ok-put_all.ensures.puts c.put_end.ensures)

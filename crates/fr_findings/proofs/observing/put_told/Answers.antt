@@ -16,5 +16,5 @@ returns g c =
     let precision : to_z w64 (of_z w64 c.yardstick.result) ≡ pos (yardstick p l (log_heard p l)) =
     back ∙ c.yardstick.ensures ∙ ap (λ h. pos (yardstick p l h)) heard in
     subst (Puts c.put_whole.result (g.O.Sink.state c.args.out.now) (g.O.Sink.state c.put_whole.new.out))
-    (λ i. whole_told (made-basis (precision i) (c.scale_of-scale.ensures.value i) p l (c.log_span.ensures i) (heard i)) c.args.seen.now (offending_given c.args.offending.now) c.args.tally.now)
+    (λ i. whole_told (made-basis (precision i) (c.scale_of-scale.ensures.value i) p l (c.log_span.ensures i) (heard i)) c.args.frames.now.seen.now (offending_given c.args.frames.now.offending) c.args.tally.now)
     c.put_whole.ensures

@@ -17,8 +17,8 @@ put_around-requires-clause-around g c =
 
 pub loop-double-init : goal.loop-double-init
 loop-double-init g c =
-    let first = c.args.first in
-    let last = c.args.last in
+    let first = c.args.doubles.first in
+    let last = c.args.doubles.last in
     let untimely = c.look_from-rest_untimely.ensures in
     let irregular = c.look_from-rest_irregular.ensures in
     let l = c.args.ground.now.log.now in
@@ -29,34 +29,34 @@ loop-double-init g c =
       same = λ later le. refl;
       same_untimely = λ later le. untimely.same later le;
       same_irregular = λ later le. irregular.same later le;
-      before = before-first c.args.seen.now first c.requires.seen.from;
+      before = before-first c.args.frames.now.seen.now first c.requires.seen.from;
       within = omega (arith, c.requires.first);
       started = omega arith;
       few = few-none (2 * (first - first)) c.args.progress.now c.requires.progress;
       puts = λ result after put.
-          subst (λ (progress : Progress). Puts result (g.O.Sink.state c.args.out.now) after (told_of_doubles (basis_in c.args.ground.now) c.args.seen.now (offending_given c.args.offending.now) progress (up_to first last)))
+          subst (λ (progress : Progress). Puts result (g.O.Sink.state c.args.out.now) after (told_of_doubles (basis_in c.args.ground.now) c.args.frames.now.seen.now (offending_given c.args.frames.now.offending) progress (up_to first last)))
           c.requires.progress put;
       progress =
-          ap (λ (progress : Progress). progress_of (basis_in c.args.ground.now) c.args.seen.now (offending_given c.args.offending.now) progress (up_to first last)) c.requires.progress;
+          ap (λ (progress : Progress). progress_of (basis_in c.args.ground.now) c.args.frames.now.seen.now (offending_given c.args.frames.now.offending) progress (up_to first last)) c.requires.progress;
     }
 
 pub returns-in_err-put_around-clause-puts : goal.returns-in_err-put_around-clause-puts
 returns-in_err-put_around-clause-puts g c =
     let double = c.loop-double.double in
     let b = basis_in c.args.ground.now in
-    let frames = offending_given c.args.offending.now in
+    let frames = offending_given c.args.frames.now.offending in
     let look = c.look_at-look in
     let untimely = c.look_at-untimely in
     let irregular = c.look_at-irregular in
-    let here_is : look.result.here.now ≡ sightings_in c.args.seen.now double = look.ensures.here ∙ c.loop-double.invariant.same double (omega arith) in
-    let next_is : look.result.next.now ≡ sightings_in c.args.seen.now (double + 1) = look.ensures.next ∙ c.loop-double.invariant.same (double + 1) (omega arith) in
+    let here_is : look.result.here.now ≡ sightings_in c.args.frames.now.seen.now double = look.ensures.here ∙ c.loop-double.invariant.same double (omega arith) in
+    let next_is : look.result.next.now ≡ sightings_in c.args.frames.now.seen.now (double + 1) = look.ensures.next ∙ c.loop-double.invariant.same (double + 1) (omega arith) in
     let untimely_is : untimely.result.here.now ≡ sightings_in frames.untimely double = untimely.ensures.here ∙ c.loop-double.invariant.same_untimely double (omega arith) in
     let irregular_is : irregular.result.here.now ≡ sightings_in frames.irregular double = irregular.ensures.here ∙ c.loop-double.invariant.same_irregular double (omega arith) in
     let d : DoubleCycle = double_with b double c.loop-double.before.now look.result.here.now look.result.next.now (offending-of untimely.result.here.now irregular.result.here.now) in
     c.loop-double.invariant.puts _ _
-    (told-cut b c.args.seen.now frames d c.loop-double.progress double c.args.last
+    (told-cut b c.args.frames.now.seen.now frames d c.loop-double.progress double c.args.doubles.last
     c.from_residual.result (omega (arith, c.loop-double-test.true))
-    (double-is b c.args.seen.now frames c.loop-double.before.now look.result.here.now look.result.next.now untimely.result.here.now irregular.result.here.now double
+    (double-is b c.args.frames.now.seen.now frames c.loop-double.before.now look.result.here.now look.result.next.now untimely.result.here.now irregular.result.here.now double
     c.loop-double.invariant.before here_is next_is untimely_is irregular_is)
     c.in_err-put_around.ensures.puts c.from_residual.ensures.0)
 
@@ -65,13 +65,13 @@ loop-double-preserved g c =
     let double = c.loop-double.double in
     let ground = c.args.ground.now in
     let b = basis_in ground in
-    let seen = c.args.seen.now in
-    let frames = offending_given c.args.offending.now in
+    let seen = c.args.frames.now.seen.now in
+    let frames = offending_given c.args.frames.now.offending in
     let look = c.look_at-look in
     let untimely = c.look_at-untimely in
     let irregular = c.look_at-irregular in
     let here = look.result.here.now in
-    let le : double ≤ c.args.last = omega (arith, c.loop-double-test.true) in
+    let le : double ≤ c.args.doubles.last = omega (arith, c.loop-double-test.true) in
     let here_is : here ≡ sightings_in seen double = look.ensures.here ∙ c.loop-double.invariant.same double (omega arith) in
     let next_is : look.result.next.now ≡ sightings_in seen (double + 1) = look.ensures.next ∙ c.loop-double.invariant.same (double + 1) (omega arith) in
     let untimely_is : untimely.result.here.now ≡ sightings_in frames.untimely double = untimely.ensures.here ∙ c.loop-double.invariant.same_untimely double (omega arith) in
@@ -81,8 +81,8 @@ loop-double-preserved g c =
     double-is b seen frames c.loop-double.before.now here look.result.next.now untimely.result.here.now irregular.result.here.now double
     c.loop-double.invariant.before here_is next_is untimely_is irregular_is in
     let told : c.put_around.new.progress ≡ progress_told b d c.loop-double.progress = c.in_ok-put_around.ensures.progress in
-    let before : ℕ = 2 * (double - c.args.first) in
-    let more : before + 2 ≡ 2 * (double + 1 - c.args.first) = omega (arith, c.loop-double.invariant.started) in
+    let before : ℕ = 2 * (double - c.args.doubles.first) in
+    let more : before + 2 ≡ 2 * (double + 1 - c.args.doubles.first) = omega (arith, c.loop-double.invariant.started) in
     let few : CountsFew (before + 2) c.put_around.new.progress =
     subst (CountsFew (before + 2)) (sym told) (few-told before b d c.loop-double.progress c.loop-double.invariant.few) in record {
       seen = record { timed = (look.ensures.timed ground.log.now c.loop-double.invariant.seen.timed).2; ascend = look.ensures.ascend; from = look.ensures.from };
@@ -101,24 +101,24 @@ loop-double-preserved g c =
       few = subst (λ (most : ℕ). CountsFew most c.put_around.new.progress) more few;
       puts = λ result after put.
           c.loop-double.invariant.puts result after
-          (told-then b seen frames d c.loop-double.progress double c.args.last result le is c.in_ok-put_around.ensures.puts
-          (subst (λ (progress : Progress). Puts result (g.O.Sink.state c.put_around.new.out) after (told_of_doubles b seen frames progress (up_to (double + 1) c.args.last))) told put));
+          (told-then b seen frames d c.loop-double.progress double c.args.doubles.last result le is c.in_ok-put_around.ensures.puts
+          (subst (λ (progress : Progress). Puts result (g.O.Sink.state c.put_around.new.out) after (told_of_doubles b seen frames progress (up_to (double + 1) c.args.doubles.last))) told put));
       progress =
-          ap (λ (progress : Progress). progress_of b seen frames progress (up_to (double + 1) c.args.last)) told
-          ∙ progress-then b seen frames d c.loop-double.progress double c.args.last le is
+          ap (λ (progress : Progress). progress_of b seen frames progress (up_to (double + 1) c.args.doubles.last)) told
+          ∙ progress-then b seen frames d c.loop-double.progress double c.args.doubles.last le is
           ∙ c.loop-double.invariant.progress;
     }
 
 pub returns-clause-puts : goal.returns-clause-puts
 returns-clause-puts g c =
     let a = g.O.Sink.state c.loop-double.out in
-    let less : c.args.last < c.loop-double.double = omega (arith, c.loop-double-test.false) in
+    let less : c.args.doubles.last < c.loop-double.double = omega (arith, c.loop-double-test.false) in
     c.loop-double.invariant.puts _ _
     (subst (Puts (Ok tt) a a)
-    (sym (told-end (basis_in c.args.ground.now) c.args.seen.now (offending_given c.args.offending.now) c.loop-double.progress c.loop-double.double c.args.last less)) (puts_none a))
+    (sym (told-end (basis_in c.args.ground.now) c.args.frames.now.seen.now (offending_given c.args.frames.now.offending) c.loop-double.progress c.loop-double.double c.args.doubles.last less)) (puts_none a))
 
 pub returns-clause-progress : goal.returns-clause-progress
 returns-clause-progress g c =
-    let less : c.args.last < c.loop-double.double = omega (arith, c.loop-double-test.false) in
-    sym (progress-end (basis_in c.args.ground.now) c.args.seen.now (offending_given c.args.offending.now) c.loop-double.progress c.loop-double.double c.args.last less)
+    let less : c.args.doubles.last < c.loop-double.double = omega (arith, c.loop-double-test.false) in
+    sym (progress-end (basis_in c.args.ground.now) c.args.frames.now.seen.now (offending_given c.args.frames.now.offending) c.loop-double.progress c.loop-double.double c.args.doubles.last less)
     ∙ c.loop-double.invariant.progress

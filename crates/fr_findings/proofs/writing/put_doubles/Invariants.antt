@@ -14,19 +14,19 @@ invariant-loop-double g l = record {
   seen : AreWalked l.ground l.double l.rest;
   untimely : AreWalked l.ground l.double l.rest_untimely;
   irregular : AreWalked l.ground l.double l.rest_irregular;
-  same : (later : ℕ) → l.double ≤ later → sightings_in l.rest later ≡ sightings_in l.seen later;
-  same_untimely : (later : ℕ) → l.double ≤ later → sightings_in l.rest_untimely later ≡ sightings_in l.offending.untimely.now later;
-  same_irregular : (later : ℕ) → l.double ≤ later → sightings_in l.rest_irregular later ≡ sightings_in l.offending.irregular.now later;
-  before : l.before ≡ sightings_before l.seen l.double;
-  within : l.double ≤ l.last + 1;
-  started : l.first ≤ l.double;
-  few : CountsFew (2 * (l.double - l.first)) l.progress;
+  same : (later : ℕ) → l.double ≤ later → sightings_in l.rest later ≡ sightings_in l.frames.seen.now later;
+  same_untimely : (later : ℕ) → l.double ≤ later → sightings_in l.rest_untimely later ≡ sightings_in l.frames.offending.untimely.now later;
+  same_irregular : (later : ℕ) → l.double ≤ later → sightings_in l.rest_irregular later ≡ sightings_in l.frames.offending.irregular.now later;
+  before : l.before ≡ sightings_before l.frames.seen.now l.double;
+  within : l.double ≤ l.doubles.last + 1;
+  started : l.doubles.first ≤ l.double;
+  few : CountsFew (2 * (l.double - l.doubles.first)) l.progress;
   puts : (result : Result (Unit {0}) PutFault) (after : Sunk)
-      → Puts result (g.O.Sink.state l.out) after (told_of_doubles (basis_in l.ground) l.seen (offending_given l.offending) l.progress (up_to l.double l.last))
-      → Puts result (g.O.Sink.state l.initial.out) after (told_of_doubles (basis_in l.ground) l.seen (offending_given l.offending) no_progress (up_to l.first l.last));
-  progress : progress_of (basis_in l.ground) l.seen (offending_given l.offending) l.progress (up_to l.double l.last)
-      ≡ progress_of (basis_in l.ground) l.seen (offending_given l.offending) no_progress (up_to l.first l.last);
+      → Puts result (g.O.Sink.state l.out) after (told_of_doubles (basis_in l.ground) l.frames.seen.now (offending_given l.frames.offending) l.progress (up_to l.double l.doubles.last))
+      → Puts result (g.O.Sink.state l.initial.out) after (told_of_doubles (basis_in l.ground) l.frames.seen.now (offending_given l.frames.offending) no_progress (up_to l.doubles.first l.doubles.last));
+  progress : progress_of (basis_in l.ground) l.frames.seen.now (offending_given l.frames.offending) l.progress (up_to l.double l.doubles.last)
+      ≡ progress_of (basis_in l.ground) l.frames.seen.now (offending_given l.frames.offending) no_progress (up_to l.doubles.first l.doubles.last);
 }
 
 abbrev pub decreases-loop-double : goal.decreases-loop-double
-decreases-loop-double g l = l.last + 1 - l.double
+decreases-loop-double g l = l.doubles.last + 1 - l.double
