@@ -125,8 +125,9 @@ class Bounds:
     def __init__(self, params, log):
         self.params, flutter = params, 2 * params.delay_error if log.flutter is None else log.flutter
         arbitrary = sum(node in log.arbitrary for node, _, _ in params.key_nodes())
-        is_told = arbitrary <= 2 and len(params.key_nodes()) - arbitrary >= (1, 3, 6)[arbitrary] and not (arbitrary and log.lost)
-        self.heard = ("meeting" if arbitrary else "poor" if log.lost else "clean") if is_told else None
+        enough = arbitrary <= 2 and len(params.key_nodes()) - arbitrary >= (1, 3, 6)[arbitrary]
+        self.unheard = "lost" if enough else "count"
+        self.heard = ("meeting" if arbitrary else "poor" if log.lost else "clean") if enough and not (arbitrary and log.lost) else None
         later = (params.micros + params.rate_out + params.offset_out + 1) * params.change
         self.flutter, self.error = flutter, flutter + params.longest - 1 + later
         # By how much rate corrections set lengths apart that were equal, and lambda of the sharper precision.
@@ -636,7 +637,7 @@ class Progress:
         """Its lines with those of its contradictions and of its own numbers."""
         lines, own = double.lines(self.limit), double.own()
         self.doubles += 1
-        found, why, numbers = self.judge(double, own) if self.bounds.heard else ([], (0, "count", "-", "-"), [])
+        found, why, numbers = self.judge(double, own) if self.bounds.heard else ([], (0, self.bounds.unheard, "-", "-"), [])
         if why:
             self.why = why if self.why is None or self.why[0] < why[0] else self.why
             self.gaps += bool(self.judged)

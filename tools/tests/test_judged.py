@@ -208,6 +208,12 @@ class Judged(observing.Told):
         told = self.told_of(log, log.text(stated="arbitrary,1,,,\n"))
         self.assertEqual((rows_of(told, "spread"), rows_of(told, "verdict")[0][1:3]), ([], ["open", "count"]))
 
+    def test_lost_beside_arbitrary_nodes(self):
+        """Nor is anything judged where enough may miss senders beside them, for another reason."""
+        log = Log(401, counts=(4, 5))
+        told = self.told_of(log, log.text(stated="lost,1,,,\narbitrary,1,,,\n"))
+        self.assertEqual((rows_of(told, "spread"), rows_of(told, "verdict")[0][1:3]), ([], ["open", "lost"]))
+
     def test_planted_faults(self):
         """What a node does against the rules is told of it, in its double cycle; what the others do is not."""
         tried = dict.fromkeys(("offset", "rate", "missing"), 0)

@@ -5,7 +5,6 @@ use Rattle.std.specs.Prelude.{Contains, IfSome, is_none}
 use Rattle.std.proofs.lemmas.List.Elements.{All-append, All-cons, All-contains, All-map, All-nil, All-weaker}
 use Rattle.fr_base.specs.declared.channel.Channel.{Channel}
 use Rattle.fr_bound.specs.declared.judging.Heard.{Heard}
-use Rattle.fr_bound.specs.declared.judging.Heard.TheVariants.{Poor}
 use Rattle.fr_bound.specs.declared.judging.Known.{Known}
 use Rattle.fr_cluster.specs.Setting.{Setting}
 use Rattle.fr_cluster.specs.Values.{Values}
@@ -68,7 +67,7 @@ row_is kind double node (Some least) missed told = by (least == 0) told
 module _
     (x : Setting) (h : Cycles) (base : ℕ) (delays : ℕ → Channel → Delays) (clock : ℕ → StraightClock) (l : LogView) (what : Heard) (double : ℕ)
     (until : ℕ) (run : IsObservedRun x h base delays clock l) (states : IsAsLogStatesBefore x h base l until) (is : log_heard x.params l ≡ Some what)
-    (among : Contains (seen_doubles (sightings_of x.params l)) double) (kept : KnownIsKept) (hears : IsHeardIn Poor x (run_double base double))
+    (among : Contains (seen_doubles (sightings_of x.params l)) double) (kept : KnownIsKept) (hearing : Heard) (hears : IsHeardIn hearing x (run_double base double))
   where
     abbrev Scaled : Scale
     Scaled = reading_scale l.drift x.params
@@ -90,7 +89,7 @@ module _
         so : IsSo (Row kind s)
         so node lost correct number misses =
             no_less x.params l Scaled double Senders s there kind lost
-            (λ fault contradicted. none_missed_by x h base delays clock l what double until run states is among kept Poor hears met j kind s node lost fault there correct number contradicted misses)
+            (λ fault contradicted. none_missed_by x h base delays clock l what double until run states is among kept hearing hears met j kind s node lost fault there correct number contradicted misses)
 
     missed_so : (judged : Option Known) → IfSome judged (IsJudged x h base delays clock l what double until run states is among kept)
         → All (λ missed. MissingIsSo x base (record { number = double; missed = missed })) (all_missed x.params l (reading_scale l.drift x.params) double (log_senders x l double) judged)
@@ -113,7 +112,7 @@ all_so P each (x ∷ xs) = All-cons P x xs (each x) (all_so P each xs)
 
 -- the rows of one double cycle, by what is known of those before it
 module _ (x : Setting) (h : Cycles) (base : ℕ) (delays : ℕ → Channel → Delays) (clock : ℕ → StraightClock) (l : LogView) (last : ℕ) (run : IsObservedRun x h base delays clock l)
-    (states : IsAsLogStatesBefore x h base l (run_double base last)) (hears : IsHeardIn Poor x (run_double base last)) (kept : KnownIsKept) where
+    (states : IsAsLogStatesBefore x h base l (run_double base last)) (hearing : Heard) (hears : IsHeardIn hearing x (run_double base last)) (kept : KnownIsKept) where
   abbrev Seen : List Sighting
   Seen = sightings_of x.params l
 
@@ -130,20 +129,20 @@ module _ (x : Setting) (h : Cycles) (base : ℕ) (delays : ℕ → Channel → D
   standing_by double heard known =
       standing_of x.params Log.scale l (At double).here (At double).number (At double).senders heard known (first_of_faults (own_told Log (At double)))
 
-  missing_by : (double : ℕ) (heard : Option Heard) (known : Option Known) → IsHeardIn Poor x (run_double base double)
+  missing_by : (double : ℕ) (heard : Option Heard) (known : Option Known) → IsHeardIn hearing x (run_double base double)
       → log_heard x.params l ≡ heard → Contains (seen_doubles Seen) double → IsKnownOfLog x h base double known
       → All (λ missed. MissingIsSo x base (record { number = double; missed = missed })) (all_missed x.params l Log.scale double (At double).senders (judged_met (standing_by double heard known)))
   unfolding standing_by standing_of double_at senders_of
   missing_by double None known here is among before = All-nil (λ missed. MissingIsSo x base (record { number = double; missed = missed }))
   missing_by double (Some what) known here is among before =
       let told = first_of_faults (own_told Log (At double)) in
-      missed_so x h base delays clock l what double (run_double base last) run states is among kept here (judged_met (log_standing x l what double known told))
+      missed_so x h base delays clock l what double (run_double base last) run states is among kept hearing here (judged_met (log_standing x l what double known told))
       (judged_is x h base delays clock l what double (run_double base last) run states is among kept known told before)
 
   abbrev RowsOf : ℕ → Progress → List Missed
   RowsOf double progress = all_missed x.params l Log.scale double (At double).senders (judged_met (standing_told Log (At double) progress.known))
 
-  missing_at : (double : ℕ) (progress : Progress) → IsHeardIn Poor x (run_double base double) → Contains (seen_doubles Seen) double → IsKnownOfLog x h base double progress.known
+  missing_at : (double : ℕ) (progress : Progress) → IsHeardIn hearing x (run_double base double) → Contains (seen_doubles Seen) double → IsKnownOfLog x h base double progress.known
       → All (λ missed. MissingIsSo x base (record { number = double; missed = missed })) (RowsOf double progress)
   unfolding standing_told standing_by
   missing_at double progress here among before = missing_by double Log.heard progress.known here refl among before
@@ -174,7 +173,7 @@ module _ (x : Setting) (h : Cycles) (base : ℕ) (delays : ℕ → Channel → D
       by true is =
           All-weaker (λ missed. MissingIsSo x base (record { number = double; missed = missed })) (λ missed. IsSoAt x base last (record { number = double; missed = missed }))
           (λ missed so at. so) (RowsOf double progress)
-          (missing_at double progress (subst (λ d. IsHeardIn Poor x (run_double base d)) (same double last is) hears) among (before (up_to double last is)))
+          (missing_at double progress (subst (λ d. IsHeardIn hearing x (run_double base d)) (same double last is) hears) among (before (up_to double last is)))
       by false other = all_so (λ missed. IsSoAt x base last (record { number = double; missed = missed })) (λ missed is. absurd (cc (sym other ∙ is))) (RowsOf double progress)
 
   missing_step : (double : ℕ) (progress : Progress) → Contains (seen_doubles Seen) double → IsKnownTo double progress
@@ -206,8 +205,8 @@ module _ (x : Setting) (h : Cycles) (base : ℕ) (delays : ℕ → Channel → D
       )
 
 pub missings_are_so : KnownIsKept → MissingsAreSo
-missings_are_so kept x h base delays clock l m run clear states hear among =
-    All-contains (IsSoAt x base m.number) (log_missing x.params l) m (missings_told x h base delays clock l m.number run states (clear, hear) kept) among (itself m.number)
+missings_are_so kept x h base delays clock l m hearing run states hears among =
+    All-contains (IsSoAt x base m.number) (log_missing x.params l) m (missings_told x h base delays clock l m.number run states hearing hears kept) among (itself m.number)
   where
     itself : (n : ℕ) → (n == n) ≡ true
     itself n = grind arith

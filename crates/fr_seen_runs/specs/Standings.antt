@@ -25,10 +25,8 @@ use Rattle.fr_judging.specs.declared.missed.Missed.{Missed}
 use Rattle.fr_judging.specs.Hearing.{log_heard}
 use Rattle.fr_findings.specs.Verdict.{Basis, double_at, log_basis, log_span, no_progress, progress_behind, sightings_before, standing_told}
 use Rattle.fr_findings.specs.declared.progress.Progress.{Progress}
-use Rattle.fr_sharp.specs.JudgedSteps.{EachHasRow, IsKnownAt}
-use Rattle.fr_sharp.specs.Losses.{NoneIsDeaf}
+use Rattle.fr_sharp.specs.JudgedSteps.{EachHasRow, IsHeardIn, IsKnownAt}
 use Rattle.fr_sharp.specs.SharpHistories.{KeepsApart}
-use Rattle.fr_sharp.specs.SteadyRuns.{MayHaveArbitrary}
 use Rattle.fr_seen.specs.Clocks.{StraightClock}
 use Rattle.fr_seen.specs.LogSeen.{log_senders, run_double}
 use Rattle.fr_seen_runs.specs.Contradictions.{IsAsLogStates, IsAsLogStatesBefore, IsObservedRun, MissesFew}
@@ -140,12 +138,13 @@ MissingIsSo x base m =
     (node : NodeSpec) (lost : ℕ) → Contains (correct_nodes x) node → node.id ≡ m.missed.node
     → MissesFew x (run_double base m.number) lost node → IsNoLess m.missed.least lost
 
--- each row is so in each run that the log is seen of, as it states in the double cycles before that of the row, without arbitrary sync
--- nodes, and in which none is deaf in that one; how many its nodes may miss in that one is not asked
+-- each row is so in each run that the log is seen of, as it states in the double cycles before that of the row, and in which all nodes
+-- hear all in that one, also beside arbitrary sync nodes, or none is deaf in it, without these; how many its nodes may miss in that one
+-- is not asked
 abbrev pub MissingsAreSo : Type 0
 MissingsAreSo =
     (x : Setting) (h : Cycles) (base : ℕ) (delays : ℕ → Channel → Delays) (clock : ℕ → StraightClock) (l : LogView)
-    (m : Missing)
-    → IsObservedRun x h base delays clock l → MayHaveArbitrary false x
-    → IsAsLogStatesBefore x h base l (run_double base m.number) → NoneIsDeaf x (run_double base m.number)
+    (m : Missing) (hearing : Heard)
+    → IsObservedRun x h base delays clock l → IsAsLogStatesBefore x h base l (run_double base m.number)
+    → IsHeardIn hearing x (run_double base m.number)
     → Contains (log_missing x.params l) m → MissingIsSo x base m

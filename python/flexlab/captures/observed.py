@@ -24,8 +24,6 @@ MOST_FAULTS = 8
 IRREGULAR = ("stranger", "form")
 # Kinds of contradictions that ask nothing of what nodes hear of each other: by itself each names a node.
 ALWAYS = ("channels", "limit", "correction", "twice", "cycle", *IRREGULAR)
-# So many correct sync nodes are enough beside none, one and two arbitrary ones.
-ENOUGH = (1, 3, 6)
 ORIGIN = ("Every limit here is one that flexray printed, converted and rounded outwards: it holds in every run of the "
           "cluster that can have given the log, if what is stated of the analyzer and of the oscillators is so. "
           "flexlab computes no answer of its own.")
@@ -164,9 +162,9 @@ def why_unjudged(cluster: Cluster, told: Observation, why: Sequence[str]) -> str
     if kind == "count":
         few = len({row.node for row in told.senders})
         many = sum(bool(one.key_slot) for one in cluster.nodes.values()) - few
-        if many and many < len(ENOUGH) and few >= ENOUGH[many]:
-            return "beside arbitrary nodes none is judged where a node may miss senders"
         return f"{few} correct nodes with a key slot do not outweigh {many} arbitrary ones"
+    if kind == "lost":
+        return "beside arbitrary nodes none is judged where a node may miss senders"
     if kind == "unseen":
         if not node:
             return "no frame tells where a clock was"
@@ -180,7 +178,7 @@ def why_unjudged(cluster: Cluster, told: Observation, why: Sequence[str]) -> str
 
 def advice(cluster: Cluster, told: Observation, why: Sequence[str]) -> str:
     """What may make a double cycle judged, where none is."""
-    if why[0] == "count" or not told.cycles:
+    if why[0] in ("count", "lost") or not told.cycles:
         return ""
     node = cluster.nodes.get(int(why[2])) if why[2] != "-" else None
     aside = "it moves no clock, so leave it out of the file; or " if node and not node.key_slot else ""
