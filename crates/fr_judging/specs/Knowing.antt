@@ -83,8 +83,8 @@ unfit p l double (Some met) =
     else of_several obstacle.Reach double
 
 -- first a node that was not seen, then a fault that is told always, then its numbers
-abbrev pub hidden_by : Values → LogView → List Sighting → ℕ → Option Fault → Option Obstacle
-hidden_by p l here double told = option_or (first_unseen l here double p.nodes) (faulty told)
+abbrev pub hindrance_by : Values → LogView → List Sighting → ℕ → Option Fault → Option Obstacle
+hindrance_by p l here double told = option_or (first_unseen l here double p.nodes) (faulty told)
 
 abbrev pub unjudged_by : Bool → Values → LogView → ℕ → Option Obstacle → Option Known → Option Obstacle
 unjudged_by judged p l double hidden met = if judged then None else option_or hidden (unfit p l double met)
@@ -105,7 +105,7 @@ unfoldable pub standing_of : Values → Scale → LogView → List Sighting → 
 standing_of p scale l here double senders None known told =
     record { heard = None; known = None; met = None; is_judged = false; obstacle = Some (log_unheard p l) }
 standing_of p scale l here double senders (Some what) known told =
-    standing_with p l double what (hidden_by p l here double told) (met_with known (known_as_stated p l what double))
+    standing_with p l double what (hindrance_by p l here double told) (met_with known (known_as_stated p l what double))
     (met_with (met_with known (known_as_stated p l what double)) (known_seen p scale l here double senders told))
 
 -- the numbers that it is judged by

@@ -32,12 +32,12 @@ abbrev pub missed_with : Term → ℕ → ℕ → Option ℕ → Missed
 missed_with what double node least = record { cycle = 2 * double + 1; node = node; term = what; least = least }
 
 -- told where it must have missed one at least
-abbrev pub missed_by : Term → ℕ → ℕ → Option ℕ → Option Missed
-missed_by what double node None = Some (missed_with what double node None)
-missed_by what double node (Some least) = if least == 0 then None else Some (missed_with what double node (Some least))
+abbrev pub missed_if_any : Term → ℕ → ℕ → Option ℕ → Option Missed
+missed_if_any what double node None = Some (missed_with what double node None)
+missed_if_any what double node (Some least) = if least == 0 then None else Some (missed_with what double node (Some least))
 
 abbrev pub missed_where : Term → Values → LogView → Scale → ℕ → List Sender → Sender → Option Missed
-missed_where what p l scale double senders s = missed_by what double s.node (least_missed what p l scale double senders s)
+missed_where what p l scale double senders s = missed_if_any what double s.node (least_missed what p l scale double senders s)
 
 -- of all senders of a double cycle that is judged
 abbrev pub missed_of_term : Term → Values → LogView → Scale → ℕ → List Sender → List Missed

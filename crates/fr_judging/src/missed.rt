@@ -1,4 +1,4 @@
-ghost use Rattle.std.specs.Prelude.{◌≡◌, ◌≤◌, ◌++◌};
+ghost use Rattle.std.specs.Prelude.{◌≡◌, ◌≤◌, ◌<◌, ◌++◌};
 ghost use Rattle.std.specs.List.{Contains, flat_map};
 ghost use Rattle.fr_base.specs.Device.{Puts};
 ghost use Rattle.fr_sightings.specs.Ranges.{IsProperSender};
@@ -6,7 +6,7 @@ ghost use Rattle.std.specs.Option.{option_to_list};
 ghost use Rattle.fr_text.specs.Pieces.{Spells};
 ghost use Rattle.fr_observe.specs.Observing.{known_count};
 ghost use Rattle.fr_observe.specs.Scenes.{IsScene};
-ghost use Rattle.fr_judging.specs.Missing.{least_missed, missed_by, missed_where, missed_of_term, missed_row, missed_told, unlike_term, term_kind};
+ghost use Rattle.fr_judging.specs.Missing.{least_missed, missed_if_any, missed_where, missed_of_term, missed_row, missed_told, unlike_term, term_kind};
 
 use crate::knowing::{Standing, judged_met};
 use fr_base::{NodeId, PutFault, Sink};
@@ -65,9 +65,9 @@ fn least_missed(term: Term, scene: &Scene<'_>, sender: &Sender) -> Option<u64>
     None
 }
 
-fn missed_by(term: Term, double: u32, node: NodeId, least: Option<u64>) -> Option<Missed>
+fn missed_if_any(term: Term, double: u32, node: NodeId, least: Option<u64>) -> Option<Missed>
     requires { double < 1_000_000 }
-    ensures { result ≡ missed_by term double node least }
+    ensures { result ≡ missed_if_any term double node least }
 {
     if least == Some(0) {
         None
@@ -89,7 +89,7 @@ fn missed_where(term: Term, scene: &Scene<'_>, sender: &Sender) -> Option<Missed
         scene.now.senders.now sender.now }
 {
     let least = least_missed(term, scene, sender);
-    missed_by(term, scene.number, sender.node, least)
+    missed_if_any(term, scene.number, sender.node, least)
 }
 
 fn term_kind(term: Term) -> FaultKind

@@ -1,4 +1,5 @@
 ghost use Rattle.std.specs.Prelude.{◌≡◌, ◌≤◌, length};
+ghost use Rattle.std.specs.Option.{option_or};
 ghost use Rattle.fr_judging.specs.Obstacles.{farther, obstacle_word, obstacle_rank};
 
 use fr_base::NodeId;
@@ -62,6 +63,16 @@ pub struct Obstacle {
 }
 
 impl Obstacle {
+    // The first one of two.
+    pub(crate) fn earlier(first: &Option<Obstacle>, later: Option<Obstacle>) -> Option<Obstacle>
+        ensures { result ≡ option_or first.now later }
+    {
+        match first {
+            Some(first) => Some(*first),
+            None => later,
+        }
+    }
+
     /// Of two the one of the double cycle that came farther, and of equal ones the first.
     pub fn farther(first: Option<Obstacle>, later: Option<Obstacle>) -> Option<Obstacle>
         ensures { result ≡ farther first later }

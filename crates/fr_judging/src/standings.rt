@@ -98,12 +98,12 @@ fn known_by(params: &Params, scale: &Scale, senders: &[Sender]) -> Known
 
 // What is seen of a double cycle that nothing contradicts, where all its nodes were seen.
 #[tactic(auto, unfolding(crate::specs::Knowing::known_seen))]
-fn known_seen(scene: &Scene<'_>, unseen: Option<Obstacle>, told: Option<Fault>) -> Option<Known>
+fn known_seen(scene: &Scene<'_>, unseen: &Option<Obstacle>, told: &Option<Fault>) -> Option<Known>
     requires scene { IsScene scene.now }
-    requires unseen { unseen ≡ first_unseen scene.now.log.now scene.now.here.now scene.now.number
+    requires unseen { unseen.now ≡ first_unseen scene.now.log.now scene.now.here.now scene.now.number
         scene.now.params.now.nodes }
     ensures { result ≡ known_seen scene.now.params.now scene.now.scale.now scene.now.log.now scene.now.here.now
-        scene.now.number scene.now.senders.now told }
+        scene.now.number scene.now.senders.now told.now }
 {
     if told.is_none() && unseen.is_none() {
         Some(known_by(scene.params, scene.scale, scene.senders))
@@ -201,29 +201,30 @@ fn unfit(params: &Params, log: &Log, double: u32, met: Option<Known>) -> Option<
 fn unjudged_by(
     is_judged: bool,
     scene: &Scene<'_>,
-    hidden: Option<Obstacle>,
+    hidden: &Option<Obstacle>,
     met: Option<Known>,
 ) -> Option<Obstacle>
     requires scene { IsScene scene.now }
-    ensures { result ≡ unjudged_by is_judged scene.now.params.now scene.now.log.now scene.now.number hidden met }
+    ensures { result ≡
+        unjudged_by is_judged scene.now.params.now scene.now.log.now scene.now.number hidden.now met }
 {
     if is_judged {
         None
     } else {
-        hidden.or(unfit(scene.params, scene.log, scene.number, met))
+        Obstacle::earlier(hidden, unfit(scene.params, scene.log, scene.number, met))
     }
 }
 
 fn standing_with(
     scene: &Scene<'_>,
     heard: Heard,
-    hidden: Option<Obstacle>,
+    hidden: &Option<Obstacle>,
     known: Option<Known>,
     met: Option<Known>,
 ) -> Standing
     requires scene { IsScene scene.now }
     ensures value { result ≡
-        standing_with scene.now.params.now scene.now.log.now scene.now.number heard hidden known met }
+        standing_with scene.now.params.now scene.now.log.now scene.now.number heard hidden.now known met }
     ensures small { JudgedBySmall result }
 {
     let is_judged = is_judged_by(scene.params, scene.log, met);
@@ -263,8 +264,9 @@ pub fn standing(
             let unseen = first_unseen(scene.params, scene.log, scene.here, scene.number);
             let stated = known_as_stated(scene.params, scene.log, what, scene.number);
             let known = met_with(known, stated);
-            let met = met_with(known, known_seen(scene, unseen, told));
-            standing_with(scene, what, unseen.or(faulty(told)), known, met)
+            let met = met_with(known, known_seen(scene, &unseen, &told));
+            let hidden = Obstacle::earlier(&unseen, faulty(told));
+            standing_with(scene, what, &hidden, known, met)
         }
     }
 }

@@ -21,7 +21,7 @@ use Rattle.fr_observe.specs.Observing.{seen_doubles, senders_of}
 use Rattle.fr_observe.specs.declared.fault.Fault.{Fault}
 use Rattle.fr_judging.specs.Hearing.{log_heard}
 use Rattle.fr_judging.specs.Knowing.{judged_met, standing_of}
-use Rattle.fr_judging.specs.Missing.{all_missed, least_missed, missed_by, missed_where, missed_of_term, missed_with, unlike_term}
+use Rattle.fr_judging.specs.Missing.{all_missed, least_missed, missed_if_any, missed_where, missed_of_term, missed_with, unlike_term}
 use Rattle.fr_judging.specs.declared.knowing.Standing.{Standing}
 use Rattle.fr_judging.specs.declared.missed.Missed.{Missed}
 use Rattle.fr_judging.specs.declared.missed.Term.{Term}
@@ -54,13 +54,16 @@ no_less p l scale double senders s among kind lost none =
     free (Some fault) never = absurd (never fault refl)
 
 -- a row is told with it
-row_is : (kind : Term) (double node : ℕ) (least : Option ℕ) (missed : Missed) → missed_by kind double node least ≡ Some missed → missed_with kind double node least ≡ missed
-row_is kind double node None missed told = cc told
+same_row : (one other : Missed) → Some one ≡ Some other → one ≡ other
+same_row one other is = cc is
+
+row_is : (kind : Term) (double node : ℕ) (least : Option ℕ) (missed : Missed) → missed_if_any kind double node least ≡ Some missed → missed_with kind double node least ≡ missed
+row_is kind double node None missed told = same_row (missed_with kind double node None) missed told
 row_is kind double node (Some least) missed told = by (least == 0) told
   where
     by : (b : Bool) → (if b then None else Some (missed_with kind double node (Some least))) ≡ Some missed → missed_with kind double node (Some least) ≡ missed
     by true none = absurd (cc none)
-    by false given = cc given
+    by false given = same_row (missed_with kind double node (Some least)) missed given
 
 -- ---- a double cycle
 

@@ -178,7 +178,8 @@ pub fn seen_span(
 ) -> Option<Interval>
     requires seen { AreLogStamps log.now cycle.now.seen.now }
     requires later_seen { AreLogStamps log.now later.now.seen.now }
-    ensures value { result ≡ seen_span log.now cycle.now.seen.now later.now.seen.now node cycle.now.number later.now.number }
+    ensures value { result ≡
+        seen_span log.now cycle.now.seen.now later.now.seen.now node cycle.now.number later.now.number }
     ensures near { IfSome result IsSpan }
 {
     on_both_channels(

@@ -77,8 +77,8 @@ fn course_in(
     requires seen { AreLogStamps observed.now.log.now seen.now }
     requires double { double ≤ 1_000_000 }
     requires slot { key.now.slot ≤ amount observed.now.params.now name.gNumberOfStaticSlots }
-    ensures value { result ≡ course_in observed.now.scale.now observed.now.params.now observed.now.log.now seen.now double
-        key.now.node key.now.slot }
+    ensures value { result ≡ course_in observed.now.scale.now observed.now.params.now observed.now.log.now seen.now
+        double key.now.node key.now.slot }
     ensures proper { IfSome result
         (IsCourseAt observed.now.scale.now (pos (action_point_of observed.now.params.now key.now.slot))) }
 {
