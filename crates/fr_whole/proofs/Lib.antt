@@ -1,5 +1,6 @@
 mod Words
 mod Wholes
+pub mod ObservedTexts
 pub mod Observed
 pub mod GapsInOrder
 pub mod SharpReports
