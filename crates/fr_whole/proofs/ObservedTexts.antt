@@ -64,7 +64,7 @@ before_verdict p l =
     ++ (log_row (tally_of p l) ++ numbers_row (are_numbers_sure p l) ++ sync_row progress ++ cycles_told seen progress.counts)))
 
 last_row : (p : Values) (l : LogView) → observe_text p l ≡ before_verdict p l ++ verdict_row (verdict_of p l)
-unfolding observe_text, whole_told, all_told, end_told, verdict_of
+unfolding observe_text whole_told all_told end_told verdict_of
 last_row p l =
     let b = log_basis p l in
     let seen = sightings_of p l in

@@ -1,5 +1,6 @@
 -- what the public contract cites
 pub mod Whole
+pub mod Pages
 pub mod ObservedText
 pub mod ObserveAnswer
 pub mod SharpGaps

@@ -134,31 +134,25 @@ pub record IsObservedText (p : Values) (l : LogView) (text : List ℕ) : Type 0 
   pub shown : text ≡ observe_text p l
   pub front : List ℕ
   pub ends : text ≡ front ++ verdict_row (verdict_of p l)
-
   -- the rows of cycles and nodes are so, and faults exclude what they say
   pub rows : (run : ObservedRun p l) → RowsAreSo p l run
   pub faults : (run : ObservedRun p l) → FaultsAreSo p l run
-
   -- a verdict of no contradicts it, and it is no exactly where a fault is told, by the first
   pub no : (run : ObservedRun p l) (fault : Fault) → verdict_of p l ≡ verdict.No fault → IsContradicted p l fault run
   pub first : (fault : Fault) → (verdict_of p l ≡ verdict.No fault) ↔ (first_of_faults (log_faults p l) ≡ Some fault)
-
   -- in each row that says over the skew of the senders is no less than the row has it, and above the precision; and a verdict of over
   -- has the first of these rows, and how many there are
   pub over : (run : ObservedRun p l) → All (RowIsOver run.setting run.cycles run.base l) (over_rows p l)
   pub counted :
       (first : OverRow) (count : ℕ) → verdict_of p l ≡ verdict.Over first count
       → (slice_get (over_rows p l) 0 ≡ Some first) × (count ≡ length (over_rows p l))
-
   -- a verdict of within is so in each of its cycles, of which the last is the last but one that has rows
   pub within : (run : ObservedRun p l) (reach : Reach) → verdict_of p l ≡ verdict.Within reach → KeepsReach p l reach run
   pub reaches : (reach : Reach) → verdict_of p l ≡ verdict.Within reach → last_row_cycle (sightings_of p l) ≡ Some (reach.to + 1)
-
   -- where it is as the log states, the rows of spread are so
   pub spreads :
       (run : ObservedRun p l) (what : Heard) → IsStated p l run → log_heard p l ≡ Some what
       → All (SpreadIsSo run.setting run.cycles run.base l what) (log_spreads p l)
-
   -- where it is so in the double cycles before that of a row of what was missed, without arbitrary sync nodes, and none is deaf in that
   -- one, the row is so
   pub missed :
@@ -166,7 +160,6 @@ pub record IsObservedText (p : Values) (l : LogView) (text : List ℕ) : Type 0 
       → IsAsLogStatesBefore run.setting run.cycles run.base l (run_double run.base m.number)
       → NoneIsDeaf run.setting (run_double run.base m.number) → Contains (log_missing p l) m
       → MissingIsSo run.setting run.base m
-
   -- where the numbers are sure, the log is seen of each near run that it is read of: so all of this is so in that run
   pub sure :
       are_numbers_sure p l ≡ true → (run : NearRun p l)
