@@ -1,3 +1,4 @@
+mod Pages
 mod Words
 mod Wholes
 pub mod ObservedTexts

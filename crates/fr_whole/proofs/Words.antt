@@ -44,27 +44,51 @@ not_both words params log names one other =
 
 -- a page is asked for by one word
 one_word : (words : List (List ℕ)) (asked : Page) → AsksPage words asked → length words ≡ 1
-one_word words Help asks = elim asks [ inl long ↦ ap length long | inr short ↦ ap length short ]
-one_word words Version asks = elim asks [ inl long ↦ ap length long | inr short ↦ ap length short ]
+one_word words Help asks =
+    elim asks [
+      | inl long ↦ ap length long
+      | inr short ↦ ap length short
+    ]
+one_word words Version asks =
+    elim asks [
+      | inl long ↦ ap length long
+      | inr short ↦ ap length short
+    ]
 
-no_page_of : (words others : List (List ℕ)) (asked : Page) → 1 < length others → words ≡ others → AsksPage words asked → ⊥
-no_page_of words others asked more is asks =
-    let one = one_word words asked asks in
-    let same : length words ≡ length others = ap length is in
-    absurd (omega (arith, more, one, same))
+pub page_not_short : (words : List (String Global)) (asked : Page) → AsksPage (texts words) asked → length words < 1 → ⊥
+page_not_short words asked asks short =
+    let one = one_word (texts words) asked asks in
+    let same : length (texts words) ≡ length words = length-map words string_bytes in
+    absurd (omega (arith, one, same, short))
 
-page_in : List (List ℕ) → Option Page
+pub page_not_long : (words : List (String Global)) (asked : Page) → AsksPage (texts words) asked → 1 < length words → ⊥
+page_not_long words asked asks more =
+    let one = one_word (texts words) asked asks in
+    let same : length (texts words) ≡ length words = length-map words string_bytes in
+    absurd (omega (arith, one, same, more))
+
+no_page_of : (words : List (List ℕ)) (asked : Page) (count : ℕ) → 1 < count → length words ≡ count → AsksPage words asked → ⊥
+no_page_of words asked count more many asks = let one = one_word words asked asks in absurd (omega (arith, more, one, many))
+
+abbrev page_in : List (List ℕ) → Option Page
 page_in (word ∷ []) =
     if bytes_eq word (codes "--help") then Some Help
     else (if bytes_eq word (codes "-h") then Some Help else (if bytes_eq word (codes "--version") then Some Version else (if bytes_eq word (codes "-V") then Some Version else None)))
 page_in others = None
 
 page_again : (words : List (List ℕ)) (asked : Page) → AsksPage words asked → page_in words ≡ Some asked
-unfolding page_in
-page_again words Help asks = elim asks [ inl long ↦ ap page_in long | inr short ↦ ap page_in short ]
-page_again words Version asks = elim asks [ inl long ↦ ap page_in long | inr short ↦ ap page_in short ]
+page_again words Help asks =
+    elim asks [
+      | inl long ↦ ap page_in long
+      | inr short ↦ ap page_in short
+    ]
+page_again words Version asks =
+    elim asks [
+      | inl long ↦ ap page_in long
+      | inr short ↦ ap page_in short
+    ]
 
-no_core : (words : List (List ℕ)) (page : Page) (asked : Asked) → AsksPage words page → AsksFor words asked → ⊥
+no_core : (words : List (List ℕ)) (which : Page) (asked : Asked) → AsksPage words which → AsksFor words asked → ⊥
 no_core words Help asked is asks =
     elim is [
       | inl long ↦ asks_nothing (codes "--help" ∷ []) refl asked (subst (λ (given : List (List ℕ)). AsksFor given asked) long asks)
@@ -89,18 +113,18 @@ unfolding files_of_log
 only_log words params log is (core asked) asks = absurd (asks_nothing (observe_words params log) refl asked (subst (λ (given : List (List ℕ)). AsksFor given asked) is asks))
 only_log words params log is (observe more again) asks = ap files_of_log (sym asks ∙ is)
 only_log words params log is (sharp_report names) asks = absurd (not_both words params log names is asks)
-only_log words params log is (page asked) asks = absurd (no_page_of words (observe_words params log) asked (omega arith) is asks)
+only_log words params log is (page asked) asks = absurd (no_page_of words asked 3 (omega arith) (ap length is) asks)
 
 pub only_sharp_report : (words : List (List ℕ)) (names : RunNames) → words ≡ sharp_report_words names → (asked : WholeAsked) → AsksWhole words asked → asked ≡ sharp_report names
 unfolding names_of_run
 only_sharp_report words names is (core asked) asks = absurd (asks_nothing (sharp_report_words names) refl asked (subst (λ (given : List (List ℕ)). AsksFor given asked) is asks))
 only_sharp_report words names is (observe params log) asks = absurd (not_both words params log names asks is)
 only_sharp_report words names is (sharp_report more) asks = ap names_of_run (sym asks ∙ is)
-only_sharp_report words names is (page asked) asks = absurd (no_page_of words (sharp_report_words names) asked (omega arith) is asks)
+only_sharp_report words names is (page asked) asks = absurd (no_page_of words asked 5 (omega arith) (ap length is) asks)
 
 pub only_page : (words : List (List ℕ)) (asked : Page) → AsksPage words asked → (other : WholeAsked) → AsksWhole words other → other ≡ page asked
 only_page words asked is (core other) asks = absurd (no_core words asked other is asks)
-only_page words asked is (observe params log) asks = absurd (no_page_of words (observe_words params log) asked (omega arith) asks is)
-only_page words asked is (sharp_report names) asks = absurd (no_page_of words (sharp_report_words names) asked (omega arith) asks is)
+only_page words asked is (observe params log) asks = absurd (no_page_of words asked 3 (omega arith) (ap length asks) is)
+only_page words asked is (sharp_report names) asks = absurd (no_page_of words asked 5 (omega arith) (ap length asks) is)
 only_page words asked is (page other) asks =
     ap (λ (found : Option Page). page (unwrap_or found asked)) (sym (page_again words other asks) ∙ page_again words asked is)

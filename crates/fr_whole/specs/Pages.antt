@@ -7,9 +7,9 @@ use Rattle.fr_whole.specs.declared.pages.Page.TheVariants.{Help, Version}
 
 -- ---- the texts
 
--- the words of all requests, with what a caller gives in capitals, and what each is for
-unfoldable pub help_text : List ℕ
-help_text =
+-- the words of all requests, with what a caller gives in capitals, and what each is for; but for the last line feed
+unfoldable pub help_lines : List ℕ
+help_lines =
     codes "usage: flexray COMMAND WORDS\n\n"
     ++ codes "  flexray bound PARAMS               the precision and three more bounds, and the five checks of a cluster\n"
     ++ codes "  flexray bound PARAMS join          these, and the reach and four checks of a cluster that nodes join\n"
@@ -36,10 +36,13 @@ help_text =
     ++ codes "  flexray capture A|B FILE           the frames of a recording, up to the first fault\n"
     ++ codes "  flexray nm WIDTH FILE              the network management vectors of a recording, cycle by cycle\n\n"
     ++ codes "A microtick has 1000000 ticks. The manual page flexray(1) has the words, docs/FORMATS.md the files, the texts and the exit\n"
-    ++ codes "statuses; flexlab does it in nanoseconds and ppm, and flexlab explain WORDS says why a file is refused.\n"
+    ++ codes "statuses; flexlab does it in nanoseconds and ppm, and flexlab explain WORDS says why a file is refused."
+
+unfoldable pub help_text : List ℕ
+help_text = help_lines ++ codes "\n"
 
 unfoldable pub version_text : List ℕ
-version_text = codes "flexray 0.2.0\n"
+version_text = codes "flexray 0.2.0" ++ codes "\n"
 
 abbrev pub page_text : Page → List ℕ
 page_text Help = help_text

@@ -1,5 +1,5 @@
 ghost use Rattle.std.specs.Prelude.{◌≡◌, ◌∷◌, []};
-ghost use Rattle.fr_base.specs.Device.{IsEnded, Shelved};
+ghost use Rattle.fr_base.specs.Device.{Shelved};
 ghost use Rattle.fr_program.specs.Around.{around_of};
 ghost use Rattle.fr_program.specs.Command.{CommandEnds};
 ghost use Rattle.fr_program.specs.Failure.{EndingWritesNothing};
@@ -57,6 +57,7 @@ const VERSION: &[u8] = b"flexray 0.2.0\n";
 
 /// The page that the words ask for, `--help` or `-h` and `--version` or `-V`, each alone, and none of other words. It takes
 /// no memory.
+#[tactic(auto, using(crate::proofs::Words::page_not_short, crate::proofs::Words::page_not_long))]
 pub fn page_request(words: &[String]) -> Option<Page>
     ensures { IsPageRequest (texts words.now) result }
 {
@@ -90,9 +91,9 @@ pub fn answer_page<O: Sink>(page: Page, out: &mut O) -> Result<(), Failure>
     }
 }
 
+#[tactic(auto, unfolding(crate::specs::Pages::help_text, crate::specs::Pages::help_lines, crate::specs::Pages::version_text))]
 fn text_of(page: Page) -> &'static [u8]
-    ensures text { result.now ≡ page_text page }
-    ensures ended { IsEnded result.now }
+    ensures { result.now ≡ page_text page }
 {
     match page {
         Page::Help => HELP,
