@@ -144,8 +144,8 @@ pub record IsObservedText (p : Values) (l : LogView) (text : List ℕ) : Type 0 
   -- has the first of these rows, and how many there are
   pub over : (run : ObservedRun p l) → All (RowIsOver run.setting run.cycles run.base l) (over_rows p l)
   pub counted :
-      (first : OverRow) (count : ℕ) → verdict_of p l ≡ verdict.Over first count
-      → (slice_get (over_rows p l) 0 ≡ Some first) × (count ≡ length (over_rows p l))
+      (row : OverRow) (count : ℕ) → verdict_of p l ≡ verdict.Over row count
+      → (slice_get (over_rows p l) 0 ≡ Some row) × (count ≡ length (over_rows p l))
   -- a verdict of within is so in each of its cycles, of which the last is the last but one that has rows
   pub within : (run : ObservedRun p l) (reach : Reach) → verdict_of p l ≡ verdict.Within reach → KeepsReach p l reach run
   pub reaches : (reach : Reach) → verdict_of p l ≡ verdict.Within reach → last_row_cycle (sightings_of p l) ≡ Some (reach.to + 1)
