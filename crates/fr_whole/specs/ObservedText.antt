@@ -1,5 +1,5 @@
 -- What the text of a log is, and what it means in each run that the log is seen of.
-use Rattle.std.specs.Prelude.{◌≡◌, ◌↔◌, ◌+◌, ◌*◌, ◌/◌, ◌≤◌, ◌||◌, ℕ, suc, pos, false, true, All, List, [], ◌++◌, length, Contains, Some, slice_get}
+use Rattle.std.specs.Prelude.{◌≡◌, ◌↔◌, ◌+◌, ◌/◌, ◌≤◌, ◌||◌, ℕ, suc, pos, false, true, All, List, [], ◌++◌, length, Contains, Some, slice_get}
 use Rattle.fr_base.specs.declared.channel.Channel.{Channel}
 use Rattle.fr_bound.specs.declared.judging.Heard.{Heard}
 use Rattle.fr_cluster.specs.Setting.{Setting}
