@@ -1,4 +1,4 @@
-mod Pages
+mod PageEnds
 mod Words
 mod Wholes
 pub mod ObservedTexts

@@ -2,7 +2,7 @@ use Rattle.std.proofs.Common.{subst, sym}
 use Rattle.fr_base.specs.Device.{IsEnded}
 use Rattle.fr_program.proofs.Endings.{cut_short, whole}
 use Rattle.fr_text.proofs.Commands.{Asks-none}
-use Rattle.fr_whole.proofs.Pages.{page_is_ended}
+use Rattle.fr_whole.proofs.PageEnds.{page_is_ended}
 use Rattle.fr_whole.proofs.pages.answer_page.Goals as goal
 
 pub put_text-requires : goal.put_text-requires
