@@ -12,6 +12,6 @@ pub returns-in-Ok-clause-ends : goal.returns-in-Ok-clause-ends
 returns-in-Ok-clause-ends g c = λ shelf.
     whole _ _ _ _ (record { is_text = c.text_of.ensures; asked = Asks-none shelf.asked }) c.in-Ok.ensures
 
-pub returns-clause-ends : goal.returns-clause-ends
-returns-clause-ends g c = λ shelf.
+pub returns-in-Err-clause-ends : goal.returns-in-Err-clause-ends
+returns-in-Err-clause-ends g c = λ shelf.
     cut_short _ _ _ _ (record { is_text = c.text_of.ensures; asked = Asks-none shelf.asked }) c.in-Err.ensures
