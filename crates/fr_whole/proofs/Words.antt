@@ -1,15 +1,19 @@
--- Which words ask for what: three for what a log tells, of which the first is no word of the core; and five for a report by the
--- sharper bounds, which the core has not.
-use Rattle.std.proofs.Common.{◌≡◌, ◌∙◌, ◌<◌, ℕ, length, arith, List, [], ◌∷◌, ap, refl, subst, sym}
-use Rattle.std.specs.Prelude.{String}
+-- Which words ask for what: three for what a log tells, of which the first is no word of the core; five for a report by the
+-- sharper bounds, which the core has not; and one for a page.
+use Rattle.std.proofs.Common.{◌≡◌, ◌∙◌, ◌<◌, ℕ, length, arith, List, [], ◌∷◌, Option, Some, None, ap, inl, inr, refl, subst, sym}
+use Rattle.std.specs.Prelude.{String, codes, if◌then◌else◌, unwrap_or}
+use Rattle.std.specs.Str.{bytes_eq}
 use Rattle.std.specs.String.{string_bytes}
 use Rattle.std.specs.declared.alloc.Global.{Global}
 use Rattle.std.proofs.lemmas.List.{length-map}
 use Rattle.fr_program.specs.Program.{texts}
 use Rattle.fr_report.specs.Names.{RunNames}
-use Rattle.fr_answer.specs.Request.{AsksFor}
+use Rattle.fr_answer.specs.Request.{Asked, AsksFor}
 use Rattle.fr_answer.proofs.Requests.{asks_nothing}
-use Rattle.fr_whole.specs.Whole.{AsksWhole, WholeAsked, core, observe, observe_words, sharp_report, sharp_report_words}
+use Rattle.fr_whole.specs.Pages.{AsksPage}
+use Rattle.fr_whole.specs.Whole.{AsksWhole, WholeAsked, core, observe, observe_words, page, sharp_report, sharp_report_words}
+use Rattle.fr_whole.specs.declared.pages.Page.{Page}
+use Rattle.fr_whole.specs.declared.pages.Page.TheVariants.{Help, Version}
 
 -- ---- how many they are
 
@@ -38,6 +42,64 @@ not_both words params log names one other =
     let five : length words ≡ 5 = ap length other in
     absurd (omega (arith, three, five))
 
+-- a page is asked for by one word
+one_word : (words : List (List ℕ)) (asked : Page) → AsksPage words asked → length words ≡ 1
+one_word words Help asks =
+    elim asks [
+      | inl long ↦ ap length long
+      | inr short ↦ ap length short
+    ]
+one_word words Version asks =
+    elim asks [
+      | inl long ↦ ap length long
+      | inr short ↦ ap length short
+    ]
+
+pub page_not_short : (words : List (String Global)) (asked : Page) → AsksPage (texts words) asked → length words < 1 → ⊥
+page_not_short words asked asks short =
+    let one = one_word (texts words) asked asks in
+    let same : length (texts words) ≡ length words = length-map words string_bytes in
+    absurd (omega (arith, one, same, short))
+
+pub page_not_long : (words : List (String Global)) (asked : Page) → AsksPage (texts words) asked → 1 < length words → ⊥
+page_not_long words asked asks more =
+    let one = one_word (texts words) asked asks in
+    let same : length (texts words) ≡ length words = length-map words string_bytes in
+    absurd (omega (arith, one, same, more))
+
+no_page_of : (words : List (List ℕ)) (asked : Page) (count : ℕ) → 1 < count → length words ≡ count → AsksPage words asked → ⊥
+no_page_of words asked count more many asks = let one = one_word words asked asks in absurd (omega (arith, more, one, many))
+
+abbrev page_in : List (List ℕ) → Option Page
+page_in (word ∷ []) =
+    if bytes_eq word (codes "--help") then Some Help
+    else (if bytes_eq word (codes "-h") then Some Help else (if bytes_eq word (codes "--version") then Some Version else (if bytes_eq word (codes "-V") then Some Version else None)))
+page_in others = None
+
+page_again : (words : List (List ℕ)) (asked : Page) → AsksPage words asked → page_in words ≡ Some asked
+page_again words Help asks =
+    elim asks [
+      | inl long ↦ ap page_in long
+      | inr short ↦ ap page_in short
+    ]
+page_again words Version asks =
+    elim asks [
+      | inl long ↦ ap page_in long
+      | inr short ↦ ap page_in short
+    ]
+
+no_core : (words : List (List ℕ)) (which : Page) (asked : Asked) → AsksPage words which → AsksFor words asked → ⊥
+no_core words Help asked is asks =
+    elim is [
+      | inl long ↦ asks_nothing (codes "--help" ∷ []) refl asked (subst (λ (given : List (List ℕ)). AsksFor given asked) long asks)
+      | inr short ↦ asks_nothing (codes "-h" ∷ []) refl asked (subst (λ (given : List (List ℕ)). AsksFor given asked) short asks)
+    ]
+no_core words Version asked is asks =
+    elim is [
+      | inl long ↦ asks_nothing (codes "--version" ∷ []) refl asked (subst (λ (given : List (List ℕ)). AsksFor given asked) long asks)
+      | inr short ↦ asks_nothing (codes "-V" ∷ []) refl asked (subst (λ (given : List (List ℕ)). AsksFor given asked) short asks)
+    ]
+
 files_of_log : List (List ℕ) → WholeAsked
 files_of_log (command ∷ params ∷ log ∷ []) = observe params log
 files_of_log others = observe [] []
@@ -51,9 +113,18 @@ unfolding files_of_log
 only_log words params log is (core asked) asks = absurd (asks_nothing (observe_words params log) refl asked (subst (λ (given : List (List ℕ)). AsksFor given asked) is asks))
 only_log words params log is (observe more again) asks = ap files_of_log (sym asks ∙ is)
 only_log words params log is (sharp_report names) asks = absurd (not_both words params log names is asks)
+only_log words params log is (page asked) asks = absurd (no_page_of words asked 3 (omega arith) (ap length is) asks)
 
 pub only_sharp_report : (words : List (List ℕ)) (names : RunNames) → words ≡ sharp_report_words names → (asked : WholeAsked) → AsksWhole words asked → asked ≡ sharp_report names
 unfolding names_of_run
 only_sharp_report words names is (core asked) asks = absurd (asks_nothing (sharp_report_words names) refl asked (subst (λ (given : List (List ℕ)). AsksFor given asked) is asks))
 only_sharp_report words names is (observe params log) asks = absurd (not_both words params log names asks is)
 only_sharp_report words names is (sharp_report more) asks = ap names_of_run (sym asks ∙ is)
+only_sharp_report words names is (page asked) asks = absurd (no_page_of words asked 5 (omega arith) (ap length is) asks)
+
+pub only_page : (words : List (List ℕ)) (asked : Page) → AsksPage words asked → (other : WholeAsked) → AsksWhole words other → other ≡ page asked
+only_page words asked is (core other) asks = absurd (no_core words asked other is asks)
+only_page words asked is (observe params log) asks = absurd (no_page_of words asked 3 (omega arith) (ap length asks) is)
+only_page words asked is (sharp_report names) asks = absurd (no_page_of words asked 5 (omega arith) (ap length asks) is)
+only_page words asked is (page other) asks =
+    ap (λ (found : Option Page). page (unwrap_or found asked)) (sym (page_again words other asks) ∙ page_again words asked is)

@@ -1,5 +1,7 @@
 -- what the public contract cites
 pub mod Whole
+pub mod Pages
+pub mod ObservedText
 pub mod ObserveAnswer
 pub mod SharpGaps
 pub mod SharpReport

@@ -8,15 +8,18 @@ use Rattle.fr_answer.specs.Request.{Asked, AsksFor}
 use Rattle.fr_report.specs.Names.{RunNames, run_names_of}
 use Rattle.fr_report.specs.declared.files.RunFiles.{RunFiles}
 use Rattle.fr_whole.specs.ObserveAnswer.{observe_command}
+use Rattle.fr_whole.specs.Pages.{AsksPage, page_command}
 use Rattle.fr_whole.specs.SharpReportAnswer.{sharp_report_command}
 use Rattle.fr_whole.specs.declared.observe.ObserveFiles.{ObserveFiles}
+use Rattle.fr_whole.specs.declared.pages.Page.{Page}
 
--- what the words of the core ask for; print what the log of a bus analyzer tells of the cluster's clocks; or run the cluster that the
--- files decide, and print what the sharper bounds say of the run and behind it the report
+-- what the words of the core ask for; print what the log of a bus analyzer tells of the cluster's clocks; run the cluster that the
+-- files decide, and print what the sharper bounds say of the run and behind it the report; or print what the program says of itself
 pub data WholeAsked : Type 0 where
   core : (asked : Asked) → WholeAsked
   observe : (params log : List ℕ) → WholeAsked
   sharp_report : (names : RunNames) → WholeAsked
+  page : (asked : Page) → WholeAsked
 
 -- the words `observe PARAMS LOG`, and `run PARAMS DRIFT SCRIPT sharp`
 abbrev pub observe_words : List ℕ → List ℕ → List (List ℕ)
@@ -25,20 +28,28 @@ observe_words params log = codes "observe" ∷ params ∷ log ∷ []
 abbrev pub sharp_report_words : RunNames → List (List ℕ)
 sharp_report_words names = codes "run" ∷ names.params ∷ names.drift ∷ names.script ∷ codes "sharp" ∷ []
 
--- the words ask for this: those of the core; these two
+-- the words ask for this: those of the core; these two; those of a page
 abbrev pub AsksWhole : List (List ℕ) → WholeAsked → Type 0
 AsksWhole words (core asked) = AsksFor words asked
 AsksWhole words (observe params log) = words ≡ observe_words params log
 AsksWhole words (sharp_report names) = words ≡ sharp_report_words names
+AsksWhole words (page asked) = AsksPage words asked
+
+-- the words ask for no log, and for no report by the sharper bounds
+abbrev pub IsNoLog : List (List ℕ) → Type 0
+IsNoLog words = (params log : List ℕ) → words ≡ observe_words params log → ⊥
+
+abbrev pub IsNoSharpReport : List (List ℕ) → Type 0
+IsNoSharpReport words = (names : RunNames) → words ≡ sharp_report_words names → ⊥
 
 -- what words are read as: the files of a log's request, or no such request
 abbrev pub IsLogRequest : List (List ℕ) → Option ObserveFiles → Type 0
-IsLogRequest words None = (params log : List ℕ) → words ≡ observe_words params log → ⊥
+IsLogRequest words None = IsNoLog words
 IsLogRequest words (Some files) = words ≡ observe_words files.params.now files.log.now
 
 -- the files of a request for a report by the sharper bounds, or no such request
 abbrev pub IsSharpReportRequest : List (List ℕ) → Option RunFiles → Type 0
-IsSharpReportRequest words None = (names : RunNames) → words ≡ sharp_report_words names → ⊥
+IsSharpReportRequest words None = IsNoSharpReport words
 IsSharpReportRequest words (Some files) = words ≡ sharp_report_words (run_names_of files)
 
 -- the files of what was asked for, and what may be written of them
@@ -46,6 +57,7 @@ abbrev pub whole_command : WholeAsked → Command
 whole_command (core asked) = command_of asked
 whole_command (observe params log) = observe_command params log
 whole_command (sharp_report names) = sharp_report_command names
+whole_command (page asked) = page_command asked
 
 -- the program
 abbrev pub flexray_program : Program WholeAsked

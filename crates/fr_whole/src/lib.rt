@@ -4,6 +4,8 @@
 #![tactic(auto)]
 
 mod observe;
+mod observe_laws;
+mod pages;
 mod report_lines;
 mod request;
 mod sharp_gaps;
@@ -15,6 +17,8 @@ mod top;
 
 pub use fr_text::Status;
 pub use observe::{ObserveFiles, answer_observe, files_decide_what_is_told};
+pub use observe_laws::an_observed_text_is_so;
+pub use pages::{Page, answer_page, page_request};
 pub use sharp_gaps::SharpGaps;
 pub use sharp_gathering::write_sharp_report;
 pub use sharp_report::{answer_sharp_report, answer_sharp_run, files_decide_what_is_told_sharply};

@@ -7,6 +7,7 @@ ghost use Rattle.fr_text.specs.Files.{IsDecided};
 ghost use Rattle.fr_text.specs.Told.{no_memory};
 ghost use Rattle.fr_whole.specs.ObserveAnswer.{observe_command, observe_files};
 
+use crate::observe_laws::an_observed_text_is_so;
 use fr_base::{Shelf, Sink};
 use fr_cluster::Params;
 use fr_findings::write_observed;
@@ -40,6 +41,7 @@ pub fn answer_observe<S: Shelf, O: Sink>(
         (around_of (S.state shelf.old) (S.state shelf.new) (O.state out.old) (O.state out.new)) result }
     ensures unwritten { EndingWritesNothing result → out.new ≡ out.old }
 {
+    an_observed_text_is_so();
     let params = accepted(alloc, &ParamsFile {}, files.params, shelf)?;
     let log = accepted(alloc, &LogFile { params: &params }, files.log, shelf)?;
     let seen = seen_in(alloc, &params, &log)?;

@@ -4,6 +4,7 @@ ghost use Rattle.fr_whole.specs.ObserveAnswer.{observe_files};
 ghost use Rattle.fr_whole.specs.SharpReportAnswer.{IsSharpReportText};
 ghost use Rattle.fr_whole.specs.Whole.{HasOneStatusOfAll};
 
+use crate::observe_laws::an_observed_text_is_so;
 use crate::sharp_report_laws::a_sharp_report_is_lawful;
 use fr_answer::each_request_has_one_status;
 use fr_params::accepted_are_sane;
@@ -19,6 +20,7 @@ pub fn an_observation_has_one_status()
     fr_params::some_answer();
     fr_log::one_answer();
     fr_log::some_answer();
+    an_observed_text_is_so();
 }
 
 /// A law: the bytes of the three files of a request for a report by the sharper bounds define one status.

@@ -2,8 +2,9 @@ ghost use Rattle.std.specs.Prelude.{◌≡◌, ◌≢◌, ◌↔◌, IfErr};
 ghost use Rattle.fr_program.specs.Around.{around_of};
 ghost use Rattle.fr_program.specs.Failure.{EndingWritesNothing, WritesNothing, ending_status, status_of};
 ghost use Rattle.fr_program.specs.Program.{IsNoRequest, IsProgramAnswer, IsProgramComplete, WordsEnd, texts};
-ghost use Rattle.fr_whole.specs.Whole.{flexray_program};
+ghost use Rattle.fr_whole.specs.Whole.{IsNoLog, IsNoSharpReport, flexray_program};
 
+use crate::pages::{answer_page, page_request};
 use crate::request::{log_request, sharp_report_request};
 use fr_answer::{answer_core, told};
 use fr_base::{Shelf, Sink};
@@ -64,7 +65,29 @@ fn answer<S: Shelf, O: Sink>(
         Some(files) => crate::answer_observe(alloc, files, shelf, out),
         None => match sharp_report_request(words) {
             Some(files) => crate::answer_sharp_run(alloc, files, shelf, out),
-            None => answer_core(alloc, words, shelf, out),
+            None => answer_others(alloc, words, shelf, out),
         },
+    }
+}
+
+// That of words that ask for no log, and for no report by the sharper bounds: a page, or what the core answers.
+fn answer_others<S: Shelf, O: Sink>(
+    alloc: Global,
+    words: &[String],
+    shelf: &mut S,
+    out: &mut O,
+) -> Result<(), Failure>
+    requires no_log { IsNoLog (texts words.now) }
+    requires no_report { IsNoSharpReport (texts words.now) }
+    ensures usage { ending_status result ≡ Status.Usage → IsNoRequest flexray_program (texts words.now) }
+    ensures unread { ending_status result ≡ Status.Usage → shelf.new ≡ shelf.old }
+    ensures undone { IfErr result (λ why. status_of why ≢ Status.Done) }
+    ensures ends { WordsEnd flexray_program (texts words.now)
+        (around_of (S.state shelf.old) (S.state shelf.new) (O.state out.old) (O.state out.new)) result }
+    ensures unwritten { EndingWritesNothing result → out.new ≡ out.old }
+{
+    match page_request(words) {
+        Some(page) => answer_page(page, out),
+        None => answer_core(alloc, words, shelf, out),
     }
 }

@@ -39,7 +39,7 @@ USAGE = {
     "bound": "bound PARAMS, bound PARAMS join, bound PARAMS sharp FLUTTER, bound PARAMS sharp FLUTTER join or bound PARAMS sharp FLUTTER "
              "lost COUNT",
     "upgrade": "upgrade PARAMS",
-    "settle": "settle PARAMS START RATE or settle PARAMS START RATE sharp FLUTTER",
+    "settle": "settle PARAMS START RATE, settle PARAMS START RATE sharp FLUTTER or settle PARAMS power FLUTTER",
     "nm": "nm WIDTH FILE", "run": "run PARAMS DRIFT SCRIPT or run PARAMS DRIFT SCRIPT sharp", "trace": "trace PARAMS DRIFT SCRIPT",
     "check": "check PARAMS TRACE", "make": "make SEED DOUBLES", "capture": "capture A FILE or capture B "
                                                                            "FILE", "cold": "cold PARAMS POWER",
