@@ -103,11 +103,13 @@ class Network:
             kept[first] = 1 << 37 | first << 17 | crc(11, 0x385, 0x01A, first, 20) << 6
         return (kept[first] | cycle % 64).to_bytes(5, "big").hex().upper()
 
-    def log(self, draw, rows, unit, width=0, drift=0, sends=lambda double, node: True):
+    def log(self, draw, rows, unit, width=0, drift=0, sends=lambda double, node: True, off=None):
         """The log of an analyzer that misses nothing, with a clock of which it states a drift of so many ppm, and that is as much off or
-        less: delays are the same for all, but for so many ticks that it states as their range, and a stamp is of the unit in which the
-        frame came. A node has no frames there in a double cycle in which it does not send."""
-        low, zero, off = MILLION, draw.randrange(10**9, 10**10), draw.randint(-drift, drift) if drift else 0
+        less, or by `off`: delays are the same for all, but for so many ticks that it states as their range, and a stamp is of the unit in
+        which the frame came. A node has no frames there in a double cycle in which it does not send."""
+        low, zero = MILLION, draw.randrange(10**9, 10**10)
+        if off is None:
+            off = draw.randint(-drift, drift) if drift else 0
         later = {(node, channel): low + draw.randint(0, width) for node in self.nodes for channel in "AB"}
         seen = sorted((self.instant(node, row) + later[node, channel] + zero, node, channel, cycle)
                       for cycle, of_cycle in enumerate(rows) for node, row in enumerate(of_cycle) if sends(cycle // 2, node)

@@ -104,22 +104,27 @@ class Rows(Bench):
     def hold(self, told, page):
         words = {word: [row.cycle for row in told.cycles if row.says == word] for word in ("within", "over", "open")}
         self.assertEqual(bool(re.search(r"OVER in", page)), bool(words["over"]), page)
-        if found := re.search(r"OVER in (\d+) cycles, the first of them (\d+)", page):
-            self.assertEqual((int(found[1]), int(found[2])), (len(words["over"]), words["over"][0]))
+        if found := re.search(r"OVER in (\d+) cycles?, the first of them (\d+) and the last (\d+), the clocks", page):
+            self.assertEqual(tuple(map(int, found.groups())), (len(words["over"]), words["over"][0], words["over"][-1]))
+        self.assertEqual(found is not None, bool(words["over"]), page)
         if found := re.search(r"at least (\S+) us in cycle (\d+); at most (\S+) us", page):
             self.assertLessEqual(Fraction(found[1]), Fraction(found[3]), page)
         verdict = page.split("Verdict ")[1]
         self.assertTrue(verdict.startswith({"no": "NO:", "over": "OVER:", "open": "open:", "within": "in cycles", "partly": "partly:"}[
             told.verdict[0]]), page)
         self.assertEqual("CONTRADICTION" in page, verdict.startswith("NO:"))
+        self.assertEqual("nothing contradicts what is stated" in verdict, told.verdict[0] in ("within", "over", "partly"))
+        if found := re.match(r"OVER: in (\d+) cycles? .*; the last is cycle (\d+);", verdict):
+            self.assertEqual((int(found[1]), int(found[2])), (int(told.verdict[3]), words["over"][-1]))
         if found := re.match(r"in cycles (\d+) to (\d+) the clocks", verdict):
             self.assertEqual(set(range(int(found[1]), int(found[2]) + 1)) - set(words["within"]), set())
         rows = {row.double: row for row in told.spreads}
         if found := re.match(r"partly: of the judged ones of cycles (\d+) to (\d+) .* precision in (\d+), for certain; of (\d+) it", verdict):
             begin, end, *counts = map(int, found.groups())
             self.assertEqual([sum(begin <= cycle <= end and cycle // 2 in rows for cycle in words[word]) for word in ("within", "open")], counts)
-        if found := re.match(r"open: .*; in (\d+) cycles the clocks", verdict):
+        if found := re.match(r"open: .*; in (\d+) cycles? the clocks", verdict):
             self.assertEqual(int(found[1]), len(words["within"]))
+        self.assertEqual(found is not None, told.verdict[0] == "open")
         judged = re.search(r"Judged (\d+) of (\d+) double cycles", page)
         self.assertEqual((int(judged[1]), int(judged[2])), (told.judged, told.doubles))
         self.assertEqual("no double cycle is judged" in page, verdict.startswith("open:"))
@@ -128,7 +133,8 @@ class Rows(Bench):
             most = max(row.apart for row in told.spreads)
             self.assertEqual(rows[int(found[3])].apart, most)
             self.assertLessEqual(most, Fraction(found[2]) * 40 * 1_000_000)
-        self.assertEqual(found is not None, bool(rows))
+        # Of a log that no run gives no such number is told.
+        self.assertEqual(found is not None, bool(rows) and not told.faults)
         # What is advised would change something.
         self.assertTrue("can state where" not in page or (told.sync[4] not in ("count", "lost") and told.cycles), page)
         # Each row of what was missed is there once, with a contradiction or without.
@@ -237,13 +243,14 @@ class Logs(Bench):
         self.assertIn("Analyzer stamps of 10 ns, its clock within 20 ppm, delays from 100 to 200 ns", page)
         self.assertIn("Frames 160 say where a clock was, 0 are damaged", page)
         self.assertIn("Left out 40 frames of static slots that are no key slots", page)
-        self.assertIn("Cycles 0 to 19, by the cycle counts: 17 within the precision, 0 over it, 3 open", page)
+        self.assertIn("Cycles 0 to 19, by the cycle counts: 17 within the precision, 0 over it, 3 open, the last since no next double cycle "
+                      "shows its end", page)
         self.assertIn("Precision 4.256 us, the sharp one where delays flutter by no more than 25 ns: a yardstick, which is promised where the "
-                      "checks of flexray bound PARAMS sharp 1000000 hold", page)
+                      "checks of flexray bound params.csv sharp 1000000 hold", page)
         self.assertIn("Judged 0 of 10 double cycles, since node 5 has no key slot, so no frame shows its clock; it moves no clock, so leave it "
                       "out of the file; or in_sync_from_cycle of [observer] can state where the cluster is in sync Verdict open: no double "
-                      "cycle is judged, since node 5 has no key slot, so no frame shows its clock; in 17 cycles the clocks of the nodes that "
-                      "sent lay within the precision", page)
+                      "cycle is judged, since node 5 has no key slot, so no frame shows its clock, so no correction is held against the rules; in 17 "
+                      "cycles the clocks of the nodes that sent lay within the precision, for certain", page)
         self.assertNotIn("Not seen", page)
         text = self.flexray("observe", "seen/params.csv", "seen/log.csv")[1]
         self.assertEqual(text, self.read("seen", "observed.csv"))
@@ -277,11 +284,12 @@ class Logs(Bench):
         self.assertIn("Judged 10 of 10 double cycles, by what is seen and known of them, from double cycle 0 on; no macroticks of these lie "
                       "further apart than", page)
         self.assertRegex(page, r"Verdict partly: of the judged ones of cycles 0 to 19 the clocks of the nodes that sent lay within the precision "
-                               r"in \d+, for certain; of \d it is not certain")
+                               r"in \d+, for certain; of \d it is not certain; nothing contradicts what is stated")
         # From the third double cycle on they are in sync.
         page = self.one_line(self.flexlab("observe", "-o", "seen", "--from", "0.0199", path, "net.toml")[0])
         self.assertIn("Judged 8 of 8 double cycles, by what is seen and known of them, from double cycle 2 on", page)
-        self.assertIn("Verdict in cycles 4 to 18 the clocks of the nodes that sent lay within the precision", page)
+        self.assertIn("Verdict in cycles 4 to 18 the clocks of the nodes that sent lay within the precision; nothing contradicts what is stated ",
+                      page)
 
     def test_a_cluster_of_production_shape(self):
         """It is judged by what is seen of it; a node that drops out is told of, too."""
@@ -316,7 +324,7 @@ class Logs(Bench):
         self.assertIn("it missed no frame; the cluster is in sync in the double cycle of cycle 4", page)
         self.assertIn("Verdict NO: no run of this cluster", page)
         self.assertRegex(page, r"CONTRADICTION cycle 11, node \d: its frame on channel A is not there")
-        self.assertRegex(page, r"Not seen node \d on channel A in 9 cycles")
+        self.assertRegex(page, r"Not seen node \d on channel A in 9 cycles; of its frames the last in cycle 10 ")
         found = json.loads(self.flexlab("observe", "--json", "-o", "seen", "less.pcap", "net.toml", status=1)[0])
         self.assertEqual((found["faults"][0]["cycle"], found["faults"][0]["kind"]), (11, "missing"))
         self.write("net.toml", SHORT + OBSERVER)
@@ -350,9 +358,9 @@ class Logs(Bench):
         for kind, fields, told in (
                 ("limit", ("1", "40000", "80000", "120000"), "both its cycles last 0.000 to 0.001 us, and one of the"),
                 ("correction", ("500", "501", "-200", "200"), "an offset term of 500 to 501 microticks, and the limit is 200"),
-                ("offset", ("5", "6", "1", "3"), "an offset term of 5 to 6 microticks, and by all that were seen 1 to 3, unless it missed at "
+                ("offset", ("5", "6", "1", "3"), "an offset term of 5 to 6 microticks, and by all that were seen it must be 1 to 3, unless it missed at "
                                                  "least 2 senders"),
-                ("rate", ("5", "6", "1", "3"), "a change of the rate term of 5 to 6 microticks, and by all that were seen 1 to 3"),
+                ("rate", ("5", "6", "1", "3"), "a change of the rate term of 5 to 6 microticks, and by all that were seen it must be 1 to 3"),
                 ("skew", ("80000000", "-", "-", "40000000"), "clocks at least 2.000 us apart, and by what is known at most 1.000 us"),
                 ("start", ("80000000", "9", "-", "40000000"), "starts at least 2.000 us apart, and by what is known at most 1.000"),
                 ("lengths", ("80000000", "9", "-", "40000000"), "lengths of cycles at least 2.000 us apart"),
@@ -398,7 +406,8 @@ class Logs(Bench):
         self.write("net.toml", SHORT.replace("gPayloadLengthStatic = 8", "gPayloadLengthStatic = 9") + OBSERVER)
         page = self.one_line(self.flexlab("observe", "--pictures", "-o", "seen", path, "net.toml", status=1)[0])
         self.assertIn("0 say where a clock was", page)
-        self.assertIn("Verdict open: no double cycle is judged, since no frame tells where a clock was; in 0 cycles", page)
+        self.assertIn("Verdict open: no double cycle is judged, since no frame tells where a clock was, so no correction is held against the "
+                      "rules; in 0 cycles", page)
         self.assertIn("Skew of no frame it is told where a clock was, so of clocks nothing is told", page)
         self.assertNotIn("Picture", page)
 

@@ -17,7 +17,7 @@ from ..pages.page import field as lines_of
 from ..program.report import understood
 from ..runs.runs import answer
 from ..toml.cluster import Cluster
-from .observed import ALWAYS, IRREGULAR, Words, why_unjudged
+from .observed import ALWAYS, IRREGULAR, Words, deaf_in, why_unjudged
 
 BLAME = "blame.csv"
 OWN = ("; a frame of another form, or on a channel that its node does not have, counts as a contradiction, which takes for granted that no "
@@ -93,7 +93,9 @@ def blame_lines(cluster: Cluster, found: Sequence[Blamed]) -> list[str]:
                  f"{listed(cluster, some)}" if some else
                  f"no node alone{beside} was at fault, if all else is as the verdict has it: several were, or a frame was lost on the bus, "
                  "or the analyzer or something that is stated is wrong")
-    if any(one.kind in IRREGULAR for one in found):
+    if deaf := deaf_in(cluster):
+        lines[-1] = f"nothing follows from that, since {deaf.words(cluster)}"
+    elif any(one.kind in IRREGULAR for one in found):
         lines[-1] += OWN
     return lines_of("Blame", *lines)
 

@@ -1,6 +1,7 @@
 """Hints at what may be stated wrongly of an analyzer, by a log and what flexray tells of it. They are no contradictions, and no proof."""
 from __future__ import annotations
 
+from collections.abc import Sequence
 from fractions import Fraction
 from itertools import islice
 from typing import Any, NamedTuple
@@ -10,8 +11,9 @@ from flexray.results import Observation
 from ..base.units import TICKS
 from ..pages.page import field as lines_of
 from ..toml.cluster import Cluster
+from .blame import Blamed
 from .numbering import frames_of, numbered, text_of
-from .observed import IRREGULAR, lower
+from .observed import IRREGULAR, Limits, lower, rates
 from .observer import Log, plain
 
 # Of fewer stamps a common divisor may be chance, and of fewer nodes what most of them have.
@@ -56,15 +58,55 @@ def anew_of(cluster: Cluster, path: str, told: Observation) -> int | None:
     return frames[last + 1].stamp if len(later) == STAMPS and None not in later else None
 
 
-def hint_lines(cluster: Cluster, log: Log, told: Observation, anew: int | None) -> list[str]:
+class Aside(NamedTuple):
+    """In how many of the double cycles with nodes the cycles of all of these certainly were beyond what oscillators and the analyzer's
+    clock make them, to one side: by so many ppm faster than nominal ones or more, or slower."""
+    doubles: int
+    of: int
+    ppm: Fraction
+
+
+def aside_of(cluster: Cluster, log: Log, told: Observation) -> Aside | None:
+    """That, where it is so in most of them."""
+    doubles: dict[int, list[Limits]] = {}
+    for row in told.nodes:
+        doubles.setdefault(row.double, []).extend(rates([row], cluster))
+    bound = cluster.parameters["xRateBound"] + log.observer.drift + 1
+    faster = [low for rows in doubles.values() if (low := Fraction(min(row.low for row in rows))) > bound]
+    slower = [high for rows in doubles.values() if (high := Fraction(max(row.high for row in rows))) < -bound]
+    found = max(faster, slower, key=len)
+    return Aside(len(found), len(doubles), min(found, key=abs)) if 2 * len(found) > len(doubles) else None
+
+
+def least_lost(told: Observation, blame: Sequence[Blamed]) -> int | None:
+    """How many senders nodes have to miss, where no node alone can have been at fault, and each term that contradicts may be right so."""
+    terms = {(fault.cycle, fault.node, fault.kind) for fault in told.faults if fault.kind in ("offset", "rate")}
+    least = [row.least for row in told.missed if (row.cycle, row.node, row.kind) in terms]
+    if not least or None in least or not blame or any(one.says != "out" for one in blame):
+        return None
+    return max(count for count in least if count is not None)
+
+
+def hint_lines(cluster: Cluster, log: Log, told: Observation, anew: int | None, blame: Sequence[Blamed] = ()) -> list[str]:
     found, grain, first = [], grain_of(log), first_of(told)
     if grain and log.error < (grain - 1) * log.unit:
         unit = log.unit * Fraction(cluster.microtick_ns) / TICKS
         found.append(f"all stamps are multiples of {plain(grain * unit)} ns, counted from the first frame: if the analyzer counts in such "
                      f"steps, state resolution_ns = {plain(grain * unit)}, which is an error of {grain - 1} units of {plain(unit)} ns")
     if first and first.is_most:
+        where = ("look first at what Blame leaves, which may send other nodes something else than the analyzer; and else "
+                 if any(one.says == "left" for one in blame) else "look first ")
         found.append(f"{len(first.nodes)} of {first.of} nodes have a contradiction in the first double cycle that has one, {first.double}: "
-                     "look first at what is stated of the analyzer, as the limits of delays, the error and the drift")
+                     f"{where}at what is stated of the analyzer, as the limits of delays, the error and the drift")
+    if lost := least_lost(told, blame):
+        found.append(f"each term that contradicts may be right, if its node missed some of the others, and at most {lost}: if frames may "
+                     f"have been lost on the bus, state lost = {lost} in [observer]")
+    if aside := aside_of(cluster, log, told):
+        bound, drift = cluster.parameters["xRateBound"], log.observer.drift
+        way = "faster" if aside.ppm > 0 else "slower"
+        found.append(f"in {aside.doubles} of {aside.of} double cycles the cycles of all nodes were {way} than nominal ones by "
+                     f"{lower(abs(aside.ppm))} ppm or more, and oscillators within {bound} ppm and an analyzer within {drift} ppm come to "
+                     f"{bound + drift}: rate terms may make up the rest, or drift_ppm, oscillator_ppm or microtick_ns is wrong")
     if anew is not None:
         at = lower(seconds_of(cluster, log, anew), 6)
         found.append(f"from {at} s of the file on frames come as if they were counted anew: after a second startup, or where the "
@@ -83,4 +125,6 @@ def hints_object(cluster: Cluster, log: Log, told: Observation, anew: int | None
     first = first_of(told)
     return {"grain": {"units": grain_of(log), "unit_ticks": log.unit, "error_ticks": log.error},
             "first": None if first is None else {"double_cycle": first.double, "nodes": first.nodes, "of": first.of},
+            "aside": None if (aside := aside_of(cluster, log, told)) is None else {
+                "double_cycles": aside.doubles, "of": aside.of, "ppm": float(aside.ppm)},
             "anew_s": None if anew is None else float(lower(seconds_of(cluster, log, anew), 6))}

@@ -6,7 +6,7 @@ from fractions import Fraction
 from collections.abc import Callable, Sequence
 from typing import Any, NamedTuple
 
-from flexray.results import Observation, ObservedFault, ObservedMissed, ObservedNode
+from flexray.results import Observation, ObservedFault, ObservedMissed, ObservedNode, ObservedSender
 
 from ..toml.cluster import Cluster
 from .observer import Log, analyzer_words, differences, left_lines, plain
@@ -129,13 +129,17 @@ class Words:
             return f"a cycle of {self.us(one, two)}, and by what is known one of {self.us(three, four)}"
         if kind in ("offset", "rate"):
             step = "an offset term" if kind == "offset" else "a change of the rate term"
-            return f"{step} of {one} to {two} microticks, and by all that were seen {three} to {four}{self.unless(fault)}"
+            return f"{step} of {one} to {two} microticks, and by all that were seen it must be {three} to {four}{self.unless(fault)}"
         what = {"skew": "clocks", "start": "starts", "lengths": "lengths of cycles"}[kind]
         return self.beyond(what, fields)
 
 
 def senders(count: int) -> str:
     return f"{count} sender{'s' * (count > 1)}"
+
+
+def cycles(count: int) -> str:
+    return f"{count} cycle{'s' * (count != 1)}"
 
 
 def some_lines(title: str, lines: list[str]) -> list[str]:
@@ -172,7 +176,8 @@ def why_unjudged(cluster: Cluster, told: Observation, why: Sequence[str]) -> str
                 else f"node {node} has no key slot, so no frame shows its clock")
     if kind == "fault":
         return f"there is a contradiction in cycle {cycle}" + (f", node {node}" if node else "")
-    return ("starts and lengths of cycles may lie so far apart that a check from the second on fails with them" if kind == "reach" else
+    return ("starts and lengths of cycles may lie so far apart that a correction is cut or a frame misses its slot, by checks 2 to 5"
+            if kind == "reach" else
             "lengths of cycles may lie further beyond their range than the rate limit follows") + f", in cycle {cycle}"
 
 
@@ -180,8 +185,15 @@ def advice(cluster: Cluster, told: Observation, why: Sequence[str]) -> str:
     """What may make a double cycle judged, where none is."""
     if why[0] in ("count", "lost") or not told.cycles:
         return ""
-    node = cluster.nodes.get(int(why[2])) if why[2] != "-" else None
-    aside = "it moves no clock, so leave it out of the file; or " if node and not node.key_slot else ""
+    node, aside = cluster.nodes.get(int(why[2])) if why[2] != "-" else None, ""
+    if why[0] == "unseen" and node and not node.key_slot:
+        aside = "it moves no clock, so leave it out of the file; or "
+    elif why[0] == "unseen" and not any(row.frames for row in told.senders if str(row.node) == why[2]):
+        aside = "it was seen in no cycle at all: leave it out of the file if it is not in the network; if it is, "
+    elif why[0] == "reach":
+        aside = "they do so by what is stated of the analyzer too: state closer delays and finer steps if that is true; or "
+    elif why[0] == "drift":
+        aside = "they do so by the drift of the analyzer too: state a lesser drift_ppm if that is true; or "
     return f"; {aside}in_sync_from_cycle of [observer] can state where the cluster is in sync"
 
 
@@ -198,9 +210,11 @@ def judged_lines(cluster: Cluster, told: Observation) -> list[str]:
         return lines_of("Judged", f"0 of {told.doubles} double cycles, since {why_unjudged(cluster, told, why)}"
                                   + advice(cluster, told, why))
     most, unit = max(told.spreads, key=lambda row: row.apart), cluster.microtick_ns
-    text = (f"{told.judged} of {told.doubles} double cycles, by what is seen and known of them, from double cycle {told.spreads[0].double} "
-            f"on; no macroticks of these lie further apart than {upper(us_of_ticks(most.apart, unit))} us (double cycle {most.double}), in "
-            f"every run that keeps to what is stated and {kept(told)}")
+    text = (f"{told.judged} of {told.doubles} double cycles, by what is seen and known of them, from double cycle "
+            f"{told.spreads[0].double} on")
+    if not told.faults:
+        text += (f"; no macroticks of these lie further apart than {upper(us_of_ticks(most.apart, unit))} us (double cycle {most.double}), "
+                 f"in every run that keeps to what is stated and {kept(told)}")
     if why[0] != "-":
         text += f"; of the others the one that came farthest is not judged, since {why_unjudged(cluster, told, why)}"
     return lines_of("Judged", text)
@@ -208,9 +222,9 @@ def judged_lines(cluster: Cluster, told: Observation) -> list[str]:
 
 def verdict_text(cluster: Cluster, told: Observation) -> str:
     """The verdict in words."""
-    verdict, clocks = told.verdict, "the clocks of the nodes that sent lay"
+    verdict, clocks, kept_to = told.verdict, "the clocks of the nodes that sent lay", "; nothing contradicts what is stated"
     if verdict[0] == "within":
-        return f"in cycles {verdict[1]} to {verdict[2]} {clocks} within the precision"
+        return f"in cycles {verdict[1]} to {verdict[2]} {clocks} within the precision{kept_to}"
     if verdict[0] == "no":
         alone = ", and in which no other sender takes the ID of a node," if verdict[2] in IRREGULAR else ""
         heard = "" if verdict[2] in ALWAYS else f", {kept(told)}"
@@ -218,13 +232,15 @@ def verdict_text(cluster: Cluster, told: Observation) -> str:
                 f"schedule{alone} can have given this log; the first contradiction is in cycle {verdict[1]}")
     if verdict[0] == "over":
         low = lower(us_of_ticks(int(verdict[2]), cluster.microtick_ns))
-        return (f"OVER: in {verdict[3]} cycles {clocks} further apart than the precision, for certain; in the first of them, cycle "
-                f"{verdict[1]}, at least {low} us")
+        last = max(row.cycle for row in told.cycles if row.says == "over")
+        return (f"OVER: in {cycles(int(verdict[3]))} {clocks} further apart than the precision, for certain; in the first of them, cycle "
+                f"{verdict[1]}, at least {low} us; the last is cycle {last}{kept_to}. Clocks that start far apart are over it until they "
+                "are in sync")
     if verdict[0] == "partly":
         return (f"partly: of the judged ones of cycles {verdict[1]} to {verdict[2]} {clocks} within the precision in {verdict[3]}, for "
-                f"certain; of {verdict[4]} it is not certain")
-    return (f"open: no double cycle is judged, since {why_unjudged(cluster, told, verdict[1:4])}; in {told.within} cycles {clocks} within "
-            "the precision")
+                f"certain; of {verdict[4]} it is not certain{kept_to}")
+    return (f"open: no double cycle is judged, since {why_unjudged(cluster, told, verdict[1:4])}, so no correction is held against the "
+            f"rules; in {cycles(told.within)} {clocks} within the precision, for certain")
 
 
 def verdict_lines(cluster: Cluster, told: Observation) -> list[str]:
@@ -253,8 +269,8 @@ def skew_lines(cluster: Cluster, told: Observation) -> list[str]:
     found = lines_of("Skew", text)
     over = [row for row in told.cycles if row.says == "over"]
     if over:
-        found += lines_of("OVER", f"in {len(over)} cycles, the first of them {over[0].cycle}, the clocks of the nodes "
-                                  "that sent lay further apart than the precision, for certain")
+        found += lines_of("OVER", f"in {cycles(len(over))}, the first of them {over[0].cycle} and the last {over[-1].cycle}, the clocks of "
+                                  "the nodes that sent lay further apart than the precision, for certain")
     return found
 
 
@@ -276,32 +292,70 @@ def node_lines(cluster: Cluster, told: Observation) -> list[str]:
 
 def unseen_lines(cluster: Cluster, told: Observation) -> list[str]:
     """Which senders have cycles of the log without a frame."""
-    rows = [(row.node, row.channel, row.frames, row.missed) for row in told.senders if row.missed]
-    return lines_of("Not seen", *(
-        f"node {cluster.called(node)} on channel {channel} in {missed} cycles" + ("" if frames else ", in none at all")
-        for node, channel, frames, missed in rows)) if rows else []
+    def ends(row: ObservedSender) -> str:
+        if row.first is None or row.last is None:
+            return ": no frame of it is there"
+        before, behind = row.first > told.cycles[0].cycle, row.last < told.cycles[-1].cycle
+        found = [f"the first in cycle {row.first}"] * before + [f"the last in cycle {row.last}"] * behind
+        return f"; of its frames {' and '.join(found)}" if found else ""
+    rows = [row for row in told.senders if row.missed]
+    return lines_of("Not seen", *(f"node {cluster.called(row.node)} on channel {row.channel} in {cycles(row.missed)}{ends(row)}"
+                                  for row in rows)) if rows else []
+
+
+class Deaf(NamedTuple):
+    """Nodes that are not arbitrary and have no common channel, by pairs of which the second has a key slot; and of how many such one of
+    them hears nothing, at most."""
+    pairs: list[tuple[int, int]]
+    most: int
+
+    def words(self, cluster: Cluster) -> str:
+        one, other = min(sorted(pair) for pair in self.pairs)
+        return (f"nodes {cluster.called(one)} and {cluster.called(other)} have no common channel"
+                + (", as some others" if len({frozenset(pair) for pair in self.pairs}) > 1 else ""))
+
+
+def deaf_in(cluster: Cluster) -> Deaf | None:
+    correct = [node for node in cluster.nodes.values() if not node.arbitrary]
+    pairs = [(node.number, other.number) for node in correct for other in correct
+             if node is not other and other.key_slot and not set(node.channels) & set(other.channels)]
+    return Deaf(pairs, max(sum(one == node for one, _ in pairs) for node, _ in pairs)) if pairs else None
+
+
+def deaf_lines(cluster: Cluster, told: Observation) -> list[str]:
+    """That nodes miss more than is stated, by the channels that the file gives them."""
+    deaf = deaf_in(cluster)
+    if deaf is None or deaf.most <= told.lost:
+        return []
+    stated = "that is stated nowhere" if cluster.arbitrary else f"lost of [observer] is {told.lost}: state {deaf.most} or more"
+    return lines_of("UNHEARD", f"{deaf.words(cluster)}, so a node misses {senders(deaf.most)} in each double cycle, and {stated}. In no "
+                               "run of this cluster nodes hear each other as the lines below take for granted: contradictions may be of "
+                               "that alone")
 
 
 def page_lines(cluster: Cluster, told: Observation, log: Log, name: str, more: Sequence[str] = ()) -> list[str]:
     """The page of a log, with more lines behind its contradictions."""
     frames, keys = log.frames, sum(node.key_slot is not None for node in cluster.nodes.values())
     found = lines_of("Log", f"{name}: {log.entries} frames of key slots")
-    found += lines_of("Cluster", f"{len(cluster.nodes)} nodes, {keys} with a key slot; cycles of "
-                                 f"{decimal(ms_of_cycle(1, cluster), 3)} ms; a microtick is "
-                                 f"{plain(cluster.microtick_ns)} ns")
-    found += lines_of("Analyzer", analyzer_words(log.observer, frames))
+    wild = ", ".join(map(cluster.called, cluster.arbitrary))
+    found += lines_of("Cluster", f"{len(cluster.nodes)} nodes, {keys} with a key slot; cycles of {decimal(ms_of_cycle(1, cluster), 3)} ms; "
+                                 f"a microtick is {plain(cluster.microtick_ns)} ns"
+                                 + (f"; no frame is used of what the file names arbitrary: node {wild}" if wild else ""))
+    found += lines_of("Analyzer", analyzer_words(log.observer, frames)) + deaf_lines(cluster, told)
     found += lines_of("Frames", ", ".join(f"{count} {fate}" for count, fate in zip(asdict(told.log).values(), FATES)))
     found += left_lines(frames)
     if differs := differences(cluster, frames):
         found += lines_of("DIFFERS", "most frames are not as the file of the cluster has them: is the log of another network?", *differs)
     if told.cycles:
-        found += lines_of("Cycles", f"{told.cycles[0].cycle} to {told.cycles[-1].cycle}, by the cycle counts: {told.within} within the "
-                                    f"precision, {told.over} over it, {told.open} open")
+        last = told.cycles[-1]
+        end = ", the last since no next double cycle shows its end" if last.says == "open" and last.high is None else ""
+        found += lines_of("Cycles", f"{told.cycles[0].cycle} to {last.cycle}, by the cycle counts: {told.within} within the precision, "
+                                    f"{told.over} over it, {told.open} open{end}")
     found += unseen_lines(cluster, told)
     precision, flutter = (us_of_ticks(ticks, cluster.microtick_ns) for ticks in (told.precision, told.flutter))
-    asked = f", which is promised where the checks of flexray bound PARAMS sharp {told.flutter} hold"
-    promised = asked if told.flutter <= MOST_FLUTTER else ""
-    found += lines_of("Precision", f"{decimal(precision, 3)} us, the sharp one where delays flutter by no more than "
+    asked = f", which is promised where the checks of flexray bound params.csv sharp {told.flutter} hold"
+    promised, beside = asked if told.flutter <= MOST_FLUTTER else "", " beside arbitrary nodes" if wild else ""
+    found += lines_of("Precision", f"{decimal(precision, 3)} us, the sharp one{beside} where delays flutter by no more than "
                                    f"{plain(1000 * flutter)} ns: a yardstick{promised}")
     return [*found, *skew_lines(cluster, told), *verdict_lines(cluster, told), *fault_lines(cluster, told), *more,
             *node_lines(cluster, told), *lines_of("Origin", ORIGIN)]
@@ -317,7 +371,7 @@ def observed_object(cluster: Cluster, told: Observation, log: Log) -> dict[str, 
         "log": asdict(told.log), "said": {"within": told.within, "over": told.over, "open": told.open}, "verdict": told.verdict,
         "judged": told.judged, "double_cycles": told.doubles, "sync": told.sync, "numbers": told.numbers,
         "faults": [{**asdict(fault), "told": Words(cluster, told).told(fault)} for fault in told.faults],
-        "missed": [asdict(row) for row in told.missed],
+        "missed": [asdict(row) for row in told.missed], "unheard": deaf.most if (deaf := deaf_in(cluster)) else 0,
         "spreads": [{"double_cycle": row.double, "starts": row.starts, "lengths": row.lengths, "beyond": row.beyond, "apart": row.apart,
                      "apart_us": us(row.apart, upper)} for row in told.spreads],
         "senders": [asdict(row) for row in told.senders],

@@ -62,7 +62,7 @@ class Part(NamedTuple):
     anew: int | None = None
 
     def page(self, cluster: Cluster, name: str) -> list[str]:
-        more = blame_lines(cluster, self.blame) + hint_lines(cluster, self.log, self.told, self.anew)
+        more = blame_lines(cluster, self.blame) + hint_lines(cluster, self.log, self.told, self.anew, self.blame)
         return page_lines(cluster, self.told, self.log, name, more)
 
     def object(self, cluster: Cluster) -> dict[str, Any]:
