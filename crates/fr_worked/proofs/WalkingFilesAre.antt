@@ -1,6 +1,6 @@
 -- The files of the two runs in which lengths walk: they are accepted and sharply covered, and their runs begin in sharp sync.
-use Rattle.std.proofs.Common.{◌≡◌, ◌<◌, ◌≤◌, ◌*◌, ℕ, zero, suc, ◌==◌, Bool, true, false, [], ◌∷◌, Some, None, length, refl, sym, ◌∙◌, subst, lit≤, lit<, arith}
-use Rattle.std.specs.Prelude.{cond, ◌↔◌, IfSome}
+use Rattle.std.proofs.Common.{◌≡◌, ◌<◌, ◌≤◌, ◌*◌, ℕ, zero, suc, ◌==◌, Bool, true, false, [], ◌∷◌, Some, None, length, pos, refl, sym, ◌∙◌, subst, lit≤, lit<, arith}
+use Rattle.std.specs.Prelude.{cond, IfSome}
 use Rattle.std.specs.Ordering.{nat_cmp}
 use Rattle.std.proofs.lemmas.Int.{ints}
 use Rattle.csv.specs.Machine.{next_record}
@@ -32,7 +32,6 @@ use Rattle.fr_history.specs.Next.{cycles_of}
 use Rattle.fr_history.specs.Worked.{on_a}
 use Rattle.fr_history.proofs.Computing.{on_cycles}
 use Rattle.fr_history.specs.Cycles.{cycle_at}
-use Rattle.fr_promise.specs.Statement.{IsRunOf}
 use Rattle.fr_runs.specs.Stated.{all_cycles}
 use Rattle.fr_script.specs.Deeds.{DeedsAscend, deed_in}
 use Rattle.fr_script.specs.Events.{event_of}
@@ -41,23 +40,24 @@ use Rattle.fr_script.specs.Reasons.{deed_by, is_named_in, join_by, script_reason
 use Rattle.fr_script.specs.Rows.{script_row_of}
 use Rattle.fr_script.specs.View.{AreDeeds, IsScript, deed_of, deeds_on, is_arbitrary, join_of}
 use Rattle.fr_script.specs.declared.deeds.Passage.{Passage}
-use Rattle.fr_bound.specs.SharpBounds.{last_of, sharp_near, sharp_precision, walk_lasts}
+use Rattle.fr_bound.specs.SharpBounds.{last_of, sharp_near, walk_lasts}
 use Rattle.fr_bound.specs.SharpChecks.{sharp_holds_of, SharpChecksHold}
 use Rattle.fr_sharp.specs.JoinedFiles.{IsSharplyCoveredToJoin, JoinedFilesKeepSharpPrecision, KeepsSharplyJoined}
-use Rattle.fr_sharp.specs.JoinedHistories.{FirstRatesLast, FirstRatesLastSo, first_rates_last, IsJoinedUpTo}
+use Rattle.fr_sharp.specs.JoinedHistories.{FirstRatesLast, FirstRatesLastSo, first_rates_last}
 use Rattle.fr_sharp.specs.SharpHistories.{IsInSharpSyncAt}
 use Rattle.fr_sharp.specs.SharpJoining.{SharpJoinChecksHold}
 use Rattle.fr_sharp.specs.SharpRun.{WalkLastsAfter}
 use Rattle.fr_sharp.specs.SharpStatement.{FilesKeepSharpPrecision, has_arbitrary, IsSharplyCovered, KeepsSharply}
-use Rattle.fr_sharp.specs.SharpTested.{IsFirstSharpSync, IsUnfollowedSharpSyncAt, first_free_of, first_sharp_sync_of}
+use Rattle.fr_sharp.specs.SharpTested.{IsUnfollowedSharpSyncAt, first_free_of, first_sharp_sync_of}
 use Rattle.fr_sharp.proofs.FreeLemmas.{first_sharp_sync_is}
 use Rattle.fr_skew.specs.Sync.{are_in_sync_by_even}
 use Rattle.fr_text.specs.Fields.{looked_up, or_else}
 use Rattle.fr_text.specs.Records.{records_of}
+use Rattle.fr_worked.specs.Files.{no_join}
 use Rattle.fr_worked.specs.RunFiles.{RunFiles, run_of_files}
 use Rattle.fr_worked.specs.SharplyJoinedFiles.{wide_cluster}
 use Rattle.fr_worked.specs.WalkingFiles.{AreWalking, KeepWhileFirstRatesLast, KeepWhileTheWalkLasts, walking_cluster, walking_drift, walking_drift_file, walking_files, walking_joined_files}
-use Rattle.fr_worked.proofs.Accepted.{AllKept, are_accepted, are_deeds, delay_is, found_is_told, length_is, none_refused, one_differs, said_once, same_delay, same_length, same_number}
+use Rattle.fr_worked.proofs.Accepted.{AllKept, are_accepted, are_deeds, delay_is, found_is_told, length_is, none_refused, one_differs, said_once, same_delay, same_length, same_number, told_by}
 use Rattle.fr_worked.proofs.Decided.{none_marked}
 use Rattle.fr_worked.proofs.FilesKept.{files_are_a_setting}
 use Rattle.fr_worked.proofs.SharplyJoinedAre.{begins_longer, is_sane}
@@ -131,12 +131,12 @@ compensations_are A = refl
 compensations_are B = refl
 
 delays_are : (sender receiver : ℕ) (ch : Channel) (from : ℕ) → delay_rows walking_drift sender receiver ch from ≡ delay_at sender receiver ch from (records_of walking_drift_file)
-unfolding records_of strip_bom records_from next_record drift_row_of rate_in looked_up
+unfolding told_by records_of strip_bom records_from next_record drift_row_of rate_in looked_up
 delays_are sender receiver A from = found_is_told delay_cmp delay_is same_delay walking_drift.delays_a (delay_key sender receiver from)
 delays_are sender receiver B from = refl
 
 drift_is : IsDriftFile walking_cluster walking_drift walking_drift_file
-unfolding records_of strip_bom records_from next_record drift_row_of rate_in looked_up
+unfolding told_by records_of strip_bom records_from next_record drift_row_of rate_in looked_up
 drift_is = record {
   none_refused = none_refused (drift_reason_after walking_cluster) (records_of walking_drift_file) drift_accepted;
   stands = record {
@@ -177,15 +177,15 @@ none_nodes : (node : ℕ) → is_arbitrary walking_files.script node ≡ false
 unfolding is_arbitrary
 none_nodes node = none_marked 65 node
 
-none_joins_are : (node : ℕ) → join_of walking_files.script node ≡ cond (5 == node) None None
+none_joins_are : (node : ℕ) → join_of walking_files.script node ≡ cond (5 == node) no_join no_join
 unfolding join_of
-none_joins_are node = one_differs 5 59 node None None
+none_joins_are node = one_differs 5 59 node no_join no_join
 
-none_said : (node : ℕ) → (is_named_in node (records_of walking_files.script_file) ≡ false) × (join_by node (records_of walking_files.script_file) ≡ None)
+none_said : (node : ℕ) → (is_named_in node (records_of walking_files.script_file) ≡ false) × (join_by node (records_of walking_files.script_file) ≡ no_join)
 unfolding records_of strip_bom records_from next_record script_row_of looked_up
 none_said node = (refl, refl)
 
-no_choice : (test : Bool) → cond test None None ≡ None
+no_choice : (test : Bool) → cond test no_join no_join ≡ no_join
 no_choice true = refl
 no_choice false = refl
 
@@ -382,7 +382,7 @@ keep_while_the_walk_lasts lawful long promise =
 rates_go_on : FirstRatesLastSo → (m : ℕ) → m < 7 → FirstRatesLast walking_cluster 400_000 m
 rates_go_on so m less =
     let In : (o : _) → Type 0 = λ o. IfSome o (λ lasts. m < lasts) in
-    (so walking_cluster 400_000 m walking_is_sane).1 (subst In (sym rates_end) less)
+    (so walking_cluster 400_000 m).1 (subst In (sym rates_end) less)
 
 pub keep_while_first_rates_last : ((x : Setting) (n : ℕ) → IsSetting x → IsLawful x (cycles_of x n)) → ((x : Setting) (n : ℕ) → length (cycles_of x n) ≡ n)
     → JoinedFilesKeepSharpPrecision → FirstRatesLastSo → KeepWhileFirstRatesLast walking_joined_files 400_000 7 5 (record { double = 0; reference = 1 })
