@@ -120,11 +120,10 @@ class Flutter(Case):
             return sharp.greatest_turn(self.cluster(text))
 
         steps = "".join(f"[[delay]]\nfrom = {sender}\nto = {to}\nticks = {ticks}\nfrom_cycle = {cycle}\n"
-                        for sender, to, cycle, ticks in ((3, 1, 7, 11999000), (2, 4, 8, 2000000), (2, 4, 9, 2001000), (1, 2, 11, 11999999)))
+                        for sender, to, cycle, ticks in ((3, 1, 7, 6999000), (2, 4, 8, 2000000), (2, 4, 9, 2001000), (1, 2, 11, 11999999)))
         found = place(PRODUCTION + steps)
         self.assertEqual(found[:3] + found[4:], (1000, 2, 4, 9))
-        arbitrary = edited(("number = 2\n", "number = 2\narbitrary = true\n"), text=PRODUCTION + steps)
-        self.assertEqual(place(arbitrary)[:3], (1000, 3, 1))
+        self.assertEqual(place(PRODUCTION + steps + TWO_FACED)[:3], (1000, 3, 1))
         self.assertIsNone(place(PRODUCTION))
 
 
