@@ -115,6 +115,17 @@ class Flutter(Case):
         self.assertEqual(self.flutter((5, 7000009), text=edited(("key_slot = 1\n", ""), ("coldstart = true", "coldstart = false"),
                                                                 text=without)), 0)
 
+    def test_its_place_is_the_first_row_that_differs_most(self):
+        def place(text):
+            return sharp.greatest_turn(self.cluster(text))
+
+        steps = "".join(f"[[delay]]\nfrom = {sender}\nto = {to}\nticks = {ticks}\nfrom_cycle = {cycle}\n"
+                        for sender, to, cycle, ticks in ((3, 1, 7, 6999000), (2, 4, 8, 2000000), (2, 4, 9, 2001000), (1, 2, 11, 11999999)))
+        found = place(PRODUCTION + steps)
+        self.assertEqual(found[:3] + found[4:], (1000, 2, 4, 9))
+        self.assertEqual(place(PRODUCTION + steps + TWO_FACED)[:3], (1000, 3, 1))
+        self.assertIsNone(place(PRODUCTION))
+
 
     def test_of_which_bounds_a_run_is(self):
         self.assertEqual(sharp.kind_of(self.cluster(PRODUCTION), 5), least.Kind(False, 5, 8))
@@ -187,7 +198,8 @@ class Pages(Case):
         self.assertIn("turn pClusterDriftDamping: it is 0, and with all else as it is C1 asks for 1 at least", page)
         self.assertIn("1. all checks hold with pClusterDriftDamping = 1. Precision 0.750 us; covered yes", page)
         page = self.page(produced(*WALK, ("double_cycles = 60", "double_cycles = 70")) + EVEN_AND_ODD)
-        self.assertIn("for delays that flutter by 0.250 us", page)
+        self.assertRegex(page, r"for delays that flutter by 0.250 us by so much the delay from node \d+ to node \d+ on channel A changes "
+                               "within double cycle 0, at cycle 1; a change at an even cycle is no flutter")
         first = int(re.search(r"In sync yes, from double cycle (\d+) on", page)[1])
         self.assertRegex(page, r"but for lengths that leave their range from double cycle \d+ on")
         self.assertIn("PROVED IN PART, of 62 double cycles from there (620.000 ms), since C1 fails and the rates of all may walk "

@@ -28,3 +28,4 @@ pub mod FilesTraced
 pub mod SharplyJoinedAre
 pub mod TracesFit
 pub mod TracesAre
+pub mod WalkingFilesAre

@@ -71,7 +71,7 @@ narrow : IsSane (cluster_of (on_a 1 ∷ on_a 2 ∷ on_a 3 ∷ on_a 4 ∷ on_a 5 
 unfolding nodes_from
 narrow = cluster_sane false 5 (lit≤ tt) (lit≤ tt)
 
-is_sane : IsSane wide_cluster
+pub is_sane : IsSane wide_cluster
 is_sane =
     let c = narrow.constraints in
     record {
@@ -318,7 +318,7 @@ beside_worked = record {
 -- ---- so the promise speaks of them
 
 -- where the first two cycles are in sharp sync the run is
-begins_longer : (beside : Bool) (p : Values) (flutter : ℕ) (x : Setting) (n : ℕ) → 2 ≤ n → IsUnfollowedSharpSyncAt beside p flutter (cycles_of x 2) 0
+pub begins_longer : (beside : Bool) (p : Values) (flutter : ℕ) (x : Setting) (n : ℕ) → 2 ≤ n → IsUnfollowedSharpSyncAt beside p flutter (cycles_of x 2) 0
     → IsUnfollowedSharpSyncAt beside p flutter (cycles_of x n) 0
 begins_longer beside p flutter x n long u =
     let s = u.synced in

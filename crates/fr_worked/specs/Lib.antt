@@ -21,3 +21,4 @@ pub mod JoinedFiles
 pub mod SharplyJoinedFiles
 pub mod Traces
 pub mod TracedFiles
+pub mod WalkingFiles

@@ -26,6 +26,7 @@ mod laws;
 mod sharply_joined_files;
 mod traces;
 mod uneven;
+mod walking_files;
 
 pub use edge::the_precision_is_reached;
 pub use far::a_far_follower;
@@ -38,6 +39,7 @@ pub use laws::{a_joined_run_keeps_together, a_joined_run_keeps_up, a_joined_run_
 pub use sharply_joined_files::joined_files_keep_their_sharper_precision;
 pub use traces::{a_trace_beside_an_arbitrary_node, a_trace_that_comes_sharp};
 pub use uneven::{an_uneven_run, an_uneven_run_stays_together};
+pub use walking_files::walking_files_keep_while_it_lasts;
 
 /// A law: two clocks that start two and a half microticks apart come within half a microtick.
 pub fn a_run_with_an_offset()

@@ -7,7 +7,7 @@ from typing import TYPE_CHECKING
 
 from .gaps import gap_words, sharp_check_words
 from ..runs.least import least_sharp_damping
-from ..runs.sharp import ends_of, first_of, gap_of, is_covered, is_within, kind_of, lost_of, skew_of
+from ..runs.sharp import ends_of, first_of, gap_of, greatest_turn, is_covered, is_within, kind_of, lost_of, skew_of
 from ..base.units import decimal, lasting, microseconds, percent
 
 if TYPE_CHECKING:
@@ -22,6 +22,16 @@ KINDS = {"alone": "without arbitrary nodes", "beside": "beside arbitrary nodes"}
 
 def kind_words(sharp: Sharp, unit: Fraction) -> str:
     return f"{KINDS[sharp.bounds.kind]}, for delays that flutter by {microseconds(sharp.bounds.flutter, unit)}"
+
+
+def flutter_words(run: Run) -> list[str]:
+    """Which row of delays makes the flutter."""
+    turn, cluster = greatest_turn(run.cluster), run.cluster
+    if turn is None:
+        return []
+    return [f"by so much the delay from node {cluster.called(turn.sender)} to node {cluster.called(turn.receiver)} on channel "
+            f"{turn.channel} changes within double cycle {turn.cycle // 2}, at cycle {turn.cycle}; a change at an even cycle is no "
+            "flutter"]
 
 
 def covered_words(run: Run) -> list[str]:
@@ -113,7 +123,7 @@ def sharp_lines(run: Run, field: Lines, ms_of_cycle: Callable[[int, Cluster], Fr
     found = field("In sync", sync_words(run, ms_of_cycle), *([proved] if proved else []))
     found += field("Covered", *covered_words(run))
     found += field("Precision", f"{microseconds(bounds.precision, unit)} ({decimal(Fraction(bounds.precision, 1000000), 3)} "
-                                f"microticks), {kind_words(run.sharp, unit)}")
+                                f"microticks), {kind_words(run.sharp, unit)}", *flutter_words(run))
     return found + skew_lines(run, field) + losses_lines(run, field)
 
 

@@ -40,16 +40,36 @@ def delay_at(steps: Steps, cycle: int, wait: int) -> int:
     return steps[max(before)] if before else wait
 
 
+class Turn(NamedTuple):
+    """By how many ticks the delay of a link on a channel differs between the two cycles of a double cycle: at the odd one, `cycle`."""
+    ticks: int
+    sender: int
+    receiver: int
+    channel: str
+    cycle: int
+
+
+def greatest_turn(cluster: Cluster) -> Turn | None:
+    """The first of those that differ most, from a correct sync node to another correct node, by sender, receiver, channel and cycle;
+    None where no delay differs."""
+    found = None
+    for (sender, receiver, channel), steps in sorted(cluster.delays.items()):
+        odd = sorted(cycle for cycle in steps if cycle % 2 == 1 and cycle < cluster.cycles)
+        ends = [cluster.nodes[number] for number in (sender, receiver)]
+        if odd and ends[0].key_slot is not None and not any(node.arbitrary for node in ends):
+            wait = ranges.compensation(cluster.parameters, channel) * TICKS
+            for cycle in odd:
+                ticks = abs(steps[cycle] - delay_at(steps, cycle - 1, wait))
+                if ticks > (found.ticks if found else 0):
+                    found = Turn(ticks, sender, receiver, channel, cycle)
+    return found
+
+
 def flutter_of(cluster: Cluster) -> int:
     """By how many ticks a delay of the run differs at most between the two cycles of a double cycle, from a correct sync node
     to another correct node."""
-    found = 0
-    for (sender, _, channel), steps in cluster.delays.items():
-        odd = [cycle for cycle in steps if cycle % 2 == 1 and cycle < cluster.cycles]
-        if odd and cluster.nodes[sender].key_slot is not None:
-            wait = ranges.compensation(cluster.parameters, channel) * TICKS
-            found = max(found, *(abs(steps[cycle] - delay_at(steps, cycle - 1, wait)) for cycle in odd))
-    return found
+    turn = greatest_turn(cluster)
+    return turn.ticks if turn else 0
 
 
 def kind_of(cluster: Cluster, flutter: int) -> Kind:
