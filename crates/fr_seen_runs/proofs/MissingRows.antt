@@ -30,14 +30,13 @@ use Rattle.fr_sightings.specs.declared.sighting.Sighting.{Sighting}
 use Rattle.fr_observe.specs.Faults.{first_of_faults, further_of, other_courses, stated_flutter, unlike_fault}
 use Rattle.fr_observe.specs.Observing.{seen_doubles, senders_of, terms_of}
 use Rattle.fr_observe.specs.declared.fault.Fault.{Fault}
-use Rattle.fr_observe.specs.declared.fault.FaultKind.TheVariants.{Offset, Rate}
 use Rattle.fr_judging.specs.Hearing.{log_heard}
 use Rattle.fr_judging.specs.Knowing.{judged_met, standing_of}
 use Rattle.fr_judging.specs.Missing.{all_missed, least_missed, missed_where, missed_of_term, missed_with, unlike_term}
 use Rattle.fr_judging.specs.declared.knowing.Standing.{Standing}
 use Rattle.fr_judging.specs.declared.missed.Missed.{Missed}
-use Rattle.fr_judging.specs.declared.missed.Term.{Term}
-use Rattle.fr_judging.specs.declared.missed.Term.TheVariants.{OffsetTerm, RateTerm}
+use Rattle.fr_observe.specs.declared.term.Term.{Term}
+use Rattle.fr_observe.specs.declared.term.Term.TheVariants.{Offset, Rate}
 use Rattle.fr_findings.specs.Verdict.{Basis, DoubleCycle, double_at, log_basis, no_progress, own_told, progress_behind, standing_told}
 use Rattle.fr_findings.specs.declared.progress.Progress.{Progress}
 use Rattle.fr_sharp.specs.JudgedSteps.{IsHeardIn}
@@ -169,7 +168,7 @@ module _ (p : Values) (l : LogView) (scale : Scale) (double : ℕ) (senders : Li
       least a b c d le is also = omega (arith, le, is, also)
 
   fault_stays : (kind : Term) (extra least : ℕ) → length senders ≤ suc least → unlike_term kind p l scale double senders s (extra + least) ≡ unlike_term kind p l scale double senders s least
-  fault_stays OffsetTerm extra least few =
+  fault_stays Offset extra least few =
       let value = deviation_seen scale (measuring_of p (stated_flutter p l)) s.course in
       let known = own_value ∷ map value (other_courses senders s.node) in
       ap (unlike_fault Offset (2 * double + 1) s.node (terms_of scale s))
@@ -177,7 +176,7 @@ module _ (p : Values) (l : LogView) (scale : Scale) (double : ℕ) (senders : Li
     where
       less : (a b c : ℕ) → a ≤ b → b ≤ suc c → a ≤ suc c
       less a b c one two = omega (arith, one, two)
-  fault_stays RateTerm extra least few =
+  fault_stays Rate extra least few =
       let m = measuring_of p (stated_flutter p l) in
       let value = rate_value_seen scale m s.course in
       let known = own_value ∷ map value (other_courses senders s.node) in
@@ -283,9 +282,9 @@ module _
     missed_so None none = All-nil IsSo
     missed_so (Some met) j =
         let p = x.params in
-        All-append IsSo (missed_of_term OffsetTerm p l Scaled double Senders) (missed_of_term RateTerm p l Scaled double Senders)
-        (all_given (missed_where OffsetTerm p l Scaled double Senders) IsSo Senders (sender_so met j OffsetTerm))
-        (all_given (missed_where RateTerm p l Scaled double Senders) IsSo Senders (sender_so met j RateTerm))
+        All-append IsSo (missed_of_term Offset p l Scaled double Senders) (missed_of_term Rate p l Scaled double Senders)
+        (all_given (missed_where Offset p l Scaled double Senders) IsSo Senders (sender_so met j Offset))
+        (all_given (missed_where Rate p l Scaled double Senders) IsSo Senders (sender_so met j Rate))
 
 -- ---- a log
 
