@@ -1,4 +1,5 @@
 ghost use Rattle.std.specs.Prelude.{◌≡◌, ◌≤ℤ◌, All, neg_ℤ, pos};
+ghost use Rattle.fr_base.specs.Within.{IsBetween};
 ghost use Rattle.fr_course.specs.Near.{EndWithin, IsNearCourse, IsReadingScale};
 ghost use Rattle.fr_course.specs.Spread.{lengths_apart, starts_apart};
 ghost use Rattle.fr_observe.specs.Faults.{beyond_fault, beyond_with, skew_fault};
@@ -63,14 +64,22 @@ pub enum Apart {
 }
 
 // They lay further apart than a bound.
-fn beyond_with(what: Apart, cycle: u32, bound: i64, seen: &Interval) -> Fault
-    requires { EndWithin (pos 6_200_000_000_000_000_000) seen.now }
+fn beyond_with(what: Apart, cycle: u32, bound: i128, seen: &Interval) -> Fault
+    requires bound { IsBetween (neg_ℤ (pos 9_223_372_036_854_775_808)) (pos 6_200_000_000_000_000_000) bound }
+    requires seen { EndWithin (pos 6_200_000_000_000_000_000) seen.now }
     ensures { result ≡ beyond_with what cycle bound seen.now }
 {
-    let (apart, most) = (Range::of(seen), bound);
     match what {
-        Apart::Starts => Fault::Start { cycle, apart, most },
-        Apart::Lengths => Fault::Lengths { cycle, apart, most },
+        Apart::Starts => Fault::Start {
+            cycle,
+            apart: Range::of(seen),
+            most: bound as i64,
+        },
+        Apart::Lengths => Fault::Lengths {
+            cycle,
+            apart: Range::of(seen),
+            most: bound as i64,
+        },
     }
 }
 
@@ -81,7 +90,7 @@ fn beyond_fault(what: Apart, cycle: u32, bound: i128, seen: &Interval) -> Option
     ensures { result ≡ beyond_fault what cycle bound seen.now }
 {
     if bound < seen.low {
-        Some(beyond_with(what, cycle, bound as i64, seen))
+        Some(beyond_with(what, cycle, bound, seen))
     } else {
         None
     }

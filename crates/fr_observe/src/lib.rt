@@ -15,7 +15,7 @@ mod slot_faults;
 mod telling;
 mod term;
 
-pub use apart_faults::{put_apart, put_skews};
+pub use apart_faults::{Apart, put_apart, put_skews};
 pub use fault::{Fault, LogSpan, Range, known_node};
 pub use missing::put_missing;
 pub use own_faults::put_own_faults;
