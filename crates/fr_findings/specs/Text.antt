@@ -5,7 +5,7 @@ use Rattle.std.specs.Fmt.{decimal, signed_decimal}
 use Rattle.fr_cluster.specs.Values.{Values}
 use Rattle.fr_log.specs.View.{LogView}
 use Rattle.fr_findings.specs.Census.{census_text}
-use Rattle.fr_observe.specs.Faults.{kind_word, stated_flutter}
+use Rattle.fr_observe.specs.Faults.{fault_cycle, fault_node, fault_word, stated_flutter}
 use Rattle.fr_judging.specs.Obstacles.{obstacle_word}
 use Rattle.fr_findings.specs.Counting.{cycles_told, log_row}
 use Rattle.fr_observe.specs.Observing.{known_count, precision_row, row, seen_doubles}
@@ -71,7 +71,7 @@ sync_row progress =
 abbrev pub verdict_row : Verdict → List ℕ
 verdict_row (verdict.No fault) =
     row (codes "verdict")
-    (codes "no" ∷ decimal fault.cycle ∷ kind_word fault.kind ∷ known_count fault.node ∷ [] ∷ [] ∷ [] ∷ [])
+    (codes "no" ∷ decimal (fault_cycle fault) ∷ fault_word fault ∷ known_count (fault_node fault) ∷ [] ∷ [] ∷ [] ∷ [])
 verdict_row (verdict.Over first count) =
     row (codes "verdict")
     (codes "over" ∷ decimal first.cycle ∷ signed_decimal first.low ∷ decimal count ∷ [] ∷ [] ∷ [] ∷ [])

@@ -211,9 +211,9 @@ fn no_row(fault: &Fault) -> Line
         b"verdict",
         &[
             Word(b"no"),
-            Natural(u64::from(fault.cycle)),
-            Word(fault.kind.word()),
-            known_node(fault.node),
+            Natural(u64::from(fault.cycle())),
+            Word(fault.word()),
+            known_node(fault.node()),
             Word(b""),
             Word(b""),
             Word(b""),

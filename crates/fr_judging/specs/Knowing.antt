@@ -21,7 +21,7 @@ use Rattle.fr_observe.specs.Observing.{courses_of, even_high, even_low, odd_high
 use Rattle.fr_judging.specs.Hearing.{log_unheard, synced_with}
 use Rattle.fr_judging.specs.Obstacles.{faulty, first_unseen, of_several}
 use Rattle.fr_observe.specs.declared.fault.Fault.{Fault}
-use Rattle.fr_observe.specs.declared.fault.FaultKind.TheVariants.{Lengths, Start}
+use Rattle.fr_observe.specs.declared.apart_faults.Apart.TheVariants.{Lengths, Starts}
 use Rattle.fr_observe.specs.declared.fault.LogSpan.{LogSpan}
 use Rattle.fr_judging.specs.declared.knowing.Standing.{Standing}
 use Rattle.fr_judging.specs.declared.obstacle.Obstacle.{Obstacle}
@@ -143,7 +143,7 @@ judged_skews p l scale double senders what (Some met) =
 unfoldable pub known_apart : Values → Scale → ℕ → List Sender → Option Known → List Fault
 known_apart p scale double senders None = []
 known_apart p scale double senders (Some known) =
-    option_to_list (beyond_fault Start (2 * double) (pos known.spread.starts) (starts_apart scale (courses_of senders)))
+    option_to_list (beyond_fault Starts (2 * double) (pos known.spread.starts) (starts_apart scale (courses_of senders)))
     ++ option_to_list (beyond_fault Lengths (2 * double) (pos known.spread.lengths) (lengths_apart scale (courses_of senders)))
     ++ filter_map (length_beyond p scale known.beyond double) senders
 

@@ -7,21 +7,19 @@ use Rattle.fr_cluster.specs.Values.{Values}
 use Rattle.fr_log.specs.View.{LogView}
 use Rattle.fr_course.specs.declared.scales.Scale.{Scale}
 use Rattle.fr_sightings.specs.declared.sender.Sender.{Sender}
-use Rattle.fr_observe.specs.Faults.{kind_word, offset_fault, rate_fault}
+use Rattle.fr_observe.specs.Faults.{offset_fault, rate_fault, term_word}
 use Rattle.fr_observe.specs.Observing.{known_count, row}
 use Rattle.fr_observe.specs.declared.fault.Fault.{Fault}
-use Rattle.fr_observe.specs.declared.fault.FaultKind.{FaultKind}
-use Rattle.fr_observe.specs.declared.fault.FaultKind.TheVariants.{Offset, Rate}
+use Rattle.fr_observe.specs.declared.term.Term.{Term}
+use Rattle.fr_observe.specs.declared.term.Term.TheVariants as term
 use Rattle.fr_judging.specs.Knowing.{judged_met}
 use Rattle.fr_judging.specs.declared.knowing.Standing.{Standing}
 use Rattle.fr_judging.specs.declared.missed.Missed.{Missed}
-use Rattle.fr_judging.specs.declared.missed.Term.{Term}
-use Rattle.fr_judging.specs.declared.missed.Term.TheVariants as term
 
 -- what contradicts a term of a sender that missed at most so many of the others
 abbrev pub unlike_term : Term → Values → LogView → Scale → ℕ → List Sender → Sender → ℕ → Option Fault
-unlike_term term.OffsetTerm p l scale double senders s lost = offset_fault p l scale double senders lost s
-unlike_term term.RateTerm p l scale double senders s lost = rate_fault p l scale double senders lost s
+unlike_term term.Offset p l scale double senders s lost = offset_fault p l scale double senders lost s
+unlike_term term.Rate p l scale double senders s lost = rate_fault p l scale double senders lost s
 
 -- the least number that nothing contradicts, none where each is contradicted: it can't have missed more than all others
 abbrev pub least_missed : Term → Values → LogView → Scale → ℕ → List Sender → Sender → Option ℕ
@@ -46,17 +44,13 @@ missed_of_term what p l scale double senders = filter_map (missed_where what p l
 abbrev pub all_missed : Values → LogView → Scale → ℕ → List Sender → Option Known → List Missed
 all_missed p l scale double senders None = []
 all_missed p l scale double senders (Some met) =
-    missed_of_term term.OffsetTerm p l scale double senders ++ missed_of_term term.RateTerm p l scale double senders
+    missed_of_term term.Offset p l scale double senders ++ missed_of_term term.Rate p l scale double senders
 
 -- as records
-abbrev pub term_kind : Term → FaultKind
-term_kind term.OffsetTerm = Offset
-term_kind term.RateTerm = Rate
-
 unfoldable pub missed_row : Missed → List ℕ
 missed_row m =
     row (codes "missed")
-    (decimal m.cycle ∷ decimal m.node ∷ kind_word (term_kind m.term) ∷ known_count m.least ∷ [] ∷ [] ∷ [] ∷ [])
+    (decimal m.cycle ∷ decimal m.node ∷ term_word m.term ∷ known_count m.least ∷ [] ∷ [] ∷ [] ∷ [])
 
 unfoldable pub missed_told : Values → LogView → Scale → ℕ → List Sender → Standing → List ℕ
 missed_told p l scale double senders st = flat_map missed_row (all_missed p l scale double senders (judged_met st))

@@ -7,7 +7,7 @@ use Rattle.fr_cluster.specs.declared.nodes.NodeSpec.{NodeSpec}
 use Rattle.fr_log.specs.View.{LogView}
 use Rattle.fr_sightings.specs.Senders.{seen_box}
 use Rattle.fr_sightings.specs.declared.sighting.Sighting.{Sighting}
-use Rattle.fr_observe.specs.Faults.{is_seen_whole}
+use Rattle.fr_observe.specs.Faults.{fault_cycle, fault_node, is_seen_whole}
 use Rattle.fr_observe.specs.declared.fault.Fault.{Fault}
 use Rattle.fr_judging.specs.declared.obstacle.Obstacle.{Obstacle}
 use Rattle.fr_judging.specs.declared.obstacle.ObstacleKind.{ObstacleKind}
@@ -51,7 +51,7 @@ first_unseen l here double nodes = fold (or_unseen l here double) None nodes
 -- the first fault that is told always
 abbrev pub faulty : Option Fault → Option Obstacle
 faulty None = None
-faulty (Some fault) = Some (record { kind = obstacle.Fault; cycle = Some fault.cycle; node = fault.node })
+faulty (Some fault) = Some (record { kind = obstacle.Fault; cycle = Some (fault_cycle fault); node = fault_node fault })
 
 -- its starts and lengths may lie so far apart that a check fails, or so far beyond their range that the rate limit can't follow
 abbrev pub of_several : ObstacleKind → ℕ → Option Obstacle

@@ -12,7 +12,7 @@ mod unseen;
 
 pub use hearing::{heard, yardstick};
 pub use knowing::Standing;
-pub use missed::{Missed, Term, put_missed};
+pub use missed::{Missed, put_missed};
 pub use obstacle::{Obstacle, ObstacleKind};
 pub use standing_faults::{put_moving_faults, put_spread, put_term_faults};
 pub use standings::{known_next, standing};

@@ -6,21 +6,14 @@ ghost use Rattle.std.specs.Option.{option_to_list};
 ghost use Rattle.fr_text.specs.Pieces.{Spells};
 ghost use Rattle.fr_observe.specs.Observing.{known_count};
 ghost use Rattle.fr_observe.specs.Scenes.{IsScene};
-ghost use Rattle.fr_judging.specs.Missing.{least_missed, missed_if_any, missed_where, missed_of_term, missed_row, missed_told, unlike_term, term_kind};
+ghost use Rattle.fr_judging.specs.Missing.{least_missed, missed_if_any, missed_where, missed_of_term, missed_row, missed_told, unlike_term};
 
 use crate::knowing::{Standing, judged_met};
 use fr_base::{NodeId, PutFault, Sink};
-use fr_observe::{Asked, Fault, FaultKind, Scene, sender_fault};
+use fr_observe::{Asked, Fault, Scene, Term, sender_fault};
 use fr_sightings::Sender;
 use fr_text::Piece::{Natural, Word};
 use fr_text::{Line, Piece, put_line, row_of};
-
-/// A correction term.
-#[derive(Clone, Copy, Debug, PartialEq, Eq)]
-pub enum Term {
-    OffsetTerm,
-    RateTerm,
-}
 
 /// How many senders a node must have missed in a double cycle.
 #[derive(Clone, Copy, Debug, PartialEq, Eq)]
@@ -43,10 +36,7 @@ fn unlike_term(term: Term, scene: &Scene<'_>, sender: &Sender, lost: usize) -> O
     ensures { result ≡ unlike_term term scene.now.params.now scene.now.log.now scene.now.scale.now scene.now.number
         scene.now.senders.now sender.now lost }
 {
-    match term {
-        Term::OffsetTerm => sender_fault(Asked::Offset(lost), scene, sender),
-        Term::RateTerm => sender_fault(Asked::Rate(lost), scene, sender),
-    }
+    sender_fault(Asked::Term(term, lost), scene, sender)
 }
 
 // The least number that nothing contradicts.
@@ -92,15 +82,6 @@ fn missed_where(term: Term, scene: &Scene<'_>, sender: &Sender) -> Option<Missed
     missed_if_any(term, scene.number, sender.node, least)
 }
 
-fn term_kind(term: Term) -> FaultKind
-    ensures { result ≡ term_kind term }
-{
-    match term {
-        Term::OffsetTerm => FaultKind::Offset,
-        Term::RateTerm => FaultKind::Rate,
-    }
-}
-
 fn known_number(number: Option<u64>) -> Piece<'static>
     ensures { Spells result (known_count number) 20 }
 {
@@ -119,7 +100,7 @@ fn missed_row(missed: &Missed) -> Line
         &[
             Natural(u64::from(missed.cycle)),
             Natural(u64::from(missed.node.0)),
-            Word(term_kind(missed.term).word()),
+            Word(missed.term.word()),
             known_number(missed.least),
             Word(b""),
             Word(b""),
@@ -150,13 +131,13 @@ fn put_of_term<O: Sink>(term: Term, scene: &Scene<'_>, out: &mut O) -> Result<()
 
 fn put_both<O: Sink>(scene: &Scene<'_>, out: &mut O) -> Result<(), PutFault>
     requires { IsScene scene.now }
-    ensures { Puts result (O.state out.old) (O.state out.new) (flat_map missed_row (missed_of_term Term.OffsetTerm
+    ensures { Puts result (O.state out.old) (O.state out.new) (flat_map missed_row (missed_of_term Term.Offset
         scene.now.params.now scene.now.log.now scene.now.scale.now scene.now.number scene.now.senders.now
-        ++ missed_of_term Term.RateTerm scene.now.params.now scene.now.log.now scene.now.scale.now scene.now.number
+        ++ missed_of_term Term.Rate scene.now.params.now scene.now.log.now scene.now.scale.now scene.now.number
         scene.now.senders.now)) }
 {
-    put_of_term(Term::OffsetTerm, scene, out)?;
-    put_of_term(Term::RateTerm, scene, out)
+    put_of_term(Term::Offset, scene, out)?;
+    put_of_term(Term::Rate, scene, out)
 }
 
 /// Puts how many senders a node of a double cycle that stands so must have missed, in which it is judged, where it must have

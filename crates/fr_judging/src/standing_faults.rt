@@ -1,7 +1,7 @@
 ghost use Rattle.std.specs.Prelude.{◌≡◌, ◌++◌, IfSome, Some, filter_map, pos};
 ghost use Rattle.fr_base.specs.Device.{Puts};
 ghost use Rattle.fr_bound.specs.Judged.{IsSmall};
-ghost use Rattle.fr_observe.specs.Faults.{length_beyond, missing_frames, offset_fault, rate_fault};
+ghost use Rattle.fr_observe.specs.Faults.{length_beyond, offset_fault, rate_fault};
 ghost use Rattle.fr_judging.specs.Knowing.{JudgedBySmall, judged_skews, judged_terms, known_apart, known_missing, moving_faults, moving_heard, spread_heard, spread_row, spread_told, term_faults};
 ghost use Rattle.fr_observe.specs.Scenes.{IsScene};
 ghost use Rattle.fr_observe.specs.Telling.{TellsFaults, apart_faults, skew_faults};
@@ -12,7 +12,7 @@ use fr_bound::{Heard, Known, apart_through};
 use fr_cluster::Params;
 use fr_log::Log;
 use fr_observe::{
-    Asked, Fault, Scene, put_apart, put_missing, put_of_senders, put_skews, stated_flutter,
+    Asked, Fault, Scene, Term, put_apart, put_missing, put_of_senders, put_skews, stated_flutter,
 };
 use fr_text::Piece::{Natural, Word};
 use fr_text::{Line, put_line, row_of};
@@ -148,8 +148,8 @@ fn put_terms<O: Sink>(
         scene.now.senders.now scene.now.log.now.lost) scene.now.senders.now) }
 {
     let lost = scene.log.lost() as usize;
-    put_of_senders(Asked::Offset(lost), scene, first, out)?;
-    put_of_senders(Asked::Rate(lost), scene, first, out)
+    put_of_senders(Asked::Term(Term::Offset, lost), scene, first, out)?;
+    put_of_senders(Asked::Term(Term::Rate, lost), scene, first, out)
 }
 
 #[tactic(auto, unfolding(crate::specs::Knowing::judged_terms))]
@@ -171,28 +171,6 @@ fn put_judged_terms<O: Sink>(
 }
 
 // The frames that are missing.
-fn put_missing_in<O: Sink>(
-    scene: &Scene<'_>,
-    first: &mut Option<Fault>,
-    out: &mut O,
-) -> Result<(), PutFault>
-    requires { IsScene scene.now }
-    ensures { TellsFaults result (O.state out.old) (O.state out.new) first.old first.new
-        (missing_frames scene.now.params.now scene.now.log.now scene.now.span scene.now.before.now scene.now.here.now
-        scene.now.number) }
-{
-    let Scene {
-        params,
-        log,
-        span,
-        before,
-        here,
-        number,
-        ..
-    } = *scene;
-    put_missing(params, log, &span, before, here, number, first, out)
-}
-
 #[tactic(auto, unfolding(crate::specs::Knowing::known_missing))]
 fn put_known_missing<O: Sink>(
     scene: &Scene<'_>,
@@ -207,7 +185,7 @@ fn put_known_missing<O: Sink>(
 {
     match known {
         None => Ok(()),
-        Some(_) => put_missing_in(scene, first, out),
+        Some(_) => put_missing(scene, first, out),
     }
 }
 

@@ -104,8 +104,8 @@ pub(crate) fn faulty(told: Option<Fault>) -> Option<Obstacle>
         None => None,
         Some(fault) => Some(Obstacle {
             kind: ObstacleKind::Fault,
-            cycle: Some(fault.cycle),
-            node: fault.node,
+            cycle: Some(fault.cycle()),
+            node: fault.node(),
         }),
     }
 }

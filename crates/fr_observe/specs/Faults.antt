@@ -1,7 +1,7 @@
 -- Contradictions of a log: what no lawful run can have given of which the log is seen, with oscillators within what is stated;
 -- and what none can have given that is as the log states, in a double cycle that is judged.
-use Rattle.std.specs.Prelude.{◌≡◌, ℕ, ◌+◌, ◌-◌, ◌*◌, ◌==◌, ◌&&◌, ◌||◌, not, nat_lt, ℤ, pos, neg_ℤ, ◌+ℤ◌, ◌-ℤ◌, int_lt, Bool, true, false, List, [], ◌∷◌, ◌++◌, codes, length, map, filter_map, count_by, Option, Some, None, is_some, unwrap_or, if◌then◌else◌}
-use Rattle.std.specs.Fmt.{decimal}
+use Rattle.std.specs.Prelude.{◌≡◌, ◌≤◌, ℕ, ◌+◌, ◌-◌, ◌*◌, ◌==◌, ◌&&◌, ◌||◌, not, nat_lt, ℤ, pos, neg_ℤ, ◌+ℤ◌, ◌-ℤ◌, int_lt, Bool, true, false, List, [], ◌∷◌, ◌++◌, codes, length, map, filter_map, count_by, Option, Some, None, is_some, unwrap_or, if◌then◌else◌}
+use Rattle.std.specs.Fmt.{decimal, signed_decimal}
 use Rattle.std.specs.List.{filter, flat_map, list_any}
 use Rattle.std.specs.Option.{option_and_then, option_map, option_to_list}
 use Rattle.fr_base.specs.Channels.{letter}
@@ -13,8 +13,10 @@ use Rattle.fr_cluster.specs.Values.{Values, amount}
 use Rattle.fr_cluster.specs.declared.names.ParamName.TheVariants as name
 use Rattle.fr_cluster.specs.declared.nodes.NodeSpec.{NodeSpec}
 use Rattle.fr_log.specs.View.{LogView, is_arbitrary_in}
+use Rattle.fr_text.specs.Pieces.{room_of_all, spelling}
+use Rattle.fr_text.specs.declared.piece.Piece.{Piece}
 use Rattle.fr_course.specs.Computed.{length_ticks, measuring_of, offset_computed, rate_computed}
-use Rattle.fr_course.specs.Course.{apart_by, is_empty, seen_apart}
+use Rattle.fr_course.specs.Course.{allowed, apart_by, is_empty, seen_apart}
 use Rattle.fr_course.specs.Terms.{rate_step_seen}
 use Rattle.fr_course.specs.declared.courses.Course.{Course}
 use Rattle.fr_course.specs.declared.intervals.Interval.{Interval}
@@ -24,48 +26,51 @@ use Rattle.fr_sightings.specs.declared.sender.Sender.{Sender}
 use Rattle.fr_sightings.specs.declared.sighting.Sighting.{Sighting}
 use Rattle.fr_observe.specs.Observing.{courses_of, known, known_count, row, terms_of}
 use Rattle.fr_observe.specs.declared.fault.Fault.{Fault}
-use Rattle.fr_observe.specs.declared.fault.FaultKind.{FaultKind}
-use Rattle.fr_observe.specs.declared.fault.FaultKind.TheVariants.{Channels, Limit, Correction, Twice, Cycle, Stranger, Form, Skew, Start, Lengths, Length, Offset, Rate, Missing}
+use Rattle.fr_observe.specs.declared.fault.Fault.TheVariants as fault
 use Rattle.fr_observe.specs.declared.fault.LogSpan.{LogSpan}
+use Rattle.fr_observe.specs.declared.fault.Range.{Range}
+use Rattle.fr_observe.specs.declared.apart_faults.Apart.{Apart}
+use Rattle.fr_observe.specs.declared.apart_faults.Apart.TheVariants as apart
+use Rattle.fr_observe.specs.declared.term.Term.{Term}
+use Rattle.fr_observe.specs.declared.term.Term.TheVariants as term
 
--- whether a kind is a contradiction only of runs that are as the log states
-abbrev pub asks_judged : FaultKind → Bool
-asks_judged Channels = false
-asks_judged Limit = false
-asks_judged Correction = false
-asks_judged Twice = false
-asks_judged Cycle = false
-asks_judged Stranger = false
-asks_judged Form = false
-asks_judged Skew = true
-asks_judged Start = true
-asks_judged Lengths = true
-asks_judged Length = true
-asks_judged Offset = true
-asks_judged Rate = true
-asks_judged Missing = true
+-- the numbers from one limit to the other
+abbrev pub range_of : Interval → Range
+range_of limits = record { low = limits.low; high = limits.high }
 
--- whether a kind is a contradiction only where each whole frame in the slot of a node is one that it sends
-abbrev pub asks_own_slots : FaultKind → Bool
-asks_own_slots Channels = false
-asks_own_slots Limit = false
-asks_own_slots Correction = false
-asks_own_slots Twice = false
-asks_own_slots Cycle = false
-asks_own_slots Stranger = true
-asks_own_slots Form = true
-asks_own_slots Skew = false
-asks_own_slots Start = false
-asks_own_slots Lengths = false
-asks_own_slots Length = false
-asks_own_slots Offset = false
-asks_own_slots Rate = false
-asks_own_slots Missing = false
+-- whether one is a contradiction only of runs that are as the log states
+abbrev pub asks_judged : Fault → Bool
+asks_judged (fault.Channels cycle node point) = false
+asks_judged (fault.Limit cycle node apart allowed) = false
+asks_judged (fault.Correction cycle node seen allowed) = false
+asks_judged (fault.Twice cycle node ch stamp first) = false
+asks_judged (fault.Cycle cycle node ch stamp count) = false
+asks_judged (fault.Stranger cycle node ch stamp slot) = false
+asks_judged (fault.Form cycle node ch stamp slot) = false
+asks_judged (fault.Skew cycle low high most) = true
+asks_judged (fault.Start cycle apart most) = true
+asks_judged (fault.Lengths cycle apart most) = true
+asks_judged (fault.Length cycle node long allowed) = true
+asks_judged (fault.Offset cycle node seen due) = true
+asks_judged (fault.Rate cycle node step due) = true
+asks_judged (fault.Missing cycle node ch) = true
 
--- one without a channel
-abbrev pub plain_fault : ℕ → Option ℕ → FaultKind → Option ℤ → Option ℤ → Option ℤ → Option ℤ → Fault
-plain_fault cycle node kind low high from to =
-    record { cycle = cycle; node = node; kind = kind; channel = None; low = low; high = high; from = from; to = to }
+-- whether one is a contradiction only where each whole frame in the slot of a node is one that it sends
+abbrev pub asks_own_slots : Fault → Bool
+asks_own_slots (fault.Channels cycle node point) = false
+asks_own_slots (fault.Limit cycle node apart allowed) = false
+asks_own_slots (fault.Correction cycle node seen allowed) = false
+asks_own_slots (fault.Twice cycle node ch stamp first) = false
+asks_own_slots (fault.Cycle cycle node ch stamp count) = false
+asks_own_slots (fault.Stranger cycle node ch stamp slot) = true
+asks_own_slots (fault.Form cycle node ch stamp slot) = true
+asks_own_slots (fault.Skew cycle low high most) = false
+asks_own_slots (fault.Start cycle apart most) = false
+asks_own_slots (fault.Lengths cycle apart most) = false
+asks_own_slots (fault.Length cycle node long allowed) = false
+asks_own_slots (fault.Offset cycle node seen due) = false
+asks_own_slots (fault.Rate cycle node step due) = false
+asks_own_slots (fault.Missing cycle node ch) = false
 
 -- whether there are none, and the first of some
 abbrev pub is_nil : List Fault → Bool
@@ -82,12 +87,11 @@ first_of_faults (fault ∷ faults) = Some fault
 abbrev pub box_fault : ℕ → ℕ → Option Interval → Option Fault
 box_fault cycle node None = None
 box_fault cycle node (Some box) =
-    if is_empty box then Some (plain_fault cycle (Some node) Channels (Some box.low) (Some box.high) None None) else None
+    if is_empty box then Some (fault.Channels cycle node (range_of box)) else None
 
 -- both of its action points in a double cycle lie somewhere, but so far apart as no cycle is long
 abbrev pub limit_with : Scale → ℕ → ℕ → Interval → Fault
-limit_with scale cycle node apart =
-    plain_fault cycle (Some node) Limit (Some apart.low) (Some apart.high) (Some scale.length_from) (Some scale.length_to)
+limit_with scale cycle node apart = fault.Limit cycle node (range_of apart) (range_of (allowed scale))
 
 abbrev pub limit_fault : Scale → ℕ → ℕ → Option Interval → Option Interval → Option Interval → Option Fault
 limit_fault scale cycle node None odd span = None
@@ -113,30 +117,21 @@ abbrev pub node_faults : Scale → LogView → List Sighting → ℕ → NodeSpe
 node_faults scale l here double node = if is_some (own_slot l node) then clock_faults scale l here double node.id else []
 
 -- the offset term that was seen is none that the limits allow
+abbrev pub allowed_terms : Values → Range
+allowed_terms p = record { low = neg_ℤ p.offset_limit; high = p.offset_limit }
+
 abbrev pub term_fault : Values → ℕ → ℕ → Interval → Option Fault
-term_fault p cycle node term =
-    if is_empty term || int_lt p.offset_limit term.low || int_lt term.high (neg_ℤ p.offset_limit)
-    then Some (
-    plain_fault cycle (Some node) Correction (Some term.low) (Some term.high) (Some (neg_ℤ p.offset_limit)) (Some p.offset_limit)
-    )
+term_fault p cycle node seen =
+    if is_empty seen || int_lt p.offset_limit seen.low || int_lt seen.high (neg_ℤ p.offset_limit)
+    then Some (fault.Correction cycle node (range_of seen) (allowed_terms p))
     else None
 
 abbrev pub correction_fault : Values → Scale → ℕ → Sender → Option Fault
 correction_fault p scale double s = option_and_then (term_fault p (2 * double + 1) s.node) (terms_of scale s)
 
--- a frame is there twice, with two stamps: B is its stamp, C that of the first one
+-- a frame is there twice, with two stamps
 abbrev pub twice_with : Sighting → ℕ → Fault
-twice_with s first =
-    record {
-      cycle = s.number;
-      node = Some s.node;
-      kind = Twice;
-      channel = Some s.channel;
-      low = None;
-      high = Some (pos s.stamp);
-      from = Some (pos first);
-      to = None;
-    }
+twice_with s first = fault.Twice s.number s.node s.channel (pos s.stamp) (pos first)
 
 abbrev pub twice_by : Sighting → Option ℕ → Option Fault
 twice_by s None = None
@@ -149,38 +144,17 @@ twice_fault here s = twice_by s (first_stamp here s.node s.channel s.number)
 abbrev pub IsFirst : List Sighting → Sighting → Type 0
 IsFirst here s = first_stamp here s.node s.channel s.number ≡ Some s.stamp
 
--- a frame comes at another time than its cycle count says: B is its stamp, C its cycle count; the cycle is that of the
--- sighting before it
+-- a frame comes at another time than its cycle count says; the cycle is that of the sighting before it
 abbrev pub cycle_fault : Sighting → Fault
-cycle_fault s =
-    record {
-      cycle = s.number;
-      node = Some s.node;
-      kind = Cycle;
-      channel = Some s.channel;
-      low = None;
-      high = Some (pos s.stamp);
-      from = Some (pos s.count);
-      to = None;
-    }
+cycle_fault s = fault.Cycle s.number s.node s.channel (pos s.stamp) s.count
 
--- a frame is in the slot of a node that does not send it: on a channel that the node does not have, or of another form than the
--- node's frames in that slot. B is its stamp, C its slot; the cycle is that of the sighting before it
-abbrev pub irregular_kind : Values → Sighting → FaultKind
-irregular_kind p s = if has_channel (node_of p s.node) s.channel then Form else Stranger
-
+-- a frame is in the slot of a node that does not send it: of another form than the node's frames in that slot, or on a channel that
+-- the node does not have. The cycle is that of the sighting before it
 abbrev pub irregular_fault : Values → Sighting → Fault
 irregular_fault p s =
-    record {
-      cycle = s.number;
-      node = Some s.node;
-      kind = irregular_kind p s;
-      channel = Some s.channel;
-      low = None;
-      high = Some (pos s.stamp);
-      from = Some (pos s.slot);
-      to = None;
-    }
+    if has_channel (node_of p s.node) s.channel
+    then fault.Form s.number s.node s.channel (pos s.stamp) s.slot
+    else fault.Stranger s.number s.node s.channel (pos s.stamp) s.slot
 
 -- what contradicts any run that sends each whole frame of the log in the slot of a node
 unfoldable pub slot_faults : Values → List Sighting → List Fault
@@ -218,21 +192,21 @@ stated_flutter p l = unwrap_or l.flutter (2 * amount p name.xDelayError)
 
 -- the skew was certainly greater than a bound
 abbrev pub skew_fault : ℤ → ℕ → ℤ → Option ℤ → Option Fault
-skew_fault bound cycle low high =
-    if int_lt bound low then Some (plain_fault cycle None Skew (Some low) high None (Some bound)) else None
+skew_fault bound cycle low high = if int_lt bound low then Some (fault.Skew cycle low high bound) else None
 
 -- starts, or lengths, certainly lay further apart than a bound
-abbrev pub beyond_fault : FaultKind → ℕ → ℤ → Interval → Option Fault
-beyond_fault kind cycle bound apart =
-    if int_lt bound apart.low
-    then Some (plain_fault cycle None kind (Some apart.low) (Some apart.high) None (Some bound))
-    else None
+abbrev pub beyond_with : Apart → ℕ → ℤ → Interval → Fault
+beyond_with apart.Starts cycle bound seen = fault.Start cycle (range_of seen) bound
+beyond_with apart.Lengths cycle bound seen = fault.Lengths cycle (range_of seen) bound
+
+abbrev pub beyond_fault : Apart → ℕ → ℤ → Interval → Option Fault
+beyond_fault what cycle bound seen = if int_lt bound seen.low then Some (beyond_with what cycle bound seen) else None
 
 -- a length is certainly none of an oscillator within its bounds
 abbrev pub length_fault_by : ℕ → ℕ → ℤ → ℤ → Interval → Option Fault
 length_fault_by cycle node least most long =
     if int_lt most long.low || int_lt long.high least
-    then Some (plain_fault cycle (Some node) Length (Some long.low) (Some long.high) (Some least) (Some most))
+    then Some (fault.Length cycle node (range_of long) (record { low = least; high = most }))
     else None
 
 -- a length is certainly none of an oscillator within its bounds that walked so far beyond its range
@@ -242,16 +216,16 @@ length_beyond p scale beyond double s =
     (length_ticks scale s.course)
 
 -- what was seen of a term, and what the node must have computed, have no number in common
-abbrev pub unlike_with : FaultKind → ℕ → ℕ → Interval → Interval → Fault
-unlike_with kind cycle node seen computed =
-    plain_fault cycle (Some node) kind (Some seen.low) (Some seen.high) (Some computed.low) (Some computed.high)
+abbrev pub unlike_with : Term → ℕ → ℕ → Interval → Interval → Fault
+unlike_with term.Offset cycle node seen computed = fault.Offset cycle node (range_of seen) (range_of computed)
+unlike_with term.Rate cycle node seen computed = fault.Rate cycle node (range_of seen) (range_of computed)
 
-abbrev pub unlike_fault : FaultKind → ℕ → ℕ → Option Interval → Option Interval → Option Fault
-unlike_fault kind cycle node None computed = None
-unlike_fault kind cycle node (Some seen) None = None
-unlike_fault kind cycle node (Some seen) (Some computed) =
+abbrev pub unlike_fault : Term → ℕ → ℕ → Option Interval → Option Interval → Option Fault
+unlike_fault what cycle node None computed = None
+unlike_fault what cycle node (Some seen) None = None
+unlike_fault what cycle node (Some seen) (Some computed) =
     if int_lt seen.high computed.low || int_lt computed.high seen.low
-    then Some (unlike_with kind cycle node seen computed)
+    then Some (unlike_with what cycle node seen computed)
     else None
 
 -- the courses of the other senders; how many further sync nodes may have been heard
@@ -274,33 +248,20 @@ rate_due p l scale senders lost s =
 -- neither was seen so
 abbrev pub offset_fault : Values → LogView → Scale → ℕ → List Sender → ℕ → Sender → Option Fault
 offset_fault p l scale double senders lost s =
-    unlike_fault Offset (2 * double + 1) s.node (terms_of scale s) (offset_due p l scale senders lost s)
+    unlike_fault term.Offset (2 * double + 1) s.node (terms_of scale s) (offset_due p l scale senders lost s)
 
 abbrev pub rate_fault : Values → LogView → Scale → ℕ → List Sender → ℕ → Sender → Option Fault
 rate_fault p l scale double senders lost s =
-    unlike_fault Rate (2 * double + 1) s.node (option_map (rate_step_seen scale s.course) s.next) (rate_due p l scale senders lost s)
+    unlike_fault term.Rate (2 * double + 1) s.node (option_map (rate_step_seen scale s.course) s.next) (rate_due p l scale senders lost s)
 
 -- no frame of a node is there that must have been: it sent in the double cycle before, and the observer missed none between the first
 -- and the last sighting of the log
 abbrev pub is_inside : LogSpan → ℕ → Bool
 is_inside span cycle = nat_lt span.first cycle && nat_lt cycle span.last
 
-abbrev pub missing_with : ℕ → ℕ → Channel → Fault
-missing_with cycle node ch =
-    record {
-      cycle = cycle;
-      node = Some node;
-      kind = Missing;
-      channel = Some ch;
-      low = None;
-      high = None;
-      from = None;
-      to = None;
-    }
-
 abbrev pub missing_on : LogSpan → List Sighting → ℕ → ℕ → Channel → Option Fault
 missing_on span here cycle node ch =
-    if is_inside span cycle && not (is_some (first_stamp here node ch cycle)) then Some (missing_with cycle node ch) else None
+    if is_inside span cycle && not (is_some (first_stamp here node ch cycle)) then Some (fault.Missing cycle node ch) else None
 
 -- on a channel that the node has
 abbrev pub missing_by : LogSpan → List Sighting → ℕ → NodeSpec → Channel → Option Fault
@@ -327,31 +288,93 @@ missing_frames p l span before here double = if l.whole then flat_map (node_miss
 
 -- ---- as records
 
-abbrev pub kind_word : FaultKind → List ℕ
-kind_word Channels = codes "channels"
-kind_word Limit = codes "limit"
-kind_word Correction = codes "correction"
-kind_word Twice = codes "twice"
-kind_word Cycle = codes "cycle"
-kind_word Stranger = codes "stranger"
-kind_word Form = codes "form"
-kind_word Skew = codes "skew"
-kind_word Start = codes "start"
-kind_word Lengths = codes "lengths"
-kind_word Length = codes "length"
-kind_word Offset = codes "offset"
-kind_word Rate = codes "rate"
-kind_word Missing = codes "missing"
+abbrev pub fault_cycle : Fault → ℕ
+fault_cycle (fault.Channels cycle node point) = cycle
+fault_cycle (fault.Limit cycle node apart allowed) = cycle
+fault_cycle (fault.Correction cycle node seen allowed) = cycle
+fault_cycle (fault.Twice cycle node ch stamp first) = cycle
+fault_cycle (fault.Cycle cycle node ch stamp count) = cycle
+fault_cycle (fault.Stranger cycle node ch stamp slot) = cycle
+fault_cycle (fault.Form cycle node ch stamp slot) = cycle
+fault_cycle (fault.Skew cycle low high most) = cycle
+fault_cycle (fault.Start cycle apart most) = cycle
+fault_cycle (fault.Lengths cycle apart most) = cycle
+fault_cycle (fault.Length cycle node long allowed) = cycle
+fault_cycle (fault.Offset cycle node seen due) = cycle
+fault_cycle (fault.Rate cycle node step due) = cycle
+fault_cycle (fault.Missing cycle node ch) = cycle
 
--- the channel of a fault that has one, and else its least number
-abbrev pub first_field : Option Channel → Option ℤ → List ℕ
-first_field None low = known low
-first_field (Some ch) low = letter ch
+-- the node, if it is of one
+abbrev pub fault_node : Fault → Option ℕ
+fault_node (fault.Channels cycle node point) = Some node
+fault_node (fault.Limit cycle node apart allowed) = Some node
+fault_node (fault.Correction cycle node seen allowed) = Some node
+fault_node (fault.Twice cycle node ch stamp first) = Some node
+fault_node (fault.Cycle cycle node ch stamp count) = Some node
+fault_node (fault.Stranger cycle node ch stamp slot) = Some node
+fault_node (fault.Form cycle node ch stamp slot) = Some node
+fault_node (fault.Skew cycle low high most) = None
+fault_node (fault.Start cycle apart most) = None
+fault_node (fault.Lengths cycle apart most) = None
+fault_node (fault.Length cycle node long allowed) = Some node
+fault_node (fault.Offset cycle node seen due) = Some node
+fault_node (fault.Rate cycle node step due) = Some node
+fault_node (fault.Missing cycle node ch) = Some node
+
+abbrev pub term_word : Term → List ℕ
+term_word term.Offset = codes "offset"
+term_word term.Rate = codes "rate"
+
+abbrev pub fault_word : Fault → List ℕ
+fault_word (fault.Channels cycle node point) = codes "channels"
+fault_word (fault.Limit cycle node apart allowed) = codes "limit"
+fault_word (fault.Correction cycle node seen allowed) = codes "correction"
+fault_word (fault.Twice cycle node ch stamp first) = codes "twice"
+fault_word (fault.Cycle cycle node ch stamp count) = codes "cycle"
+fault_word (fault.Stranger cycle node ch stamp slot) = codes "stranger"
+fault_word (fault.Form cycle node ch stamp slot) = codes "form"
+fault_word (fault.Skew cycle low high most) = codes "skew"
+fault_word (fault.Start cycle apart most) = codes "start"
+fault_word (fault.Lengths cycle apart most) = codes "lengths"
+fault_word (fault.Length cycle node long allowed) = codes "length"
+fault_word (fault.Offset cycle node seen due) = term_word term.Offset
+fault_word (fault.Rate cycle node step due) = term_word term.Rate
+fault_word (fault.Missing cycle node ch) = codes "missing"
+
+-- two ranges; how far something lies apart, and how far at most; a frame by its channel and stamp, and a number beside them
+abbrev pub range_fields : Range → Range → List (List ℕ)
+range_fields seen allowed =
+    signed_decimal seen.low ∷ signed_decimal seen.high ∷ signed_decimal allowed.low ∷ signed_decimal allowed.high ∷ []
+
+abbrev pub most_fields : ℤ → Option ℤ → ℤ → List (List ℕ)
+most_fields low high most = signed_decimal low ∷ known high ∷ codes "-" ∷ signed_decimal most ∷ []
+
+abbrev pub stamp_fields : Channel → ℤ → List ℕ → List (List ℕ)
+stamp_fields ch stamp beside = letter ch ∷ signed_decimal stamp ∷ beside ∷ codes "-" ∷ []
+
+-- its numbers and its channel
+abbrev pub fault_fields : Fault → List (List ℕ)
+fault_fields (fault.Channels cycle node point) =
+    signed_decimal point.low ∷ signed_decimal point.high ∷ codes "-" ∷ codes "-" ∷ []
+fault_fields (fault.Limit cycle node apart allowed) = range_fields apart allowed
+fault_fields (fault.Correction cycle node seen allowed) = range_fields seen allowed
+fault_fields (fault.Twice cycle node ch stamp first) = stamp_fields ch stamp (signed_decimal first)
+fault_fields (fault.Cycle cycle node ch stamp count) = stamp_fields ch stamp (decimal count)
+fault_fields (fault.Stranger cycle node ch stamp slot) = stamp_fields ch stamp (decimal slot)
+fault_fields (fault.Form cycle node ch stamp slot) = stamp_fields ch stamp (decimal slot)
+fault_fields (fault.Skew cycle low high most) = most_fields low high most
+fault_fields (fault.Start cycle apart most) = most_fields apart.low (Some apart.high) most
+fault_fields (fault.Lengths cycle apart most) = most_fields apart.low (Some apart.high) most
+fault_fields (fault.Length cycle node long allowed) = range_fields long allowed
+fault_fields (fault.Offset cycle node seen due) = range_fields seen due
+fault_fields (fault.Rate cycle node step due) = range_fields step due
+fault_fields (fault.Missing cycle node ch) = letter ch ∷ codes "-" ∷ codes "-" ∷ codes "-" ∷ []
+
+-- pieces that are spelt as four fields of a row
+pub record AreSpelt (pieces : List Piece) (fields : List (List ℕ)) : Type 0 where
+  pub spelt : map spelling pieces ≡ fields
+  pub short : room_of_all pieces ≤ 84
 
 unfoldable pub fault_row : Fault → List ℕ
 fault_row f =
-    row (codes "fault")
-    (
-    decimal f.cycle ∷ known_count f.node ∷ kind_word f.kind ∷ first_field f.channel f.low ∷ known f.high ∷ known f.from
-    ∷ known f.to ∷ []
-    )
+    row (codes "fault") (decimal (fault_cycle f) ∷ known_count (fault_node f) ∷ fault_word f ∷ fault_fields f)

@@ -12,9 +12,10 @@ use Rattle.fr_sightings.specs.declared.sender.Sender.{Sender}
 use Rattle.fr_observe.specs.Faults.{beyond_fault, correction_fault, fault_row, first_of_faults, length_beyond, offset_fault, rate_fault, skew_fault}
 use Rattle.fr_observe.specs.Observing.{courses_of, even_high, even_low, odd_high, odd_low}
 use Rattle.fr_observe.specs.declared.fault.Fault.{Fault}
-use Rattle.fr_observe.specs.declared.fault.FaultKind.TheVariants.{Lengths, Start}
+use Rattle.fr_observe.specs.declared.apart_faults.Apart.TheVariants.{Lengths, Starts}
 use Rattle.fr_observe.specs.declared.sender_faults.Asked.{Asked}
 use Rattle.fr_observe.specs.declared.sender_faults.Asked.TheVariants as asked
+use Rattle.fr_observe.specs.declared.term.Term.TheVariants as term
 
 -- the rows of some were put, and the first one of all that were told is kept
 pub record TellsFaults (result : Result (Unit {0}) PutFault) (before now : Sunk) (earlier kept : Option Fault) (faults : List Fault) : Type 0 where
@@ -25,15 +26,14 @@ pub record TellsFaults (result : Result (Unit {0}) PutFault) (before now : Sunk)
 abbrev pub sender_fault : Asked → Values → LogView → Scale → ℕ → List Sender → Sender → Option Fault
 sender_fault asked.Correction p l scale double senders s = correction_fault p scale double s
 sender_fault (asked.Length beyond) p l scale double senders s = length_beyond p scale beyond double s
-sender_fault (asked.Offset lost) p l scale double senders s = offset_fault p l scale double senders lost s
-sender_fault (asked.Rate lost) p l scale double senders s = rate_fault p l scale double senders lost s
+sender_fault (asked.Term term.Offset lost) p l scale double senders s = offset_fault p l scale double senders lost s
+sender_fault (asked.Term term.Rate lost) p l scale double senders s = rate_fault p l scale double senders lost s
 
 -- so many senders may have been missed at most
 abbrev pub IsFewAsked : Asked → Type 0
 IsFewAsked asked.Correction = Unit {0}
 IsFewAsked (asked.Length beyond) = Unit {0}
-IsFewAsked (asked.Offset lost) = lost ≤ 64
-IsFewAsked (asked.Rate lost) = lost ≤ 64
+IsFewAsked (asked.Term what lost) = lost ≤ 64
 
 -- both skews of a double cycle were certainly greater than a bound
 abbrev pub skew_faults : ℤ → Scale → ℕ → List Sender → List Fault
@@ -44,5 +44,5 @@ skew_faults bound scale double senders =
 -- its starts, or its lengths, lay further apart than a bound
 abbrev pub apart_faults : ℤ → ℤ → Scale → ℕ → List Sender → List Fault
 apart_faults starts lengths scale double senders =
-    option_to_list (beyond_fault Start (2 * double) starts (starts_apart scale (courses_of senders)))
+    option_to_list (beyond_fault Starts (2 * double) starts (starts_apart scale (courses_of senders)))
     ++ option_to_list (beyond_fault Lengths (2 * double) lengths (lengths_apart scale (courses_of senders)))

@@ -1,26 +1,30 @@
-ghost use Rattle.std.specs.Prelude.{◌≡◌, ◌≤ℤ◌, All, None, Some, if◌then◌else◌, int_lt, neg_ℤ, pos};
+ghost use Rattle.std.specs.Prelude.{◌≡◌, ◌≤ℤ◌, All, neg_ℤ, pos};
+ghost use Rattle.fr_base.specs.Within.{IsBetween};
 ghost use Rattle.fr_course.specs.Near.{EndWithin, IsNearCourse, IsReadingScale};
 ghost use Rattle.fr_course.specs.Spread.{lengths_apart, starts_apart};
-ghost use Rattle.fr_observe.specs.Faults.{beyond_fault, plain_fault};
+ghost use Rattle.fr_observe.specs.Faults.{beyond_fault, beyond_with, skew_fault};
 ghost use Rattle.fr_observe.specs.Scenes.{IsScene};
 ghost use Rattle.fr_observe.specs.Telling.{TellsFaults, apart_faults, skew_faults};
-ghost use Rattle.fr_observe.specs.declared.fault.FaultKind.TheVariants as of;
 
-use crate::fault::{Fault, FaultKind, printed};
+use crate::fault::{Fault, Range};
 use crate::scene::Scene;
 use crate::skews::{Skews, courses_of};
 use crate::telling::tell;
 use fr_base::{PutFault, Sink};
 use fr_course::{Course, Interval, Scale, lengths_apart, starts_apart};
 
-// A number of ticks, seen from `low` to `high`, was certainly greater than a bound.
-fn above(kind: FaultKind, cycle: u32, bound: i128, low: i64, high: Option<i64>) -> Option<Fault>
+// The skew was certainly greater than a bound.
+fn skew_fault(bound: i128, cycle: u32, low: i64, high: Option<i64>) -> Option<Fault>
     requires { neg_ℤ (pos 9_223_372_036_854_775_808) ≤ℤ bound }
-    ensures { result ≡ (if int_lt bound low
-        then Some (plain_fault cycle None kind (Some low) high None (Some bound)) else None) }
+    ensures { result ≡ skew_fault bound cycle low high }
 {
     if bound < i128::from(low) {
-        Some(Fault::plain(cycle, None, kind, (low, high), (None, Some(bound as i64))))
+        Some(Fault::Skew {
+            cycle,
+            low,
+            high,
+            most: bound as i64,
+        })
     } else {
         None
     }
@@ -46,59 +50,68 @@ pub fn put_skews<O: Sink>(
         odd_high,
     } = *scene.skews;
     let even = 2 * scene.number;
-    tell(
-        above(FaultKind::Skew, even, bound, even_low, even_high),
-        first,
-        out,
-    )?;
-    tell(
-        above(FaultKind::Skew, even + 1, bound, odd_low, odd_high),
-        first,
-        out,
-    )
+    tell(skew_fault(bound, even, even_low, even_high), first, out)?;
+    tell(skew_fault(bound, even + 1, odd_low, odd_high), first, out)
 }
 
-// Starts, or lengths, certainly lay further apart than a bound.
-fn apart_fault(kind: FaultKind, cycle: u32, bound: i128, apart: &Interval) -> Option<Fault>
-    requires bound { neg_ℤ (pos 9_223_372_036_854_775_808) ≤ℤ bound }
-    requires apart { EndWithin (pos 6_200_000_000_000_000_000) apart.now }
-    ensures { result ≡ beyond_fault kind cycle bound apart.now }
+/// What lies apart in the even cycle of a double cycle.
+#[derive(Clone, Copy, Debug, PartialEq, Eq)]
+pub enum Apart {
+    /// The starts of nodes.
+    Starts,
+    /// The lengths of their cycles, before correction.
+    Lengths,
+}
+
+// They lay further apart than a bound.
+fn beyond_with(what: Apart, cycle: u32, bound: i128, seen: &Interval) -> Fault
+    requires bound { IsBetween (neg_ℤ (pos 9_223_372_036_854_775_808)) (pos 6_200_000_000_000_000_000) bound }
+    requires seen { EndWithin (pos 6_200_000_000_000_000_000) seen.now }
+    ensures { result ≡ beyond_with what cycle bound seen.now }
 {
-    above(
-        kind,
-        cycle,
-        bound,
-        printed(apart.low),
-        Some(printed(apart.high)),
-    )
+    match what {
+        Apart::Starts => Fault::Start {
+            cycle,
+            apart: Range::of(seen),
+            most: bound as i64,
+        },
+        Apart::Lengths => Fault::Lengths {
+            cycle,
+            apart: Range::of(seen),
+            most: bound as i64,
+        },
+    }
+}
+
+// They certainly did.
+fn beyond_fault(what: Apart, cycle: u32, bound: i128, seen: &Interval) -> Option<Fault>
+    requires bound { neg_ℤ (pos 9_223_372_036_854_775_808) ≤ℤ bound }
+    requires seen { EndWithin (pos 6_200_000_000_000_000_000) seen.now }
+    ensures { result ≡ beyond_fault what cycle bound seen.now }
+{
+    if bound < seen.low {
+        Some(beyond_with(what, cycle, bound, seen))
+    } else {
+        None
+    }
 }
 
 fn starts_fault(scale: &Scale, cycle: u32, bound: i128, courses: &[Course]) -> Option<Fault>
     requires scale { IsReadingScale scale.now }
     requires bound { neg_ℤ (pos 9_223_372_036_854_775_808) ≤ℤ bound }
     requires courses { All (IsNearCourse scale.now) courses.now }
-    ensures { result ≡ beyond_fault of.Start cycle bound (starts_apart scale.now courses.now) }
+    ensures { result ≡ beyond_fault Apart.Starts cycle bound (starts_apart scale.now courses.now) }
 {
-    apart_fault(
-        FaultKind::Start,
-        cycle,
-        bound,
-        &starts_apart(scale, courses),
-    )
+    beyond_fault(Apart::Starts, cycle, bound, &starts_apart(scale, courses))
 }
 
 fn lengths_fault(scale: &Scale, cycle: u32, bound: i128, courses: &[Course]) -> Option<Fault>
     requires scale { IsReadingScale scale.now }
     requires bound { neg_ℤ (pos 9_223_372_036_854_775_808) ≤ℤ bound }
     requires courses { All (IsNearCourse scale.now) courses.now }
-    ensures { result ≡ beyond_fault of.Lengths cycle bound (lengths_apart scale.now courses.now) }
+    ensures { result ≡ beyond_fault Apart.Lengths cycle bound (lengths_apart scale.now courses.now) }
 {
-    apart_fault(
-        FaultKind::Lengths,
-        cycle,
-        bound,
-        &lengths_apart(scale, courses),
-    )
+    beyond_fault(Apart::Lengths, cycle, bound, &lengths_apart(scale, courses))
 }
 
 /// Tells where the starts, or the lengths, of the even cycles of a double cycle certainly lay further apart than these bounds, in

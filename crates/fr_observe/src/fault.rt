@@ -1,156 +1,366 @@
-ghost use Rattle.std.specs.Prelude.{◌≡◌, ◌≤◌, length, pos, Some, None};
+ghost use Rattle.std.specs.Prelude.{◌≡◌, ◌≤◌, Some, length, pos};
 ghost use Rattle.fr_base.specs.Within.{IsWithin};
 ghost use Rattle.fr_course.specs.Near.{EndWithin};
-ghost use Rattle.fr_text.specs.Pieces.{Spells};
-ghost use Rattle.fr_observe.specs.Faults.{fault_row, first_field, kind_word, plain_fault};
+ghost use Rattle.fr_text.specs.Pieces.{Spells, room_of_piece, spelling};
+ghost use Rattle.fr_observe.specs.Faults.{AreSpelt, fault_cycle, fault_fields, fault_node, fault_row, fault_word, most_fields, range_fields, range_of, stamp_fields};
 ghost use Rattle.fr_observe.specs.Observing.{known_count};
 
 use crate::rows::known;
-use fr_base::{Channel, NodeId};
+use crate::term::Term;
+use fr_base::{Channel, NodeId, Slot};
 use fr_course::Interval;
-use fr_text::Piece::{Natural, Word};
+use fr_text::Piece::{Natural, Signed, Word};
 use fr_text::{Line, Piece, letter_of, row_of};
 
-/// What a contradiction in a log is of, with what its four numbers are. The first five contradict that the log is seen of any
-/// lawful run whose oscillators keep within their bounds (`Cycle` that its frames come in time, which that asks for), and the
-/// next two that each whole frame in the slot of a node is one that the node sends; the others contradict runs that are as the log
-/// states.
+/// From one number to another, as they are printed.
 #[derive(Clone, Copy, Debug, PartialEq, Eq)]
-pub enum FaultKind {
-    /// By the frames of both channels an action point lies nowhere: it was seen from `low` to `high`, a greater and a
-    /// lesser number, in ticks of the observer's clock.
-    Channels,
-    /// Both action points of a double cycle lie `low` to `high` apart, and cycles before correction are `from` to `to`
-    /// long, in ticks of the observer's clock.
-    Limit,
-    /// The offset term is `low` to `high`, and the limits allow `from` to `to`, in microticks.
-    Correction,
-    /// A frame is there twice on `channel`, with the stamps `high` and, of the first one, `from`, in units of the log.
-    Twice,
-    /// A frame on `channel` with the stamp `high`, in units of the log, comes at another time than its cycle count
-    /// `from` says; the cycle is that of the sighting before it.
-    Cycle,
-    /// A frame with the stamp `high`, in units of the log, is in the node's slot `from` on `channel`, which the node does not
-    /// have; the cycle is that of the sighting before it.
-    Stranger,
-    /// A frame on `channel` with the stamp `high`, in units of the log, is in the node's slot `from`, and its payload length or
-    /// its sync or startup indicator is not that of the node's frames there; the cycle is that of the sighting before it.
-    Form,
-    /// The skew is `low` to `high`, `high` where it is known, and at most `to` by the numbers of the double cycle, in ticks.
-    Skew,
-    /// Starts of even cycles lie `low` to `high` apart, and at most `to` by what is known of the double cycle, in ticks.
-    Start,
-    /// Lengths of cycles before correction lie `low` to `high` apart, and at most `to` by what is known of the double cycle, in
-    /// ticks.
-    Lengths,
-    /// Cycles before correction are `low` to `high` long, and `from` to `to` by what is known of the double cycle, in ticks.
-    Length,
-    /// The offset term is `low` to `high`, and by the rules it is `from` to `to`, in microticks.
-    Offset,
-    /// The rate term grew by `low` to `high`, and by the rules it grows by `from` to `to`, in microticks.
-    Rate,
-    /// No frame of the node's key slot is there on `channel`; it has no numbers.
-    Missing,
+pub struct Range {
+    pub low: i64,
+    pub high: i64,
 }
 
-impl FaultKind {
-    /// Its word in records.
-    pub fn word(self) -> &'static [u8]
-        ensures text { result.now ≡ kind_word self }
-        ensures short { length result.now ≤ 10 }
+impl Range {
+    // Between the limits of what was seen or computed.
+    pub(crate) fn of(limits: &Interval) -> Range
+        requires { EndWithin (pos 6_400_000_000_000_000_000) limits.now }
+        ensures { result ≡ range_of limits.now }
     {
-        match self {
-            FaultKind::Channels => b"channels",
-            FaultKind::Limit => b"limit",
-            FaultKind::Correction => b"correction",
-            FaultKind::Twice => b"twice",
-            FaultKind::Cycle => b"cycle",
-            FaultKind::Stranger => b"stranger",
-            FaultKind::Form => b"form",
-            FaultKind::Skew => b"skew",
-            FaultKind::Start => b"start",
-            FaultKind::Lengths => b"lengths",
-            FaultKind::Length => b"length",
-            FaultKind::Offset => b"offset",
-            FaultKind::Rate => b"rate",
-            FaultKind::Missing => b"missing",
-        }
-    }
-}
-
-/// A contradiction in a log: what was seen, from `low` to `high`, has no number in common with what the rules and the
-/// statements about cluster and observer allow, from `from` to `to`; its kind says what the numbers are.
-#[derive(Clone, Copy, Debug, PartialEq, Eq)]
-pub struct Fault {
-    /// The number of its cycle in the log.
-    pub cycle: u32,
-    /// The node, if it is of one.
-    pub node: Option<NodeId>,
-    /// What it is of.
-    pub kind: FaultKind,
-    /// The channel, if it is of one: then it has no `low`.
-    pub channel: Option<Channel>,
-    pub low: Option<i64>,
-    pub high: Option<i64>,
-    pub from: Option<i64>,
-    pub to: Option<i64>,
-}
-
-impl Fault {
-    // One without a channel.
-    pub(crate) fn plain(
-        cycle: u32,
-        node: Option<NodeId>,
-        kind: FaultKind,
-        seen: (i64, Option<i64>),
-        allowed: (Option<i64>, Option<i64>),
-    ) -> Fault
-        ensures { result ≡ plain_fault cycle node kind (Some seen.0) seen.1 allowed.0 allowed.1 }
-    {
-        Fault {
-            cycle,
-            node,
-            kind,
-            channel: None,
-            low: Some(seen.0),
-            high: seen.1,
-            from: allowed.0,
-            to: allowed.1,
-        }
-    }
-
-    // One of a node: it was seen from one number to another, and others are allowed.
-    pub(crate) fn apart(
-        cycle: u32,
-        node: NodeId,
-        kind: FaultKind,
-        seen: &Interval,
-        allowed: &Interval,
-    ) -> Fault
-        requires seen { EndWithin (pos 6_400_000_000_000_000_000) seen.now }
-        requires allowed { EndWithin (pos 6_400_000_000_000_000_000) allowed.now }
-        ensures { result ≡ plain_fault cycle (Some node) kind
-            (Some seen.now.low) (Some seen.now.high) (Some allowed.now.low) (Some allowed.now.high) }
-    {
-        Fault {
-            cycle,
-            node: Some(node),
-            kind,
-            channel: None,
-            low: Some(printed(seen.low)),
-            high: Some(printed(seen.high)),
-            from: Some(printed(allowed.low)),
-            to: Some(printed(allowed.high)),
+        Range {
+            low: printed(limits.low),
+            high: printed(limits.high),
         }
     }
 }
 
 // A number that is printed.
-pub(crate) fn printed(number: i128) -> i64
+fn printed(number: i128) -> i64
     requires { IsWithin (pos 6_400_000_000_000_000_000) number }
     ensures { result ≡ number }
 {
     number as i64
+}
+
+/// A contradiction in a log: what was seen has no number in common with what the rules and the statements about cluster and
+/// observer allow. The first five contradict that the log is seen of any lawful run whose oscillators keep within their bounds
+/// (`Cycle` that its frames come in time, which that asks for), and the next two that each whole frame in the slot of a node is
+/// one that the node sends; the others contradict runs that are as the log states.
+#[derive(Clone, Copy, Debug, PartialEq, Eq)]
+pub enum Fault {
+    /// By the frames of both channels an action point lies nowhere.
+    Channels {
+        /// The number of its cycle in the log.
+        cycle: u32,
+        /// The node whose action point it is.
+        node: NodeId,
+        /// It was seen from a greater to a lesser number, in ticks of the observer's clock.
+        point: Range,
+    },
+    /// Both action points of a double cycle lie so far apart as no cycle is long.
+    Limit {
+        /// The number of the even cycle in the log.
+        cycle: u32,
+        /// The node whose action points they are.
+        node: NodeId,
+        /// So far they lie apart, in ticks of the observer's clock.
+        apart: Range,
+        /// So long are cycles before correction, in ticks of the observer's clock.
+        allowed: Range,
+    },
+    /// An offset term is none that the limits allow.
+    Correction {
+        /// The number of its cycle in the log.
+        cycle: u32,
+        /// The node that applied it.
+        node: NodeId,
+        /// The term, in microticks.
+        term: Range,
+        /// What the limits allow, in microticks.
+        allowed: Range,
+    },
+    /// A frame is there twice.
+    Twice {
+        /// The number of its cycle in the log.
+        cycle: u32,
+        /// The node that sent it.
+        node: NodeId,
+        /// The channel on which it came.
+        channel: Channel,
+        /// Its stamp, in units of the log.
+        stamp: i64,
+        /// The stamp of the first one, in units of the log.
+        first: i64,
+    },
+    /// A frame comes at another time than its cycle count says.
+    Cycle {
+        /// The number of the cycle of the sighting before it in the log.
+        cycle: u32,
+        /// The node that sent it.
+        node: NodeId,
+        /// The channel on which it came.
+        channel: Channel,
+        /// Its stamp, in units of the log.
+        stamp: i64,
+        /// Its cycle count.
+        count: u8,
+    },
+    /// A frame is in a slot of a node on a channel that the node does not have.
+    Stranger {
+        /// The number of the cycle of the sighting before it in the log.
+        cycle: u32,
+        /// The node whose slot it is in.
+        node: NodeId,
+        /// The channel on which it came.
+        channel: Channel,
+        /// Its stamp, in units of the log.
+        stamp: i64,
+        /// Its slot.
+        slot: Slot,
+    },
+    /// A frame is in a slot of a node, and its payload length or its sync or startup indicator is not that of the node's frames
+    /// there.
+    Form {
+        /// The number of the cycle of the sighting before it in the log.
+        cycle: u32,
+        /// The node whose slot it is in.
+        node: NodeId,
+        /// The channel on which it came.
+        channel: Channel,
+        /// Its stamp, in units of the log.
+        stamp: i64,
+        /// Its slot.
+        slot: Slot,
+    },
+    /// The skew is greater than the numbers of the double cycle allow.
+    Skew {
+        /// The number of its cycle in the log.
+        cycle: u32,
+        /// The skew at least, in ticks.
+        low: i64,
+        /// The skew at most, in ticks, where it is known.
+        high: Option<i64>,
+        /// The skew at most by the numbers of the double cycle, in ticks.
+        most: i64,
+    },
+    /// Starts of even cycles lie further apart than by what is known of the double cycle.
+    Start {
+        /// The number of the even cycle in the log.
+        cycle: u32,
+        /// So far they lie apart, in ticks.
+        apart: Range,
+        /// So far at most by what is known, in ticks.
+        most: i64,
+    },
+    /// Lengths of cycles before correction lie further apart than by what is known of the double cycle.
+    Lengths {
+        /// The number of the even cycle in the log.
+        cycle: u32,
+        /// So far they lie apart, in ticks.
+        apart: Range,
+        /// So far at most by what is known, in ticks.
+        most: i64,
+    },
+    /// Cycles before correction are longer or shorter than by what is known of the double cycle.
+    Length {
+        /// The number of the even cycle in the log.
+        cycle: u32,
+        /// The node whose cycles they are.
+        node: NodeId,
+        /// So long they are, in ticks.
+        length: Range,
+        /// So long by what is known, in ticks.
+        allowed: Range,
+    },
+    /// An offset term is none that its node must have computed by the rules.
+    Offset {
+        /// The number of its cycle in the log.
+        cycle: u32,
+        /// The node that applied it.
+        node: NodeId,
+        /// The term, in microticks.
+        term: Range,
+        /// What it is by the rules, in microticks.
+        due: Range,
+    },
+    /// A rate term grew by no step that its node must have computed by the rules.
+    Rate {
+        /// The number of its cycle in the log.
+        cycle: u32,
+        /// The node that applied it.
+        node: NodeId,
+        /// The step, in microticks.
+        step: Range,
+        /// What it is by the rules, in microticks.
+        due: Range,
+    },
+    /// No frame of a node's key slot is there.
+    Missing {
+        /// The number of its cycle in the log.
+        cycle: u32,
+        /// The node whose frame it is.
+        node: NodeId,
+        /// The channel on which it is missing.
+        channel: Channel,
+    },
+}
+
+impl Fault {
+    /// The number of its cycle in the log.
+    pub fn cycle(&self) -> u32
+        ensures { result ≡ fault_cycle self.now }
+    {
+        match *self {
+            Fault::Channels { cycle, .. } => cycle,
+            Fault::Limit { cycle, .. } => cycle,
+            Fault::Correction { cycle, .. } => cycle,
+            Fault::Twice { cycle, .. } => cycle,
+            Fault::Cycle { cycle, .. } => cycle,
+            Fault::Stranger { cycle, .. } => cycle,
+            Fault::Form { cycle, .. } => cycle,
+            Fault::Skew { cycle, .. } => cycle,
+            Fault::Start { cycle, .. } => cycle,
+            Fault::Lengths { cycle, .. } => cycle,
+            Fault::Length { cycle, .. } => cycle,
+            Fault::Offset { cycle, .. } => cycle,
+            Fault::Rate { cycle, .. } => cycle,
+            Fault::Missing { cycle, .. } => cycle,
+        }
+    }
+
+    /// The node, if it is of one.
+    pub fn node(&self) -> Option<NodeId>
+        ensures { result ≡ fault_node self.now }
+    {
+        match *self {
+            Fault::Channels { node, .. } => Some(node),
+            Fault::Limit { node, .. } => Some(node),
+            Fault::Correction { node, .. } => Some(node),
+            Fault::Twice { node, .. } => Some(node),
+            Fault::Cycle { node, .. } => Some(node),
+            Fault::Stranger { node, .. } => Some(node),
+            Fault::Form { node, .. } => Some(node),
+            Fault::Skew { .. } | Fault::Start { .. } | Fault::Lengths { .. } => None,
+            Fault::Length { node, .. } => Some(node),
+            Fault::Offset { node, .. } => Some(node),
+            Fault::Rate { node, .. } => Some(node),
+            Fault::Missing { node, .. } => Some(node),
+        }
+    }
+
+    /// Its word in records.
+    pub fn word(&self) -> &'static [u8]
+        ensures text { result.now ≡ fault_word self.now }
+        ensures short { length result.now ≤ 10 }
+    {
+        match *self {
+            Fault::Channels { .. } => b"channels",
+            Fault::Limit { .. } => b"limit",
+            Fault::Correction { .. } => b"correction",
+            Fault::Twice { .. } => b"twice",
+            Fault::Cycle { .. } => b"cycle",
+            Fault::Stranger { .. } => b"stranger",
+            Fault::Form { .. } => b"form",
+            Fault::Skew { .. } => b"skew",
+            Fault::Start { .. } => b"start",
+            Fault::Lengths { .. } => b"lengths",
+            Fault::Length { .. } => b"length",
+            Fault::Offset { .. } => Term::Offset.word(),
+            Fault::Rate { .. } => Term::Rate.word(),
+            Fault::Missing { .. } => b"missing",
+        }
+    }
+
+    // The fields of its row behind its word.
+    fn fields(&self) -> [Piece<'static>; 4]
+        ensures { AreSpelt result (fault_fields self.now) }
+    {
+        match *self {
+            Fault::Channels { point, .. } => [
+                Signed(point.low),
+                Signed(point.high),
+                Word(b"-"),
+                Word(b"-"),
+            ],
+            Fault::Limit { apart, allowed, .. } => range_fields(&apart, &allowed),
+            Fault::Correction { term, allowed, .. } => range_fields(&term, &allowed),
+            Fault::Twice {
+                channel,
+                stamp,
+                first,
+                ..
+            } => stamp_fields(channel, stamp, Signed(first)),
+            Fault::Cycle {
+                channel,
+                stamp,
+                count,
+                ..
+            } => stamp_fields(channel, stamp, Natural(u64::from(count))),
+            Fault::Stranger {
+                channel,
+                stamp,
+                slot,
+                ..
+            } => stamp_fields(channel, stamp, Natural(u64::from(slot.0))),
+            Fault::Form {
+                channel,
+                stamp,
+                slot,
+                ..
+            } => stamp_fields(channel, stamp, Natural(u64::from(slot.0))),
+            Fault::Skew {
+                low,
+                high,
+                most,
+                ..
+            } => [Signed(low), known(high), Word(b"-"), Signed(most)],
+            Fault::Start { apart, most, .. } => most_fields(&apart, most),
+            Fault::Lengths { apart, most, .. } => most_fields(&apart, most),
+            Fault::Length {
+                length,
+                allowed,
+                ..
+            } => range_fields(&length, &allowed),
+            Fault::Offset { term, due, .. } => range_fields(&term, &due),
+            Fault::Rate { step, due, .. } => range_fields(&step, &due),
+            Fault::Missing { channel, .. } => [
+                letter_of(channel),
+                Word(b"-"),
+                Word(b"-"),
+                Word(b"-"),
+            ],
+        }
+    }
+}
+
+// Two ranges as fields.
+fn range_fields(seen: &Range, allowed: &Range) -> [Piece<'static>; 4]
+    ensures { AreSpelt result (range_fields seen.now allowed.now) }
+{
+    [
+        Signed(seen.low),
+        Signed(seen.high),
+        Signed(allowed.low),
+        Signed(allowed.high),
+    ]
+}
+
+// How far something lies apart, and how far at most.
+fn most_fields(apart: &Range, most: i64) -> [Piece<'static>; 4]
+    ensures { AreSpelt result (most_fields apart.now.low (Some apart.now.high) most) }
+{
+    [
+        Signed(apart.low),
+        Signed(apart.high),
+        Word(b"-"),
+        Signed(most),
+    ]
+}
+
+// A frame by its channel and stamp, and a number beside them.
+fn stamp_fields(channel: Channel, stamp: i64, beside: Piece<'static>) -> [Piece<'static>; 4]
+    requires { room_of_piece beside ≤ 20 }
+    ensures { AreSpelt result (stamp_fields channel stamp (spelling beside.entry)) }
+{
+    [letter_of(channel), Signed(stamp), beside, Word(b"-")]
 }
 
 /// The cycles of a log from the first sighting to the last.
@@ -172,30 +382,22 @@ pub fn known_node(node: Option<NodeId>) -> Piece<'static>
     }
 }
 
-fn first_field(channel: Option<Channel>, low: Option<i64>) -> Piece<'static>
-    ensures { Spells result (first_field channel low) 20 }
-{
-    match channel {
-        None => known(low),
-        Some(channel) => letter_of(channel),
-    }
-}
-
 // A contradiction as a record.
 #[tactic(auto, unfolding(crate::specs::Faults::fault_row))]
 pub(crate) fn fault_row(fault: &Fault) -> Line
     ensures { result ≡ fault_row fault.now }
 {
+    let [first, second, third, last] = fault.fields();
     row_of(
         b"fault",
         &[
-            Natural(u64::from(fault.cycle)),
-            known_node(fault.node),
-            Word(fault.kind.word()),
-            first_field(fault.channel, fault.low),
-            known(fault.high),
-            known(fault.from),
-            known(fault.to),
+            Natural(u64::from(fault.cycle())),
+            known_node(fault.node()),
+            Word(fault.word()),
+            first,
+            second,
+            third,
+            last,
         ],
     )
 }

@@ -13,9 +13,10 @@ mod sender_faults;
 mod skews;
 mod slot_faults;
 mod telling;
+mod term;
 
-pub use apart_faults::{put_apart, put_skews};
-pub use fault::{Fault, FaultKind, LogSpan, known_node};
+pub use apart_faults::{Apart, put_apart, put_skews};
+pub use fault::{Fault, LogSpan, Range, known_node};
 pub use missing::put_missing;
 pub use own_faults::put_own_faults;
 pub use rows::{cycle_row, node_row, precision_row};
@@ -24,3 +25,4 @@ pub use scene::Scene;
 pub use sender_faults::{Asked, proper_lengths, put_of_senders, sender_fault, stated_flutter};
 pub use skews::{Skews, courses_of, skews_of};
 pub use slot_faults::put_slot_faults;
+pub use term::Term;

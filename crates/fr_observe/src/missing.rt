@@ -1,14 +1,15 @@
-ghost use Rattle.std.specs.Prelude.{◌≡◌, ◌<◌, Some};
+ghost use Rattle.std.specs.Prelude.{◌≡◌, Some};
 ghost use Rattle.std.specs.List.{flat_map};
 ghost use Rattle.fr_cluster.specs.Questions.{has_channel};
 ghost use Rattle.fr_observe.specs.Faults.{is_inside, missing_by, missing_frames, missing_in, missing_of, missing_on, node_missing, was_seen};
+ghost use Rattle.fr_observe.specs.Scenes.{IsScene};
 ghost use Rattle.fr_observe.specs.Telling.{TellsFaults};
 
-use crate::fault::{Fault, FaultKind, LogSpan};
+use crate::fault::{Fault, LogSpan};
+use crate::scene::Scene;
 use crate::telling::tell;
 use fr_base::{Channel, NodeId, PutFault, Sink};
-use fr_cluster::{NodeSpec, Params};
-use fr_log::Log;
+use fr_cluster::NodeSpec;
 use fr_sightings::{Sighting, first_stamp, is_judged, node_at, node_count};
 
 fn is_inside(span: &LogSpan, cycle: u32) -> bool
@@ -28,15 +29,10 @@ fn missing_on(
     ensures { result ≡ missing_on span.now here.now cycle node channel }
 {
     if is_inside(span, cycle) && first_stamp(here, node, channel, cycle).is_none() {
-        Some(Fault {
+        Some(Fault::Missing {
             cycle,
-            node: Some(node),
-            kind: FaultKind::Missing,
-            channel: Some(channel),
-            low: None,
-            high: None,
-            from: None,
-            to: None,
+            node,
+            channel,
         })
     } else {
         None
@@ -70,34 +66,33 @@ fn missing_by(
 
 // Tells the channels of a node on which none is there in a cycle.
 fn put_missing_in<O: Sink>(
-    span: &LogSpan,
-    here: &[Sighting],
+    scene: &Scene<'_>,
     cycle: u32,
     node: &NodeSpec,
     first: &mut Option<Fault>,
     out: &mut O,
 ) -> Result<(), PutFault>
     ensures { TellsFaults result (O.state out.old) (O.state out.new) first.old first.new
-        (missing_in span.now here.now cycle node.now) }
+        (missing_in scene.now.span scene.now.here.now cycle node.now) }
 {
+    let (span, here) = (&scene.span, scene.here);
     tell(missing_by(span, here, cycle, node, Channel::A), first, out)?;
     tell(missing_by(span, here, cycle, node, Channel::B), first, out)
 }
 
 fn put_missing_of<O: Sink>(
-    span: &LogSpan,
-    here: &[Sighting],
-    double: u32,
+    scene: &Scene<'_>,
     node: &NodeSpec,
     first: &mut Option<Fault>,
     out: &mut O,
 ) -> Result<(), PutFault>
-    requires { double < 1_000_000 }
+    requires { IsScene scene.now }
     ensures { TellsFaults result (O.state out.old) (O.state out.new) first.old first.new
-        (missing_of span.now here.now double node.now) }
+        (missing_of scene.now.span scene.now.here.now scene.now.number node.now) }
 {
-    put_missing_in(span, here, 2 * double, node, first, out)?;
-    put_missing_in(span, here, 2 * double + 1, node, first, out)
+    let even = 2 * scene.number;
+    put_missing_in(scene, even, node, first, out)?;
+    put_missing_in(scene, even + 1, node, first, out)
 }
 
 // Whether frames of a node are among these.
@@ -109,43 +104,34 @@ fn was_seen(before: &[Sighting], node: NodeId) -> bool
 
 // The same of a node that was seen in the double cycle before.
 fn put_node_missing<O: Sink>(
-    log: &Log,
-    span: &LogSpan,
-    before: &[Sighting],
-    here: &[Sighting],
-    double: u32,
+    scene: &Scene<'_>,
     node: &NodeSpec,
     first: &mut Option<Fault>,
     out: &mut O,
 ) -> Result<(), PutFault>
-    requires { double < 1_000_000 }
+    requires { IsScene scene.now }
     ensures { TellsFaults result (O.state out.old) (O.state out.new) first.old first.new
-        (node_missing log.now span.now before.now here.now double node.now) }
+        (node_missing scene.now.log.now scene.now.span scene.now.before.now scene.now.here.now scene.now.number node.now) }
 {
-    if is_judged(log, node) && was_seen(before, node.id) {
-        put_missing_of(span, here, double, node, first, out)
+    if is_judged(scene.log, node) && was_seen(scene.before, node.id) {
+        put_missing_of(scene, node, first, out)
     } else {
         Ok(())
     }
 }
 
 fn put_all_missing<O: Sink>(
-    params: &Params,
-    log: &Log,
-    span: &LogSpan,
-    before: &[Sighting],
-    here: &[Sighting],
-    double: u32,
+    scene: &Scene<'_>,
     first: &mut Option<Fault>,
     out: &mut O,
 ) -> Result<(), PutFault>
-    requires { double < 1_000_000 }
+    requires { IsScene scene.now }
     ensures { TellsFaults result (O.state out.old) (O.state out.new) first.old first.new
-        (flat_map (node_missing log.now span.now before.now here.now double) params.now.nodes) }
+        (flat_map (node_missing scene.now.log.now scene.now.span scene.now.before.now scene.now.here.now scene.now.number)
+        scene.now.params.now.nodes) }
 {
-    for place in 0..node_count(params) {
-        let node = node_at(params, place);
-        put_node_missing(log, span, before, here, double, node, first, out)?;
+    for place in 0..node_count(scene.params) {
+        put_node_missing(scene, node_at(scene.params, place), first, out)?;
     }
     Ok(())
 }
@@ -153,21 +139,17 @@ fn put_all_missing<O: Sink>(
 /// Tells which frames are missing of nodes that sent in the double cycle before, where the observer missed none: each in one put,
 /// and the first one of all that were told is kept.
 pub fn put_missing<O: Sink>(
-    params: &Params,
-    log: &Log,
-    span: &LogSpan,
-    before: &[Sighting],
-    here: &[Sighting],
-    double: u32,
+    scene: &Scene<'_>,
     first: &mut Option<Fault>,
     out: &mut O,
 ) -> Result<(), PutFault>
-    requires { double < 1_000_000 }
+    requires { IsScene scene.now }
     ensures { TellsFaults result (O.state out.old) (O.state out.new) first.old first.new
-        (missing_frames params.now log.now span.now before.now here.now double) }
+        (missing_frames scene.now.params.now scene.now.log.now scene.now.span scene.now.before.now scene.now.here.now
+        scene.now.number) }
 {
-    if log.is_whole() {
-        put_all_missing(params, log, span, before, here, double, first, out)
+    if scene.log.is_whole() {
+        put_all_missing(scene, first, out)
     } else {
         Ok(())
     }

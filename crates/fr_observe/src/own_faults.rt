@@ -9,12 +9,12 @@ ghost use Rattle.fr_observe.specs.Faults.{IsFirst, box_fault, clock_faults, cycl
 ghost use Rattle.fr_observe.specs.Scenes.{IsScene};
 ghost use Rattle.fr_observe.specs.Telling.{TellsFaults};
 
-use crate::fault::{Fault, FaultKind, printed};
+use crate::fault::{Fault, Range};
 use crate::scene::Scene;
 use crate::sender_faults::{Asked, put_of_senders};
 use crate::telling::{tell, tell_one};
 use fr_base::{NodeId, PutFault, Sink};
-use fr_cluster::{NodeSpec, Params};
+use fr_cluster::NodeSpec;
 use fr_course::{Interval, Scale, allowed, between, is_empty, meet, meet_if, seen_apart};
 use fr_log::Log;
 use fr_sightings::{
@@ -31,13 +31,11 @@ fn box_fault(cycle: u32, node: NodeId, place: Option<Interval>) -> Option<Fault>
         None => None,
         Some(place) => {
             if is_empty(&place) {
-                Some(Fault::plain(
+                Some(Fault::Channels {
                     cycle,
-                    Some(node),
-                    FaultKind::Channels,
-                    (printed(place.low), Some(printed(place.high))),
-                    (None, None),
-                ))
+                    node,
+                    point: Range::of(&place),
+                })
             } else {
                 None
             }
@@ -61,51 +59,55 @@ fn limit_with(scale: &Scale, cycle: u32, node: NodeId, apart: &Interval) -> Faul
     requires apart { EndWithin (pos 920_000_000_000_000_000) apart.now }
     ensures { result ≡ limit_with scale.now cycle node apart.now }
 {
-    Fault::apart(cycle, node, FaultKind::Limit, apart, &allowed(scale))
+    Fault::Limit {
+        cycle,
+        node,
+        apart: Range::of(apart),
+        allowed: Range::of(&allowed(scale)),
+    }
 }
 
 fn limit_by(
-    scale: &Scale,
-    cycle: u32,
+    scene: &Scene<'_>,
     node: NodeId,
     even: &Interval,
     odd: &Interval,
     span: Option<Interval>,
 ) -> Option<Fault>
-    requires scale { IsReadingScale scale.now }
+    requires scene { IsScene scene.now }
     requires even { IsBox even.now }
     requires odd { IsBox odd.now }
     requires span { IfSome span IsSpan }
-    ensures { result ≡ limit_fault scale.now cycle node (Some even.now) (Some odd.now) span }
+    ensures { result ≡ limit_fault scene.now.scale.now (2 * scene.now.number) node (Some even.now) (Some odd.now) span }
 {
     if is_empty(even) || is_empty(odd) {
         None
-    } else if is_empty(&apart_by(scale, even, odd, span)) {
-        Some(limit_with(scale, cycle, node, &seen_apart(even, odd, span)))
+    } else if is_empty(&apart_by(scene.scale, even, odd, span)) {
+        let apart = seen_apart(even, odd, span);
+        Some(limit_with(scene.scale, 2 * scene.number, node, &apart))
     } else {
         None
     }
 }
 
 fn limit_fault(
-    scale: &Scale,
-    cycle: u32,
+    scene: &Scene<'_>,
     node: NodeId,
     even: Option<Interval>,
     odd: Option<Interval>,
     span: Option<Interval>,
 ) -> Option<Fault>
-    requires scale { IsReadingScale scale.now }
+    requires scene { IsScene scene.now }
     requires even { IfSome even IsBox }
     requires odd { IfSome odd IsBox }
     requires span { IfSome span IsSpan }
-    ensures { result ≡ limit_fault scale.now cycle node even odd span }
+    ensures { result ≡ limit_fault scene.now.scale.now (2 * scene.now.number) node even odd span }
 {
     match even {
         None => None,
         Some(even) => match odd {
             None => None,
-            Some(odd) => limit_by(scale, cycle, node, &even, &odd, span),
+            Some(odd) => limit_by(scene, node, &even, &odd, span),
         },
     }
 }
@@ -131,50 +133,37 @@ fn span_between(log: &Log, here: &[Sighting], double: u32, node: NodeId) -> Opti
 // What contradicts any clock of a node in a double cycle.
 #[tactic(auto, unfolding(crate::specs::Faults::clock_faults))]
 fn put_clock<O: Sink>(
-    scale: &Scale,
-    log: &Log,
-    here: &[Sighting],
-    double: u32,
+    scene: &Scene<'_>,
     node: NodeId,
     first: &mut Option<Fault>,
     out: &mut O,
 ) -> Result<(), PutFault>
-    requires scale { IsReadingScale scale.now }
-    requires here { AreLogStamps log.now here.now }
-    requires double { double < 1_000_000 }
+    requires { IsScene scene.now }
     ensures { TellsFaults result (O.state out.old) (O.state out.new) first.old first.new
-        (clock_faults scale.now log.now here.now double node) }
+        (clock_faults scene.now.scale.now scene.now.log.now scene.now.here.now scene.now.number node) }
 {
-    let (even, odd) = (2 * double, 2 * double + 1);
+    let (log, here) = (scene.log, scene.here);
+    let (even, odd) = (2 * scene.number, 2 * scene.number + 1);
     let at_even = seen_box(log, here, node, even);
     let at_odd = seen_box(log, here, node, odd);
     let span = span_between(log, here, double, node);
     tell(box_fault(even, node, at_even), first, out)?;
     tell(box_fault(odd, node, at_odd), first, out)?;
-    tell(
-        limit_fault(scale, even, node, at_even, at_odd, span),
-        first,
-        out,
-    )
+    tell(limit_fault(scene, node, at_even, at_odd, span), first, out)
 }
 
 fn put_node<O: Sink>(
-    scale: &Scale,
-    log: &Log,
-    here: &[Sighting],
-    double: u32,
+    scene: &Scene<'_>,
     node: &NodeSpec,
     first: &mut Option<Fault>,
     out: &mut O,
 ) -> Result<(), PutFault>
-    requires scale { IsReadingScale scale.now }
-    requires here { AreLogStamps log.now here.now }
-    requires double { double < 1_000_000 }
+    requires { IsScene scene.now }
     ensures { TellsFaults result (O.state out.old) (O.state out.new) first.old first.new
-        (node_faults scale.now log.now here.now double node.now) }
+        (node_faults scene.now.scale.now scene.now.log.now scene.now.here.now scene.now.number node.now) }
 {
-    if is_judged(log, node) {
-        put_clock(scale, log, here, double, node.id, first, out)
+    if is_judged(scene.log, node) {
+        put_clock(scene, node.id, first, out)
     } else {
         Ok(())
     }
@@ -182,23 +171,17 @@ fn put_node<O: Sink>(
 
 // The same of all nodes.
 fn put_clocks<O: Sink>(
-    scale: &Scale,
-    params: &Params,
-    log: &Log,
-    here: &[Sighting],
-    double: u32,
+    scene: &Scene<'_>,
     first: &mut Option<Fault>,
     out: &mut O,
 ) -> Result<(), PutFault>
-    requires scale { IsReadingScale scale.now }
-    requires here { AreLogStamps log.now here.now }
-    requires double { double < 1_000_000 }
+    requires { IsScene scene.now }
     ensures { TellsFaults result (O.state out.old) (O.state out.new) first.old first.new
-        (flat_map (node_faults scale.now log.now here.now double) params.now.nodes) }
+        (flat_map (node_faults scene.now.scale.now scene.now.log.now scene.now.here.now scene.now.number)
+        scene.now.params.now.nodes) }
 {
-    for place in 0..node_count(params) {
-        let node = node_at(params, place);
-        put_node(scale, log, here, double, node, first, out)?;
+    for place in 0..node_count(scene.params) {
+        put_node(scene, node_at(scene.params, place), first, out)?;
     }
     Ok(())
 }
@@ -281,15 +264,12 @@ fn twice_by(log: &Log, sighting: &Sighting, first: u64) -> Option<Fault>
     if first == sighting.stamp {
         None
     } else {
-        Some(Fault {
+        Some(Fault::Twice {
             cycle: sighting.number,
-            node: Some(sighting.node),
-            kind: FaultKind::Twice,
-            channel: Some(sighting.channel),
-            low: None,
-            high: Some(stamp_number(log, sighting.stamp)),
-            from: Some(stamp_number(log, first)),
-            to: None,
+            node: sighting.node,
+            channel: sighting.channel,
+            stamp: stamp_number(log, sighting.stamp),
+            first: stamp_number(log, first),
         })
     }
 }
@@ -335,15 +315,12 @@ fn cycle_fault(log: &Log, sighting: &Sighting) -> Fault
     requires { log.now.unit * sighting.now.stamp ≤ last_stamp }
     ensures { result ≡ cycle_fault sighting.now }
 {
-    Fault {
+    Fault::Cycle {
         cycle: sighting.number,
-        node: Some(sighting.node),
-        kind: FaultKind::Cycle,
-        channel: Some(sighting.channel),
-        low: None,
-        high: Some(stamp_number(log, sighting.stamp)),
-        from: Some(i64::from(sighting.count)),
-        to: None,
+        node: sighting.node,
+        channel: sighting.channel,
+        stamp: stamp_number(log, sighting.stamp),
+        count: sighting.count,
     }
 }
 
@@ -377,16 +354,8 @@ pub fn put_own_faults<O: Sink>(
         (own_faults scene.now.params.now scene.now.scale.now scene.now.log.now scene.now.here.now late.now
         scene.now.number scene.now.senders.now) }
 {
-    let Scene {
-        params,
-        scale,
-        log,
-        here,
-        number,
-        ..
-    } = *scene;
-    put_clocks(scale, params, log, here, number, first, out)?;
+    put_clocks(scene, first, out)?;
     put_of_senders(Asked::Correction, scene, first, out)?;
-    put_twice(log, here, first, out)?;
-    put_late(log, late, first, out)
+    put_twice(scene.log, scene.here, first, out)?;
+    put_late(scene.log, late, first, out)
 }

@@ -8,14 +8,15 @@ ghost use Rattle.fr_bound.specs.SharpBounds.{most_flutter};
 ghost use Rattle.fr_course.specs.Near.{EndWithin, IsMeasuring, IsReadingScale};
 ghost use Rattle.fr_course.specs.Terms.{rate_step_seen};
 ghost use Rattle.fr_sightings.specs.Ranges.{IsProperSender};
-ghost use Rattle.fr_observe.specs.Faults.{correction_fault, further_of, length_beyond, length_fault_by, longest_cycle_of, offset_due, offset_fault, rate_due, rate_fault, shortest_cycle_of, stated_flutter, term_fault, unlike_fault};
+ghost use Rattle.fr_observe.specs.Faults.{correction_fault, further_of, length_beyond, length_fault_by, longest_cycle_of, offset_due, offset_fault, rate_due, rate_fault, shortest_cycle_of, stated_flutter, term_fault, unlike_fault, unlike_with};
 ghost use Rattle.fr_observe.specs.Scenes.{IsScene};
 ghost use Rattle.fr_observe.specs.Telling.{IsFewAsked, TellsFaults, sender_fault};
 
-use crate::fault::{Fault, FaultKind};
+use crate::fault::{Fault, Range};
 use crate::rows::terms_of;
 use crate::scene::Scene;
 use crate::telling::tell;
+use crate::term::Term;
 use fr_base::{NodeId, PutFault, Sink};
 use fr_bound::{longest_microtick, shortest_microtick};
 use fr_cluster::{ParamName, Params};
@@ -30,10 +31,9 @@ pub enum Asked {
     Correction,
     /// Whether the lengths of its cycles lie at most so far beyond proper ones, in ticks.
     Length(u64),
-    /// Whether its offset term is one that it must have computed, where it missed at most so many of the other senders.
-    Offset(usize),
-    /// Whether its rate term grew by a step that it must have computed, where it missed at most so many of them.
-    Rate(usize),
+    /// Whether its offset term is one, or its rate term grew by a step, that it must have computed where it missed at most so many
+    /// of the other senders.
+    Term(Term, usize),
 }
 
 // The limit of offset terms, in microticks.
@@ -71,7 +71,12 @@ fn term_fault(params: &Params, cycle: u32, node: NodeId, term: &Interval) -> Opt
 {
     let allowed = allowed_terms(params);
     if is_beyond(term, &allowed) {
-        Some(Fault::apart(cycle, node, FaultKind::Correction, term, &allowed))
+        Some(Fault::Correction {
+            cycle,
+            node,
+            term: Range::of(term),
+            allowed: Range::of(&allowed),
+        })
     } else {
         None
     }
@@ -136,7 +141,12 @@ fn length_by(
 {
     let allowed = lengths_beyond(proper, beyond);
     if lie_apart(&allowed, long) {
-        Some(Fault::apart(cycle, node, FaultKind::Length, long, &allowed))
+        Some(Fault::Length {
+            cycle,
+            node,
+            length: Range::of(long),
+            allowed: Range::of(&allowed),
+        })
     } else {
         None
     }
@@ -164,8 +174,30 @@ fn length_beyond(
     )
 }
 
+fn unlike_with(what: Term, cycle: u32, node: NodeId, seen: &Interval, computed: &Interval) -> Fault
+    requires seen { EndWithin (pos 6_000_000_000_000_000_000) seen.now }
+    requires computed { EndWithin (pos 22_000_000_000_000) computed.now }
+    ensures { result ≡ unlike_with what cycle node seen.now computed.now }
+{
+    let (seen, due) = (Range::of(seen), Range::of(computed));
+    match what {
+        Term::Offset => Fault::Offset {
+            cycle,
+            node,
+            term: seen,
+            due,
+        },
+        Term::Rate => Fault::Rate {
+            cycle,
+            node,
+            step: seen,
+            due,
+        },
+    }
+}
+
 fn unlike_by(
-    kind: FaultKind,
+    what: Term,
     cycle: u32,
     node: NodeId,
     seen: &Interval,
@@ -173,10 +205,10 @@ fn unlike_by(
 ) -> Option<Fault>
     requires seen { EndWithin (pos 6_000_000_000_000_000_000) seen.now }
     requires computed { EndWithin (pos 22_000_000_000_000) computed.now }
-    ensures { result ≡ unlike_fault kind cycle node (Some seen.now) (Some computed.now) }
+    ensures { result ≡ unlike_fault what cycle node (Some seen.now) (Some computed.now) }
 {
     if lie_apart(seen, computed) {
-        Some(Fault::apart(cycle, node, kind, seen, computed))
+        Some(unlike_with(what, cycle, node, seen, computed))
     } else {
         None
     }
@@ -184,7 +216,7 @@ fn unlike_by(
 
 // What was seen of a term, and what the node must have computed, have no number in common.
 fn unlike_fault(
-    kind: FaultKind,
+    what: Term,
     cycle: u32,
     node: NodeId,
     seen: Option<Interval>,
@@ -192,13 +224,13 @@ fn unlike_fault(
 ) -> Option<Fault>
     requires seen { IfSome seen (EndWithin (pos 6_000_000_000_000_000_000)) }
     requires computed { IfSome computed (EndWithin (pos 22_000_000_000_000)) }
-    ensures { result ≡ unlike_fault kind cycle node seen computed }
+    ensures { result ≡ unlike_fault what cycle node seen computed }
 {
     match seen {
         None => None,
         Some(seen) => match computed {
             None => None,
-            Some(computed) => unlike_by(kind, cycle, node, &seen, &computed),
+            Some(computed) => unlike_by(what, cycle, node, &seen, &computed),
         },
     }
 }
@@ -292,7 +324,7 @@ fn offset_fault(scene: &Scene<'_>, lost: usize, sender: &Sender) -> Option<Fault
         scene.now.senders.now lost sender.now }
 {
     unlike_fault(
-        FaultKind::Offset,
+        Term::Offset,
         2 * scene.number + 1,
         sender.node,
         terms_of(scene.scale, sender),
@@ -322,7 +354,7 @@ fn rate_fault(scene: &Scene<'_>, lost: usize, sender: &Sender) -> Option<Fault>
         scene.now.senders.now lost sender.now }
 {
     unlike_fault(
-        FaultKind::Rate,
+        Term::Rate,
         2 * scene.number + 1,
         sender.node,
         step_of(scene.scale, sender),
@@ -344,8 +376,8 @@ pub fn sender_fault(asked: Asked, scene: &Scene<'_>, sender: &Sender) -> Option<
         Asked::Length(beyond) => {
             length_beyond(scene.params, scene.scale, beyond, scene.number, sender)
         }
-        Asked::Offset(lost) => offset_fault(scene, lost, sender),
-        Asked::Rate(lost) => rate_fault(scene, lost, sender),
+        Asked::Term(Term::Offset, lost) => offset_fault(scene, lost, sender),
+        Asked::Term(Term::Rate, lost) => rate_fault(scene, lost, sender),
     }
 }
 

@@ -1,10 +1,11 @@
 ghost use Rattle.std.specs.Prelude.{◌≡◌, ◌*◌, ◌≤◌};
 ghost use Rattle.fr_log.specs.Rows.{last_stamp};
-ghost use Rattle.fr_observe.specs.Faults.{irregular_fault, irregular_kind, slot_faults};
+ghost use Rattle.fr_cluster.specs.Questions.{has_channel, node_of};
+ghost use Rattle.fr_observe.specs.Faults.{irregular_fault, slot_faults};
 ghost use Rattle.fr_observe.specs.Telling.{TellsFaults};
 ghost use Rattle.fr_sightings.specs.Ranges.{AreLogStamps};
 
-use crate::fault::{Fault, FaultKind};
+use crate::fault::Fault;
 use crate::missing::has_channel;
 use crate::own_faults::stamp_number;
 use crate::telling::tell_one;
@@ -13,36 +14,45 @@ use fr_cluster::Params;
 use fr_log::Log;
 use fr_sightings::Sighting;
 
-// How a frame is none that the node of its slot sends: what it has on the node's channels is of another form.
-fn irregular_kind(params: &Params, sighting: &Sighting) -> FaultKind
-    ensures { result ≡ irregular_kind params.now sighting.now }
+// Whether a frame is on a channel of the node of its slot.
+fn is_on_channel(params: &Params, sighting: &Sighting) -> bool
+    ensures { result ≡ has_channel (node_of params.now sighting.now.node) sighting.now.channel }
 {
     match params.node(sighting.node) {
-        None => FaultKind::Stranger,
-        Some(node) => {
-            if has_channel(node, sighting.channel) {
-                FaultKind::Form
-            } else {
-                FaultKind::Stranger
-            }
-        }
+        None => false,
+        Some(node) => has_channel(node, sighting.channel),
     }
 }
 
-// A frame is in the slot of a node that does not send it.
+// A frame is in the slot of a node that does not send it: what is on the node's channels is of another form.
 fn irregular_fault(params: &Params, log: &Log, sighting: &Sighting) -> Fault
     requires { log.now.unit * sighting.now.stamp ≤ last_stamp }
     ensures { result ≡ irregular_fault params.now sighting.now }
 {
-    Fault {
-        cycle: sighting.number,
-        node: Some(sighting.node),
-        kind: irregular_kind(params, sighting),
-        channel: Some(sighting.channel),
-        low: None,
-        high: Some(stamp_number(log, sighting.stamp)),
-        from: Some(i64::from(sighting.slot.0)),
-        to: None,
+    let Sighting {
+        number: cycle,
+        node,
+        channel,
+        slot,
+        ..
+    } = *sighting;
+    let stamp = stamp_number(log, sighting.stamp);
+    if is_on_channel(params, sighting) {
+        Fault::Form {
+            cycle,
+            node,
+            channel,
+            stamp,
+            slot,
+        }
+    } else {
+        Fault::Stranger {
+            cycle,
+            node,
+            channel,
+            stamp,
+            slot,
+        }
     }
 }
 

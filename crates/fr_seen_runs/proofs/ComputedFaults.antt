@@ -37,12 +37,10 @@ use Rattle.fr_seen.proofs.RowLaws.{observed_next_rows_hold}
 use Rattle.fr_seen.proofs.SenderLaws.{all_given, mapped_some, senders_go_on}
 use Rattle.fr_seen.proofs.TermLaws.{rate_steps_are_seen}
 use Rattle.fr_seen_runs.specs.Contradictions.{IsObservedRun, MissesFew}
-use Rattle.fr_observe.specs.declared.fault.FaultKind.{FaultKind}
 use Rattle.fr_observe.specs.Faults.{offset_due, offset_fault, rate_due, rate_fault, stated_flutter, unlike_fault, unlike_with}
-use Rattle.fr_observe.specs.declared.fault.FaultKind.TheVariants.{Offset, Rate}
 use Rattle.fr_judging.specs.Missing.{unlike_term}
-use Rattle.fr_judging.specs.declared.missed.Term.{Term}
-use Rattle.fr_judging.specs.declared.missed.Term.TheVariants.{OffsetTerm, RateTerm}
+use Rattle.fr_observe.specs.declared.term.Term.{Term}
+use Rattle.fr_observe.specs.declared.term.Term.TheVariants.{Offset, Rate}
 use Rattle.fr_seen_runs.specs.ComputedTerms.{IsNamedLog, OffsetIsComputed, RateIsComputed}
 use Rattle.fr_seen_runs.specs.JudgedTerms.{IsJudgedRun, MissedIsSo, OffsetsAreComputed, RatesAreComputed}
 use Rattle.fr_seen_runs.specs.LogDoubles.{IsDoubleThere}
@@ -51,17 +49,17 @@ use Rattle.fr_seen_runs.proofs.SeenDoubles.{doubles_to, sighting_within}
 
 -- ---- what was seen and what was computed have a number in common
 
-unlike_none : (kind : FaultKind) (cycle node : ℕ) (seen computed : Option Interval) (value : ℤ)
-    → IfSome seen (λ i. IsBetween i.low i.high value) → IfSome computed (λ i. IsBetween i.low i.high value) → unlike_fault kind cycle node seen computed ≡ None
-unlike_none kind cycle node None computed value one other = refl
-unlike_none kind cycle node (Some seen) None value one other = refl
-unlike_none kind cycle node (Some seen) (Some computed) value one other =
+unlike_none : (what : Term) (cycle node : ℕ) (seen computed : Option Interval) (value : ℤ)
+    → IfSome seen (λ i. IsBetween i.low i.high value) → IfSome computed (λ i. IsBetween i.low i.high value) → unlike_fault what cycle node seen computed ≡ None
+unlike_none what cycle node None computed value one other = refl
+unlike_none what cycle node (Some seen) None value one other = refl
+unlike_none what cycle node (Some seen) (Some computed) value one other =
     by (int_lt seen.high computed.low) (int_lt computed.high seen.low) (no_less computed.low seen.high value other.low one.high) (no_less seen.low computed.high value one.low other.high)
   where
     no_less : (low high v : ℤ) → low ≤ℤ v → v ≤ℤ high → int_lt high low ≡ false
     no_less low high v from to = grind (arith, ints)
 
-    by : (first second : Bool) → first ≡ false → second ≡ false → (if first || second then Some (unlike_with kind cycle node seen computed) else None) ≡ None
+    by : (first second : Bool) → first ≡ false → second ≡ false → (if first || second then Some (unlike_with what cycle node seen computed) else None) ≡ None
     by true second a b = absurd (cc a)
     by false true a b = absurd (cc b)
     by false false a b = refl
@@ -259,9 +257,9 @@ module _
     pub term_none : OffsetsAreComputed → RatesAreComputed → (kind : Term) (lost : ℕ) (s : Sender) (node : NodeSpec) → Contains (log_senders x l double) s → Contains (correct_nodes x) node
         → node.id ≡ s.node → MissesFew x (run_double base double) lost node
         → unlike_term kind x.params l (reading_scale l.drift x.params) double (log_senders x l double) s lost ≡ None
-    term_none offsets rates OffsetTerm lost s node among correct same misses =
+    term_none offsets rates Offset lost s node among correct same misses =
         offset_none x h base delays clock l double observed lost s among (computes_both offsets rates lost s node among correct same misses)
-    term_none offsets rates RateTerm lost s node among correct same misses =
+    term_none offsets rates Rate lost s node among correct same misses =
         rate_none x h base delays clock l double observed lost s among (computes_both offsets rates lost s node among correct same misses)
 
 pub missed_is_so : OffsetsAreComputed → RatesAreComputed → MissedIsSo

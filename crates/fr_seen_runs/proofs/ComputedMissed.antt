@@ -20,10 +20,9 @@ use Rattle.fr_course.proofs.Middling.{middle-least}
 use Rattle.fr_sightings.specs.declared.sender.Sender.{Sender}
 use Rattle.fr_observe.specs.Faults.{further_of, other_courses, stated_flutter, unlike_fault}
 use Rattle.fr_observe.specs.Observing.{terms_of}
-use Rattle.fr_observe.specs.declared.fault.FaultKind.TheVariants.{Offset, Rate}
 use Rattle.fr_judging.specs.Missing.{unlike_term}
-use Rattle.fr_judging.specs.declared.missed.Term.{Term}
-use Rattle.fr_judging.specs.declared.missed.Term.TheVariants.{OffsetTerm, RateTerm}
+use Rattle.fr_observe.specs.declared.term.Term.{Term}
+use Rattle.fr_observe.specs.declared.term.Term.TheVariants.{Offset, Rate}
 use Rattle.fr_seen_runs.specs.Standings.{IsNoLess}
 use Rattle.fr_seen_runs.proofs.ComputedLists.{all_pass}
 
@@ -93,10 +92,10 @@ module _ (p : Values) (l : LogView) (scale : Scale) (double : ℕ) (senders : Li
 
   -- so nothing changes beyond that
   pub same_term : (kind : Term) (lost : ℕ) → unlike_term kind p l scale double senders s (least_of_both lost) ≡ unlike_term kind p l scale double senders s lost
-  same_term OffsetTerm lost =
+  same_term Offset lost =
       let box = deviation_seen scale (measuring_of p (stated_flutter p l)) s.course in
       ap (unlike_fault Offset (2 * double + 1) s.node (terms_of scale s)) (same_middle lost (own_value ∷ map box others) (long_with box))
-  same_term RateTerm lost =
+  same_term Rate lost =
       let box = rate_value_seen scale (measuring_of p (stated_flutter p l)) s.course in
       ap (λ o. unlike_fault Rate (2 * double + 1) s.node (option_map (rate_step_seen scale s.course) s.next) (option_map (further_by (measuring_of p (stated_flutter p l)).damping) o))
       (same_middle lost (own_value ∷ map box others) (long_with box))

@@ -30,7 +30,7 @@ use Rattle.fr_judging.specs.Hearing.{log_heard}
 use Rattle.fr_findings.specs.declared.progress.Progress.{Progress}
 use Rattle.fr_sightings.specs.Sightings.{OffendingFrames, irregular_of, offending_frames_of}
 use Rattle.fr_findings.specs.declared.verdict.Verdict.TheVariants as verdict
-use Rattle.fr_seen_runs.proofs.FaultKinds.{AsksJudged, AsksOwnSlots, slot_faults_ask, standing_faults_ask}
+use Rattle.fr_seen_runs.proofs.Asking.{AsksJudged, AsksOwnSlots, slot_faults_ask, standing_faults_ask}
 use Rattle.fr_seen_runs.proofs.OwnFaults.{slot_faults_are_none}
 use Rattle.fr_seen_runs.proofs.Progressing.{faults_left, first_is, seen_in_turn, told_all, told_from}
 use Rattle.fr_seen_runs.proofs.ToldVerdicts.{fault_is_first}
@@ -107,21 +107,21 @@ module _ (x : Setting) (h : Cycles) (base : ℕ) (delays : ℕ → Channel → D
       standing_faults_ask Log.params Log.scale Log.log Log.span (At double).before (At double).here (At double).number (At double).senders (standing_told Log (At double) progress.known)
 
   AsksEither : Fault → Type 0
-  AsksEither fault = (asks_judged fault.kind || asks_own_slots fault.kind) ≡ true
+  AsksEither fault = (asks_judged fault || asks_own_slots fault) ≡ true
 
   judged_either : (fault : Fault) → AsksJudged fault → AsksEither fault
   unfolding AsksEither
-  judged_either fault asks = ap (λ judged. judged || asks_own_slots fault.kind) asks
+  judged_either fault asks = ap (λ judged. judged || asks_own_slots fault) asks
 
   slots_either : (fault : Fault) → AsksOwnSlots fault → AsksEither fault
   unfolding AsksEither
-  slots_either fault asks = by (asks_judged fault.kind) (asks_own_slots fault.kind) asks
+  slots_either fault asks = by (asks_judged fault) (asks_own_slots fault) asks
     where
       by : (judged slots : Bool) → slots ≡ true → (judged || slots) ≡ true
       by true slots is = refl
       by false slots is = is
 
-  pub either_asks : All (λ fault. (asks_judged fault.kind || asks_own_slots fault.kind) ≡ true) (log_faults x.params l)
+  pub either_asks : All (λ fault. (asks_judged fault || asks_own_slots fault) ≡ true) (log_faults x.params l)
   unfolding AsksEither
   either_asks =
       told_are AsksEither (λ double. All-weaker AsksOwnSlots AsksEither slots_either (slot_faults x.params (Irregular double)) (slots_ask double)) (λ double progress. Unit {0})
@@ -269,12 +269,12 @@ told_is Q p l fault is all = subst (λ o. IfSome o Q) ((verdict_tells_first p l 
 
 pub no_run_has_own_faults : NoRunHasOwnFaults
 no_run_has_own_faults x h base delays clock l fault run own is =
-    by (asks_own_slots fault.kind) refl (asks_judged fault.kind) refl (told_is Either x.params l fault is (either_asks x h base delays clock l run))
+    by (asks_own_slots fault) refl (asks_judged fault) refl (told_is Either x.params l fault is (either_asks x h base delays clock l run))
   where
     Either : Fault → Type 0
-    Either fault = (asks_judged fault.kind || asks_own_slots fault.kind) ≡ true
+    Either fault = (asks_judged fault || asks_own_slots fault) ≡ true
 
-    by : (slots : Bool) → asks_own_slots fault.kind ≡ slots → (judged : Bool) → asks_judged fault.kind ≡ judged → (judged || slots) ≡ true → asks_judged fault.kind ≡ true
+    by : (slots : Bool) → asks_own_slots fault ≡ slots → (judged : Bool) → asks_judged fault ≡ judged → (judged || slots) ≡ true → asks_judged fault ≡ true
     by true asks judged of_judged told = told_is AsksJudged x.params l fault is (all_ask x h base delays clock l run (own asks))
     by false asks true of_judged told = of_judged
     by false asks false of_judged told = absurd (cc told)

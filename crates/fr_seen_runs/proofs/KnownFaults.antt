@@ -32,7 +32,7 @@ use Rattle.fr_observe.specs.Faults.{beyond_fault, length_beyond, longest_cycle_o
 use Rattle.fr_judging.specs.Knowing.{known_apart, known_missing}
 use Rattle.fr_observe.specs.Observing.{courses_of, even_low, odd_low}
 use Rattle.fr_observe.specs.declared.fault.Fault.{Fault}
-use Rattle.fr_observe.specs.declared.fault.FaultKind.TheVariants.{Lengths, Start}
+use Rattle.fr_observe.specs.declared.apart_faults.Apart.TheVariants.{Lengths, Starts}
 use Rattle.fr_findings.specs.Verdict.{log_span}
 use Rattle.fr_seen.specs.Clocks.{StraightClock}
 use Rattle.fr_seen.specs.LogSeen.{HasBoth, RowsHold, log_senders, run_double, sender_rows}
@@ -90,7 +90,7 @@ module _
 
     -- ---- starts and lengths
 
-    starts_none : beyond_fault Start (2 * double) (pos known.spread.starts) (starts_apart (reading_scale l.drift x.params) (courses_of (log_senders x l double))) ≡ None
+    starts_none : beyond_fault Starts (2 * double) (pos known.spread.starts) (starts_apart (reading_scale l.drift x.params) (courses_of (log_senders x l double))) ≡ None
     starts_none =
         let bound = pos known.spread.starts in
         let near = some_within bound (λ (row : NodeRow). row.start) at.even.told.rows (sender_rows at.even Senders) at.rows.starts_lie among.0 in
@@ -173,7 +173,7 @@ no_known_fault x h base delays clock l before double known o named unmissed at e
     let scale = reading_scale l.drift p in
     let senders = log_senders x l double in
     let beyond = beyond_none x h base delays clock l double known o at in (
-      none_of_three (option_to_list (beyond_fault Start (2 * double) (pos known.spread.starts) (starts_apart scale (courses_of senders))))
+      none_of_three (option_to_list (beyond_fault Starts (2 * double) (pos known.spread.starts) (starts_apart scale (courses_of senders))))
           (option_to_list (beyond_fault Lengths (2 * double) (pos known.spread.lengths) (lengths_apart scale (courses_of senders))))
           (filter_map (length_beyond p scale known.beyond double) senders)
           (ap (λ (f : Option Fault). option_to_list f) beyond.starts) (ap (λ (f : Option Fault). option_to_list f) beyond.lengths) beyond.long,

@@ -22,7 +22,7 @@ pub mod SeenNodes
 pub mod OwnFaults
 pub mod KnownDoubles
 pub mod KnownFaults
-pub mod FaultKinds
+pub mod Asking
 pub mod Progressing
 pub mod ToldVerdicts
 pub mod Contradicted

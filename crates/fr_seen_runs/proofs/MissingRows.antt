@@ -24,8 +24,8 @@ use Rattle.fr_judging.specs.Knowing.{judged_met, standing_of}
 use Rattle.fr_judging.specs.Missing.{all_missed, least_missed, missed_if_any, missed_where, missed_of_term, missed_with, unlike_term}
 use Rattle.fr_judging.specs.declared.knowing.Standing.{Standing}
 use Rattle.fr_judging.specs.declared.missed.Missed.{Missed}
-use Rattle.fr_judging.specs.declared.missed.Term.{Term}
-use Rattle.fr_judging.specs.declared.missed.Term.TheVariants.{OffsetTerm, RateTerm}
+use Rattle.fr_observe.specs.declared.term.Term.{Term}
+use Rattle.fr_observe.specs.declared.term.Term.TheVariants.{Offset, Rate}
 use Rattle.fr_findings.specs.Verdict.{Basis, DoubleCycle, double_at, log_basis, no_progress, own_told, progress_behind, standing_told}
 use Rattle.fr_findings.specs.declared.progress.Progress.{Progress}
 use Rattle.fr_sharp.specs.JudgedSteps.{IsHeardIn}
@@ -99,9 +99,9 @@ module _
     missed_so None none = All-nil IsSo
     missed_so (Some met) j =
         let p = x.params in
-        All-append IsSo (missed_of_term OffsetTerm p l Scaled double Senders) (missed_of_term RateTerm p l Scaled double Senders)
-        (all_given (missed_where OffsetTerm p l Scaled double Senders) IsSo Senders (sender_so met j OffsetTerm))
-        (all_given (missed_where RateTerm p l Scaled double Senders) IsSo Senders (sender_so met j RateTerm))
+        All-append IsSo (missed_of_term Offset p l Scaled double Senders) (missed_of_term Rate p l Scaled double Senders)
+        (all_given (missed_where Offset p l Scaled double Senders) IsSo Senders (sender_so met j Offset))
+        (all_given (missed_where Rate p l Scaled double Senders) IsSo Senders (sender_so met j Rate))
 
 -- ---- a log
 

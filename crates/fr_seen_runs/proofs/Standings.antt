@@ -27,8 +27,8 @@ use Rattle.fr_sightings.specs.declared.sender.Sender.{Sender}
 use Rattle.fr_sightings.specs.declared.sighting.Sighting.{Sighting}
 use Rattle.fr_judging.specs.Knowing.{is_judged_by, is_stated_at, judged_met, judged_skews, judged_terms, known_apart, known_as_stated, known_missing, known_next, known_seen, moving_faults, standing_faults, standing_of, term_faults}
 use Rattle.fr_judging.specs.Missing.{unlike_term}
-use Rattle.fr_judging.specs.declared.missed.Term.{Term}
-use Rattle.fr_judging.specs.declared.missed.Term.TheVariants.{OffsetTerm, RateTerm}
+use Rattle.fr_observe.specs.declared.term.Term.{Term}
+use Rattle.fr_observe.specs.declared.term.Term.TheVariants.{Offset, Rate}
 use Rattle.fr_observe.specs.Faults.{offset_fault, rate_fault, skew_fault, stated_flutter}
 use Rattle.fr_observe.specs.Observing.{even_high, even_low, odd_high, odd_low, seen_doubles}
 use Rattle.fr_observe.specs.declared.fault.Fault.{Fault}
@@ -238,7 +238,7 @@ module _
       unfolding judged_terms
       terms_none =
           none_of_two (filter_map (offset_fault p l Scaled double Senders l.lost) Senders) (filter_map (rate_fault p l Scaled double Senders l.lost) Senders)
-          (none_given (offset_fault p l Scaled double Senders l.lost) Senders (no_term_fault OffsetTerm)) (none_given (rate_fault p l Scaled double Senders l.lost) Senders (no_term_fault RateTerm))
+          (none_given (offset_fault p l Scaled double Senders l.lost) Senders (no_term_fault Offset)) (none_given (rate_fault p l Scaled double Senders l.lost) Senders (no_term_fault Rate))
 
       next_known : IsKnownOfLog x h base (suc double) (Some (known_after what x.params (stated_flutter x.params l) met))
       next_known =

@@ -243,7 +243,7 @@ form_is_told = record { log = form_log; verdict = form_verdict }
 
 -- that is as the log states, of whatever cluster
 pub none_stated :
-    NoRunIsContradicted → (p : Values) (l : LogView) (fault : Fault) → asks_own_slots fault.kind ≡ false → verdict_of p l ≡ verdict.No fault
+    NoRunIsContradicted → (p : Values) (l : LogView) (fault : Fault) → asks_own_slots fault ≡ false → verdict_of p l ≡ verdict.No fault
     → (x : Setting) (h : Cycles) (base : ℕ) (delays : ℕ → Channel → Delays) (clock : ℕ → StraightClock) → x.params ≡ p
     → IsObservedRun x h base delays clock l → IsAsLogStates x h base l → ⊥
 none_stated law p l fault slots told x h base delays clock same observed stated =
@@ -251,20 +251,20 @@ none_stated law p l fault slots told x h base delays clock same observed stated 
 
 -- where the slots are own, or the fault does not ask for it
 none_where :
-    NoRunHasOwnFaults → (l : LogView) (fault : Fault) → asks_judged fault.kind ≡ false → verdict_of seen_cluster l ≡ verdict.No fault
+    NoRunHasOwnFaults → (l : LogView) (fault : Fault) → asks_judged fault ≡ false → verdict_of seen_cluster l ≡ verdict.No fault
     → (x : Setting) (h : Cycles) (base : ℕ) (delays : ℕ → Channel → Delays) (clock : ℕ → StraightClock) → x.params ≡ seen_cluster
-    → IsObservedRun x h base delays clock l → (asks_own_slots fault.kind ≡ true → SlotsAreOwn x h l) → ⊥
+    → IsObservedRun x h base delays clock l → (asks_own_slots fault ≡ true → SlotsAreOwn x h l) → ⊥
 none_where law l fault asks told x h base delays clock same observed own =
     let e : false ≡ true = sym asks ∙ law x h base delays clock l fault observed own (ap (λ p. verdict_of p l) same ∙ told) in cc e
 
 pub none_at_all :
-    NoRunHasOwnFaults → (l : LogView) (fault : Fault) → asks_judged fault.kind ≡ false → asks_own_slots fault.kind ≡ false
+    NoRunHasOwnFaults → (l : LogView) (fault : Fault) → asks_judged fault ≡ false → asks_own_slots fault ≡ false
     → verdict_of seen_cluster l ≡ verdict.No fault → IsSeenOfNone l
 none_at_all law l fault asks slots told x h base delays clock same observed =
     none_where law l fault asks told x h base delays clock same observed (λ own. let e : true ≡ false = sym own ∙ slots in absurd (cc e))
 
 pub none_with_own_slots :
-    NoRunHasOwnFaults → (l : LogView) (fault : Fault) → asks_judged fault.kind ≡ false → verdict_of seen_cluster l ≡ verdict.No fault
+    NoRunHasOwnFaults → (l : LogView) (fault : Fault) → asks_judged fault ≡ false → verdict_of seen_cluster l ≡ verdict.No fault
     → IsSeenOfNoneWithOwnSlots l
 none_with_own_slots law l fault asks told x h base delays clock same observed own =
     none_where law l fault asks told x h base delays clock same observed (λ asked. own)

@@ -136,4 +136,4 @@ NoNearRunIsContradicted =
     (x : Setting) (h : Cycles) (base : ℕ) (delays : ℕ → Channel → Delays) (clock : ℕ → StraightClock) (l : LogView)
     (from : ℕ) (fault : Fault)
     → IsReadNear x h base delays clock l from → IsAsLogStates x h base l → are_numbers_sure x.params l ≡ true
-    → (asks_own_slots fault.kind ≡ true → SlotsAreOwn x h l) → verdict_of x.params l ≡ verdict.No fault → ⊥
+    → (asks_own_slots fault ≡ true → SlotsAreOwn x h l) → verdict_of x.params l ≡ verdict.No fault → ⊥

@@ -16,7 +16,7 @@ use Rattle.fr_course.specs.declared.stamps.Delays.{Delays}
 use Rattle.fr_observe.specs.Faults.{stated_flutter}
 use Rattle.fr_observe.specs.declared.fault.Fault.{Fault}
 use Rattle.fr_judging.specs.Missing.{unlike_term}
-use Rattle.fr_judging.specs.declared.missed.Term.{Term}
+use Rattle.fr_observe.specs.declared.term.Term.{Term}
 use Rattle.fr_sightings.specs.declared.sender.Sender.{Sender}
 use Rattle.fr_seen.specs.Clocks.{StraightClock}
 use Rattle.fr_seen.specs.LogSeen.{log_senders, run_double}

@@ -16,7 +16,7 @@ use Rattle.fr_observe.specs.Faults.{beyond_fault, length_beyond, missing_frames,
 use Rattle.fr_judging.specs.Knowing.{known_apart, known_missing, known_seen}
 use Rattle.fr_observe.specs.Observing.{courses_of, even_high, even_low, odd_high, odd_low, seen_doubles}
 use Rattle.fr_observe.specs.declared.fault.Fault.{Fault}
-use Rattle.fr_observe.specs.declared.fault.FaultKind.TheVariants.{Lengths, Start}
+use Rattle.fr_observe.specs.declared.apart_faults.Apart.TheVariants.{Lengths, Starts}
 use Rattle.fr_findings.specs.Verdict.{log_span}
 use Rattle.fr_seen.specs.Clocks.{StraightClock}
 use Rattle.fr_seen.specs.LogSeen.{log_senders, run_double}
@@ -43,7 +43,7 @@ SeenIsKnown =
 -- starts and lengths certainly lie no further apart than so, and lengths no further beyond their range
 pub record HasNoFaultBeyond (x : Setting) (l : LogView) (double : ℕ) (known : Known) : Type 0 where
   pub starts :
-      beyond_fault Start (2 * double) (pos known.spread.starts)
+      beyond_fault Starts (2 * double) (pos known.spread.starts)
       (starts_apart (reading_scale l.drift x.params) (courses_of (log_senders x l double)))
       ≡ None
   pub lengths :

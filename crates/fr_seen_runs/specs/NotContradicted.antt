@@ -1,4 +1,4 @@
--- That no run contradicts a log that is seen of it: what its faults exclude, when it is in sync, and what its verdict says.
+-- That no run contradicts a log that is seen of it: what its faults exclude, and what its verdict says.
 use Rattle.std.specs.Prelude.{◌≡◌, ◌+◌, ◌*◌, ◌/◌, ◌≤◌, ℕ, suc, pos, true, false, [], Contains, Some}
 use Rattle.fr_base.specs.declared.channel.Channel.{Channel}
 use Rattle.fr_cluster.specs.Setting.{Setting}
@@ -46,22 +46,22 @@ SlotFaultsAreNone =
 
 -- ---- the verdict
 
--- where the verdict is no, there is no run that is as the log states; and where the kind of the fault does not ask for that,
--- there is no run at all that the log is seen of. By a fault whose kind asks for own slots, this is said of runs where each whole
--- frame in the slot of a node is one that the node sends
+-- where the verdict is no, there is no run that is as the log states; and where the fault does not ask for that, there is no run at
+-- all that the log is seen of. By a fault that asks for own slots, this is said of runs where each whole frame in the slot of a node
+-- is one that the node sends
 abbrev pub NoRunIsContradicted : Type 0
 NoRunIsContradicted =
     (x : Setting) (h : Cycles) (base : ℕ) (delays : ℕ → Channel → Delays) (clock : ℕ → StraightClock) (l : LogView)
     (fault : Fault)
     → IsObservedRun x h base delays clock l → IsAsLogStates x h base l
-    → (asks_own_slots fault.kind ≡ true → SlotsAreOwn x h l) → verdict_of x.params l ≡ verdict.No fault → ⊥
+    → (asks_own_slots fault ≡ true → SlotsAreOwn x h l) → verdict_of x.params l ≡ verdict.No fault → ⊥
 
 abbrev pub NoRunHasOwnFaults : Type 0
 NoRunHasOwnFaults =
     (x : Setting) (h : Cycles) (base : ℕ) (delays : ℕ → Channel → Delays) (clock : ℕ → StraightClock) (l : LogView)
     (fault : Fault)
-    → IsObservedRun x h base delays clock l → (asks_own_slots fault.kind ≡ true → SlotsAreOwn x h l)
-    → verdict_of x.params l ≡ verdict.No fault → asks_judged fault.kind ≡ true
+    → IsObservedRun x h base delays clock l → (asks_own_slots fault ≡ true → SlotsAreOwn x h l)
+    → verdict_of x.params l ≡ verdict.No fault → asks_judged fault ≡ true
 
 -- the skew of the senders of a log stays within the precision in a cycle of the log
 pub record IsWithinReach (x : Setting) (l : LogView) (reach : Reach) (double : ℕ) (even odd : Cycle) : Type 0 where

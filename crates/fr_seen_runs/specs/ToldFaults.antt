@@ -41,7 +41,7 @@ abbrev pub ToldFaultsAskOwnSlots : Type 0
 ToldFaultsAskOwnSlots =
     (x : Setting) (h : Cycles) (base : ℕ) (delays : ℕ → Channel → Delays) (clock : ℕ → StraightClock) (l : LogView)
     → IsObservedRun x h base delays clock l → IsAsLogStates x h base l
-    → All (λ fault. asks_own_slots fault.kind ≡ true) (log_faults x.params l)
+    → All (λ fault. asks_own_slots fault ≡ true) (log_faults x.params l)
 
 -- one that is seen of any run has only such as ask for runs as the log states, where its slots are own; and wherever it is seen of
 -- one, only such as ask for these or for that
@@ -49,13 +49,13 @@ abbrev pub ToldFaultsAskJudged : Type 0
 ToldFaultsAskJudged =
     (x : Setting) (h : Cycles) (base : ℕ) (delays : ℕ → Channel → Delays) (clock : ℕ → StraightClock) (l : LogView)
     → IsObservedRun x h base delays clock l → SlotsAreOwn x h l
-    → All (λ fault. asks_judged fault.kind ≡ true) (log_faults x.params l)
+    → All (λ fault. asks_judged fault ≡ true) (log_faults x.params l)
 
 abbrev pub ToldFaultsAskEither : Type 0
 ToldFaultsAskEither =
     (x : Setting) (h : Cycles) (base : ℕ) (delays : ℕ → Channel → Delays) (clock : ℕ → StraightClock) (l : LogView)
     → IsObservedRun x h base delays clock l
-    → All (λ fault. (asks_judged fault.kind || asks_own_slots fault.kind) ≡ true) (log_faults x.params l)
+    → All (λ fault. (asks_judged fault || asks_own_slots fault) ≡ true) (log_faults x.params l)
 
 -- the verdict is no exactly where there is one, and tells the first
 abbrev pub VerdictTellsFirst : Type 0

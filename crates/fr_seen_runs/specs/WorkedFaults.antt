@@ -9,7 +9,7 @@ use Rattle.fr_log.specs.View.{IsLog, LogView}
 use Rattle.fr_log.specs.declared.entry.Entry.{Entry}
 use Rattle.fr_course.specs.declared.stamps.Delays.{Delays}
 use Rattle.fr_observe.specs.declared.fault.Fault.{Fault}
-use Rattle.fr_observe.specs.declared.fault.FaultKind.TheVariants.{Correction, Form, Offset, Stranger}
+use Rattle.fr_observe.specs.declared.fault.Fault.TheVariants as fault
 use Rattle.fr_findings.specs.Verdict.{verdict_of}
 use Rattle.fr_findings.specs.declared.verdict.Verdict.TheVariants as verdict
 use Rattle.fr_seen.specs.Clocks.{StraightClock}
@@ -28,29 +28,12 @@ late_log later = let log : LogView = seen_log None false in record log { entries
 
 -- by ten microticks: node 2 has applied an offset term of 8 to 10 microticks, and has to have computed another one
 abbrev pub offset_told : Fault
-offset_told = record {
-  cycle = 1;
-  node = Some 2;
-  kind = Offset;
-  channel = None;
-  low = Some (pos 8);
-  high = Some (pos 10);
-  from = Some (neg_ℤ (pos 2));
-  to = Some (pos 0);
-}
+offset_told = fault.Offset 1 2 (record { low = pos 8; high = pos 10 }) (record { low = neg_ℤ (pos 2); high = pos 0 })
 
 -- by 300 microticks: more than the limit of its offset term
 abbrev pub correction_told : Fault
-correction_told = record {
-  cycle = 1;
-  node = Some 2;
-  kind = Correction;
-  channel = None;
-  low = Some (pos 298);
-  high = Some (pos 300);
-  from = Some (neg_ℤ (pos 254));
-  to = Some (pos 254);
-}
+correction_told =
+    fault.Correction 1 2 (record { low = pos 298; high = pos 300 }) (record { low = neg_ℤ (pos 254); high = pos 254 })
 
 -- the last frame of node 2 is another one
 abbrev pub last_entry : Entry → ℕ → ℕ → Entry
@@ -65,32 +48,14 @@ abbrev pub stranger_entry : Entry
 stranger_entry = let entry : Entry = seen_entry 2 3 in record entry { channel = B }
 
 abbrev pub stranger_told : Fault
-stranger_told = record {
-  cycle = 3;
-  node = Some 2;
-  kind = Stranger;
-  channel = Some B;
-  low = None;
-  high = Some (pos 15_037_037);
-  from = Some (pos 2);
-  to = None;
-}
+stranger_told = fault.Stranger 3 2 B (pos 15_037_037) 2
 
 -- without the indicators of sync and startup
 abbrev pub form_entry : Entry
 form_entry = let entry : Entry = seen_entry 2 3 in record entry { bytes = 32 ∷ 2 ∷ 1 ∷ 32 ∷ 3 ∷ [] }
 
 abbrev pub form_told : Fault
-form_told = record {
-  cycle = 3;
-  node = Some 2;
-  kind = Form;
-  channel = Some A;
-  low = None;
-  high = Some (pos 15_037_037);
-  from = Some (pos 2);
-  to = None;
-}
+form_told = fault.Form 3 2 A (pos 15_037_037) 2
 
 -- a log is seen of no run of its cluster at all, of none whose nodes send each whole frame in their slots, or of none that is as it
 -- states

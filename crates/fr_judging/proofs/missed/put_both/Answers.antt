@@ -11,15 +11,15 @@ use Rattle.fr_judging.proofs.missed.put_both.Goals as goal
 pub returns-in_err-put_of_term : goal.returns-in_err-put_of_term
 returns-in_err-put_of_term g c =
     let s = c.args.scene.now in
-    let offsets : List Missed = missed_of_term term.OffsetTerm s.params.now s.log.now s.scale.now s.number s.senders.now in
-    let rates : List Missed = missed_of_term term.RateTerm s.params.now s.log.now s.scale.now s.number s.senders.now in
+    let offsets : List Missed = missed_of_term term.Offset s.params.now s.log.now s.scale.now s.number s.senders.now in
+    let rates : List Missed = missed_of_term term.Rate s.params.now s.log.now s.scale.now s.number s.senders.now in
     subst (Puts c.from_residual.result (g.O.Sink.state c.args.out.now) (g.O.Sink.state c.put_of_term.new.out)) (sym (flat_map-append missed_row offsets rates))
     (cut {text = flat_map missed_row offsets} c.from_residual.result (flat_map missed_row rates) c.in_err-put_of_term.ensures c.from_residual.ensures.0)
 
 pub returns : goal.returns
 returns g c =
     let s = c.args.scene.now in
-    let offsets : List Missed = missed_of_term term.OffsetTerm s.params.now s.log.now s.scale.now s.number s.senders.now in
-    let rates : List Missed = missed_of_term term.RateTerm s.params.now s.log.now s.scale.now s.number s.senders.now in
+    let offsets : List Missed = missed_of_term term.Offset s.params.now s.log.now s.scale.now s.number s.senders.now in
+    let rates : List Missed = missed_of_term term.Rate s.params.now s.log.now s.scale.now s.number s.senders.now in
     subst (Puts c.put_of_term-2.result (g.O.Sink.state c.args.out.now) (g.O.Sink.state c.put_of_term-2.new.out)) (sym (flat_map-append missed_row offsets rates))
     (then {text = flat_map missed_row offsets} {rest = flat_map missed_row rates} c.put_of_term-2.result c.in_ok-put_of_term.ensures c.put_of_term-2.ensures)

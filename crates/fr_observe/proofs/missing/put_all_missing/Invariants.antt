@@ -11,5 +11,5 @@ use Rattle.fr_observe.proofs.missing.put_all_missing.Given as goal
 abbrev pub invariant-loop-place : goal.invariant-loop-place
 invariant-loop-place g l =
     (result : Result (Unit {0}) PutFault) (after : Sunk) (last : Option Fault)
-    → TellsFaults result (g.O.Sink.state l.out) after l.first last (flat_map (node_missing l.log l.span l.before l.here l.double) (drop l.place l.params.nodes))
-    → TellsFaults result (g.O.Sink.state l.initial.out) after l.initial.first last (flat_map (node_missing l.log l.span l.before l.here l.double) l.params.nodes)
+    → TellsFaults result (g.O.Sink.state l.out) after l.first last (flat_map (node_missing l.scene.log.now l.scene.span l.scene.before.now l.scene.here.now l.scene.number) (drop l.place l.scene.params.now.nodes))
+    → TellsFaults result (g.O.Sink.state l.initial.out) after l.initial.first last (flat_map (node_missing l.scene.log.now l.scene.span l.scene.before.now l.scene.here.now l.scene.number) l.scene.params.now.nodes)

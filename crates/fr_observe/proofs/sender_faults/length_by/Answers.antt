@@ -32,8 +32,8 @@ allowed-near allowed proper long beyond near far low high apart = by (int_lt all
           high_to = omega (arith, ints, lt, low, high, near.low_to, near.high_to, far.high_from);
         }
 
-pub apart-requires-clause-allowed : goal.apart-requires-clause-allowed
-apart-requires-clause-allowed c =
+pub of-requires-then-lie_apart : goal.of-requires-then-lie_apart
+of-requires-then-lie_apart c =
     let apart : (int_lt c.lengths_beyond-allowed.result.high c.args.long.now.low || int_lt c.args.long.now.high c.lengths_beyond-allowed.result.low) ≡ true = search rules in
     allowed-near c.lengths_beyond-allowed.result c.args.proper.now c.args.long.now c.args.beyond c.requires.proper c.requires.long c.lengths_beyond-allowed.ensures.low
     c.lengths_beyond-allowed.ensures.high apart
