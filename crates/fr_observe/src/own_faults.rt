@@ -146,7 +146,7 @@ fn put_clock<O: Sink>(
     let (even, odd) = (2 * scene.number, 2 * scene.number + 1);
     let at_even = seen_box(log, here, node, even);
     let at_odd = seen_box(log, here, node, odd);
-    let span = span_between(log, here, double, node);
+    let span = span_between(log, here, scene.number, node);
     tell(box_fault(even, node, at_even), first, out)?;
     tell(box_fault(odd, node, at_odd), first, out)?;
     tell(limit_fault(scene, node, at_even, at_odd, span), first, out)

@@ -115,13 +115,13 @@ faults_are_so laws p l run =
     let x = run.setting in
     let o = run.observed in
     record {
-      either = subst (λ (q : Values). All (λ (fault : Fault). (asks_judged fault.kind || asks_own_slots fault.kind) ≡ true) (log_faults q l)) run.of_params
+      either = subst (λ (q : Values). All (λ (fault : Fault). (asks_judged fault || asks_own_slots fault) ≡ true) (log_faults q l)) run.of_params
           (laws.either x run.cycles run.base run.delays run.clock l o);
       stated = λ stated.
-          subst (λ (q : Values). All (λ (fault : Fault). asks_own_slots fault.kind ≡ true) (log_faults q l)) run.of_params
+          subst (λ (q : Values). All (λ (fault : Fault). asks_own_slots fault ≡ true) (log_faults q l)) run.of_params
           (laws.stated x run.cycles run.base run.delays run.clock l o stated);
       own = λ own.
-          subst (λ (q : Values). All (λ (fault : Fault). asks_judged fault.kind ≡ true) (log_faults q l)) run.of_params
+          subst (λ (q : Values). All (λ (fault : Fault). asks_judged fault ≡ true) (log_faults q l)) run.of_params
           (laws.own x run.cycles run.base run.delays run.clock l o own);
       none = λ stated own.
           subst (λ (q : Values). log_faults q l ≡ []) run.of_params (laws.none x run.cycles run.base run.delays run.clock l o stated own);

@@ -106,9 +106,9 @@ pub record RowsAreSo (p : Values) (l : LogView) (run : ObservedRun p l) : Type 0
 -- the faults that the text tells exclude what they say: each asks for runs as the log states or for own slots; so where the run is as
 -- the log states each asks for own slots, where its slots are own each asks for runs as the log states, and where both are so there is none
 pub record FaultsAreSo (p : Values) (l : LogView) (run : ObservedRun p l) : Type 0 where
-  pub either : All (λ fault. (asks_judged fault.kind || asks_own_slots fault.kind) ≡ true) (log_faults p l)
-  pub stated : IsStated p l run → All (λ fault. asks_own_slots fault.kind ≡ true) (log_faults p l)
-  pub own : HasOwnSlots p l run → All (λ fault. asks_judged fault.kind ≡ true) (log_faults p l)
+  pub either : All (λ fault. (asks_judged fault || asks_own_slots fault) ≡ true) (log_faults p l)
+  pub stated : IsStated p l run → All (λ fault. asks_own_slots fault ≡ true) (log_faults p l)
+  pub own : HasOwnSlots p l run → All (λ fault. asks_judged fault ≡ true) (log_faults p l)
   pub none : IsStated p l run → HasOwnSlots p l run → log_faults p l ≡ []
 
 -- ---- verdicts
@@ -116,8 +116,8 @@ pub record FaultsAreSo (p : Values) (l : LogView) (run : ObservedRun p l) : Type
 -- where the verdict is no, by a fault: the run is not as the log states; and where the kind of the fault does not ask for that, there is
 -- no such run at all. By a fault whose kind asks for own slots, this is said of runs whose slots are own
 pub record IsContradicted (p : Values) (l : LogView) (fault : Fault) (run : ObservedRun p l) : Type 0 where
-  pub not_stated : (asks_own_slots fault.kind ≡ true → HasOwnSlots p l run) → IsStated p l run → ⊥
-  pub asks : (asks_own_slots fault.kind ≡ true → HasOwnSlots p l run) → asks_judged fault.kind ≡ true
+  pub not_stated : (asks_own_slots fault ≡ true → HasOwnSlots p l run) → IsStated p l run → ⊥
+  pub asks : (asks_own_slots fault ≡ true → HasOwnSlots p l run) → asks_judged fault ≡ true
 
 -- where it is within, the run has each of its cycles, and in these the skew of the senders is no greater than the precision
 pub record KeepsReach (p : Values) (l : LogView) (reach : Reach) (run : ObservedRun p l) : Type 0 where
