@@ -7,9 +7,11 @@ use Rattle.fr_cluster.specs.Values.{Values}
 use Rattle.fr_log.specs.View.{LogView}
 use Rattle.fr_course.specs.declared.scales.Scale.{Scale}
 use Rattle.fr_sightings.specs.declared.sender.Sender.{Sender}
-use Rattle.fr_observe.specs.Faults.{offset_fault, rate_fault, term_word}
+use Rattle.fr_observe.specs.Faults.{term_word}
 use Rattle.fr_observe.specs.Observing.{known_count, row}
+use Rattle.fr_observe.specs.Telling.{sender_fault}
 use Rattle.fr_observe.specs.declared.fault.Fault.{Fault}
+use Rattle.fr_observe.specs.declared.sender_faults.Asked.TheVariants as asked
 use Rattle.fr_observe.specs.declared.term.Term.{Term}
 use Rattle.fr_observe.specs.declared.term.Term.TheVariants as term
 use Rattle.fr_judging.specs.Knowing.{judged_met}
@@ -18,8 +20,7 @@ use Rattle.fr_judging.specs.declared.missed.Missed.{Missed}
 
 -- what contradicts a term of a sender that missed at most so many of the others
 abbrev pub unlike_term : Term → Values → LogView → Scale → ℕ → List Sender → Sender → ℕ → Option Fault
-unlike_term term.Offset p l scale double senders s lost = offset_fault p l scale double senders lost s
-unlike_term term.Rate p l scale double senders s lost = rate_fault p l scale double senders lost s
+unlike_term what p l scale double senders s lost = sender_fault (asked.Term what lost) p l scale double senders s
 
 -- the least number that nothing contradicts, none where each is contradicted: it can't have missed more than all others
 abbrev pub least_missed : Term → Values → LogView → Scale → ℕ → List Sender → Sender → Option ℕ

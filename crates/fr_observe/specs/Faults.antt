@@ -341,39 +341,53 @@ fault_word (fault.Offset cycle node seen due) = term_word term.Offset
 fault_word (fault.Rate cycle node step due) = term_word term.Rate
 fault_word (fault.Missing cycle node ch) = codes "missing"
 
--- two ranges; how far something lies apart, and how far at most; a frame by its channel and stamp, and a number beside them
-abbrev pub range_fields : Range → Range → List (List ℕ)
-range_fields seen allowed =
-    signed_decimal seen.low ∷ signed_decimal seen.high ∷ signed_decimal allowed.low ∷ signed_decimal allowed.high ∷ []
+-- a range, and a frame by its channel and stamp
+abbrev pub range_fields : Range → List (List ℕ)
+range_fields range = signed_decimal range.low ∷ signed_decimal range.high ∷ []
 
-abbrev pub most_fields : ℤ → Option ℤ → ℤ → List (List ℕ)
-most_fields low high most = signed_decimal low ∷ known high ∷ codes "-" ∷ signed_decimal most ∷ []
+abbrev pub stamp_fields : Channel → ℤ → List (List ℕ)
+stamp_fields ch stamp = letter ch ∷ signed_decimal stamp ∷ []
 
-abbrev pub stamp_fields : Channel → ℤ → List ℕ → List (List ℕ)
-stamp_fields ch stamp beside = letter ch ∷ signed_decimal stamp ∷ beside ∷ codes "-" ∷ []
+-- what was seen, and what it is held against
+abbrev pub seen_fields : Fault → List (List ℕ)
+seen_fields (fault.Channels cycle node point) = range_fields point
+seen_fields (fault.Limit cycle node apart allowed) = range_fields apart
+seen_fields (fault.Correction cycle node seen allowed) = range_fields seen
+seen_fields (fault.Twice cycle node ch stamp first) = stamp_fields ch stamp
+seen_fields (fault.Cycle cycle node ch stamp count) = stamp_fields ch stamp
+seen_fields (fault.Stranger cycle node ch stamp slot) = stamp_fields ch stamp
+seen_fields (fault.Form cycle node ch stamp slot) = stamp_fields ch stamp
+seen_fields (fault.Skew cycle low high most) = signed_decimal low ∷ known high ∷ []
+seen_fields (fault.Start cycle apart most) = range_fields apart
+seen_fields (fault.Lengths cycle apart most) = range_fields apart
+seen_fields (fault.Length cycle node long allowed) = range_fields long
+seen_fields (fault.Offset cycle node seen due) = range_fields seen
+seen_fields (fault.Rate cycle node step due) = range_fields step
+seen_fields (fault.Missing cycle node ch) = letter ch ∷ codes "-" ∷ []
 
--- its numbers and its channel
+abbrev pub against_fields : Fault → List (List ℕ)
+against_fields (fault.Channels cycle node point) = codes "-" ∷ codes "-" ∷ []
+against_fields (fault.Limit cycle node apart allowed) = range_fields allowed
+against_fields (fault.Correction cycle node seen allowed) = range_fields allowed
+against_fields (fault.Twice cycle node ch stamp first) = signed_decimal first ∷ codes "-" ∷ []
+against_fields (fault.Cycle cycle node ch stamp count) = decimal count ∷ codes "-" ∷ []
+against_fields (fault.Stranger cycle node ch stamp slot) = decimal slot ∷ codes "-" ∷ []
+against_fields (fault.Form cycle node ch stamp slot) = decimal slot ∷ codes "-" ∷ []
+against_fields (fault.Skew cycle low high most) = codes "-" ∷ signed_decimal most ∷ []
+against_fields (fault.Start cycle apart most) = codes "-" ∷ signed_decimal most ∷ []
+against_fields (fault.Lengths cycle apart most) = codes "-" ∷ signed_decimal most ∷ []
+against_fields (fault.Length cycle node long allowed) = range_fields allowed
+against_fields (fault.Offset cycle node seen due) = range_fields due
+against_fields (fault.Rate cycle node step due) = range_fields due
+against_fields (fault.Missing cycle node ch) = codes "-" ∷ codes "-" ∷ []
+
 abbrev pub fault_fields : Fault → List (List ℕ)
-fault_fields (fault.Channels cycle node point) =
-    signed_decimal point.low ∷ signed_decimal point.high ∷ codes "-" ∷ codes "-" ∷ []
-fault_fields (fault.Limit cycle node apart allowed) = range_fields apart allowed
-fault_fields (fault.Correction cycle node seen allowed) = range_fields seen allowed
-fault_fields (fault.Twice cycle node ch stamp first) = stamp_fields ch stamp (signed_decimal first)
-fault_fields (fault.Cycle cycle node ch stamp count) = stamp_fields ch stamp (decimal count)
-fault_fields (fault.Stranger cycle node ch stamp slot) = stamp_fields ch stamp (decimal slot)
-fault_fields (fault.Form cycle node ch stamp slot) = stamp_fields ch stamp (decimal slot)
-fault_fields (fault.Skew cycle low high most) = most_fields low high most
-fault_fields (fault.Start cycle apart most) = most_fields apart.low (Some apart.high) most
-fault_fields (fault.Lengths cycle apart most) = most_fields apart.low (Some apart.high) most
-fault_fields (fault.Length cycle node long allowed) = range_fields long allowed
-fault_fields (fault.Offset cycle node seen due) = range_fields seen due
-fault_fields (fault.Rate cycle node step due) = range_fields step due
-fault_fields (fault.Missing cycle node ch) = letter ch ∷ codes "-" ∷ codes "-" ∷ codes "-" ∷ []
+fault_fields f = seen_fields f ++ against_fields f
 
--- pieces that are spelt as four fields of a row
+-- pieces that are spelt as two fields of a row
 pub record AreSpelt (pieces : List Piece) (fields : List (List ℕ)) : Type 0 where
   pub spelt : map spelling pieces ≡ fields
-  pub short : room_of_all pieces ≤ 84
+  pub short : room_of_all pieces ≤ 42
 
 unfoldable pub fault_row : Fault → List ℕ
 fault_row f =

@@ -1,8 +1,8 @@
-ghost use Rattle.std.specs.Prelude.{◌≡◌, ◌≤◌, Some, length, pos};
+ghost use Rattle.std.specs.Prelude.{◌≡◌, ◌≤◌, length, pos};
 ghost use Rattle.fr_base.specs.Within.{IsWithin};
 ghost use Rattle.fr_course.specs.Near.{EndWithin};
-ghost use Rattle.fr_text.specs.Pieces.{Spells, room_of_piece, spelling};
-ghost use Rattle.fr_observe.specs.Faults.{AreSpelt, fault_cycle, fault_fields, fault_node, fault_row, fault_word, most_fields, range_fields, range_of, stamp_fields};
+ghost use Rattle.fr_text.specs.Pieces.{Spells};
+ghost use Rattle.fr_observe.specs.Faults.{AreSpelt, against_fields, fault_cycle, fault_node, fault_row, fault_word, range_fields, range_of, seen_fields, stamp_fields};
 ghost use Rattle.fr_observe.specs.Observing.{known_count};
 
 use crate::rows::known;
@@ -269,98 +269,62 @@ impl Fault {
         }
     }
 
-    // The fields of its row behind its word.
-    fn fields(&self) -> [Piece<'static>; 4]
-        ensures { AreSpelt result (fault_fields self.now) }
+    // What was seen, as fields of its row.
+    fn seen(&self) -> [Piece<'static>; 2]
+        ensures { AreSpelt result (seen_fields self.now) }
     {
         match *self {
-            Fault::Channels { point, .. } => [
-                Signed(point.low),
-                Signed(point.high),
-                Word(b"-"),
-                Word(b"-"),
-            ],
-            Fault::Limit { apart, allowed, .. } => range_fields(&apart, &allowed),
-            Fault::Correction { term, allowed, .. } => range_fields(&term, &allowed),
-            Fault::Twice {
-                channel,
-                stamp,
-                first,
-                ..
-            } => stamp_fields(channel, stamp, Signed(first)),
-            Fault::Cycle {
-                channel,
-                stamp,
-                count,
-                ..
-            } => stamp_fields(channel, stamp, Natural(u64::from(count))),
-            Fault::Stranger {
-                channel,
-                stamp,
-                slot,
-                ..
-            } => stamp_fields(channel, stamp, Natural(u64::from(slot.0))),
-            Fault::Form {
-                channel,
-                stamp,
-                slot,
-                ..
-            } => stamp_fields(channel, stamp, Natural(u64::from(slot.0))),
-            Fault::Skew {
-                low,
-                high,
-                most,
-                ..
-            } => [Signed(low), known(high), Word(b"-"), Signed(most)],
-            Fault::Start { apart, most, .. } => most_fields(&apart, most),
-            Fault::Lengths { apart, most, .. } => most_fields(&apart, most),
-            Fault::Length {
-                length,
-                allowed,
-                ..
-            } => range_fields(&length, &allowed),
-            Fault::Offset { term, due, .. } => range_fields(&term, &due),
-            Fault::Rate { step, due, .. } => range_fields(&step, &due),
-            Fault::Missing { channel, .. } => [
-                letter_of(channel),
-                Word(b"-"),
-                Word(b"-"),
-                Word(b"-"),
-            ],
+            Fault::Channels { point, .. } => range_fields(&point),
+            Fault::Limit { apart, .. } => range_fields(&apart),
+            Fault::Correction { term, .. } => range_fields(&term),
+            Fault::Twice { channel, stamp, .. } => stamp_fields(channel, stamp),
+            Fault::Cycle { channel, stamp, .. } => stamp_fields(channel, stamp),
+            Fault::Stranger { channel, stamp, .. } => stamp_fields(channel, stamp),
+            Fault::Form { channel, stamp, .. } => stamp_fields(channel, stamp),
+            Fault::Skew { low, high, .. } => [Signed(low), known(high)],
+            Fault::Start { apart, .. } => range_fields(&apart),
+            Fault::Lengths { apart, .. } => range_fields(&apart),
+            Fault::Length { length, .. } => range_fields(&length),
+            Fault::Offset { term, .. } => range_fields(&term),
+            Fault::Rate { step, .. } => range_fields(&step),
+            Fault::Missing { channel, .. } => [letter_of(channel), Word(b"-")],
+        }
+    }
+
+    // What it is held against.
+    fn against(&self) -> [Piece<'static>; 2]
+        ensures { AreSpelt result (against_fields self.now) }
+    {
+        match *self {
+            Fault::Channels { .. } => [Word(b"-"), Word(b"-")],
+            Fault::Limit { allowed, .. } => range_fields(&allowed),
+            Fault::Correction { allowed, .. } => range_fields(&allowed),
+            Fault::Twice { first, .. } => [Signed(first), Word(b"-")],
+            Fault::Cycle { count, .. } => [Natural(u64::from(count)), Word(b"-")],
+            Fault::Stranger { slot, .. } => [Natural(u64::from(slot.0)), Word(b"-")],
+            Fault::Form { slot, .. } => [Natural(u64::from(slot.0)), Word(b"-")],
+            Fault::Skew { most, .. } => [Word(b"-"), Signed(most)],
+            Fault::Start { most, .. } => [Word(b"-"), Signed(most)],
+            Fault::Lengths { most, .. } => [Word(b"-"), Signed(most)],
+            Fault::Length { allowed, .. } => range_fields(&allowed),
+            Fault::Offset { due, .. } => range_fields(&due),
+            Fault::Rate { due, .. } => range_fields(&due),
+            Fault::Missing { .. } => [Word(b"-"), Word(b"-")],
         }
     }
 }
 
-// Two ranges as fields.
-fn range_fields(seen: &Range, allowed: &Range) -> [Piece<'static>; 4]
-    ensures { AreSpelt result (range_fields seen.now allowed.now) }
+fn range_fields(range: &Range) -> [Piece<'static>; 2]
+    ensures { AreSpelt result (range_fields range.now) }
 {
-    [
-        Signed(seen.low),
-        Signed(seen.high),
-        Signed(allowed.low),
-        Signed(allowed.high),
-    ]
+    [Signed(range.low), Signed(range.high)]
 }
 
-// How far something lies apart, and how far at most.
-fn most_fields(apart: &Range, most: i64) -> [Piece<'static>; 4]
-    ensures { AreSpelt result (most_fields apart.now.low (Some apart.now.high) most) }
+// A frame by its channel and stamp.
+fn stamp_fields(channel: Channel, stamp: i64) -> [Piece<'static>; 2]
+    ensures { AreSpelt result (stamp_fields channel stamp) }
 {
-    [
-        Signed(apart.low),
-        Signed(apart.high),
-        Word(b"-"),
-        Signed(most),
-    ]
-}
-
-// A frame by its channel and stamp, and a number beside them.
-fn stamp_fields(channel: Channel, stamp: i64, beside: Piece<'static>) -> [Piece<'static>; 4]
-    requires { room_of_piece beside ≤ 20 }
-    ensures { AreSpelt result (stamp_fields channel stamp (spelling beside.entry)) }
-{
-    [letter_of(channel), Signed(stamp), beside, Word(b"-")]
+    [letter_of(channel), Signed(stamp)]
 }
 
 /// The cycles of a log from the first sighting to the last.
@@ -387,7 +351,8 @@ pub fn known_node(node: Option<NodeId>) -> Piece<'static>
 pub(crate) fn fault_row(fault: &Fault) -> Line
     ensures { result ≡ fault_row fault.now }
 {
-    let [first, second, third, last] = fault.fields();
+    let [first, second] = fault.seen();
+    let [third, last] = fault.against();
     row_of(
         b"fault",
         &[

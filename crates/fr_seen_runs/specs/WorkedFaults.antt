@@ -1,6 +1,6 @@
 -- Worked contradictions: the worked log, where from cycle 2 on the frames of node 2 come later than its rows have them, or where
 -- its last frame is one that it does not send.
-use Rattle.std.specs.Prelude.{◌≡◌, ℕ, ◌+◌, ◌==◌, pos, neg_ℤ, false, [], ◌∷◌, if◌then◌else◌, None, Some}
+use Rattle.std.specs.Prelude.{◌≡◌, ℕ, ◌+◌, ◌==◌, pos, neg_ℤ, false, [], ◌∷◌, if◌then◌else◌, None}
 use Rattle.fr_base.specs.declared.channel.Channel.{Channel}
 use Rattle.fr_base.specs.declared.channel.Channel.TheVariants.{A, B}
 use Rattle.fr_cluster.specs.Setting.{Setting}

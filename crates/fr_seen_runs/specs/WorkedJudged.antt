@@ -14,6 +14,7 @@ use Rattle.fr_course.specs.Readings.{reading_scale}
 use Rattle.fr_observe.specs.Observing.{senders_of}
 use Rattle.fr_sightings.specs.Sightings.{offending_frames_of, sightings_of}
 use Rattle.fr_observe.specs.declared.fault.Fault.{Fault}
+use Rattle.fr_observe.specs.declared.fault.Fault.TheVariants as fault
 use Rattle.fr_judging.specs.Knowing.{spread_told}
 use Rattle.fr_judging.specs.declared.knowing.Standing.{Standing}
 use Rattle.fr_bound.specs.Checks.{holds_of}
@@ -123,7 +124,7 @@ abbrev pub lost_log : LogView
 lost_log = let log : LogView = late_log 250 in record log { lost = 1 }
 
 abbrev pub lost_offset_told : Fault
-lost_offset_told = let fault : Fault = offset_told in record fault { from = Some (neg_ℤ (pos 5)) }
+lost_offset_told = fault.Offset 1 2 (record { low = pos 8; high = pos 10 }) (record { low = neg_ℤ (pos 5); high = pos 0 })
 
 pub record LostLog : Type 0 where
   pub heard : log_heard judged_cluster lost_log ≡ Some Poor

@@ -5,7 +5,7 @@ use Rattle.fr_base.specs.Device.{Puts}
 use Rattle.fr_base.proofs.Putting.{cut, then}
 use Rattle.fr_judging.specs.Missing.{missed_of_term, missed_row}
 use Rattle.fr_judging.specs.declared.missed.Missed.{Missed}
-use Rattle.fr_judging.specs.declared.missed.Term.TheVariants as term
+use Rattle.fr_observe.specs.declared.term.Term.TheVariants as term
 use Rattle.fr_judging.proofs.missed.put_both.Goals as goal
 
 pub returns-in_err-put_of_term : goal.returns-in_err-put_of_term
