@@ -98,14 +98,14 @@ fn is_lacking(here: &[Sighting], node: NodeId, channel: Channel, cycle: u32) -> 
 }
 
 // Whether a cycle is one of the log, from that of its first sighting to that of its last.
-fn is_of_log(span: LogSpan, cycle: u32) -> bool
-    ensures { result ≡ is_of_log span.first span.last cycle }
+fn is_of_log(span: &LogSpan, cycle: u32) -> bool
+    ensures { result ≡ is_of_log span.now.first span.now.last cycle }
 {
     span.first <= cycle && cycle <= span.last
 }
 
-fn lacks_in(span: LogSpan, here: &[Sighting], node: NodeId, channel: Channel, cycle: u32) -> u64
-    ensures value { result ≡ lacks_in span.first span.last here.now node channel cycle }
+fn lacks_in(span: &LogSpan, here: &[Sighting], node: NodeId, channel: Channel, cycle: u32) -> u64
+    ensures value { result ≡ lacks_in span.now.first span.now.last here.now node channel cycle }
     ensures most { result ≤ 1 }
 {
     if is_of_log(span, cycle) && is_lacking(here, node, channel, cycle) {
@@ -116,9 +116,9 @@ fn lacks_in(span: LogSpan, here: &[Sighting], node: NodeId, channel: Channel, cy
 }
 
 #[tactic(auto, unfolding(crate::specs::Census::lacks_both))]
-fn lacks_both(span: LogSpan, here: &[Sighting], node: NodeId, channel: Channel, double: u32) -> u64
+fn lacks_both(span: &LogSpan, here: &[Sighting], node: NodeId, channel: Channel, double: u32) -> u64
     requires { double < 1_000_000 }
-    ensures value { result ≡ lacks_both span.first span.last here.now node channel double }
+    ensures value { result ≡ lacks_both span.now.first span.now.last here.now node channel double }
     ensures most { result ≤ 2 }
 {
     lacks_in(span, here, node, channel, 2 * double)
@@ -126,13 +126,14 @@ fn lacks_both(span: LogSpan, here: &[Sighting], node: NodeId, channel: Channel, 
 }
 
 // In how many cycles of the log, from its first to its last, there is none.
-fn missed_between(seen: &[Sighting], span: LogSpan, node: NodeId, channel: Channel) -> u64
+fn missed_between(seen: &[Sighting], span: &LogSpan, node: NodeId, channel: Channel) -> u64
     requires ascend { DoublesAscend seen.now }
-    requires from { AreSeenFrom (double_cycle_of span.first) seen.now }
-    requires first { double_cycle_of span.first ≤ double_cycle_of span.last }
-    requires last { span.last ≤ 199_999 }
-    ensures { result ≡ missed_among span.first span.last seen.now node channel
-        (range_with_len (double_cycle_of span.first) (double_cycle_of span.last + 1 - double_cycle_of span.first)) }
+    requires from { AreSeenFrom (double_cycle_of span.now.first) seen.now }
+    requires first { double_cycle_of span.now.first ≤ double_cycle_of span.now.last }
+    requires last { span.now.last ≤ 199_999 }
+    ensures { result ≡ missed_among span.now.first span.now.last seen.now node channel
+        (range_with_len (double_cycle_of span.now.first)
+        (double_cycle_of span.now.last + 1 - double_cycle_of span.now.first)) }
 {
     let mut rest = seen;
     let mut double = span.first / 2;
@@ -162,7 +163,7 @@ fn missed_of(seen: &[Sighting], node: NodeId, channel: Channel) -> u64
                     first: first.number,
                     last: last.number,
                 };
-                missed_between(seen, span, node, channel)
+                missed_between(seen, &span, node, channel)
             }
         },
     }

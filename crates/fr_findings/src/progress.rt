@@ -144,19 +144,18 @@ impl Progress {
         ensures { self.new ≡ with_both self.old outcome.now.double outcome.now.is_judged outcome.now.said.0
             outcome.now.said.1 reach over }
     {
-        let (even, odd) = outcome.said;
         self.reach = reach.0;
         self.is_ended = reach.1;
         self.doubles += 1;
         judge(
             outcome.is_judged,
             outcome.double,
-            even,
-            odd,
+            outcome.said.0,
+            outcome.said.1,
             &mut self.judged,
         );
         self.over = self.over.or(over);
-        count_both(even, odd, &mut self.counts);
+        count_both(outcome.said.0, outcome.said.1, &mut self.counts);
     }
 }
 

@@ -6,7 +6,7 @@ ghost use Rattle.std.specs.Option.{option_to_list};
 ghost use Rattle.fr_text.specs.Pieces.{Spells};
 ghost use Rattle.fr_observe.specs.Observing.{known_count};
 ghost use Rattle.fr_observe.specs.Scenes.{IsScene};
-ghost use Rattle.fr_judging.specs.Missing.{least_missed, missed_if_any, missed_where, missed_of_term, missed_row, missed_told, unlike_term};
+ghost use Rattle.fr_judging.specs.Missing.{least_missed, missed_if_any, missed_where, missed_with, missed_of_term, missed_row, missed_told, unlike_term};
 
 use crate::knowing::{Standing, judged_met};
 use fr_base::{NodeId, PutFault, Sink};
@@ -55,19 +55,32 @@ fn least_missed(term: Term, scene: &Scene<'_>, sender: &Sender) -> Option<u64>
     None
 }
 
+fn missed_with(term: Term, double: u32, node: NodeId, least: Option<u64>) -> Missed
+    requires { double < 1_000_000 }
+    ensures { result ≡ missed_with term double node least }
+{
+    Missed {
+        cycle: 2 * double + 1,
+        node,
+        term,
+        least,
+    }
+}
+
+// Told where it must have missed one at least.
 fn missed_if_any(term: Term, double: u32, node: NodeId, least: Option<u64>) -> Option<Missed>
     requires { double < 1_000_000 }
     ensures { result ≡ missed_if_any term double node least }
 {
-    if least == Some(0) {
-        None
-    } else {
-        Some(Missed {
-            cycle: 2 * double + 1,
-            node,
-            term,
-            least,
-        })
+    match least {
+        None => Some(missed_with(term, double, node, None)),
+        Some(lost) => {
+            if lost == 0 {
+                None
+            } else {
+                Some(missed_with(term, double, node, Some(lost)))
+            }
+        }
     }
 }
 

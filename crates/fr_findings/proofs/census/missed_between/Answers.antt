@@ -9,9 +9,9 @@ loop-double-preserved c =
     let double = c.loop-double.double in
     let look = c.look_at-look in
     let a = c.args in
-    let le : double ≤ double_cycle_of a.span.last = omega (arith, c.loop-double-test.true) in
+    let le : double ≤ double_cycle_of a.span.now.last = omega (arith, c.loop-double-test.true) in
     let here_is : look.result.here.now ≡ sightings_in a.seen.now double = look.ensures.here ∙ c.loop-double.invariant.same double (omega arith) in
-    let first = missed-first a.span.first a.span.last a.seen.now a.node a.channel look.result.here.now double (double_cycle_of a.span.last) le here_is in
+    let first = missed-first a.span.now.first a.span.now.last a.seen.now a.node a.channel look.result.here.now double (double_cycle_of a.span.now.last) le here_is in
     record {
       from = look.ensures.from;
       ascend = look.ensures.ascend;
@@ -24,6 +24,6 @@ loop-double-preserved c =
 
 pub returns : goal.returns
 returns c =
-    let less : double_cycle_of c.args.span.last < c.loop-double.double = omega (arith, c.loop-double-test.false) in
-    let none = missed-end c.args.span.first c.args.span.last c.args.seen.now c.args.node c.args.channel c.loop-double.double (double_cycle_of c.args.span.last) less in
+    let less : double_cycle_of c.args.span.now.last < c.loop-double.double = omega (arith, c.loop-double-test.false) in
+    let none = missed-end c.args.span.now.first c.args.span.now.last c.args.seen.now c.args.node c.args.channel c.loop-double.double (double_cycle_of c.args.span.now.last) less in
     omega (arith, none, c.loop-double.invariant.total)
