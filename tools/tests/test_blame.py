@@ -5,6 +5,7 @@ import dataclasses
 import json
 import os
 import random
+import types
 import unittest
 import unittest.mock
 from fractions import Fraction
@@ -12,20 +13,20 @@ from fractions import Fraction
 import clocks_peer as clocks
 import observe_peer as peer
 from bench import Bench
-from flexlab.captures import blame, hints, observer
+from flexlab.captures import blame, hints, observed, observer
 from flexlab.toml.cluster import read_cluster
-from flexray import texts
+from flexray import results, texts
 
 LOGS = int(os.environ.get("FLEXLAB_BLAME_LOGS", "6"))
 COLUMNS = ("--columns", "time=Time,channel=Channel,bytes=Data", "--time-unit", "ns")
 HEAD = "node,says,cycle,kind,other,judged,double_cycles"
 
 
-def toml_of(network, arbitrary=()):
+def toml_of(network, arbitrary=(), channels=lambda node: "AB"):
     """The file of a network, with an analyzer whose stamps are of 1 ns and who knows delays to 1 ns."""
     limits = {"xRateBound": "oscillator_ppm", clocks.CHANGE: "change_ppm_per_cycle", "xDelayError": "delay_error_microticks"}
     values = [(name, value) for name, value in network.values.items() if name not in limits]
-    nodes = "".join(f'[[node]]\nid = {node + 1}\nkey_slot = {slot}\nchannels = "AB"\ncoldstart = true\n'
+    nodes = "".join(f'[[node]]\nid = {node + 1}\nkey_slot = {slot}\nchannels = "{channels(node + 1)}"\ncoldstart = true\n'
                     + "arbitrary = true\n" * (node + 1 in arbitrary) for node, slot in enumerate(network.slots))
     return ("[bench]\nmicrotick_ns = 25\n[cluster]\n" + "".join(f"{name} = {value}\n" for name, value in values)
             + "[limits]\n" + "".join(f"{key} = {network.values[name]}\n" for name, key in limits.items())
@@ -42,7 +43,7 @@ class Log(Bench):
         return found
 
     def table(self, network, rows, changed=lambda ns, node, channel: ns, seed=1):
-        """The table of an analyzer that sees these rows; `changed` has what it makes of a stamp."""
+        """The table of an analyzer that sees these rows; `changed` has what it makes of a stamp, None if the frame is not there."""
         keys = {slot: node + 1 for node, slot in enumerate(network.slots)}
         found = []
         for line in network.log(random.Random(seed), rows, 40_000, 40_000).splitlines():
@@ -50,7 +51,8 @@ class Log(Bench):
             if kind == "head":
                 node = keys[(int(data[:2], 16) & 7) << 8 | int(data[2:4], 16)]
                 found.append((changed(int(stamp), node, channel), channel, data))
-        self.write("bus.csv", "Time,Channel,Data\n" + "".join(f"{ns},{channel},{data}\n" for ns, channel, data in sorted(found)))
+        found = sorted(frame for frame in found if frame[0] is not None)
+        self.write("bus.csv", "Time,Channel,Data\n" + "".join(f"{ns},{channel},{data}\n" for ns, channel, data in found))
 
     def observe(self, *words, status=1):
         return self.flexlab("observe", *COLUMNS, "-o", "seen", "bus.csv", "net.toml", *words, status=status)[0]
@@ -184,6 +186,34 @@ class Blame(Log):
         self.object()
         self.assertFalse(os.path.exists(self.path("seen", blame.BLAME)))
 
+    def test_nodes_without_a_common_channel(self):
+        """That they miss each other is said where less is stated, and that nothing follows of a node then."""
+        def channels(node):
+            return {1: "A", 2: "B"}.get(node, "AB")
+        network = self.network(3)
+        rows = network.rows(hears=lambda cycle, sender, receiver: {sender, receiver} != {0, 1})
+        self.table(network, rows, lambda ns, node, channel: ns if channel in channels(node) else None)
+        self.write("net.toml", toml_of(network, channels=channels))
+        page = self.one_line(self.observe())
+        self.assertIn("UNHEARD nodes 1 and 2 have no common channel, so a node misses 1 sender in each double cycle, and lost of [observer] is "
+                      "0: state 1 or more.", page)
+        self.assertIn("Verdict NO:", page)
+        self.assertIn("nothing follows from that, since nodes 1 and 2 have no common channel", page)
+        self.assertNotIn("it is node", page)
+        self.assertEqual(self.object()["unheard"], 1)
+        self.write("net.toml", toml_of(network, channels=channels) + "lost = 1\n")
+        page = self.one_line(self.observe(status=(0, 1)))
+        self.assertNotIn("UNHEARD", page)
+        self.assertNotIn("Verdict NO:", page)
+        # Arbitrary ones are heard of nobody for certain.
+        self.write("net.toml", toml_of(network, (1,), channels))
+        self.assertEqual(self.object(status=(0, 1))["unheard"], 0)
+        # Three on one channel and one on the other: that one hears none of them.
+        self.write("net.toml", toml_of(network, channels=lambda node: "B" if node == 4 else "A"))
+        found = observed.deaf_in(read_cluster(self.path("net.toml")))
+        self.assertEqual((found.most, len(found.pairs)), (3, 6))
+        self.assertIsNone(observed.deaf_in(read_cluster(self.write("net.toml", toml_of(network)))))
+
     def test_irregular_frames(self):
         """That a frame of another form leaves a contradiction rests on slots that are own, which the page says."""
         network = self.network(3)
@@ -275,6 +305,61 @@ class Hints(Log):
         self.assertNotIn("Hint", self.observe())
         self.table(network, rows)
         self.assertIsNone(self.object(status=0)["first"])
+
+    def test_a_clock_that_is_not_as_stated(self):
+        """Where all cycles are longer than oscillators and the analyzer's clock make them, that is said; it contradicts nothing."""
+        network = self.network(3)
+        self.write("net.toml", toml_of(network))
+        rows = network.rows()
+        self.table(network, rows, lambda ns, node, channel: ns + ns * 440 // 10**6)
+        found, page = self.object(status=(0, 1)), self.one_line(self.observe(status=(0, 1)))
+        self.assertEqual(found["faults"], [])
+        aside = found["aside"]
+        self.assertEqual((aside["of"], 2 * aside["double_cycles"] > 20), (20, True))
+        self.assertTrue(-640 < aside["ppm"] < -201, aside)
+        self.assertIn(f"Hint in {aside['double_cycles']} of 20 double cycles the cycles of all nodes were slower than nominal ones by ", page)
+        self.assertIn(" ppm or more, and oscillators within 200 ppm and an analyzer within 0 ppm come to 200: rate terms may", page)
+        self.write("net.toml", toml_of(network).replace("drift_ppm = 0", "drift_ppm = 440"))
+        self.assertIsNone(self.object(status=(0, 1))["aside"])
+        self.table(network, rows)
+        self.write("net.toml", toml_of(network))
+        self.assertIsNone(self.object(status=(0, 1))["aside"])
+
+    def test_frames_that_may_be_lost(self):
+        """How many senders to state as lost, where no node alone was at fault and each term may be right so."""
+        network, draw = self.network(3, least=6), random.Random(3)
+        # In the first double cycle each node misses two others.
+        lost = {(cycle, sender, node) for node in network.nodes
+                for sender in draw.sample([other for other in network.nodes if other != node], 2) for cycle in (0, 1)}
+        self.write("net.toml", toml_of(network))
+        self.table(network, network.rows(hears=lambda *frame: frame not in lost))
+        found = self.object()
+        self.assertEqual({one["says"] for one in found["blame"]}, {"out"})
+        self.assertIn("each term that contradicts may be right, if its node missed some of the others, and at most 2: if frames may have been "
+                      "lost on the bus, state lost = 2 in [observer]", self.one_line(self.observe()))
+        self.write("net.toml", toml_of(network) + "lost = 2\n")
+        self.assertEqual(self.object(status=(0, 1))["faults"], [])
+
+    def test_when_nothing_is_said_of_lost_frames(self):
+        """Where a node is left, where a term is right in no way, and where none is asked."""
+        def told(*least):
+            return types.SimpleNamespace(missed=[results.ObservedMissed(7, node, "offset", one) for node, one in enumerate(least, 1)],
+                                         faults=[results.ObservedFault(7, node, "offset", ()) for node, _ in enumerate(least, 1)])
+        out, left = (types.SimpleNamespace(says=says) for says in ("out", "left"))
+        for least, blamed, wanted in (((1, 3), (out, out), 3), ((1, 3), (out, left), None), ((1, None), (out, out), None), ((), (out,), None),
+                                      ((1,), (), None)):
+            self.assertEqual(hints.least_lost(told(*least), blamed), wanted)
+
+    def test_a_node_that_is_two_faced(self):
+        """Where most nodes contradict at once and one is left, the hint names that first."""
+        network, draw = self.network(3), random.Random(6)
+        rows = network.rows(later=lambda cycle, sender, receiver: draw.randrange(-40_000_000, 40_000_000) if sender == 1 else 0)
+        self.write("net.toml", toml_of(network))
+        self.table(network, rows)
+        page = self.one_line(self.observe())
+        self.assertIn("it is node 2 or 4 ", page)
+        self.assertIn("Hint 3 of 4 nodes have a contradiction in the first double cycle that has one, 2: look first at what Blame leaves, which "
+                      "may send other nodes something else than the analyzer; and else at what is stated of the analyzer", page)
 
     def test_a_count_that_begins_anew(self):
         """From a second startup on: it is said when, and the words that are named make a part of it."""

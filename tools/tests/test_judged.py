@@ -100,6 +100,20 @@ class Judged(observing.Told):
                 self.assertEqual(set(says[4:-1]), {"within"})
                 self.assertEqual(self.holds(log, told), 6)
 
+    def test_a_number_that_is_too_small(self):
+        """Of each kind what the run has is held, and a tick less is not."""
+        log = Log(3, 6)
+        row, micros, bound = rows_of(self.told_of(log, log.text()), "spread")[2], log.network.micros, log.network.values["xRateBound"]
+        both = [log.rows[2 * int(row[1]) + odd] for odd in (0, 1)]
+        begun, long = [start for start, _, _, _ in both[0]], [(micros + rate) * length for _, length, rate, _ in both[0]]
+        beyond = max(max(long) - micros * (MILLION + bound), micros * (MILLION - bound) - min(long))
+        apart = max(observing.skew(log.network.values, odd, rows) for odd, rows in enumerate(both))
+        for place, number in enumerate((max(begun) - min(begun), max(long) - min(long), beyond, apart), 2):
+            row[place] = str(number)
+            self.assertEqual(self.holds(log, ",".join(row)), 1)
+            with self.assertRaises(AssertionError):
+                self.holds(log, ",".join([*row[:place], str(number - 1), *row[place + 1:]]))
+
     def test_delays_that_flutter(self):
         """As far as is stated: nothing is contradicted, and each number holds. Where they flutter further than is stated, that is told."""
         told = 0
