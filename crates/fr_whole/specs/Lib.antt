@@ -1,6 +1,8 @@
 -- what the public contract cites
 pub mod Whole
 pub mod ObserveAnswer
+pub mod PowerOn
+pub mod PowerOnAnswer
 pub mod SharpGaps
 pub mod SharpReport
 pub mod SharpReportAnswer

@@ -4,7 +4,7 @@ ghost use Rattle.fr_program.specs.Failure.{EndingWritesNothing, WritesNothing, e
 ghost use Rattle.fr_program.specs.Program.{IsNoRequest, IsProgramAnswer, IsProgramComplete, WordsEnd, texts};
 ghost use Rattle.fr_whole.specs.Whole.{flexray_program};
 
-use crate::request::{log_request, sharp_report_request};
+use crate::request::{log_request, power_on_request, sharp_report_request};
 use fr_answer::{answer_core, told};
 use fr_base::{Shelf, Sink};
 use fr_program::Failure;
@@ -64,7 +64,7 @@ fn answer<S: Shelf, O: Sink>(
         Some(files) => crate::answer_observe(alloc, files, shelf, out),
         None => match sharp_report_request(words) {
             Some(files) => crate::answer_sharp_run(alloc, files, shelf, out),
-            None => answer_core(alloc, words, shelf, out),
+            None => answer_power_on_or_core(alloc, words, shelf, out),
         },
     }
 }
