@@ -93,25 +93,22 @@ count_none test (node ∷ nodes) none =
 one_at_most : (test : NodeSpec → Bool) (number : ℕ) (nodes : List NodeSpec) → AllPairs (λ a b. a.id < b.id) nodes
     → ((node : NodeSpec) → Contains nodes node → test node ≡ true → node.id ≡ number) → count_by test nodes ≤ 1
 one_at_most test number [] ascend sole = omega arith
-one_at_most test number (node ∷ nodes) ascend sole = by (test node) refl
+one_at_most test number (node ∷ nodes) ascend sole =
+    by (test node) refl
+    (one_at_most test number nodes (AllPairs-rest (λ (a : NodeSpec) (b : NodeSpec). a.id < b.id) node nodes ascend) (λ other among passes. sole other (Contains-there node nodes other among) passes))
   where
-    by : (b : Bool) → test node ≡ b → count_by test (node ∷ nodes) ≤ 1
-    by true is =
+    by : (b : Bool) → test node ≡ b → count_by test nodes ≤ 1 → count_by test (node ∷ nodes) ≤ 1
+    by true is rest =
         let here = sole node (Contains-here node nodes) is in
-        let rest =
+        let none =
         count_none test nodes
         (λ other among passes.
         let below : node.id < other.id = AllPairs-first (λ (a : NodeSpec) (b : NodeSpec). a.id < b.id) node nodes other ascend among in
         let there = sole other (Contains-there node nodes other among) passes in
         omega (arith, below, here, there)) in
         let e = count_yes test node nodes is in
-        omega (arith, e, rest)
-    by false is =
-        let rest =
-        one_at_most test number nodes (AllPairs-rest (λ (a : NodeSpec) (b : NodeSpec). a.id < b.id) node nodes ascend)
-        (λ other among passes. sole other (Contains-there node nodes other among) passes) in
-        let e = count_no test node nodes is in
-        omega (arith, e, rest)
+        omega (arith, e, none)
+    by false is rest = let e = count_no test node nodes is in omega (arith, e, rest)
 
 -- so where the leader alone takes part from cycle 0 on, arbitrary sync nodes are few only where there is none
 none_beside : (correct arbitrary : ℕ) → AreFew correct arbitrary → correct ≤ 1 → arbitrary ≡ 0
@@ -121,13 +118,14 @@ none_beside correct arbitrary (inr (inr few)) one = let six = few.1 in absurd (o
 
 none_is_any : (test : NodeSpec → Bool) (nodes : List NodeSpec) → count_by test nodes ≡ 0 → list_any test nodes ≡ false
 none_is_any test [] none = refl
-none_is_any test (node ∷ nodes) none = by (test node) refl
+none_is_any test (node ∷ nodes) none =
+    by (test node) refl (λ rest. none_is_any test nodes rest)
   where
-    by : (b : Bool) → test node ≡ b → (test node || list_any test nodes) ≡ false
-    by true is = let e = count_yes test node nodes is in absurd (omega (arith, e, none))
-    by false is =
+    by : (b : Bool) → test node ≡ b → (count_by test nodes ≡ 0 → list_any test nodes ≡ false) → (test node || list_any test nodes) ≡ false
+    by true is more = let e = count_yes test node nodes is in absurd (omega (arith, e, none))
+    by false is more =
         let e = count_no test node nodes is in
-        ap (λ b. b || list_any test nodes) is ∙ none_is_any test nodes (omega (arith, e, none))
+        ap (λ b. b || list_any test nodes) is ∙ more (omega (arith, e, none))
 
 joins_some : (o : Option Join) (leader : ℕ) → JoinsLeader o leader → is_some o ≡ true
 joins_some None leader is = absurd is
@@ -137,19 +135,19 @@ module _ (x : Setting) (flutter leader : ℕ) (steady : IsSteadySetting x flutte
   none_arbitrary : sync_count x.params x.is_arbitrary ≡ 0
   none_arbitrary = none_beside _ _ steady.timed.few (one_at_most _ leader x.params.nodes steady.timed.sane.lists.nodes_ascend sole)
     where
-      sole : (node : NodeSpec) → Contains x.params.nodes node → (is_some node.key && (is_correct x node.id && stays_on x node.id)) ≡ true → node.id ≡ leader
-      sole node there passes =
-          let parts = and_parts (is_some node.key) (is_correct x node.id && stays_on x node.id) passes in
-          let own = and_parts (is_correct x node.id) (stays_on x node.id) parts.1 in
-          by_number node (is_correct_node x node there own.0) own.1 (cases_eq node.id leader)
+      stays_or_joins : (o : Option Join) → is_none o ≡ true → is_some o ≡ true → ⊥
+      stays_or_joins None stays joins = absurd (cc)
+      stays_or_joins (Some join) stays joins = absurd (cc)
 
       by_number : (node : NodeSpec) → Contains (correct_nodes x) node → stays_on x node.id ≡ true → (node.id ≡ leader) ⊎ (node.id ≡ leader → ⊥) → node.id ≡ leader
       by_number node there stays (inl same) = same
       by_number node there stays (inr other) = absurd (stays_or_joins (x.join node.id) stays (joins_some (x.join node.id) leader (l.others node there other)))
 
-      stays_or_joins : (o : Option Join) → is_none o ≡ true → is_some o ≡ true → ⊥
-      stays_or_joins None stays joins = absurd (cc)
-      stays_or_joins (Some join) stays joins = absurd (cc)
+      sole : (node : NodeSpec) → Contains x.params.nodes node → (is_some node.key && (is_correct x node.id && stays_on x node.id)) ≡ true → node.id ≡ leader
+      sole node there passes =
+          let parts = and_parts (is_some node.key) (is_correct x node.id && stays_on x node.id) passes in
+          let own = and_parts (is_correct x node.id) (stays_on x node.id) parts.1 in
+          by_number node (is_correct_node x node there own.0) own.1 (cases_eq node.id leader)
 
 -- ---- its first double cycle
 
@@ -218,16 +216,6 @@ module _ (x : Setting) (flutter leader : ℕ) (h : Cycles) (w : IsSteadyPart x f
         (pos (longest_cycle p)) micros.0 (row.rate ∙ ap x.rate l.number ∙ l.uncorrected) row.length_is least most (shortest_is p sane) (longest_is p sane)
         ))
       where
-        whole : (n rate length tick least most short long : ℤ) → pos 10 ≤ℤ n → rate ≡ pos 0 → length ≡ tick → least ≤ℤ tick → tick ≤ℤ most
-            → short ≡ n *ℤ least → long ≡ n *ℤ most → IsBetween (short -ℤ pos 0) (long +ℤ pos 0) ((n +ℤ rate) *ℤ length)
-        whole n rate length tick least most short long from no_rate is low high short_is long_is =
-            let down = mulz-lez_left least tick n low (not_less n from) in
-            let up = mulz-lez_left tick most n high (not_less n from) in
-            let whole : n +ℤ rate ≡ n = plain n rate no_rate in
-            let At : ℤ → Type 0 = λ m. IsBetween (short -ℤ pos 0) (long +ℤ pos 0) (m *ℤ length) in
-            let For : ℤ → Type 0 = λ t. IsBetween (short -ℤ pos 0) (long +ℤ pos 0) (n *ℤ t) in
-            subst At (sym whole) (subst For (sym is) (between short long (n *ℤ least) (n *ℤ tick) (n *ℤ most) short_is long_is down up))
-
         not_less : (n : ℤ) → pos 10 ≤ℤ n → pos 0 ≤ℤ n
         not_less n from = omega (arith, ints, from)
 
@@ -236,6 +224,15 @@ module _ (x : Setting) (flutter leader : ℕ) (h : Cycles) (w : IsSteadyPart x f
 
         between : (short long a b c : ℤ) → short ≡ a → long ≡ c → a ≤ℤ b → b ≤ℤ c → IsBetween (short -ℤ pos 0) (long +ℤ pos 0) b
         between short long a b c one other low high = record { low = omega (arith, ints, one, low); high = omega (arith, ints, other, high) }
+
+        whole : (n rate length tick least most short long : ℤ) → pos 10 ≤ℤ n → rate ≡ pos 0 → length ≡ tick → least ≤ℤ tick → tick ≤ℤ most
+            → short ≡ n *ℤ least → long ≡ n *ℤ most → IsBetween (short -ℤ pos 0) (long +ℤ pos 0) ((n +ℤ rate) *ℤ length)
+        whole n rate length tick least most short long from no_rate is low high short_is long_is =
+            let down = mulz-lez_left least tick n low (not_less n from) in
+            let up = mulz-lez_left tick most n high (not_less n from) in
+            let At : ℤ → Type 0 = λ m. IsBetween (short -ℤ pos 0) (long +ℤ pos 0) (m *ℤ length) in
+            let For : ℤ → Type 0 = λ t. IsBetween (short -ℤ pos 0) (long +ℤ pos 0) (n *ℤ t) in
+            subst At (sym (plain n rate no_rate)) (subst For (sym is) (between short long (n *ℤ least) (n *ℤ tick) (n *ℤ most) short_is long_is down up))
 
     nobody : following_nodes x [] ≡ []
     nobody = none_kept (λ (node : NodeSpec). follows x [] node.id) (correct_nodes x) (λ node. follows_none x node.id (x.join node.id))
@@ -308,7 +305,6 @@ module _ (p : Values) (d : DriftView) (s : ScriptView) (flutter leader : ℕ) (h
     active_in cycle c is = (keeps.cycles (keeps.on first)).active cycle c (omega arith) is
 
     active_double : (k : ℕ) (earlier : Cycles) (even odd : Cycle) → IsDoubleOf h k earlier even odd → AllActive even × AllActive odd
-    unfolding AllActive
     active_double k earlier even odd at =
         (active_in (2 * k) even (even_is h k earlier even odd at), active_in (suc (2 * k)) odd (odd_is h k earlier even odd at))
 

@@ -3,3 +3,7 @@ mod Wholes
 pub mod Observed
 pub mod GapsInOrder
 pub mod SharpReports
+pub mod ZeroTerms
+pub mod LoneLeader
+pub mod LedRuns
+pub mod PowerOnTexts

@@ -54,6 +54,8 @@ use Rattle.fr_sharp.specs.SteadyRuns.{row_hearers, row_members, AreRowsInReach, 
 use Rattle.fr_sharp.proofs.RoundLemmas.{all_given}
 use Rattle.fr_sharp.proofs.RowsSupplied.{lawful_rows, rows_hear_steadily}
 use Rattle.fr_time.proofs.Keys.{key_node_has}
+use Rattle.fr_time.specs.Instant.{instant_of}
+use Rattle.fr_time.specs.Position.{grid_for}
 use Rattle.fr_time.specs.Senders.{key_node_of}
 use Rattle.fr_whole.specs.PowerOn.{IsLedRun, JoinsLeader}
 use Rattle.fr_whole.proofs.ZeroTerms.{no_offset, no_rate, IsZero}
@@ -214,7 +216,7 @@ pub record IsOnCourse (x : Setting) (node k : ℕ) (even : Cycle) : Type 0 where
   pub rate : (row_for even.told.rows node).rate ≡ pos 0
   pub start : (row_for even.told.rows node).start ≤ℤ (x.start node +ℤ pos (longest_doubles k (longest_cycle x.params)))
 
-pub AllActive : Cycle → Type 0
+abbrev pub AllActive : Cycle → Type 0
 AllActive c = All (λ (row : NodeRow). row.state ≡ Active) c.told.rows
 
 module _
@@ -248,7 +250,6 @@ module _
 
   in_reach : (k : ℕ) (earlier : Cycles) (even odd : Cycle) → k < 3 → IsDoubleOf h k earlier even odd → (row_for even.told.rows l.node.id).rate ≡ pos 0
       → AreRowsInReach x earlier even odd (pos reach)
-  unfolding AllActive
   in_reach k earlier even odd less d rate =
       let p = x.params in
       let s = lawful_rows x flutter h w k earlier even odd d in
@@ -267,7 +268,7 @@ module _
             let m = as_member p (row_hearer x even odd l.node.id) in
             let One : Member → Type 0 = λ a. IsWithin (pos reach) (gap_of p is_odd action (row_in is_odd a.even a.odd) (row_in is_odd m.even m.odd)) in
             let Other : Member → Type 0 = λ b. IsWithin (pos reach) (gap_of p is_odd action (row_in is_odd one.even one.odd) (row_in is_odd b.even b.odd)) in
-            subst Other (sole_member k earlier even odd other less d there) (subst One (sole_member k earlier even odd one less d here) (no_gap _));
+            subst Other (sole_member k earlier even odd other less d there) (subst One (sole_member k earlier even odd one less d here) (no_gap (instant_of (grid_for p) (row_in is_odd m.even m.odd) is_odd action)));
       }
 
   supplied : (k : ℕ) (earlier : Cycles) (even odd : Cycle) → k < 3 → IsDoubleOf h k earlier even odd → (row_for even.told.rows l.node.id).rate ≡ pos 0
@@ -276,7 +277,7 @@ module _
       rows_hear_steadily x flutter h earlier even odd k (pos reach) l.node w d (in_reach k earlier even odd less d rate) (leader_among x leader l earlier)
 
   course : (k : ℕ) (earlier : Cycles) (even odd : Cycle) → k < 4 → IsDoubleOf h k earlier even odd → IsOnCourse x l.node.id k even
-  unfolding AllActive longest_doubles
+  unfolding longest_doubles
   course zero [] even odd less d =
       let s = lawful_rows x flutter h w 0 [] even odd d in
       let row = row_runs_by (row_laws x []) (offset_after x.params (told_of []) even.told) (row_nodes x []) even.told.rows l.node s.two.even_rows (leader_among x leader l []) in

@@ -1,7 +1,7 @@
 -- From power-on to sharp sync: the node that leads a startup begins a run, and all others join it there. It is this program's profile
 -- of startup and of joining, and not the standard's whole startup. The words of it, from the top: `IsFirstOn`, `LeadsAlone` (who
 -- leads), `IsRunOf` (what a run is), `IsLedRun`, `IsSharplyCoveredToJoin` (what is asked of the files), `synced_ticks`.
-use Rattle.std.specs.Prelude.{◌≡◌, ◌≢◌, ◌<◌, ◌≤◌, ◌+◌, ◌-◌, ◌*◌, ◌/◌, ◌≤ℤ◌, ◌+ℤ◌, ℕ, ℤ, pos, true, length, All, Contains, IsSome, Option, Some, None}
+use Rattle.std.specs.Prelude.{◌≡◌, ◌≢◌, ◌<◌, ◌≤◌, ◌+◌, ◌-◌, ◌*◌, ◌/◌, ◌≤ℤ◌, ◌+ℤ◌, ℕ, ℤ, pos, true, false, length, All, Contains, IsSome, Option, Some, None}
 use Rattle.fr_base.specs.declared.state.State.TheVariants.{Active}
 use Rattle.fr_bound.specs.SharpBounds.{sharp_pi, sharp_precision}
 use Rattle.fr_bound.specs.SharpChecks.{sharp_holds_of}

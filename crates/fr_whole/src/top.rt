@@ -1,8 +1,8 @@
-ghost use Rattle.std.specs.Prelude.{◌≡◌, ◌≢◌, ◌↔◌, IfErr};
+ghost use Rattle.std.specs.Prelude.{◌≡◌, ◌≢◌, ◌↔◌, IfErr, None};
 ghost use Rattle.fr_program.specs.Around.{around_of};
 ghost use Rattle.fr_program.specs.Failure.{EndingWritesNothing, WritesNothing, ending_status, status_of};
 ghost use Rattle.fr_program.specs.Program.{IsNoRequest, IsProgramAnswer, IsProgramComplete, WordsEnd, texts};
-ghost use Rattle.fr_whole.specs.Whole.{flexray_program};
+ghost use Rattle.fr_whole.specs.Whole.{IsLogRequest, IsSharpReportRequest, flexray_program};
 
 use crate::request::{log_request, power_on_request, sharp_report_request};
 use fr_answer::{answer_core, told};
@@ -66,5 +66,27 @@ fn answer<S: Shelf, O: Sink>(
             Some(files) => crate::answer_sharp_run(alloc, files, shelf, out),
             None => answer_power_on_or_core(alloc, words, shelf, out),
         },
+    }
+}
+
+// The answer to words that ask for no log and for no report by the sharper bounds.
+fn answer_power_on_or_core<S: Shelf, O: Sink>(
+    alloc: Global,
+    words: &[String],
+    shelf: &mut S,
+    out: &mut O,
+) -> Result<(), Failure>
+    requires log { IsLogRequest (texts words.now) None }
+    requires report { IsSharpReportRequest (texts words.now) None }
+    ensures usage { ending_status result ≡ Status.Usage → IsNoRequest flexray_program (texts words.now) }
+    ensures unread { ending_status result ≡ Status.Usage → shelf.new ≡ shelf.old }
+    ensures undone { IfErr result (λ why. status_of why ≢ Status.Done) }
+    ensures ends { WordsEnd flexray_program (texts words.now)
+        (around_of (S.state shelf.old) (S.state shelf.new) (O.state out.old) (O.state out.new)) result }
+    ensures unwritten { EndingWritesNothing result → out.new ≡ out.old }
+{
+    match power_on_request(words) {
+        Some(asked) => crate::answer_power_on(alloc, asked.params, asked.flutter, shelf, out),
+        None => answer_core(alloc, words, shelf, out),
     }
 }

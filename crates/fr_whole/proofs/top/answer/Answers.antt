@@ -5,7 +5,7 @@ use Rattle.fr_answer.proofs.Undone.{undone}
 use Rattle.fr_report.specs.Names.{run_names_of}
 use Rattle.fr_whole.specs.ObserveAnswer.{observe_command}
 use Rattle.fr_whole.specs.SharpReportAnswer.{sharp_report_command}
-use Rattle.fr_whole.proofs.Wholes.{by_core, by_log, by_sharp_report, none_of_core}
+use Rattle.fr_whole.proofs.Wholes.{by_log, by_sharp_report}
 use Rattle.fr_whole.proofs.top.answer.Goals as goal
 
 pub returns-in-Some-clause-ends : goal.returns-in-Some-clause-ends
@@ -39,11 +39,3 @@ pub returns-in-Some-sharp_report_request-clause-undone : goal.returns-in-Some-sh
 returns-in-Some-sharp_report_request-clause-undone g c =
     let around : Around = around_of (g.S.Shelf.state c.args.shelf.now) (g.S.Shelf.state c.answer_sharp_run.new.shelf) (g.O.Sink.state c.args.out.now) (g.O.Sink.state c.answer_sharp_run.new.out) in
     undone (sharp_report_command (run_names_of c.in-Some-sharp_report_request.files)) around c.answer_sharp_run.result c.answer_sharp_run.ensures.ends
-
-pub returns-in-None-sharp_report_request-clause-ends : goal.returns-in-None-sharp_report_request-clause-ends
-returns-in-None-sharp_report_request-clause-ends g c =
-    let around : Around = around_of (g.S.Shelf.state c.args.shelf.now) (g.S.Shelf.state c.answer_core.new.shelf) (g.O.Sink.state c.args.out.now) (g.O.Sink.state c.answer_core.new.out) in
-    by_core (texts c.args.words.now) around c.answer_core.result c.in-None.ensures c.in-None-sharp_report_request.ensures c.answer_core.ensures.ends
-
-pub returns-in-None-sharp_report_request-clause-usage : goal.returns-in-None-sharp_report_request-clause-usage
-returns-in-None-sharp_report_request-clause-usage g c = λ e. none_of_core (texts c.args.words.now) c.in-None.ensures c.in-None-sharp_report_request.ensures (c.answer_core.ensures.usage e)
