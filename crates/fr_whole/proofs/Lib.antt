@@ -5,3 +5,7 @@ pub mod ObservedTexts
 pub mod Observed
 pub mod GapsInOrder
 pub mod SharpReports
+pub mod ZeroTerms
+pub mod LoneLeader
+pub mod LedRuns
+pub mod PowerOnTexts

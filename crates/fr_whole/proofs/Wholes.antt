@@ -1,4 +1,4 @@
--- The whole program answers as the core does, or as a log or a report by the sharper bounds is told.
+-- The whole program answers as the core does, or as a log, a report by the sharper bounds or a power-on is told, or a page.
 use Rattle.std.proofs.Common.{◌≡◌, ℕ, List, inl, refl, subst, sym}
 use Rattle.fr_program.proofs.Endings.{loads}
 use Rattle.fr_program.specs.Around.{Around, Ending}
@@ -12,38 +12,48 @@ use Rattle.fr_answer.specs.Answer.{core_program}
 use Rattle.fr_answer.specs.Statuses.{HasOneStatusEach}
 use Rattle.fr_whole.specs.ObserveAnswer.{observe_command, observe_files}
 use Rattle.fr_whole.specs.Pages.{AsksPage, IsNoPage, page_command, page_text}
+use Rattle.fr_whole.specs.PowerOnAnswer.{power_on_command, power_on_files}
 use Rattle.fr_whole.specs.SharpReportAnswer.{IsSharpReportText, sharp_report_command}
-use Rattle.fr_whole.specs.Whole.{AsksWhole, HasOneStatusOfAll, IsNoLog, IsNoSharpReport, WholeAsked, core, flexray_program, observe, observe_words, page, sharp_report, sharp_report_words, whole_command}
+use Rattle.fr_whole.specs.Whole.{AsksPowerOn, AsksWhole, HasOneStatusOfAll, IsNoLog, IsNoSharpReport, WholeAsked, core, flexray_program, observe, observe_words, page, power_on, sharp_report, sharp_report_words, whole_command}
 use Rattle.fr_whole.specs.declared.pages.Page.{Page}
-use Rattle.fr_whole.proofs.Words.{only_log, only_page, only_sharp_report}
+use Rattle.fr_whole.proofs.Words.{only_log, only_page, only_power_on, only_sharp_report}
+
+-- the words ask for nothing but what the core has
+pub record IsOfCore (words : List (List ℕ)) : Type 0 where
+  pub no_log : IsNoLog words
+  pub no_report : IsNoSharpReport words
+  pub no_power_on : (params : List ℕ) (flutter : ℕ) → AsksPowerOn words params flutter → ⊥
+  pub no_page : IsNoPage words
 
 -- ---- words of the core
 
-pub none_of_core : (words : List (List ℕ)) → IsNoLog words → IsNoSharpReport words → IsNoPage words → IsNoRequest core_program words → IsNoRequest flexray_program words
-none_of_core words no_log no_report no_page none (core asked) asks = none asked asks
-none_of_core words no_log no_report no_page none (observe params log) asks = no_log params log asks
-none_of_core words no_log no_report no_page none (sharp_report names) asks = no_report names asks
-none_of_core words no_log no_report no_page none (page asked) asks = no_page asked asks
+pub none_of_core : (words : List (List ℕ)) → IsOfCore words → IsNoRequest core_program words → IsNoRequest flexray_program words
+none_of_core words of none (core asked) asks = none asked asks
+none_of_core words of none (observe params log) asks = of.no_log params log asks
+none_of_core words of none (sharp_report names) asks = of.no_report names asks
+none_of_core words of none (power_on params flutter) asks = of.no_power_on params flutter asks
+none_of_core words of none (page asked) asks = of.no_page asked asks
 
-core_ends : (words : List (List ℕ)) (around : Around) (ending : Ending) → IsNoLog words → IsNoSharpReport words → IsNoPage words → WordsEnd core_program words around ending
+core_ends : (words : List (List ℕ)) (around : Around) (ending : Ending) → IsOfCore words → WordsEnd core_program words around ending
     → (asked : WholeAsked) → AsksWhole words asked → CommandEnds (whole_command asked) around ending
-core_ends words around ending no_log no_report no_page ends (core asked) asks = ends.ends asked asks
-core_ends words around ending no_log no_report no_page ends (observe params log) asks = absurd (no_log params log asks)
-core_ends words around ending no_log no_report no_page ends (sharp_report names) asks = absurd (no_report names asks)
-core_ends words around ending no_log no_report no_page ends (page asked) asks = absurd (no_page asked asks)
+core_ends words around ending of ends (core asked) asks = ends.ends asked asks
+core_ends words around ending of ends (observe params log) asks = absurd (of.no_log params log asks)
+core_ends words around ending of ends (sharp_report names) asks = absurd (of.no_report names asks)
+core_ends words around ending of ends (power_on params flutter) asks = absurd (of.no_power_on params flutter asks)
+core_ends words around ending of ends (page asked) asks = absurd (of.no_page asked asks)
 
-core_loads : (words : List (List ℕ)) (around : Around) (ending : Ending) → IsNoLog words → IsNoSharpReport words → IsNoPage words → WordsEnd core_program words around ending
+core_loads : (words : List (List ℕ)) (around : Around) (ending : Ending) → IsOfCore words → WordsEnd core_program words around ending
     → (asked : WholeAsked) → AsksWhole words asked → AreLoads (whole_command asked).names around.shelf_before around.shelf_after
-core_loads words around ending no_log no_report no_page ends (core asked) asks = ends.loads asked asks
-core_loads words around ending no_log no_report no_page ends (observe params log) asks = absurd (no_log params log asks)
-core_loads words around ending no_log no_report no_page ends (sharp_report names) asks = absurd (no_report names asks)
-core_loads words around ending no_log no_report no_page ends (page asked) asks = absurd (no_page asked asks)
+core_loads words around ending of ends (core asked) asks = ends.loads asked asks
+core_loads words around ending of ends (observe params log) asks = absurd (of.no_log params log asks)
+core_loads words around ending of ends (sharp_report names) asks = absurd (of.no_report names asks)
+core_loads words around ending of ends (power_on params flutter) asks = absurd (of.no_power_on params flutter asks)
+core_loads words around ending of ends (page asked) asks = absurd (of.no_page asked asks)
 
-pub by_core : (words : List (List ℕ)) (around : Around) (ending : Ending) → IsNoLog words → IsNoSharpReport words → IsNoPage words → WordsEnd core_program words around ending
-    → WordsEnd flexray_program words around ending
-by_core words around ending no_log no_report no_page ends = record {
-  ends = core_ends words around ending no_log no_report no_page ends;
-  loads = core_loads words around ending no_log no_report no_page ends;
+pub by_core : (words : List (List ℕ)) (around : Around) (ending : Ending) → IsOfCore words → WordsEnd core_program words around ending → WordsEnd flexray_program words around ending
+by_core words around ending of ends = record {
+  ends = core_ends words around ending of ends;
+  loads = core_loads words around ending of ends;
   none = λ none. ends.none (λ asked asks. none (core asked) asks);
 }
 
@@ -70,6 +80,12 @@ pub by_sharp_report : (words : List (List ℕ)) (names : RunNames) (around : Aro
 by_sharp_report words names around ending is ends =
     by_own words (sharp_report names) around ending is (only_sharp_report words names is) ends (loads (sharp_report_command names) around ending ends (λ none. absurd (cc none)))
 
+-- words that ask for how long from power-on
+pub by_power_on : (words : List (List ℕ)) (params : List ℕ) (flutter : ℕ) (around : Around) (ending : Ending) → AsksPowerOn words params flutter → CommandEnds (power_on_command params flutter) around ending
+    → WordsEnd flexray_program words around ending
+by_power_on words params flutter around ending is ends =
+    by_own words (power_on params flutter) around ending is (only_power_on words params flutter is) ends (loads (power_on_command params flutter) around ending ends (λ none. absurd (cc none)))
+
 -- words that ask for a page, which ask for no file
 pub by_page : (words : List (List ℕ)) (asked : Page) (around : Around) (ending : Ending) → AsksPage words asked → around.shelf_after ≡ around.shelf_before → CommandEnds (page_command asked) around ending
     → WordsEnd flexray_program words around ending
@@ -81,8 +97,9 @@ by_page words asked around ending is stays ends =
 page_status : (asked : Page) → DefinesOneStatus (page_command asked).files 0
 page_status asked = record { one = one_status (page_command asked).files (λ written said is never. never); some = some_status (page_command asked).files 0 (refl, inl (page_text asked, refl)) }
 
-pub one_status_of_all : HasOneStatusEach → DefinesOneStatus observe_files 2 → DefinesOneStatus (run_files IsSharpReportText) 3 → HasOneStatusOfAll
-one_status_of_all each observed reported words (core asked) asks = each words asked asks
-one_status_of_all each observed reported words (observe params log) asks = observed
-one_status_of_all each observed reported words (sharp_report names) asks = reported
-one_status_of_all each observed reported words (page asked) asks = page_status asked
+pub one_status_of_all : HasOneStatusEach → DefinesOneStatus observe_files 2 → DefinesOneStatus (run_files IsSharpReportText) 3 → ((flutter : ℕ) → DefinesOneStatus (power_on_files flutter) 1) → HasOneStatusOfAll
+one_status_of_all each observed reported powered words (core asked) asks = each words asked asks
+one_status_of_all each observed reported powered words (observe params log) asks = observed
+one_status_of_all each observed reported powered words (sharp_report names) asks = reported
+one_status_of_all each observed reported powered words (power_on params flutter) asks = powered flutter
+one_status_of_all each observed reported powered words (page asked) asks = page_status asked

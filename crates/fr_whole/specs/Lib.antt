@@ -3,6 +3,8 @@ pub mod Whole
 pub mod Pages
 pub mod ObservedText
 pub mod ObserveAnswer
+pub mod PowerOn
+pub mod PowerOnAnswer
 pub mod SharpGaps
 pub mod SharpReport
 pub mod SharpReportAnswer

@@ -14,7 +14,7 @@ use Rattle.fr_sharp.specs.SharpStatement.{has_arbitrary}
 use Rattle.fr_series.specs.SharpCovered.{failed_sharp, failed_sharp_join, first_sharp_gap}
 use Rattle.fr_whole.specs.declared.sharp_gaps.SharpGaps.{SharpGaps}
 
--- the sharper check of a number from 2 to 5, where it fails
+-- the sharper check of a number from 1 to 5, where it fails
 abbrev pub failing_at : Bool → Values → ℕ → ℕ → Option Gap
 failing_at beside p flutter number =
     if sharp_holds_of number flutter (sharp_near beside p flutter) p then None else Some (failed_sharp beside p flutter number)

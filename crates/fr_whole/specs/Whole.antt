@@ -1,24 +1,29 @@
 -- What all words of `flexray` ask for, and the program.
-use Rattle.std.specs.Prelude.{◌≡◌, ℕ, List, [], ◌∷◌, codes, length, Option, Some, None}
+use Rattle.std.specs.Prelude.{◌≡◌, ℕ, List, [], ◌∷◌, codes, length, Option, Some, None, Ok}
 use Rattle.fr_program.specs.Command.{Command}
 use Rattle.fr_program.specs.Program.{Program}
 use Rattle.fr_text.specs.Defined.{DefinesOneStatus}
+use Rattle.fr_text.specs.Fields.{natural_of}
 use Rattle.fr_answer.specs.Answer.{command_of}
-use Rattle.fr_answer.specs.Request.{Asked, AsksFor}
+use Rattle.fr_answer.specs.Request.{most_stated_flutter, Asked, AsksFor}
 use Rattle.fr_report.specs.Names.{RunNames, run_names_of}
 use Rattle.fr_report.specs.declared.files.RunFiles.{RunFiles}
 use Rattle.fr_whole.specs.ObserveAnswer.{observe_command}
 use Rattle.fr_whole.specs.Pages.{AsksPage, page_command}
+use Rattle.fr_whole.specs.PowerOnAnswer.{power_on_command}
 use Rattle.fr_whole.specs.SharpReportAnswer.{sharp_report_command}
 use Rattle.fr_whole.specs.declared.observe.ObserveFiles.{ObserveFiles}
 use Rattle.fr_whole.specs.declared.pages.Page.{Page}
+use Rattle.fr_whole.specs.declared.request.PowerOnRequest.{PowerOnRequest}
 
 -- what the words of the core ask for; print what the log of a bus analyzer tells of the cluster's clocks; run the cluster that the
--- files decide, and print what the sharper bounds say of the run and behind it the report; or print what the program says of itself
+-- files decide, and print what the sharper bounds say of the run and behind it the report; print how long it takes from the first
+-- power-on until all are in sharp sync, where delays flutter by no more than so many ticks; or print what the program says of itself
 pub data WholeAsked : Type 0 where
   core : (asked : Asked) → WholeAsked
   observe : (params log : List ℕ) → WholeAsked
   sharp_report : (names : RunNames) → WholeAsked
+  power_on : (params : List ℕ) (flutter : ℕ) → WholeAsked
   page : (asked : Page) → WholeAsked
 
 -- the words `observe PARAMS LOG`, and `run PARAMS DRIFT SCRIPT sharp`
@@ -28,11 +33,18 @@ observe_words params log = codes "observe" ∷ params ∷ log ∷ []
 abbrev pub sharp_report_words : RunNames → List (List ℕ)
 sharp_report_words names = codes "run" ∷ names.params ∷ names.drift ∷ names.script ∷ codes "sharp" ∷ []
 
--- the words ask for this: those of the core; these two; those of a page
+-- the words `settle PARAMS power FLUTTER`, with a number of ticks
+pub record AsksPowerOn (words : List (List ℕ)) (params : List ℕ) (flutter : ℕ) : Type 0 where
+  pub flutter_text : List ℕ
+  pub spelt : words ≡ codes "settle" ∷ params ∷ codes "power" ∷ flutter_text ∷ []
+  pub flutter_is : natural_of 0 most_stated_flutter flutter_text ≡ Ok flutter
+
+-- the words ask for this: those of the core; these three; those of a page
 abbrev pub AsksWhole : List (List ℕ) → WholeAsked → Type 0
 AsksWhole words (core asked) = AsksFor words asked
 AsksWhole words (observe params log) = words ≡ observe_words params log
 AsksWhole words (sharp_report names) = words ≡ sharp_report_words names
+AsksWhole words (power_on params flutter) = AsksPowerOn words params flutter
 AsksWhole words (page asked) = AsksPage words asked
 
 -- the words ask for no log, and for no report by the sharper bounds
@@ -52,11 +64,17 @@ abbrev pub IsSharpReportRequest : List (List ℕ) → Option RunFiles → Type 0
 IsSharpReportRequest words None = IsNoSharpReport words
 IsSharpReportRequest words (Some files) = words ≡ sharp_report_words (run_names_of files)
 
+-- what a request for how long from power-on states, or no such request
+abbrev pub IsPowerOnRequest : List (List ℕ) → Option PowerOnRequest → Type 0
+IsPowerOnRequest words None = (params : List ℕ) (flutter : ℕ) → AsksPowerOn words params flutter → ⊥
+IsPowerOnRequest words (Some request) = AsksPowerOn words request.params.now request.flutter
+
 -- the files of what was asked for, and what may be written of them
 abbrev pub whole_command : WholeAsked → Command
 whole_command (core asked) = command_of asked
 whole_command (observe params log) = observe_command params log
 whole_command (sharp_report names) = sharp_report_command names
+whole_command (power_on params flutter) = power_on_command params flutter
 whole_command (page asked) = page_command asked
 
 -- the program

@@ -1,11 +1,13 @@
-//! The whole program as a call: what `flexray observe PARAMS LOG` and `flexray run PARAMS DRIFT SCRIPT sharp` answer, and
-//! with it all words of `flexray`. The other words are answered by `fr_answer`, which stands on nothing that these alone
-//! need.
+//! The whole program as a call: what `flexray observe PARAMS LOG`, `flexray run PARAMS DRIFT SCRIPT sharp` and `flexray
+//! settle PARAMS power FLUTTER` answer, and with it all words of `flexray`. The other words are answered by `fr_answer`,
+//! which stands on nothing that these alone need. And the law that ties the startup of a cluster to a run of it.
 #![tactic(auto)]
 
 mod observe;
 mod observe_laws;
 mod pages;
+mod power_on;
+mod power_on_laws;
 mod report_lines;
 mod request;
 mod sharp_gaps;
@@ -19,11 +21,14 @@ pub use fr_text::Status;
 pub use observe::{ObserveFiles, answer_observe, files_decide_what_is_told};
 pub use observe_laws::an_observed_text_is_so;
 pub use pages::{Page, answer_page, page_request};
+pub use power_on::answer_power_on;
+pub use power_on_laws::{a_power_on_is_told, file_decides_the_power_on, power_on_comes_into_sync};
 pub use sharp_gaps::SharpGaps;
 pub use sharp_gathering::write_sharp_report;
 pub use sharp_report::{answer_sharp_report, answer_sharp_run, files_decide_what_is_told_sharply};
 pub use sharp_report_laws::{a_sharp_report_is_lawful, files_decide_the_sharp_report};
 pub use status_laws::{
-    a_sharp_report_has_one_status, an_observation_has_one_status, each_word_has_one_status,
+    a_power_on_has_one_status, a_sharp_report_has_one_status, an_observation_has_one_status,
+    each_word_has_one_status,
 };
 pub use top::flexray;

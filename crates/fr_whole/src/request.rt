@@ -1,9 +1,23 @@
-ghost use Rattle.std.specs.Prelude.{◌∷◌, [], codes};
+ghost use Rattle.std.specs.Prelude.{◌≤◌, ◌∷◌, [], codes, IfSome};
+ghost use Rattle.fr_answer.specs.Request.{most_stated_flutter};
 ghost use Rattle.fr_program.specs.Program.{texts};
-ghost use Rattle.fr_whole.specs.Whole.{IsLogRequest, IsSharpReportRequest};
+ghost use Rattle.fr_whole.specs.Whole.{IsLogRequest, IsPowerOnRequest, IsSharpReportRequest};
 
 use crate::observe::ObserveFiles;
 use fr_report::RunFiles;
+use fr_text::natural;
+
+// The greatest flutter that may be stated, in ticks.
+const MOST_FLUTTER: u64 = 20_000_000;
+
+/// What a request for how long from power-on to sharp sync states.
+#[derive(Clone, Copy)]
+pub struct PowerOnRequest<'a> {
+    /// The name of the file of the cluster's parameters.
+    pub params: &'a str,
+    /// By how many ticks delays flutter at most.
+    pub flutter: u64,
+}
 
 /// The files of the words `observe PARAMS LOG`, and none of other words. It takes no memory.
 #[tactic(auto, using(crate::proofs::Words::not_short, crate::proofs::Words::not_long))]
@@ -72,5 +86,57 @@ fn sharp_report_by_word<'a>(
             script,
         }),
         _ => None,
+    }
+}
+
+/// What the words `settle PARAMS power FLUTTER` state, with a number of ticks, and none of other words. It takes no memory.
+#[tactic(auto, using(crate::proofs::Words::not_fewer, crate::proofs::Words::not_more))]
+pub fn power_on_request(words: &[String]) -> Option<PowerOnRequest<'_>>
+    ensures asks { IsPowerOnRequest (texts words.now) result }
+    ensures range { IfSome result (λ asked. asked.flutter ≤ most_stated_flutter) }
+{
+    match words {
+        [command, params, word, flutter] => power_on_request_of(
+            command.as_str(),
+            params.as_str(),
+            word.as_str(),
+            flutter.as_str(),
+        ),
+        _ => None,
+    }
+}
+
+fn power_on_request_of<'a>(
+    command: &str,
+    params: &'a str,
+    word: &str,
+    flutter: &str,
+) -> Option<PowerOnRequest<'a>>
+    ensures asks { IsPowerOnRequest (command.now ∷ params.now ∷ word.now ∷ flutter.now ∷ []) result }
+    ensures range { IfSome result (λ asked. asked.flutter ≤ most_stated_flutter) }
+{
+    match command {
+        "settle" => power_on_by_word(params, word, flutter),
+        _ => None,
+    }
+}
+
+fn power_on_by_word<'a>(params: &'a str, word: &str, flutter: &str) -> Option<PowerOnRequest<'a>>
+    ensures asks { IsPowerOnRequest (codes "settle" ∷ params.now ∷ word.now ∷ flutter.now ∷ []) result }
+    ensures range { IfSome result (λ asked. asked.flutter ≤ most_stated_flutter) }
+{
+    match word {
+        "power" => power_on_with(params, flutter),
+        _ => None,
+    }
+}
+
+fn power_on_with<'a>(params: &'a str, flutter: &str) -> Option<PowerOnRequest<'a>>
+    ensures asks { IsPowerOnRequest (codes "settle" ∷ params.now ∷ codes "power" ∷ flutter.now ∷ []) result }
+    ensures range { IfSome result (λ asked. asked.flutter ≤ most_stated_flutter) }
+{
+    match natural(flutter.as_bytes(), 0, MOST_FLUTTER) {
+        Ok(flutter) => Some(PowerOnRequest { params, flutter }),
+        Err(_) => None,
     }
 }

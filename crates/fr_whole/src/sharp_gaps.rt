@@ -54,8 +54,9 @@ impl SharpGaps {
     }
 }
 
-fn failing_at(params: &Params, beside: bool, flutter: u64, number: u8) -> Option<Gap>
-    requires from { 2 ≤ number }
+// The sharper check of this number, 1 to 5, where it fails.
+pub(crate) fn failing_at(params: &Params, beside: bool, flutter: u64, number: u8) -> Option<Gap>
+    requires from { 1 ≤ number }
     requires to { number ≤ 5 }
     requires flutter { flutter ≤ most_flutter }
     ensures { result ≡ failing_at beside params.now flutter number }
@@ -72,7 +73,8 @@ fn failing_at(params: &Params, beside: bool, flutter: u64, number: u8) -> Option
     }
 }
 
-fn failing_to_join(
+// The sharper check of this number, 6 to 9, where it is asked and fails.
+pub(crate) fn failing_to_join(
     params: &Params,
     joins: bool,
     beside: bool,

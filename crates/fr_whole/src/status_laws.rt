@@ -1,10 +1,13 @@
+ghost use Rattle.std.specs.Prelude.{ℕ};
 ghost use Rattle.fr_report.specs.Files.{run_files};
 ghost use Rattle.fr_text.specs.Defined.{DefinesOneStatus};
 ghost use Rattle.fr_whole.specs.ObserveAnswer.{observe_files};
+ghost use Rattle.fr_whole.specs.PowerOnAnswer.{power_on_files};
 ghost use Rattle.fr_whole.specs.SharpReportAnswer.{IsSharpReportText};
 ghost use Rattle.fr_whole.specs.Whole.{HasOneStatusOfAll};
 
 use crate::observe_laws::an_observed_text_is_so;
+use crate::power_on_laws::a_power_on_is_told;
 use crate::sharp_report_laws::a_sharp_report_is_lawful;
 use fr_answer::each_request_has_one_status;
 use fr_params::accepted_are_sane;
@@ -40,6 +43,15 @@ pub fn a_sharp_report_has_one_status()
     lossy_files_give_runs();
 }
 
+/// A law: so does the file of a request for how long from power-on to sharp sync, with a flutter in ticks.
+pub fn a_power_on_has_one_status()
+    ensures { (flutter : ℕ) → DefinesOneStatus (power_on_files flutter) 1 }
+{
+    fr_params::one_answer();
+    fr_params::some_answer();
+    a_power_on_is_told();
+}
+
 /// A law: whatever words of `flexray` ask for, the bytes of the files that they name define exactly one status beside
 /// want of memory.
 pub fn each_word_has_one_status()
@@ -48,4 +60,5 @@ pub fn each_word_has_one_status()
     each_request_has_one_status();
     an_observation_has_one_status();
     a_sharp_report_has_one_status();
+    a_power_on_has_one_status();
 }

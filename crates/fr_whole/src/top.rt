@@ -1,11 +1,12 @@
-ghost use Rattle.std.specs.Prelude.{◌≡◌, ◌≢◌, ◌↔◌, IfErr};
+ghost use Rattle.std.specs.Prelude.{◌≡◌, ◌≢◌, ◌↔◌, IfErr, None};
 ghost use Rattle.fr_program.specs.Around.{around_of};
 ghost use Rattle.fr_program.specs.Failure.{EndingWritesNothing, WritesNothing, ending_status, status_of};
 ghost use Rattle.fr_program.specs.Program.{IsNoRequest, IsProgramAnswer, IsProgramComplete, WordsEnd, texts};
+ghost use Rattle.fr_whole.specs.Pages.{IsNoPage};
 ghost use Rattle.fr_whole.specs.Whole.{IsNoLog, IsNoSharpReport, flexray_program};
 
 use crate::pages::{answer_page, page_request};
-use crate::request::{log_request, sharp_report_request};
+use crate::request::{log_request, power_on_request, sharp_report_request};
 use fr_answer::{answer_core, told};
 use fr_base::{Shelf, Sink};
 use fr_program::Failure;
@@ -70,7 +71,7 @@ fn answer<S: Shelf, O: Sink>(
     }
 }
 
-// That of words that ask for no log, and for no report by the sharper bounds: a page, or what the core answers.
+// That of words that ask for no log, and for no report by the sharper bounds: a page, or what is answered behind it.
 fn answer_others<S: Shelf, O: Sink>(
     alloc: Global,
     words: &[String],
@@ -88,6 +89,29 @@ fn answer_others<S: Shelf, O: Sink>(
 {
     match page_request(words) {
         Some(page) => answer_page(page, out),
+        None => answer_power_on_or_core(alloc, words, shelf, out),
+    }
+}
+
+// That of words that ask for no page either: how long from power-on, or what the core answers.
+fn answer_power_on_or_core<S: Shelf, O: Sink>(
+    alloc: Global,
+    words: &[String],
+    shelf: &mut S,
+    out: &mut O,
+) -> Result<(), Failure>
+    requires no_log { IsNoLog (texts words.now) }
+    requires no_report { IsNoSharpReport (texts words.now) }
+    requires no_page { IsNoPage (texts words.now) }
+    ensures usage { ending_status result ≡ Status.Usage → IsNoRequest flexray_program (texts words.now) }
+    ensures unread { ending_status result ≡ Status.Usage → shelf.new ≡ shelf.old }
+    ensures undone { IfErr result (λ why. status_of why ≢ Status.Done) }
+    ensures ends { WordsEnd flexray_program (texts words.now)
+        (around_of (S.state shelf.old) (S.state shelf.new) (O.state out.old) (O.state out.new)) result }
+    ensures unwritten { EndingWritesNothing result → out.new ≡ out.old }
+{
+    match power_on_request(words) {
+        Some(asked) => crate::answer_power_on(alloc, asked.params, asked.flutter, shelf, out),
         None => answer_core(alloc, words, shelf, out),
     }
 }

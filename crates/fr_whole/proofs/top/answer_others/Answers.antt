@@ -4,7 +4,7 @@ use Rattle.fr_program.specs.Program.{texts}
 use Rattle.fr_program.proofs.Endings.{apart}
 use Rattle.fr_answer.proofs.Undone.{undone}
 use Rattle.fr_whole.specs.Pages.{page_command}
-use Rattle.fr_whole.proofs.Wholes.{by_core, by_page, none_of_core}
+use Rattle.fr_whole.proofs.Wholes.{by_page}
 use Rattle.fr_whole.proofs.top.answer_others.Goals as goal
 
 pub returns-in-Some-clause-ends : goal.returns-in-Some-clause-ends
@@ -20,11 +20,3 @@ pub returns-in-Some-clause-undone : goal.returns-in-Some-clause-undone
 returns-in-Some-clause-undone g c =
     let around : Around = around_of (g.S.Shelf.state c.args.shelf.now) (g.S.Shelf.state c.args.shelf.now) (g.O.Sink.state c.args.out.now) (g.O.Sink.state c.answer_page.new.out) in
     undone (page_command c.in-Some.page) around c.answer_page.result (c.answer_page.ensures.ends (g.S.Shelf.state c.args.shelf.now))
-
-pub returns-in-None-clause-ends : goal.returns-in-None-clause-ends
-returns-in-None-clause-ends g c =
-    let around : Around = around_of (g.S.Shelf.state c.args.shelf.now) (g.S.Shelf.state c.answer_core.new.shelf) (g.O.Sink.state c.args.out.now) (g.O.Sink.state c.answer_core.new.out) in
-    by_core (texts c.args.words.now) around c.answer_core.result c.requires.no_log c.requires.no_report c.in-None.ensures c.answer_core.ensures.ends
-
-pub returns-in-None-clause-usage : goal.returns-in-None-clause-usage
-returns-in-None-clause-usage g c = λ e. none_of_core (texts c.args.words.now) c.requires.no_log c.requires.no_report c.in-None.ensures (c.answer_core.ensures.usage e)
