@@ -113,9 +113,12 @@ class Rows(Bench):
         self.assertTrue(verdict.startswith({"no": "NO:", "over": "OVER:", "open": "open:", "within": "in cycles", "partly": "partly:"}[
             told.verdict[0]]), page)
         self.assertEqual("CONTRADICTION" in page, verdict.startswith("NO:"))
-        self.assertEqual("nothing contradicts what is stated" in verdict, told.verdict[0] in ("within", "over", "partly"))
-        if found := re.match(r"OVER: in (\d+) cycles? .*; the last is cycle (\d+);", verdict):
-            self.assertEqual((int(found[1]), int(found[2])), (int(told.verdict[3]), words["over"][-1]))
+        self.assertEqual("nothing contradicts what is stated" in verdict, told.verdict[0] != "no" and told.judged > 0)
+        self.assertEqual("no correction is held against the rules" in verdict, told.verdict[0] != "no" and told.judged == 0)
+        if found := re.match(r"OVER: in (\d+) cycles? .*; the last is cycle (\d+), with (\d+) cycles? within the precision behind it;", verdict):
+            self.assertEqual(tuple(map(int, found.groups())), (int(told.verdict[3]), words["over"][-1],
+                                                               sum(cycle > words["over"][-1] for cycle in words["within"])))
+        self.assertEqual(found is not None, told.verdict[0] == "over")
         if found := re.match(r"in cycles (\d+) to (\d+) the clocks", verdict):
             self.assertEqual(set(range(int(found[1]), int(found[2]) + 1)) - set(words["within"]), set())
         rows = {row.double: row for row in told.spreads}
@@ -127,7 +130,7 @@ class Rows(Bench):
         self.assertEqual(found is not None, told.verdict[0] == "open")
         judged = re.search(r"Judged (\d+) of (\d+) double cycles", page)
         self.assertEqual((int(judged[1]), int(judged[2])), (told.judged, told.doubles))
-        self.assertEqual("no double cycle is judged" in page, verdict.startswith("open:"))
+        self.assertEqual("no double cycle is judged" in page, told.judged == 0 and told.verdict[0] != "no")
         if found := re.search(r"from double cycle (\d+) on; no macroticks of these lie further apart than (\S+) us \(double cycle (\d+)\)", page):
             self.assertEqual(min(rows), int(found[1]))
             most = max(row.apart for row in told.spreads)
@@ -239,22 +242,23 @@ class Logs(Bench):
 
     def test_the_page(self):
         page = self.one_line(self.flexlab("observe", "-o", "seen", self.sent(), "net.toml", status=1)[0])
-        self.assertIn("Log sent.pcap: 160 frames of key slots", page)
+        self.assertIn("Log sent.pcap: 160 frames of key slots Cluster 6 nodes, 5 with a key slot; cycles of 5.000 ms; a microtick is 25 ns; no "
+                      "frame is used of what the file names arbitrary: node 6", page)
         self.assertIn("Analyzer stamps of 10 ns, its clock within 20 ppm, delays from 100 to 200 ns", page)
         self.assertIn("Frames 160 say where a clock was, 0 are damaged", page)
         self.assertIn("Left out 40 frames of static slots that are no key slots", page)
-        self.assertIn("Cycles 0 to 19, by the cycle counts: 17 within the precision, 0 over it, 3 open, the last since no next double cycle "
-                      "shows its end", page)
-        self.assertIn("Precision 4.256 us, the sharp one where delays flutter by no more than 25 ns: a yardstick, which is promised where the "
-                      "checks of flexray bound params.csv sharp 1000000 hold", page)
+        self.assertIn("Cycles 0 to 19, by the cycle counts: 17 within the precision, 0 over it, 3 open, the last since no next double "
+                      "cycle shows its end", page)
+        self.assertIn("Precision 4.256 us, the sharp one beside arbitrary nodes where delays flutter by no more than 25 ns: a yardstick, which "
+                      "is promised where the checks of flexray bound params.csv sharp 1000000 hold", page)
         self.assertIn("Judged 0 of 10 double cycles, since node 5 has no key slot, so no frame shows its clock; it moves no clock, so leave it "
                       "out of the file; or in_sync_from_cycle of [observer] can state where the cluster is in sync Verdict open: no double "
-                      "cycle is judged, since node 5 has no key slot, so no frame shows its clock, so no correction is held against the rules; in 17 "
-                      "cycles the clocks of the nodes that sent lay within the precision, for certain", page)
+                      "cycle is judged, since node 5 has no key slot, so no frame shows its clock, so no correction is held against the "
+                      "rules; in 17 cycles the clocks of the nodes that sent lay within the precision, for certain", page)
         self.assertNotIn("Not seen", page)
         text = self.flexray("observe", "seen/params.csv", "seen/log.csv")[1]
         self.assertEqual(text, self.read("seen", "observed.csv"))
-        self.assertIn("Precision       4.256 us, the sharp one", self.read("seen", "observed.txt"))
+        self.assertIn("Precision       4.256 us, the sharp one beside", self.read("seen", "observed.txt"))
 
     def test_what_is_stated_of_the_analyzer(self):
         path = self.sent(SHORT + OBSERVER + "error_ns = 2.5\njitter_ns = 5\nflutter_ns = 12.5\nlost = 2\n")
@@ -270,7 +274,9 @@ class Logs(Bench):
     def test_clocks_that_begin_far_apart(self):
         path = self.sent(SHORT.replace("start_us = 1.5", "start_us = 20") + OBSERVER)
         page = self.one_line(self.flexlab("observe", "-o", "seen", path, "net.toml", status=1)[0])
-        self.assertRegex(page, r"OVER in \d+ cycles, the first of them 0, the clocks of the nodes that sent lay")
+        self.assertRegex(page, r"OVER in 20 cycles, the first of them 0 and the last 19, the clocks of the nodes that sent lay")
+        self.assertRegex(page, r"Verdict OVER: in 20 cycles .*; the last is cycle 19, with 0 cycles within the precision behind it; no double "
+                               r"cycle is judged, so no correction is held against the rules")
         found = json.loads(self.flexlab("observe", "--json", "-o", "seen", path, "net.toml", status=1)[0])
         self.assertEqual(found["cycles"][0]["says"], "over")
         self.assertGreater(self.hold(found), 0)
@@ -288,8 +294,8 @@ class Logs(Bench):
         # From the third double cycle on they are in sync.
         page = self.one_line(self.flexlab("observe", "-o", "seen", "--from", "0.0199", path, "net.toml")[0])
         self.assertIn("Judged 8 of 8 double cycles, by what is seen and known of them, from double cycle 2 on", page)
-        self.assertIn("Verdict in cycles 4 to 18 the clocks of the nodes that sent lay within the precision; nothing contradicts what is stated ",
-                      page)
+        self.assertIn("Verdict in cycles 4 to 18 the clocks of the nodes that sent lay within the precision; nothing contradicts what is "
+                      "stated ", page)
 
     def test_a_cluster_of_production_shape(self):
         """It is judged by what is seen of it; a node that drops out is told of, too."""
@@ -358,8 +364,8 @@ class Logs(Bench):
         for kind, fields, told in (
                 ("limit", ("1", "40000", "80000", "120000"), "both its cycles last 0.000 to 0.001 us, and one of the"),
                 ("correction", ("500", "501", "-200", "200"), "an offset term of 500 to 501 microticks, and the limit is 200"),
-                ("offset", ("5", "6", "1", "3"), "an offset term of 5 to 6 microticks, and by all that were seen it must be 1 to 3, unless it missed at "
-                                                 "least 2 senders"),
+                ("offset", ("5", "6", "1", "3"), "an offset term of 5 to 6 microticks, and by all that were seen it must be 1 to 3, unless it "
+                                                 "missed at least 2 senders"),
                 ("rate", ("5", "6", "1", "3"), "a change of the rate term of 5 to 6 microticks, and by all that were seen it must be 1 to 3"),
                 ("skew", ("80000000", "-", "-", "40000000"), "clocks at least 2.000 us apart, and by what is known at most 1.000 us"),
                 ("start", ("80000000", "9", "-", "40000000"), "starts at least 2.000 us apart, and by what is known at most 1.000"),

@@ -222,7 +222,9 @@ def judged_lines(cluster: Cluster, told: Observation) -> list[str]:
 
 def verdict_text(cluster: Cluster, told: Observation) -> str:
     """The verdict in words."""
-    verdict, clocks, kept_to = told.verdict, "the clocks of the nodes that sent lay", "; nothing contradicts what is stated"
+    verdict, clocks = told.verdict, "the clocks of the nodes that sent lay"
+    unheld = "no correction is held against the rules"
+    kept_to = "; nothing contradicts what is stated" if told.judged else f"; no double cycle is judged, so {unheld}"
     if verdict[0] == "within":
         return f"in cycles {verdict[1]} to {verdict[2]} {clocks} within the precision{kept_to}"
     if verdict[0] == "no":
@@ -233,14 +235,14 @@ def verdict_text(cluster: Cluster, told: Observation) -> str:
     if verdict[0] == "over":
         low = lower(us_of_ticks(int(verdict[2]), cluster.microtick_ns))
         last = max(row.cycle for row in told.cycles if row.says == "over")
+        behind = sum(row.cycle > last and row.says == "within" for row in told.cycles)
         return (f"OVER: in {cycles(int(verdict[3]))} {clocks} further apart than the precision, for certain; in the first of them, cycle "
-                f"{verdict[1]}, at least {low} us; the last is cycle {last}{kept_to}. Clocks that start far apart are over it until they "
-                "are in sync")
+                f"{verdict[1]}, at least {low} us; the last is cycle {last}, with {cycles(behind)} within the precision behind it{kept_to}")
     if verdict[0] == "partly":
         return (f"partly: of the judged ones of cycles {verdict[1]} to {verdict[2]} {clocks} within the precision in {verdict[3]}, for "
                 f"certain; of {verdict[4]} it is not certain{kept_to}")
-    return (f"open: no double cycle is judged, since {why_unjudged(cluster, told, verdict[1:4])}, so no correction is held against the "
-            f"rules; in {cycles(told.within)} {clocks} within the precision, for certain")
+    return (f"open: no double cycle is judged, since {why_unjudged(cluster, told, verdict[1:4])}, so {unheld}; "
+            f"in {cycles(told.within)} {clocks} within the precision, for certain")
 
 
 def verdict_lines(cluster: Cluster, told: Observation) -> list[str]:
