@@ -111,7 +111,8 @@ fn put_node_missing<O: Sink>(
 ) -> Result<(), PutFault>
     requires { IsScene scene.now }
     ensures { TellsFaults result (O.state out.old) (O.state out.new) first.old first.new
-        (node_missing scene.now.log.now scene.now.span scene.now.before.now scene.now.here.now scene.now.number node.now) }
+        (node_missing scene.now.log.now scene.now.span scene.now.before.now scene.now.here.now scene.now.number
+        node.now) }
 {
     if is_judged(scene.log, node) && was_seen(scene.before, node.id) {
         put_missing_of(scene, node, first, out)
@@ -127,8 +128,8 @@ fn put_all_missing<O: Sink>(
 ) -> Result<(), PutFault>
     requires { IsScene scene.now }
     ensures { TellsFaults result (O.state out.old) (O.state out.new) first.old first.new
-        (flat_map (node_missing scene.now.log.now scene.now.span scene.now.before.now scene.now.here.now scene.now.number)
-        scene.now.params.now.nodes) }
+        (flat_map (node_missing scene.now.log.now scene.now.span scene.now.before.now scene.now.here.now
+        scene.now.number) scene.now.params.now.nodes) }
 {
     for place in 0..node_count(scene.params) {
         put_node_missing(scene, node_at(scene.params, place), first, out)?;

@@ -78,7 +78,8 @@ fn limit_by(
     requires even { IsBox even.now }
     requires odd { IsBox odd.now }
     requires span { IfSome span IsSpan }
-    ensures { result ≡ limit_fault scene.now.scale.now (2 * scene.now.number) node (Some even.now) (Some odd.now) span }
+    ensures { result ≡ limit_fault scene.now.scale.now (2 * scene.now.number) node (Some even.now) (Some odd.now)
+        span }
 {
     if is_empty(even) || is_empty(odd) {
         None
