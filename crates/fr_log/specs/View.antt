@@ -11,7 +11,7 @@ use Rattle.fr_log.specs.declared.entry.Entry.{Entry}
 use Rattle.fr_log.specs.declared.rows.DelayLimits.{DelayLimits}
 use Rattle.fr_log.specs.declared.rows.HeadNumber.TheVariants as head
 
--- the numbers of its head, in ticks, the drift in parts per million, how many frames a node may miss, the even cycle in whose
+-- the numbers of its head, in ticks, the drift in parts per million, how many senders a node may miss, the even cycle in whose
 -- double cycle the cluster is in sync by the sharper bounds; whether no frame was missed; whether the node of each number is
 -- arbitrary; the limits of the delays of each node on each channel, and of those that have no others; the entries in their order
 pub record LogView : Type 0 where
