@@ -7,3 +7,4 @@ pub mod ZeroTerms
 pub mod LoneLeader
 pub mod LedRuns
 pub mod PowerOnTexts
+pub mod WorkedLed

@@ -34,7 +34,7 @@ none_if : (holds : Bool) (gap : Gap) → holds ≡ true → (if holds then None 
 none_if true gap is = refl
 none_if false gap is = absurd (cc)
 
-hold_all : (p : Values) (flutter : ℕ) → sharp_join_holds_of 6 false flutter p ≡ true → sharp_join_holds_of 7 false flutter p ≡ true → sharp_join_holds_of 8 false flutter p ≡ true
+pub hold_all : (p : Values) (flutter : ℕ) → sharp_join_holds_of 6 false flutter p ≡ true → sharp_join_holds_of 7 false flutter p ≡ true → sharp_join_holds_of 8 false flutter p ≡ true
     → sharp_join_holds_of 9 false flutter p ≡ true → SharpJoinChecksHold false flutter p
 hold_all p flutter six seven eight nine zero from to = absurd (omega (arith, from))
 hold_all p flutter six seven eight nine (suc zero) from to = absurd (omega (arith, from))

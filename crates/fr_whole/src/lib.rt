@@ -19,7 +19,7 @@ pub use fr_text::Status;
 pub use observe::{ObserveFiles, answer_observe, files_decide_what_is_told};
 pub use power_on::answer_power_on;
 pub use power_on_laws::{
-    a_power_on_is_told, file_decides_the_power_on, power_on_comes_into_sync,
+    a_power_on_is_told, a_run_that_is_led, file_decides_the_power_on, power_on_comes_into_sync,
 };
 pub use sharp_gaps::SharpGaps;
 pub use sharp_gathering::write_sharp_report;
