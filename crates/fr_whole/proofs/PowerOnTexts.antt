@@ -1,5 +1,5 @@
 -- The text of how long from power-on to sharp sync: which checks it tells, and that the bytes of a file define it.
-use Rattle.std.proofs.Common.{◌≡◌, ℕ, zero, suc, ◌≤◌, Bool, true, false, Option, Some, None, List, refl, ap, sym, ◌∙◌, inl, arith, if◌then◌else◌}
+use Rattle.std.proofs.Common.{◌≡◌, ℕ, zero, suc, Bool, true, false, Option, Some, None, refl, ap, sym, ◌∙◌, inl, arith, if◌then◌else◌}
 use Rattle.std.specs.Prelude.{◌↔◌}
 use Rattle.std.specs.Option.{option_or}
 use Rattle.fr_bound.specs.SharpChecks.{sharp_holds_of}

@@ -1,10 +1,9 @@
 -- The worked files of a run that a node leads are as is asked.
-use Rattle.std.proofs.Common.{◌≡◌, ◌⊎◌, ℕ, zero, suc, Bool, true, false, ℤ, pos, Option, Some, None, List, [], ◌∷◌, refl, ap, sym, subst, inl, inr, arith}
+use Rattle.std.proofs.Common.{◌≡◌, ℕ, Bool, false, ℤ, pos, None, List, [], ◌∷◌, refl, ap, sym, subst, inl, inr, arith}
 use Rattle.std.specs.Prelude.{◌≢◌, ◌≤ℤ◌, ◌+ℤ◌, Contains}
 use Rattle.std.proofs.lemmas.Int.{ints}
 use Rattle.fr_bound.specs.SharpBounds.{last_of}
 use Rattle.fr_cluster.specs.Setting.{correct_nodes}
-use Rattle.fr_cluster.specs.declared.join.Join.{Join}
 use Rattle.fr_cluster.specs.declared.nodes.NodeSpec.{NodeSpec}
 use Rattle.fr_cluster.proofs.Elements.{Contains-here, Contains-none}
 use Rattle.fr_cluster.proofs.KeyNodes.{Contains-cons_cases}

@@ -1,5 +1,5 @@
 -- Worked files of a run that a node leads: what is promised from power-on is not empty.
-use Rattle.std.specs.Prelude.{◌≡◌, ℕ, pos, true, false, List, [], ◌∷◌, ◌++◌, replicate, Option, Some, None}
+use Rattle.std.specs.Prelude.{◌≡◌, ℕ, pos, true, false, [], ◌∷◌, ◌++◌, replicate, Option, Some, None}
 use Rattle.fr_bound.specs.SharpChecks.{sharp_holds_of}
 use Rattle.fr_cluster.specs.declared.join.Join.{Join}
 use Rattle.fr_cold.specs.Cluster.{Switches}
