@@ -202,6 +202,13 @@ static inline uint32_t flexray_settle_sharp(const uint8_t *params, size_t params
     return FLEXRAY_INLINE_REQUEST(params, params_length, &none, 0, &none, 0);
 }
 
+/* `flexray settle PARAMS power FLUTTER`: how long from the first power-on until all are in sharp sync, FLUTTER as above. */
+static inline uint32_t flexray_settle_power(const uint8_t *params, size_t params_length, uint64_t flutter,
+                                            uint8_t *out, size_t out_room, uint8_t *err, size_t err_room, flexray_texts *texts) {
+    FLEXRAY_INLINE_WORDS("settle\nfirst\npower\n%llu", (unsigned long long)flutter);
+    return FLEXRAY_INLINE_REQUEST(params, params_length, &none, 0, &none, 0);
+}
+
 /* `flexray make SEED DOUBLES`: the report of a cluster that is made from a seed, over 1 to 10,000 double cycles. */
 static inline uint32_t flexray_make(uint32_t seed, uint32_t doubles,
                                     uint8_t *out, size_t out_room, uint8_t *err, size_t err_room, flexray_texts *texts) {

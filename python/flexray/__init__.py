@@ -8,7 +8,7 @@
     print(flexray.to_us(report.precision, 25), "us")          # where a microtick lasts 25 ns
 
 The requests are `bound`, `sharp_bound`, `lost_bound`, `run`, `sharp_run`, `series`, `sharp_series`, `trace`, `check`, `observe`, `settle`,
-`sharp_settle`, `cold`, `frame`, `capture`, `nm`, `make` and `upgrade`. What they answer is in `flexray.results`, what
+`sharp_settle`, `power_on`, `cold`, `frame`, `capture`, `nm`, `make` and `upgrade`. What they answer is in `flexray.results`, what
 they raise in `flexray.errors`, and `request` has the program's own words. Times are in ticks, a millionth of a nominal
 microtick.
 
@@ -16,7 +16,7 @@ The answers are computed by `libflexray.so.0`, whose functions are proved to ans
 hands bytes over and takes texts apart, and is tested. docs/PYTHON.md has more.
 """
 from . import results
-from .calls import (Input, Raw, bound, capture, check, cold, frame, lost_bound, make, nm, observe, run, series, settle,
+from .calls import (Input, Raw, bound, capture, check, cold, frame, lost_bound, make, nm, observe, power_on, run, series, settle,
                     sharp_bound, sharp_run, sharp_series, sharp_settle, trace, upgrade)
 from .errors import FlexrayError, LibraryMissing, NoFrame, NoMemory, ReadFault, Refused, TooLong, Usage
 from .library import Answer, request, series_request, version
@@ -25,6 +25,6 @@ from .units import from_microticks, from_ns, from_us, length_of, ppm_of, to_micr
 
 __all__ = ["Answer", "FlexrayError", "Input", "LibraryMissing", "NoFrame", "NoMemory", "Raw", "ReadFault", "Refused", "TooLong",
            "Usage", "bound", "capture", "check", "cold", "frame", "from_microticks", "from_ns", "from_us", "length_of", "lost_bound",
-           "make", "nm", "observe", "ppm_of", "request", "run", "series", "series_request", "settle", "sharp_bound",
+           "make", "nm", "observe", "power_on", "ppm_of", "request", "run", "series", "series_request", "settle", "sharp_bound",
            "sharp_run", "sharp_series", "sharp_settle", "to_microticks", "to_ns", "to_us", "trace", "upgrade", "version"]
 __all__ += results.__all__

@@ -11,11 +11,11 @@ from typing import Union
 from . import texts
 from .errors import BY_STATUS, FlexrayError, NoFrame, ReadFault, Usage
 from .library import DONE, MOST, NO, Answer, given_bytes, request, series_request, shown, whole
-from .results import (Bound, Capture, Frame, LostBound, Observation, Report, Series, Settled, SharpBound, SharpReport,
+from .results import (Bound, Capture, Frame, LostBound, Observation, PowerOn, Report, Series, Settled, SharpBound, SharpReport,
                       SharpSeries, SharpSettled, Startup, Trace, Upgraded, Vectors, Verdict)
 
 __all__ = ["Input", "Raw", "bound", "sharp_bound", "lost_bound", "run", "sharp_run", "series", "sharp_series", "trace", "check", "observe",
-           "settle", "sharp_settle", "cold", "frame", "capture", "nm", "make", "upgrade"]
+           "settle", "sharp_settle", "power_on", "cold", "frame", "capture", "nm", "make", "upgrade"]
 
 #: A file of records: its bytes, its text, or its path.
 Input = Union[bytes, bytearray, memoryview, str, "os.PathLike[str]"]
@@ -165,6 +165,11 @@ def sharp_settle(params: Input, start: int, rate: int, flutter: int = 0) -> Shar
     """How soon they are in sharp sync, where delays flutter by at most so many ticks."""
     return texts.sharp_settled(_asked("settle", "first", *_spread(start, rate), "sharp", _whole("flutter", flutter, _FLUTTER),
                                       params=params))
+
+
+def power_on(params: Input, flutter: int = 0) -> PowerOn:
+    """How long it takes from the first power-on until all are in sharp sync that join the leader in its first double cycle."""
+    return texts.power_on(_asked("settle", "first", "power", _whole("flutter", flutter, _FLUTTER), params=params))
 
 
 def cold(params: Input, power: Input) -> Startup:

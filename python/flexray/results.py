@@ -9,7 +9,7 @@ from typing import NamedTuple, overload
 __all__ = ["Check", "Bound", "SharpSide", "SharpBound", "LostBound", "Skew", "Sent", "Heard", "NodeEnd", "Report", "Losses",
            "SharpReport", "SeriesCycle", "SeriesCycles", "Series", "SharpSeries", "CycleRow", "Deviation", "Join", "Trace",
            "Verdict", "Failing", "Failure", "ObservedCycle", "ObservedNode", "ObservedFault", "ObservedMissed", "ObservedSender",
-           "ObservedSpread", "LogCounts", "Observation", "FailedCheck", "Settled", "SharpWay", "SharpSettled", "Lead", "Startup", "Frame",
+           "ObservedSpread", "LogCounts", "Observation", "FailedCheck", "Settled", "SharpWay", "SharpSettled", "PowerOn", "Lead", "Startup", "Frame",
            "CapturedFrame", "Capture", "Vector", "Vectors", "Upgraded"]
 
 
@@ -545,6 +545,18 @@ class SharpSettled:
     flutter: int
     alone: SharpWay
     beside: SharpWay
+
+
+@dataclass(frozen=True)
+class PowerOn:
+    """How long it takes at most from the first power-on: until a node leads, and until all are in sharp sync that join it in its
+    first double cycle; or `failed`, the check that keeps this from being proved."""
+
+    text: str = field(repr=False)
+    flutter: int
+    leads: int
+    synced: int | None
+    failed: FailedCheck | None
 
 
 @dataclass(frozen=True)

@@ -7,7 +7,7 @@ from collections.abc import Iterable, Iterator
 
 from .results import (Bound, Capture, CapturedFrame, Check, CycleRow, Deviation, FailedCheck, Failing, Failure, Frame, Heard,
                       Join, Lead, LogCounts, Losses, LostBound, NodeEnd, Observation, ObservedCycle, ObservedFault, ObservedMissed,
-                      ObservedNode, ObservedSender, ObservedSpread, Report, Sent, Series, SeriesCycles, Settled, SharpBound, SharpReport,
+                      ObservedNode, ObservedSender, ObservedSpread, PowerOn, Report, Sent, Series, SeriesCycles, Settled, SharpBound, SharpReport,
                       SharpSeries, SharpSettled, SharpSide, SharpWay, Skew, Startup, Trace, Upgraded, Vector, Vectors, Verdict)
 
 
@@ -307,7 +307,7 @@ def failed_verdict(line: str) -> Verdict:
 
 # ---- what does not hold, by its line alone
 
-FAILING = re.compile(rf"(alone |beside )?(?:C(\d) fails|settles no check (\d)) (-?\d+) (-?\d+)|covered no ({GAP})|fault \d+ (.+)",
+FAILING = re.compile(rf"(alone |beside )?(?:C(\d) fails|(?:settles|synced) no check (\d)) (-?\d+) (-?\d+)|covered no ({GAP})|fault \d+ (.+)",
                      re.ASCII)
 
 
@@ -431,6 +431,16 @@ def sharp_settled(text: str) -> SharpSettled:
     lines = _Lines(text)
     start, rate, flutter = _numbers(lines.take(r"start (\d+) rate (\d+) flutter (\d+)"))
     return SharpSettled(text, start, rate, flutter, SharpWay(*_way(lines, "alone ")), SharpWay(*_way(lines, "beside ")))
+
+
+def power_on(text: str) -> PowerOn:
+    lines = _Lines(text)
+    flutter, leads = lines.one(r"flutter (\d+)"), lines.one(r"leads (\d+)")
+    synced = lines.maybe(r"alone synced (\d+)")
+    if synced is not None:
+        return PowerOn(text, flutter, leads, int(synced[0]), None)
+    failed = lines.take(r"alone synced no check (\d) (-?\d+) (-?\d+)")
+    return PowerOn(text, flutter, leads, None, FailedCheck(*_numbers(failed)))
 
 
 def startup(text: str) -> Startup:

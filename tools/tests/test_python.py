@@ -172,6 +172,8 @@ class Calls(Bench):
                     found = flexray.bound(*files, join="join" in told)
                 elif words[0] == "settle" and "sharp" in told:
                     found = flexray.sharp_settle(*files, int(told[1]), int(told[2]), int(told[4]))
+                elif words[0] == "settle" and "power" in told:
+                    found = flexray.power_on(*files, int(told[2]))
                 elif words[0] == "settle":
                     found = flexray.settle(*files, int(told[1]), int(told[2]))
                 elif words[0] in ("frame", "capture"):
@@ -186,7 +188,7 @@ class Calls(Bench):
                 if line:
                     self.assertEqual((found.passes, found.line), (False, line))
                 seen.add(type(found).__name__)
-        self.assertEqual(len(seen), 17, sorted(seen))
+        self.assertEqual(len(seen), 18, sorted(seen))
 
     def test_what_a_sharp_report_says(self):
         files = [Path(EXAMPLES, "sharp", f"{name}.csv") for name in ("params", "drift", "script")]

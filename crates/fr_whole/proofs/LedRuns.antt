@@ -1,6 +1,6 @@
 -- A run that a node leads is in sharp sync from its first double cycle on, where its files are sharply covered to join, and all others
 -- join it so.
-use Rattle.std.proofs.Common.{◌≡◌, ◌⊎◌, ℕ, zero, suc, ◌+◌, ◌*◌, ◌-◌, ◌<◌, ◌≤◌, ◌==◌, Bool, true, false, ◌&&◌, ◌||◌, not, ℤ, pos, Option, Some, None, List, [], ◌∷◌, All, length, map, refl, ap, sym, ◌∙◌, subst, inl, inr, arith, filter, if◌then◌else◌}
+use Rattle.std.proofs.Common.{◌≡◌, ◌⊎◌, ℕ, zero, suc, ◌+◌, ◌*◌, ◌-◌, ◌<◌, ◌≤◌, ◌==◌, Bool, true, false, ◌&&◌, ◌||◌, ℤ, pos, Option, Some, None, List, [], ◌∷◌, All, length, map, refl, ap, sym, ◌∙◌, subst, inl, inr, arith, filter, if◌then◌else◌}
 use Rattle.std.specs.Prelude.{◌+ℤ◌, ◌-ℤ◌, ◌*ℤ◌, ◌≤ℤ◌, AllPairs, Contains, IsSome, count_by, is_none, is_some}
 use Rattle.std.specs.List.{list_any}
 use Rattle.std.proofs.lemmas.Bool.{and_parts, cases_eq}
@@ -10,16 +10,16 @@ use Rattle.fr_base.specs.Within.{IsBetween, LieWithin}
 use Rattle.fr_base.specs.declared.node_row.NodeRow.{NodeRow}
 use Rattle.fr_base.specs.declared.state.State.TheVariants.{Active}
 use Rattle.fr_bound.specs.Bounds.{longest_micro, shortest_micro}
-use Rattle.fr_bound.specs.SharpBounds.{sharp_lambda, sharp_pi, sharp_precision}
+use Rattle.fr_bound.specs.SharpBounds.{sharp_lambda, sharp_pi}
 use Rattle.fr_bound.specs.SharpChecks.{sharp_holds_of}
 use Rattle.fr_bound.specs.Sync.{cycle_length_of}
 use Rattle.fr_cluster.specs.Sane.{IsSane}
 use Rattle.fr_cluster.specs.Setting.{Setting, correct_nodes, is_correct}
-use Rattle.fr_cluster.specs.Values.{Values, amount}
+use Rattle.fr_cluster.specs.Values.{Values}
 use Rattle.fr_cluster.specs.declared.join.Join.{Join}
 use Rattle.fr_cluster.specs.declared.names.ParamName.TheVariants as name
 use Rattle.fr_cluster.specs.declared.nodes.NodeSpec.{NodeSpec}
-use Rattle.fr_cluster.proofs.Elements.{Contains-here, Contains-there, filtered}
+use Rattle.fr_cluster.proofs.Elements.{Contains-here, Contains-there}
 use Rattle.fr_cluster.proofs.KeyNodes.{AllPairs-first, AllPairs-rest}
 use Rattle.fr_cold.specs.Cluster.{macroticks_of_cycle}
 use Rattle.fr_cold.specs.Files.{PowerFits}
@@ -36,7 +36,6 @@ use Rattle.fr_history.specs.Cycles.{Cycle, Cycles, cycle_at, told_of}
 use Rattle.fr_history.specs.History.{row_for, row_of}
 use Rattle.fr_history.specs.Laws.{row_laws}
 use Rattle.fr_history.specs.Rows.{offset_after}
-use Rattle.fr_history.specs.Skew.{skew_at}
 use Rattle.fr_history.specs.Standing.{following_nodes, follows, follows_by, has_row_by, row_nodes}
 use Rattle.fr_history.specs.Terms.{outcomes_in, status_in}
 use Rattle.fr_midpoint.specs.Receivers.{AreFew}
@@ -48,19 +47,17 @@ use Rattle.fr_precision.proofs.Figures.{longest_is, shortest_is}
 use Rattle.fr_precision.proofs.Senders.{All-along}
 use Rattle.fr_promise.specs.Statement.{IsRunOf}
 use Rattle.fr_runs.specs.Gathered.{CycleRuns}
-use Rattle.fr_runs.specs.Rounds.{AllClocksRun, IsDoubleOf}
+use Rattle.fr_runs.specs.Rounds.{IsDoubleOf}
 use Rattle.fr_runs.specs.Supplied.{stays_on}
 use Rattle.fr_runs.proofs.Doubles.{even_length, status_even}
 use Rattle.fr_runs.proofs.Going.{rows_ascend}
 use Rattle.fr_runs.proofs.Lawful.{lawful_cycles_run}
-use Rattle.fr_runs.proofs.Nodes.{correct_node}
 use Rattle.fr_runs.proofs.Outcomes.{begun_active}
 use Rattle.fr_runs.proofs.Receivers.{is_correct_node}
 use Rattle.fr_time.specs.Cycles.{odd_cycle}
-use Rattle.fr_runs.proofs.Parts.{cycle_found, cycle_within, double_at, each_cycle, even_is, odd_is}
-use Rattle.fr_runs.proofs.Rows.{all_rows, contains_map, each_row, has_row, row_runs_by}
+use Rattle.fr_runs.proofs.Parts.{cycle_within, double_at, each_cycle, even_is, odd_is}
+use Rattle.fr_runs.proofs.Rows.{all_rows, contains_map, has_row, row_runs_by}
 use Rattle.fr_runs.proofs.Standing.{told_has}
-use Rattle.fr_runs.proofs.Succeeding.{followers_stay}
 use Rattle.fr_runs.proofs.Whole.{double_runs}
 use Rattle.fr_script.specs.Files.{ScriptFits}
 use Rattle.fr_script.specs.View.{ScriptView, is_arbitrary, join_of}
@@ -69,14 +66,13 @@ use Rattle.fr_sharp.specs.Lengths.{IsAboutCycle}
 use Rattle.fr_sharp.specs.SharpHistories.{IsInSharpSyncAt}
 use Rattle.fr_sharp.specs.SharpJoining.{sharp_reach}
 use Rattle.fr_sharp.specs.SharpStatement.{has_arbitrary}
-use Rattle.fr_sharp.specs.SharpStep.{AreSharp}
 use Rattle.fr_sharp.specs.SharpTested.{IsUnfollowedSharpSyncAt}
 use Rattle.fr_sharp.specs.SteadyRuns.{IsSteadyPart, IsSteadySetting}
 use Rattle.fr_sharp.proofs.FromFiles.{files_are_steady}
 use Rattle.fr_sharp.proofs.JoinBounds.{sharp_join_checks_suffice_lem}
 use Rattle.fr_sharp.proofs.RowsSupplied.{lawful_rows}
 use Rattle.fr_whole.specs.PowerOn.{joined_ticks, leads_ticks, longest_time, synced_ticks, takes_part_from, IsInSyncFromPowerOn, IsLedRun, JoinsLeader, PowerOnIsInSync}
-use Rattle.fr_whole.proofs.LoneLeader.{alone_among, leader_among, leader_stays, six_cycles, AllActive}
+use Rattle.fr_whole.proofs.LoneLeader.{alone_among, leader_among, six_cycles, AllActive}
 
 -- ---- no sync node is arbitrary
 

@@ -9,3 +9,4 @@ pub mod ZeroTerms
 pub mod LoneLeader
 pub mod LedRuns
 pub mod PowerOnTexts
+pub mod WorkedLed

@@ -1,6 +1,6 @@
 -- The leader of a run in the cycles in which no other node has a row yet: its values are 0 and so are its terms, and its cycles last no
 -- longer than those without corrections.
-use Rattle.std.proofs.Common.{◌≡◌, ◌≢◌, ◌⊎◌, ℕ, zero, suc, ◌+◌, ◌*◌, ◌<◌, ◌≤◌, ◌==◌, Bool, true, false, ◌&&◌, ◌||◌, ℤ, pos, Option, Some, None, List, [], ◌∷◌, All, length, map, refl, ap, sym, ◌∙◌, subst, inl, inr, arith, if◌then◌else◌}
+use Rattle.std.proofs.Common.{◌≡◌, ◌⊎◌, ℕ, zero, suc, ◌+◌, ◌*◌, ◌<◌, ◌==◌, Bool, true, false, ◌&&◌, ◌||◌, ℤ, pos, Option, Some, None, List, [], ◌∷◌, All, length, refl, ap, sym, ◌∙◌, subst, inl, inr, arith}
 use Rattle.std.specs.Prelude.{◌+ℤ◌, ◌-ℤ◌, ◌*ℤ◌, ◌≤ℤ◌, Contains, count_by, is_some}
 use Rattle.std.specs.List.{range_with_len}
 use Rattle.std.proofs.lemmas.Bool.{and_parts, cases_eq}
@@ -22,16 +22,16 @@ use Rattle.fr_cluster.proofs.Elements.{Contains-none, filtered, kept_filtered}
 use Rattle.fr_cluster.proofs.KeyNodes.{Contains-cons_cases}
 use Rattle.fr_history.specs.Cycles.{Cycle, Cycles, told_of}
 use Rattle.fr_history.specs.History.{row_for, row_of}
-use Rattle.fr_history.specs.Laws.{rate_of_next, row_laws, start_of_next}
+use Rattle.fr_history.specs.Laws.{row_laws}
 use Rattle.fr_history.specs.Rows.{offset_after}
 use Rattle.fr_correct.specs.Terms.{rate_term_of}
 use Rattle.fr_history.specs.Standing.{followed_well, has_joined_after, has_row, has_row_by, row_nodes}
-use Rattle.fr_measure.specs.Values.{change_at, change_of, is_own, least_of, mean_of, offset_at, rate_at, values_of}
+use Rattle.fr_measure.specs.Values.{change_at, is_own, least_of, mean_of, offset_at, rate_at, values_of}
 use Rattle.fr_midpoint.proofs.Products.{mulz-lez_left}
 use Rattle.fr_precision.specs.Instants.{gap_of, row_in}
 use Rattle.fr_precision.specs.Offsets.{LimitSuffices}
 use Rattle.fr_precision.specs.Reception.{LeavesRoom}
-use Rattle.fr_precision.specs.Round.{Hearer, IsHeardAt, offsets_of, rates_of, sync_count}
+use Rattle.fr_precision.specs.Round.{IsHeardAt, offsets_of, rates_of, sync_count}
 use Rattle.fr_precision.specs.Rows.{corrected_end_of, longest_cycle}
 use Rattle.fr_precision.specs.Step.{Member}
 use Rattle.fr_precision.proofs.Counting.{count_cons, count_yes}

@@ -1,5 +1,5 @@
 -- The text of how long from power-on to sharp sync: which checks it tells, and that the bytes of a file define it.
-use Rattle.std.proofs.Common.{◌≡◌, ℕ, zero, suc, ◌≤◌, Bool, true, false, Option, Some, None, List, refl, ap, sym, ◌∙◌, inl, arith, if◌then◌else◌}
+use Rattle.std.proofs.Common.{◌≡◌, ℕ, zero, suc, Bool, true, false, Option, Some, None, refl, ap, sym, ◌∙◌, inl, arith, if◌then◌else◌}
 use Rattle.std.specs.Prelude.{◌↔◌}
 use Rattle.std.specs.Option.{option_or}
 use Rattle.fr_bound.specs.SharpChecks.{sharp_holds_of}
@@ -34,7 +34,7 @@ none_if : (holds : Bool) (gap : Gap) → holds ≡ true → (if holds then None 
 none_if true gap is = refl
 none_if false gap is = absurd (cc)
 
-hold_all : (p : Values) (flutter : ℕ) → sharp_join_holds_of 6 false flutter p ≡ true → sharp_join_holds_of 7 false flutter p ≡ true → sharp_join_holds_of 8 false flutter p ≡ true
+pub hold_all : (p : Values) (flutter : ℕ) → sharp_join_holds_of 6 false flutter p ≡ true → sharp_join_holds_of 7 false flutter p ≡ true → sharp_join_holds_of 8 false flutter p ≡ true
     → sharp_join_holds_of 9 false flutter p ≡ true → SharpJoinChecksHold false flutter p
 hold_all p flutter six seven eight nine zero from to = absurd (omega (arith, from))
 hold_all p flutter six seven eight nine (suc zero) from to = absurd (omega (arith, from))

@@ -8,3 +8,4 @@ pub mod PowerOnAnswer
 pub mod SharpGaps
 pub mod SharpReport
 pub mod SharpReportAnswer
+pub mod WorkedPowerOn

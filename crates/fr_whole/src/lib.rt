@@ -22,7 +22,9 @@ pub use observe::{ObserveFiles, answer_observe, files_decide_what_is_told};
 pub use observe_laws::an_observed_text_is_so;
 pub use pages::{Page, answer_page, page_request};
 pub use power_on::answer_power_on;
-pub use power_on_laws::{a_power_on_is_told, file_decides_the_power_on, power_on_comes_into_sync};
+pub use power_on_laws::{
+    a_power_on_is_told, a_run_that_is_led, file_decides_the_power_on, power_on_comes_into_sync,
+};
 pub use sharp_gaps::SharpGaps;
 pub use sharp_gathering::write_sharp_report;
 pub use sharp_report::{answer_sharp_report, answer_sharp_run, files_decide_what_is_told_sharply};

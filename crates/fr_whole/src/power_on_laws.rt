@@ -3,6 +3,7 @@ ghost use Rattle.fr_cluster.specs.Values.{Values};
 ghost use Rattle.fr_text.specs.Files.{IsDecided};
 ghost use Rattle.fr_whole.specs.PowerOn.{PowerOnIsInSync};
 ghost use Rattle.fr_whole.specs.PowerOnAnswer.{IsPowerOnText, power_on_files, power_on_text};
+ghost use Rattle.fr_whole.specs.WorkedPowerOn.{WorkedRunIsLed};
 
 use fr_cold::{switched_on_once, the_first_leads};
 use fr_sharp::covered_files_keep_sharply_joined;
@@ -32,3 +33,8 @@ pub fn file_decides_the_power_on()
 {
     fr_params::one_answer();
 }
+
+/// A law: worked files of a cluster of four nodes are as the promise asks, of which node 1 leads the run.
+pub fn a_run_that_is_led()
+    ensures { WorkedRunIsLed }
+{}

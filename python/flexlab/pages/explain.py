@@ -154,11 +154,17 @@ def wrong_word(request: str, word: str, place: int) -> str | None:
     return None
 
 
+def is_power(words: Sequence[str]) -> bool:
+    """Whether the words are `settle PARAMS power ..`."""
+    return len(words) > 2 and words[0] == "settle" and words[2] == "power"
+
+
 def explain_usage(words: Sequence[str]) -> list[str]:
     if words and words[0] in USAGE:
         found = [f"the words have to be: flexray {USAGE[words[0]]}",
                  f"and behind {words[0]} {len(words) - 1} were given: {short(' '.join(words[1:]))}"]
-        return found + [wrong for wrong in map(wrong_word, [words[0]] * len(words), words[1:], range(1, len(words))) if wrong]
+        places = [5 if place == 3 else 0 for place in range(1, len(words))] if is_power(words) else range(1, len(words))
+        return found + [wrong for wrong in map(wrong_word, [words[0]] * len(words), words[1:], places) if wrong]
     return ["there are these requests:", *(f"  flexray {form}" for form in USAGE.values())]
 
 
@@ -302,11 +308,11 @@ def explain_check(check: FailedCheck, words: Sequence[str], way: bool = False) -
 
 def explain_sharp_check(name: str, check: FailedCheck, words: Sequence[str]) -> list[str]:
     """A failing check of the sharper bounds, of a kind by its name, as `bound .. sharp FLUTTER`, also with `join`, and
-    `settle .. sharp FLUTTER` tell it."""
+    `settle .. sharp FLUTTER` and `settle .. power FLUTTER` tell it."""
     number, left, right = check.number, check.left, check.right
-    known, way = known_of(words), words[0] == "settle"
+    known, way = known_of(words), words[0] == "settle" and not is_power(words)
     parameters = Given(known)
-    kind = Kind(name == "beside", int(words[words.index("sharp", 2) + 1]), max(key for _, key, _ in known.keys()))
+    kind = Kind(name == "beside", int(words[words.index("power" if is_power(words) else "sharp", 2) + 1]), max(key for _, key, _ in known.keys()))
     told = (sharp_way_words if way else sharp_check_words)(number, left, right, parameters, kind)
     formula, letters = (SHARP_WAY_FORMULA, SHARP_WAY_LETTERS) if way else (SHARP_FORMULA, SHARP_LETTERS)
     turned = TURNS[number]
@@ -318,7 +324,7 @@ def explain_answer(text: str, words: Sequence[str]) -> list[str]:
     found = []
     for told in texts.failing(text):
         found.append(told.line)
-        if told.check and "sharp" in words[2:]:
+        if told.check and ("sharp" in words[2:] or is_power(words)):
             found += ["  " + part for part in explain_sharp_check(told.side, told.check, words)]
         elif told.check:
             found += ["  " + part for part in explain_check(told.check, words, told.is_way)]

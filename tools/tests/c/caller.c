@@ -119,6 +119,8 @@ static uint32_t typed(int count, char **given, uint8_t *out, size_t out_room, ui
     if (!strcmp(name, "bound") && count == 6)
         return flexray_bound_lost(FIRST, number(given[3]), (uint32_t)number(given[5]), PLACES);
     if (!strcmp(name, "bound")) return flexray_bound_sharp(FIRST, number(given[3]), PLACES);
+    if (!strcmp(name, "settle") && count == 4 && !strcmp(given[2], "power"))
+        return flexray_settle_power(FIRST, number(given[3]), PLACES);
     if (!strcmp(name, "settle") && count == 4) return flexray_settle(FIRST, number(given[2]), number(given[3]), PLACES);
     if (!strcmp(name, "settle"))
         return flexray_settle_sharp(FIRST, number(given[2]), number(given[3]), number(given[5]), PLACES);
