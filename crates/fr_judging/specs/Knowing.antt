@@ -82,10 +82,11 @@ unfit p l double (Some met) =
     then of_several obstacle.Drift double
     else of_several obstacle.Reach double
 
--- first a node that was not seen, then a fault that is told always, then its numbers
+-- what hides it: first a node that was not seen, then a fault that is told always
 abbrev pub hindrance_by : Values → LogView → List Sighting → ℕ → Option Fault → Option Obstacle
 hindrance_by p l here double told = option_or (first_unseen l here double p.nodes) (faulty told)
 
+-- what keeps it from being judged, where it is not: first what hides it, then its numbers
 abbrev pub unjudged_by : Bool → Values → LogView → ℕ → Option Obstacle → Option Known → Option Obstacle
 unjudged_by judged p l double hidden met = if judged then None else option_or hidden (unfit p l double met)
 

@@ -170,7 +170,7 @@ fn put_judged_terms<O: Sink>(
     }
 }
 
-// The frames that are missing.
+// The frames that are missing, where something is known.
 #[tactic(auto, unfolding(crate::specs::Knowing::known_missing))]
 fn put_known_missing<O: Sink>(
     scene: &Scene<'_>,

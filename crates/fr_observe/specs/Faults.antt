@@ -384,7 +384,7 @@ against_fields (fault.Missing cycle node ch) = codes "-" ∷ codes "-" ∷ []
 abbrev pub fault_fields : Fault → List (List ℕ)
 fault_fields f = seen_fields f ++ against_fields f
 
--- pieces that are spelt as two fields of a row
+-- pieces that are spelt as these fields of a row, in no more bytes than two numbers and their signs take
 pub record AreSpelt (pieces : List Piece) (fields : List (List ℕ)) : Type 0 where
   pub spelt : map spelling pieces ≡ fields
   pub short : room_of_all pieces ≤ 42

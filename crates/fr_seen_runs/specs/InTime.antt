@@ -129,8 +129,8 @@ NearIsTimely =
     → IsReadNear x h base delays clock l from → are_numbers_sure x.params l ≡ true
     → IsObservedRun x h base delays clock l
 
--- so where the verdict of such a log is no, whatever the kind of its fault, there is no such run that is as the log states. By a
--- fault whose kind asks for own slots, this is said of runs where each whole frame in the slot of a node is one that the node sends
+-- so where the verdict of such a log is no, whatever its fault, there is no such run that is as the log states. By a
+-- fault that asks for own slots, this is said of runs where each whole frame in the slot of a node is one that the node sends
 abbrev pub NoNearRunIsContradicted : Type 0
 NoNearRunIsContradicted =
     (x : Setting) (h : Cycles) (base : ℕ) (delays : ℕ → Channel → Delays) (clock : ℕ → StraightClock) (l : LogView)

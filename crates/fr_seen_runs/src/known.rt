@@ -38,8 +38,8 @@ pub fn spreads_are_so()
 
 /// The law of the rows of what was missed. In each run that the log is seen of, as it states in the double cycles before
 /// that of the row, and in which, in that one, all nodes hear all, also beside arbitrary sync nodes, or, without these, none
-/// is deaf, the node of the row missed no fewer senders in it than the row says; and where the row says none, there is no
-/// such run. What the log states of how many senders a node misses is not asked of that double cycle, nor of later ones, so
+/// is deaf, the node of the row missed no fewer senders in it than the row says; so where all hear all, and where the row says
+/// none, there is no such run. What the log states of how many senders a node misses is not asked of that double cycle, nor of later ones, so
 /// the row may say more than that.
 pub fn missings_are_so()
     ensures { MissingsAreSo }

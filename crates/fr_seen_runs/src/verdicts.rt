@@ -3,8 +3,8 @@ ghost use Rattle.fr_seen_runs.specs.OverRows.{OverIsCounted, OverIsSo};
 
 /// The law of contradictions: where the verdict of a log is no, it is seen of no run that is as the log states: with delays
 /// and changes within what is stated, in which no node misses more senders of a double cycle than the log says, in sync or
-/// not, whoever joins. And where the kind of the fault does not ask for that, of no run at all whose oscillators keep within
-/// what is stated. Where the kind asks for own slots, as that of an irregular frame does, this is said of runs in which each
+/// not, whoever joins. And where the fault does not ask for that, of no run at all whose oscillators keep within
+/// what is stated. Where it asks for own slots, as that of an irregular frame does, this is said of runs in which each
 /// whole frame of the log in the slot of a node that the log does not name arbitrary is one that the node sends there, in
 /// some cycle.
 pub fn no_run_is_contradicted()

@@ -177,8 +177,8 @@ observed_text laws p l = record {
   within = within_so laws p l;
   reaches = laws.reaches p l;
   spreads = spreads_so laws p l;
-  missed = λ run m alone before hears has.
-      laws.missed run.setting run.cycles run.base run.delays run.clock l m run.observed alone before hears
+  missed = λ run m hearing before hears has.
+      laws.missed run.setting run.cycles run.base run.delays run.clock l m hearing run.observed before hears
       (subst (λ (q : Values). Contains (log_missing q l) m) (sym run.of_params) has);
   sure = λ sure run.
       laws.timely run.setting run.cycles run.base run.delays run.clock l run.from run.read

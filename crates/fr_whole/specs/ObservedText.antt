@@ -21,8 +21,7 @@ use Rattle.fr_findings.specs.Verdict.{verdict_of}
 use Rattle.fr_findings.specs.declared.progress.OverRow.{OverRow}
 use Rattle.fr_findings.specs.declared.progress.Reach.{Reach}
 use Rattle.fr_findings.specs.declared.verdict.Verdict.TheVariants as verdict
-use Rattle.fr_sharp.specs.Losses.{NoneIsDeaf}
-use Rattle.fr_sharp.specs.SteadyRuns.{MayHaveArbitrary}
+use Rattle.fr_sharp.specs.JudgedSteps.{IsHeardIn}
 use Rattle.fr_seen.specs.Clocks.{StraightClock}
 use Rattle.fr_seen.specs.LogSeen.{NextRowsHold, RowsHold, SaysSo, log_senders, run_double, sender_rows}
 use Rattle.fr_seen.specs.OwnSlots.{SlotsAreOwn}
@@ -86,7 +85,7 @@ OddSaysSo p l run double odd =
 
 -- the rows of cycles and nodes are so: the run has each double cycle that has rows; the skew of the senders, the lengths of their
 -- cycles and their offset terms lie within the limits of the rows, the greatest skew of an odd cycle and the terms where the run has the
--- next double cycle too; and so do the words of the rows
+-- next double cycle too; and what the words of the rows say is so
 pub record RowsAreSo (p : Values) (l : LogView) (run : ObservedRun p l) : Type 0 where
   pub there :
       (double : ℕ) → Contains (seen_doubles (sightings_of p l)) double
@@ -113,8 +112,8 @@ pub record FaultsAreSo (p : Values) (l : LogView) (run : ObservedRun p l) : Type
 
 -- ---- verdicts
 
--- where the verdict is no, by a fault: the run is not as the log states; and where the kind of the fault does not ask for that, there is
--- no such run at all. By a fault whose kind asks for own slots, this is said of runs whose slots are own
+-- where the verdict is no, by a fault: the run is not as the log states; and where the fault does not ask for that, there is no such run
+-- at all. By a fault that asks for own slots, this is said of runs whose slots are own
 pub record IsContradicted (p : Values) (l : LogView) (fault : Fault) (run : ObservedRun p l) : Type 0 where
   pub not_stated : (asks_own_slots fault ≡ true → HasOwnSlots p l run) → IsStated p l run → ⊥
   pub asks : (asks_own_slots fault ≡ true → HasOwnSlots p l run) → asks_judged fault ≡ true
@@ -153,12 +152,12 @@ pub record IsObservedText (p : Values) (l : LogView) (text : List ℕ) : Type 0 
   pub spreads :
       (run : ObservedRun p l) (what : Heard) → IsStated p l run → log_heard p l ≡ Some what
       → All (SpreadIsSo run.setting run.cycles run.base l what) (log_spreads p l)
-  -- where it is so in the double cycles before that of a row of what was missed, without arbitrary sync nodes, and none is deaf in that
-  -- one, the row is so
+  -- where it is so in the double cycles before that of a row of what was missed, and in that one all nodes hear all, also beside arbitrary
+  -- sync nodes, or none is deaf, without these, the row is so
   pub missed :
-      (run : ObservedRun p l) (m : Missing) → MayHaveArbitrary false run.setting
+      (run : ObservedRun p l) (m : Missing) (hearing : Heard)
       → IsAsLogStatesBefore run.setting run.cycles run.base l (run_double run.base m.number)
-      → NoneIsDeaf run.setting (run_double run.base m.number) → Contains (log_missing p l) m
+      → IsHeardIn hearing run.setting (run_double run.base m.number) → Contains (log_missing p l) m
       → MissingIsSo run.setting run.base m
   -- where the numbers are sure, the log is seen of each near run that it is read of: so all of this is so in that run
   pub sure :

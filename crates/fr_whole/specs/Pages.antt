@@ -7,13 +7,14 @@ use Rattle.fr_whole.specs.declared.pages.Page.TheVariants.{Help, Version}
 
 -- ---- the texts
 
--- the words of all requests, with what a caller gives in capitals, and what each is for; but for the last line feed
+-- the words of all requests but these pages, with what a caller gives in capitals, and what each is for; but for the last line feed
 unfoldable pub help_lines : List ℕ
 help_lines =
     codes "usage: flexray COMMAND WORDS\n\n"
     ++ codes "  flexray bound PARAMS               the precision and three more bounds, and the five checks of a cluster\n"
     ++ codes "  flexray bound PARAMS join          these, and the reach and four checks of a cluster that nodes join\n"
-    ++ codes "  flexray bound PARAMS sharp FLUTTER sharper ones, where delays flutter by at most so many ticks\n"
+    ++ codes "  flexray bound PARAMS sharp FLUTTER\n"
+    ++ codes "                                     sharper ones, where delays flutter by at most so many ticks\n"
     ++ codes "  flexray bound PARAMS sharp FLUTTER join\n"
     ++ codes "                                     these, and the sharper reach and checks of one that nodes join\n"
     ++ codes "  flexray bound PARAMS sharp FLUTTER lost COUNT\n"

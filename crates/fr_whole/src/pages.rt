@@ -19,13 +19,14 @@ pub enum Page {
     Version,
 }
 
-// The words of all requests, with what a caller gives in capitals, and what each is for. The launcher prints these lines, and tests hold
+// The words of all requests but the pages, with what a caller gives in capitals, and what each is for. The launcher prints these lines, and tests hold
 // completion, manual page and documents to them.
 const HELP: &[u8] = b"usage: flexray COMMAND WORDS
 
   flexray bound PARAMS               the precision and three more bounds, and the five checks of a cluster
   flexray bound PARAMS join          these, and the reach and four checks of a cluster that nodes join
-  flexray bound PARAMS sharp FLUTTER sharper ones, where delays flutter by at most so many ticks
+  flexray bound PARAMS sharp FLUTTER
+                                     sharper ones, where delays flutter by at most so many ticks
   flexray bound PARAMS sharp FLUTTER join
                                      these, and the sharper reach and checks of one that nodes join
   flexray bound PARAMS sharp FLUTTER lost COUNT

@@ -1,5 +1,5 @@
--- The files of two runs in which lengths walk, for 9 double cycles of 12: no node joins, or node 5 joins and first rates last for 7. The
--- first of the sharper checks fails, and the promise has an end.
+-- The files of two runs in which lengths may walk: what is promised lasts for 9 double cycles of 12, or for 7 where node 5 joins, by
+-- first rates. The first of the sharper checks fails, and the promise has an end.
 use Rattle.std.specs.Prelude.{◌≡◌, ◌-◌, ◌<◌, ◌*◌, ℕ, pos, false, List, [], ◌++◌, ◌∷◌, Some, codes, replicate}
 use Rattle.fr_cluster.specs.Sane.{IsSane}
 use Rattle.fr_cluster.specs.Values.{Values}
