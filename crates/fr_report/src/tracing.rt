@@ -47,7 +47,7 @@ pub fn answer_trace<S: Shelf, O: Sink>(
     answer_world(world_of(alloc, files, shelf), &TraceWriter { alloc }, out)
 }
 
-// Writes the trace; where there is no memory for lines to wait in, each goes at once.
+// Writes the trace; it takes memory for lines that wait.
 #[derive(Drop)]
 struct TraceWriter {
     alloc: Global,
