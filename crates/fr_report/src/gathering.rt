@@ -55,7 +55,7 @@ pub fn told_of(report: &Report, world: &World, gap: Result<(), Gap>) -> Told
 }
 
 /// Writes the report of the cycles that a world has run, which this one holds, with the first gap of the run where it
-/// is not covered: with that which the world's files have it is their report. Each line is one put. A fault comes only
+/// is not covered: with that which the world's files have it is their report. Puts have whole lines. A fault comes only
 /// where the sink counted it, and then a front of the text was put.
 pub fn write_report<O: Sink>(
     report: &Report,

@@ -2,6 +2,7 @@
 //! prints its rows.
 #![tactic(auto)]
 
+mod answering;
 mod clocks;
 mod files;
 mod gathering;
@@ -14,6 +15,7 @@ mod trace_laws;
 mod tracing;
 mod world;
 
+pub use answering::{RunWriter, answer_world};
 pub use files::RunFiles;
 pub use fr_lines::{Clock, ClockList, Report, Told};
 pub use fr_text::Status;

@@ -8,7 +8,8 @@ ghost use Rattle.fr_text.specs.Told.{no_memory};
 ghost use Rattle.fr_report.specs.MakeAnswer.{make_command};
 ghost use Rattle.fr_report.specs.RunText.{IsRunText, run_text};
 
-use crate::playing::play;
+use crate::answer_world;
+use crate::run::ReportWriter;
 use crate::run_laws::a_run_is_lawful;
 use fr_base::Sink;
 use fr_generator::{Generated, generate};
@@ -31,12 +32,7 @@ pub fn answer_made<O: Sink>(
         (around_of shelf shelf (O.state out.old) (O.state out.new)) result }
     ensures unwritten { EndingWritesNothing result → out.new ≡ out.old }
 {
-    let mut world = made_world(alloc, seed, doubles)?;
-    report_is_lawful(&world);
-    match play(&mut world, out) {
-        Ok(()) => Ok(()),
-        Err(_) => Err(Failure::WriteFault),
-    }
+    answer_world(made_world(alloc, seed, doubles), &ReportWriter {}, out)
 }
 
 // The world of a seed, before its first cycle.
@@ -45,6 +41,8 @@ fn made_world(alloc: Global, seed: u32, doubles: u32) -> Result<World, Told>
     ensures fresh { IfOk result (λ world. world.cycles ≡ 0) }
     ensures made { IfOk result (λ world.
         IsGenerated seed doubles (record { params = world.params; drift = world.drift; script = world.script })) }
+    ensures shown { IfOk result (λ world. IsRunText world.params world.drift world.script
+        (run_text world.params world.drift world.script)) }
     ensures failed { IfErr result (λ why. why ≡ no_memory) }
 {
     let Ok(made) = generate(alloc, seed, doubles) else {
@@ -56,7 +54,10 @@ fn made_world(alloc: Global, seed: u32, doubles: u32) -> Result<World, Told>
         script,
     } = made;
     match World::build(alloc, params, drift, script) {
-        Ok(world) => Ok(world),
+        Ok(world) => {
+            report_is_lawful(&world);
+            Ok(world)
+        }
         Err(BuildFault::NoMemory) => Err(Told::no_memory()),
     }
 }

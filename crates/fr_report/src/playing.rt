@@ -17,7 +17,7 @@ use fr_world::World;
 /// Runs all cycles of a world that has run none, and writes the report of the run: the greatest skew and its
 /// first place over all its macroticks beside the precision, whether the run is covered, from which double
 /// cycle on the clocks are in sync and no node follows, what was sent and heard, and where each node with a row
-/// ends. Each line is one put. A fault comes only where the sink counted it, and then a front of the text was
+/// ends. Puts have whole lines. A fault comes only where the sink counted it, and then a front of the text was
 /// put; all cycles are run also then. It takes no memory but what the sink does. With either result the text is the
 /// report of the one lawful run, whose figures mean what they are called; where it is covered, the run keeps its
 /// precision from its first double cycle in sync on in which no node follows.

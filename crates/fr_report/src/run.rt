@@ -8,9 +8,10 @@ ghost use Rattle.fr_report.specs.RunText.{IsRunText};
 
 use crate::playing::play;
 use crate::run_laws::a_run_is_lawful;
-use crate::{RunFiles, world_of};
-use fr_base::{Shelf, Sink};
+use crate::{RunFiles, RunWriter, answer_world, world_of};
+use fr_base::{PutFault, Shelf, Sink};
 use fr_program::Failure;
+use fr_world::World;
 use std::alloc::Global;
 
 /// Reads the three files, one after the other, runs the cluster that they decide, and writes the report. Each file
@@ -28,9 +29,18 @@ pub fn answer_run<S: Shelf, O: Sink>(
     ensures unwritten { EndingWritesNothing result → out.new ≡ out.old }
 {
     a_run_is_lawful();
-    let mut world = world_of(alloc, files, shelf)?;
-    match play(&mut world, out) {
-        Ok(()) => Ok(()),
-        Err(_) => Err(Failure::WriteFault),
+    answer_world(world_of(alloc, files, shelf), &ReportWriter {}, out)
+}
+
+/// Writes the report.
+pub(crate) struct ReportWriter {}
+
+impl RunWriter for ReportWriter {
+    ghost use Rattle.fr_report.specs.RunText.{run_text};
+
+    ghost text = { run_text };
+
+    fn write<O: Sink>(&self, world: &mut World, out: &mut O) -> Result<(), PutFault> {
+        play(world, out)
     }
 }

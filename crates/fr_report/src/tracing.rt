@@ -18,7 +18,7 @@ ghost use Rattle.fr_report.specs.Names.{run_names_of};
 ghost use Rattle.fr_report.specs.TraceAnswer.{IsTraceText, trace_text};
 
 use crate::trace_laws::a_trace_is_lawful;
-use crate::{RunFiles, world_of};
+use crate::{RunFiles, RunWriter, answer_world, world_of};
 use fr_base::{CycleRow, PutFault, Shelf, Sink};
 use fr_cluster::Params;
 use fr_drift::Drift;
@@ -44,10 +44,22 @@ pub fn answer_trace<S: Shelf, O: Sink>(
     ensures unwritten { EndingWritesNothing result → out.new ≡ out.old }
 {
     a_trace_is_lawful();
-    let mut world = world_of(alloc, files, shelf)?;
-    match write_trace(alloc, &mut world, out) {
-        Ok(()) => Ok(()),
-        Err(_) => Err(Failure::WriteFault),
+    answer_world(world_of(alloc, files, shelf), &TraceWriter { alloc }, out)
+}
+
+// Writes the trace; it takes memory for lines that wait.
+#[derive(Drop)]
+struct TraceWriter {
+    alloc: Global,
+}
+
+impl RunWriter for TraceWriter {
+    ghost use Rattle.fr_report.specs.TraceAnswer.{trace_text};
+
+    ghost text = { trace_text };
+
+    fn write<O: Sink>(&self, world: &mut World, out: &mut O) -> Result<(), PutFault> {
+        write_trace(self.alloc, world, out)
     }
 }
 

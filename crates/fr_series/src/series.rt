@@ -8,9 +8,10 @@ ghost use Rattle.fr_series.specs.SeriesAnswer.{IsSeriesText};
 
 use crate::laws::a_series_is_lawful;
 use crate::write_series;
-use fr_base::{Shelf, Sink};
+use fr_base::{PutFault, Shelf, Sink};
 use fr_program::Failure;
-use fr_report::{RunFiles, world_of};
+use fr_report::{RunFiles, RunWriter, answer_world, world_of};
+use fr_world::World;
 use std::alloc::Global;
 
 /// Reads the three files, one after the other, runs the cluster that they decide, and writes the series of the run,
@@ -28,9 +29,18 @@ pub fn answer_series<S: Shelf, O: Sink>(
     ensures unwritten { EndingWritesNothing result → out.new ≡ out.old }
 {
     a_series_is_lawful();
-    let mut world = world_of(alloc, files, shelf)?;
-    match write_series(&mut world, out) {
-        Ok(()) => Ok(()),
-        Err(_) => Err(Failure::WriteFault),
+    answer_world(world_of(alloc, files, shelf), &SeriesWriter {}, out)
+}
+
+// Writes the series.
+struct SeriesWriter {}
+
+impl RunWriter for SeriesWriter {
+    ghost use Rattle.fr_series.specs.SeriesText.{series_text};
+
+    ghost text = { series_text };
+
+    fn write<O: Sink>(&self, world: &mut World, out: &mut O) -> Result<(), PutFault> {
+        write_series(world, out)
     }
 }

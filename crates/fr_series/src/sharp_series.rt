@@ -8,9 +8,10 @@ ghost use Rattle.fr_series.specs.SharpAnswer.{IsSharpSeriesText};
 
 use crate::sharp_laws::a_sharp_series_is_lawful;
 use crate::write_sharp_series;
-use fr_base::{Shelf, Sink};
+use fr_base::{PutFault, Shelf, Sink};
 use fr_program::Failure;
-use fr_report::{RunFiles, world_of};
+use fr_report::{RunFiles, RunWriter, answer_world, world_of};
+use fr_world::World;
 use std::alloc::Global;
 
 /// Reads the three files, one after the other, runs the cluster that they decide, and writes the sharper series of the
@@ -28,9 +29,18 @@ pub fn answer_sharp_series<S: Shelf, O: Sink>(
     ensures unwritten { EndingWritesNothing result → out.new ≡ out.old }
 {
     a_sharp_series_is_lawful();
-    let mut world = world_of(alloc, files, shelf)?;
-    match write_sharp_series(&mut world, out) {
-        Ok(()) => Ok(()),
-        Err(_) => Err(Failure::WriteFault),
+    answer_world(world_of(alloc, files, shelf), &SharpSeriesWriter {}, out)
+}
+
+// Writes the sharper series.
+struct SharpSeriesWriter {}
+
+impl RunWriter for SharpSeriesWriter {
+    ghost use Rattle.fr_series.specs.SharpText.{sharp_series_text};
+
+    ghost text = { sharp_series_text };
+
+    fn write<O: Sink>(&self, world: &mut World, out: &mut O) -> Result<(), PutFault> {
+        write_sharp_series(world, out)
     }
 }

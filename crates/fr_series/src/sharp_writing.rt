@@ -28,9 +28,9 @@ use fr_text::{put_line, put_lines};
 use fr_world::World;
 
 /// Runs all cycles of a world that has run none, and writes the sharper series of the run: a line for each cycle, as
-/// soon as its double cycle was run, and nine lines at the end. Each line is one put. A fault comes only where the sink
-/// counted it, and then a front of the text was put, and no further cycle is run: of the double cycles that were run
-/// the lines of all but the last had been put whole. It takes no memory but what the sink does.
+/// soon as its double cycle was run, and nine lines at the end. Puts have whole lines. A fault comes only where the
+/// sink counted it, and then a front of the text was put, and no further cycle is run: of the double cycles that were
+/// run the lines of all but the last had been put whole. It takes no memory but what the sink does.
 pub fn write_sharp_series<O: Sink>(world: &mut World, out: &mut O) -> Result<(), PutFault>
     requires { world.old.cycles ≡ 0 }
     ensures text { Puts result (O.state out.old) (O.state out.new)

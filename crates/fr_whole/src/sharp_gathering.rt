@@ -22,7 +22,7 @@ use fr_text::put_lines;
 use fr_world::World;
 
 /// Runs all cycles of a world that has run none, and writes what the sharper bounds say of the run, and behind it its
-/// report. Each cycle is run once, and each line is one put. A fault comes only where the sink counted it, and then a
+/// report. Each cycle is run once, and puts have whole lines. A fault comes only where the sink counted it, and then a
 /// front of the text was put; all cycles are run also then. It takes no memory but what the sink does.
 pub fn write_sharp_report<O: Sink>(world: &mut World, out: &mut O) -> Result<(), PutFault>
     requires { world.old.cycles ≡ 0 }

@@ -9,13 +9,13 @@ ghost use Rattle.fr_whole.specs.SharpReportAnswer.{IsSharpReportText, IsSharpRun
 
 use crate::sharp_gathering::write_sharp_report;
 use crate::sharp_report_laws::a_sharp_report_is_lawful;
-use fr_base::{Shelf, Sink};
+use fr_base::{PutFault, Shelf, Sink};
 use fr_program::Failure;
-use fr_report::{RunFiles, world_of};
+use fr_report::{RunFiles, RunWriter, answer_world, world_of};
 use fr_sharp::{
     covered_files_keep_sharply, covered_files_keep_sharply_joined, lossy_files_give_runs,
 };
-use fr_world::files_decide_one_run;
+use fr_world::{World, files_decide_one_run};
 use std::alloc::Global;
 
 /// Reads the three files, one after the other, runs the cluster that they decide, and writes what the sharper bounds say
@@ -33,10 +33,19 @@ pub fn answer_sharp_report<S: Shelf, O: Sink>(
     ensures unwritten { EndingWritesNothing result → out.new ≡ out.old }
 {
     a_sharp_report_is_lawful();
-    let mut world = world_of(alloc, files, shelf)?;
-    match write_sharp_report(&mut world, out) {
-        Ok(()) => Ok(()),
-        Err(_) => Err(Failure::WriteFault),
+    answer_world(world_of(alloc, files, shelf), &SharpReportWriter {}, out)
+}
+
+// Writes what the sharper bounds say, and the report.
+struct SharpReportWriter {}
+
+impl RunWriter for SharpReportWriter {
+    ghost use Rattle.fr_whole.specs.SharpReport.{sharp_report_text};
+
+    ghost text = { sharp_report_text };
+
+    fn write<O: Sink>(&self, world: &mut World, out: &mut O) -> Result<(), PutFault> {
+        write_sharp_report(world, out)
     }
 }
 

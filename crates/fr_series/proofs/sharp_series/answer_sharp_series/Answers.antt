@@ -1,23 +1,13 @@
-use Rattle.std.proofs.lemmas.Result.{err_from_is_err_and}
-use Rattle.fr_world.specs.World.{WorldView}
-use Rattle.fr_report.proofs.Written.{cut_short, whole}
+use Rattle.fr_program.specs.Around.{Around, around_of}
+use Rattle.fr_report.specs.Names.{run_names_of}
+use Rattle.fr_report.proofs.Written.{ends_behind}
+use Rattle.fr_series.specs.SharpAnswer.{IsSharpSeriesText}
+use Rattle.fr_series.specs.SharpText.{sharp_series_text}
 use Rattle.fr_series.proofs.sharp_series.answer_sharp_series.Goals as goal
-
-pub returns-in_err-world-clause-ends : goal.returns-in_err-world-clause-ends
-returns-in_err-world-clause-ends g c =
-    let e = err_from_is_err_and c.from_residual.result c.from_residual.ensures.1 in
-    rw (e.1, e.2) c.in_err-world.ensures.stops
-
-pub returns-in-Ok-clause-ends : goal.returns-in-Ok-clause-ends
-returns-in-Ok-clause-ends g c =
-    let world : WorldView = c.in_ok-world.world in
-    let files = c.in_ok-world.ensures.files in
-    let shown = c.a_sharp_series_is_lawful.ensures world.params world.drift world.script files.has_params.sound (λ joins. (files.has_drift.sound, files.has_script.sound.fits)) files.has_script.sound.proper in
-    whole {read = g.S.Shelf.state c.world_of.new.shelf} files c.in_ok-world.ensures.asked shown c.in-Ok.ensures.text
 
 pub returns-clause-ends : goal.returns-clause-ends
 returns-clause-ends g c =
-    let world : WorldView = c.in_ok-world.world in
-    let files = c.in_ok-world.ensures.files in
-    let shown = c.a_sharp_series_is_lawful.ensures world.params world.drift world.script files.has_params.sound (λ joins. (files.has_drift.sound, files.has_script.sound.fits)) files.has_script.sound.proper in
-    cut_short {read = g.S.Shelf.state c.world_of.new.shelf} files c.in_ok-world.ensures.asked shown c.in-Err.ensures.text
+    let around : Around = around_of (g.S.Shelf.state c.args.shelf.now) (g.S.Shelf.state c.world_of.new.shelf) (g.O.Sink.state c.args.out.now) (g.O.Sink.state c.answer_world.new.out) in
+    ends_behind IsSharpSeriesText sharp_series_text (run_names_of c.args.files) around c.world_of.result c.answer_world.result
+    (λ params drift script files. c.a_sharp_series_is_lawful.ensures params drift script files.has_params.sound (λ joins. (files.has_drift.sound, files.has_script.sound.fits)) files.has_script.sound.proper)
+    c.world_of.ensures.files c.world_of.ensures.stops c.world_of.ensures.asked c.answer_world.ensures.stopped c.answer_world.ensures.written
