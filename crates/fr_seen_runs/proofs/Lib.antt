@@ -29,6 +29,7 @@ pub mod Contradicted
 pub mod Reaching
 pub mod ReachesEnd
 pub mod OverLaws
+pub mod ToldDoubles
 pub mod MissingRows
 pub mod SteadyRuns
 pub mod KnownKept

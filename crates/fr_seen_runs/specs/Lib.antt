@@ -9,6 +9,7 @@ pub mod JudgedTerms
 pub mod ToldFaults
 pub mod NotContradicted
 pub mod OverRows
+pub mod ToldDoubles
 pub mod InTime
 pub mod KnownDoubles
 pub mod WorkedLog

@@ -21,7 +21,7 @@ pub use known::{
 };
 pub use log_doubles::{doubles_are_there, senders_lie_as_seen};
 pub use own::{own_faults_are_none, slot_faults_are_none};
-pub use told::{no_fault_is_told, steady_runs_miss_none, verdict_tells_first};
+pub use told::{no_fault_is_told, steady_runs_miss_none, text_tells_doubles, verdict_tells_first};
 pub use verdicts::{no_run_is_contradicted, over_is_so, within_is_so};
 pub use worked::{
     a_worked_log, worked_contradictions, worked_judged_contradictions, worked_strangers,

@@ -1,4 +1,5 @@
 ghost use Rattle.fr_seen_runs.specs.Contradictions.{SteadyRunsMissNone};
+ghost use Rattle.fr_seen_runs.specs.ToldDoubles.{TextTellsDoubles};
 ghost use Rattle.fr_seen_runs.specs.ToldFaults.{NoFaultIsTold, ToldFaultsAskEither, ToldFaultsAskOwnSlots, ToldFaultsAskJudged, VerdictTellsFirst};
 
 /// The law of faults. The slots of a log are own where each whole frame in the slot of a node that the log does not name
@@ -21,4 +22,10 @@ pub fn steady_runs_miss_none()
 /// A law: the verdict of a log is no exactly where its text tells a fault, and by the first.
 pub fn verdict_tells_first()
     ensures { VerdictTellsFirst }
+{}
+
+/// A law: between its precision and its census the text of a log has the rows of its double cycles, and these have exactly the
+/// faults, the rows of what was missed, those of spread and those that say over, of which the other laws speak.
+pub fn text_tells_doubles()
+    ensures { TextTellsDoubles }
 {}

@@ -26,10 +26,12 @@ use Rattle.fr_seen_runs.specs.LogDoubles.{DoublesAreThere}
 use Rattle.fr_seen_runs.specs.NotContradicted.{NoRunHasOwnFaults, NoRunIsContradicted, WithinIsSo, WithinIsThere, WithinReachesEnd}
 use Rattle.fr_seen_runs.specs.OverRows.{OverIsCounted, OverIsSo, RowIsOver, over_rows}
 use Rattle.fr_seen_runs.specs.Standings.{MissingsAreSo, SpreadIsSo, SpreadsAreSo, log_missing, log_spreads}
+use Rattle.fr_seen_runs.specs.ToldDoubles.{TextTellsDoubles}
 use Rattle.fr_seen_runs.specs.ToldFaults.{NoFaultIsTold, ToldFaultsAskEither, ToldFaultsAskJudged, ToldFaultsAskOwnSlots, VerdictTellsFirst, log_faults}
 use Rattle.fr_whole.specs.ObservedText.{FaultsAreSo, IsContradicted, IsObservedText, IsStated, KeepsReach, ObservedRun, RowsAreSo}
 
 pub record SeenLaws : Type 0 where
+  pub told : TextTellsDoubles
   pub there : DoublesAreThere
   pub rows : ObservedRowsHold
   pub next_rows : ObservedNextRowsHold
@@ -168,6 +170,7 @@ observed_text laws p l = record {
   shown = refl;
   front = before_verdict p l;
   ends = last_row p l;
+  told = laws.told p l;
   rows = rows_are_so laws p l;
   faults = faults_are_so laws p l;
   no = contradicted laws p l;

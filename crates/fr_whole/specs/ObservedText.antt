@@ -31,6 +31,7 @@ use Rattle.fr_seen_runs.specs.LogDoubles.{IsDoubleThere}
 use Rattle.fr_seen_runs.specs.NotContradicted.{IsWithinReach}
 use Rattle.fr_seen_runs.specs.OverRows.{RowIsOver, over_rows}
 use Rattle.fr_seen_runs.specs.Standings.{Missing, MissingIsSo, SpreadIsSo, log_missing, log_spreads}
+use Rattle.fr_seen_runs.specs.ToldDoubles.{TellsDoubles}
 use Rattle.fr_seen_runs.specs.ToldFaults.{log_faults}
 
 -- ---- runs
@@ -133,6 +134,8 @@ pub record IsObservedText (p : Values) (l : LogView) (text : List ℕ) : Type 0 
   pub shown : text ≡ observe_text p l
   pub front : List ℕ
   pub ends : text ≡ front ++ verdict_row (verdict_of p l)
+  -- between its precision and its census it has the rows of double cycles, and in these all that is told of what follows
+  pub told : TellsDoubles p l text
   -- the rows of cycles and nodes are so, and faults exclude what they say
   pub rows : (run : ObservedRun p l) → RowsAreSo p l run
   pub faults : (run : ObservedRun p l) → FaultsAreSo p l run

@@ -6,7 +6,7 @@ ghost use Rattle.fr_whole.specs.ObservedText.{IsObservedText};
 use fr_seen::{cycle_words_hold, observed_rows_hold};
 use fr_seen_runs::{
     doubles_are_there, missings_are_so, near_is_timely, no_fault_is_told, no_run_is_contradicted,
-    over_is_so, spreads_are_so, verdict_tells_first, within_is_so,
+    over_is_so, spreads_are_so, text_tells_doubles, verdict_tells_first, within_is_so,
 };
 
 /// A law: the text of a log means what its clause says, in each run that the log is seen of, or read of where its numbers
@@ -14,6 +14,7 @@ use fr_seen_runs::{
 pub fn an_observed_text_is_so()
     ensures { (p : Values) (l : LogView) → IsObservedText p l (observe_text p l) }
 {
+    text_tells_doubles();
     doubles_are_there();
     observed_rows_hold();
     cycle_words_hold();

@@ -5,6 +5,7 @@ pub returns : goal.returns
 returns c =
     observed_text
     (record {
+      told = c.text_tells_doubles.ensures;
       there = c.doubles_are_there.ensures;
       rows = c.observed_rows_hold.ensures.rows;
       next_rows = c.observed_rows_hold.ensures.next;
