@@ -1,5 +1,5 @@
 -- The rows of a text: behind that of the precision each double cycle of the log has its own, and these have exactly the faults, what
--- nodes missed, the numbers and the cycles of which the laws speak.
+-- nodes missed, the spreads and the rows over of which the laws speak.
 use Rattle.std.specs.Prelude.{◌≡◌, ℕ, pos, List, ◌++◌, map, Option}
 use Rattle.std.specs.List.{flat_map}
 use Rattle.fr_bound.specs.declared.judging.Known.{Known}
