@@ -9,8 +9,8 @@ from typing import NamedTuple, overload
 __all__ = ["Check", "Bound", "SharpSide", "SharpBound", "LostBound", "Skew", "Sent", "Heard", "NodeEnd", "Report", "Losses",
            "SharpReport", "SeriesCycle", "SeriesCycles", "Series", "SharpSeries", "CycleRow", "Deviation", "Join", "Trace",
            "Verdict", "Failing", "Failure", "ObservedCycle", "ObservedNode", "ObservedFault", "ObservedMissed", "ObservedSender",
-           "ObservedSpread", "LogCounts", "Observation", "FailedCheck", "Settled", "SharpWay", "SharpSettled", "PowerOn", "Lead", "Startup", "Frame",
-           "CapturedFrame", "Capture", "Vector", "Vectors", "Upgraded"]
+           "ObservedSpread", "LogCounts", "Observation", "FailedCheck", "Settled", "SharpWay", "SharpSettled", "PowerOn", "Lead", "Startup",
+           "Frame", "CapturedFrame", "Capture", "Vector", "Vectors", "Upgraded"]
 
 
 @dataclass(frozen=True)

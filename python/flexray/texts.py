@@ -7,8 +7,8 @@ from collections.abc import Iterable, Iterator
 
 from .results import (Bound, Capture, CapturedFrame, Check, CycleRow, Deviation, FailedCheck, Failing, Failure, Frame, Heard,
                       Join, Lead, LogCounts, Losses, LostBound, NodeEnd, Observation, ObservedCycle, ObservedFault, ObservedMissed,
-                      ObservedNode, ObservedSender, ObservedSpread, PowerOn, Report, Sent, Series, SeriesCycles, Settled, SharpBound, SharpReport,
-                      SharpSeries, SharpSettled, SharpSide, SharpWay, Skew, Startup, Trace, Upgraded, Vector, Vectors, Verdict)
+                      ObservedNode, ObservedSender, ObservedSpread, PowerOn, Report, Sent, Series, SeriesCycles, Settled, SharpBound,
+                      SharpReport, SharpSeries, SharpSettled, SharpSide, SharpWay, Skew, Startup, Trace, Upgraded, Vector, Vectors, Verdict)
 
 
 class Strange(ValueError):
@@ -307,7 +307,8 @@ def failed_verdict(line: str) -> Verdict:
 
 # ---- what does not hold, by its line alone
 
-FAILING = re.compile(rf"(alone |beside )?(?:C(\d) fails|(?:settles|synced) no check (\d)) (-?\d+) (-?\d+)|covered no ({GAP})|fault \d+ (.+)",
+FAILING = re.compile(rf"(alone |beside )?(?:C(\d) fails|(?:settles|synced) no check (\d)) (-?\d+) (-?\d+)|covered no ({GAP})|"
+                     r"fault \d+ (.+)",
                      re.ASCII)
 
 

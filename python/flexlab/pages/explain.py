@@ -312,7 +312,8 @@ def explain_sharp_check(name: str, check: FailedCheck, words: Sequence[str]) -> 
     number, left, right = check.number, check.left, check.right
     known, way = known_of(words), words[0] == "settle" and not is_power(words)
     parameters = Given(known)
-    kind = Kind(name == "beside", int(words[words.index("power" if is_power(words) else "sharp", 2) + 1]), max(key for _, key, _ in known.keys()))
+    place = words.index("power" if is_power(words) else "sharp", 2)
+    kind = Kind(name == "beside", int(words[place + 1]), max(key for _, key, _ in known.keys()))
     told = (sharp_way_words if way else sharp_check_words)(number, left, right, parameters, kind)
     formula, letters = (SHARP_WAY_FORMULA, SHARP_WAY_LETTERS) if way else (SHARP_FORMULA, SHARP_LETTERS)
     turned = TURNS[number]

@@ -52,7 +52,7 @@ class Turn(NamedTuple):
 def greatest_turn(cluster: Cluster) -> Turn | None:
     """The first of those that differ most, from a correct sync node to another correct node, by sender, receiver, channel and cycle;
     None where no delay differs."""
-    found = None
+    found: Turn | None = None
     for (sender, receiver, channel), steps in sorted(cluster.delays.items()):
         odd = sorted(cycle for cycle in steps if cycle % 2 == 1 and cycle < cluster.cycles)
         ends = [cluster.nodes[number] for number in (sender, receiver)]
