@@ -1,5 +1,5 @@
 -- Double cycles of a log that are judged by their own numbers: what is known of them is so, and nothing contradicts it.
-use Rattle.std.specs.Prelude.{◌≡◌, ◌<◌, ◌≤◌, ℕ, suc, false, true, All, List, [], ◌∷◌, ◌++◌, map, Contains, Option, Some, None, IfSome}
+use Rattle.std.specs.Prelude.{◌≡◌, ◌<◌, ◌≤◌, ℕ, suc, true, All, List, [], ◌∷◌, ◌++◌, map, Contains, Option, Some, None, IfSome}
 use Rattle.std.specs.Option.{option_map, option_to_list}
 use Rattle.fr_base.specs.declared.channel.Channel.{Channel}
 use Rattle.fr_bound.specs.Judged.{apart_through}
