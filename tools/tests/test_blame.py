@@ -5,6 +5,7 @@ import dataclasses
 import json
 import os
 import random
+import re
 import types
 import unittest
 import unittest.mock
@@ -116,15 +117,17 @@ class Blame(Log):
         self.table(network, network.rows(lambda double, it: 40 if it == 1 and double >= 12 else 0))
         page = self.one_line(self.observe())
         self.assertRegex(page, r"CONTRADICTION cycle 25, node 2: an offset term of 4\d to 4\d microticks, and by all that were seen it must "
-                               r"be \d to \d+ ")
-        self.assertRegex(page, r"Blame node 1 is out: there is still cycle 25, node 2: an offset term of 4\d to 4\d microticks, and by all "
-                               r"that were seen it must be -?\d to 1?\d, unless it missed at least 2 senders node 2 cannot be excluded: no "
-                               r"contradiction is left, and 20 of 20 double cycles are judged node 3 is out: .* node 4 is out: .* if one node alone was at "
-                               r"fault, no frame was lost "
-                               r"on the bus, and all else is as the verdict has it, it is node 2 ")
+                               r"be \d to \d+, 3\d to 4\d too great cycle 26: ")
+        self.assertRegex(page, r"Blame SUSPECT node 2: without its frames no contradiction is left, and 20 of 20 double cycles are judged; no "
+                               r"other single node explains the log, if no frame was lost on the bus and all else is as the verdict has it by "
+                               r"so much: by what all others sent its offset term was 3\d to 4\d microticks too great in each of \d double "
+                               r"cycles, the first in cycle 25 and the last in cycle 3\d, if by the same each time nodes 1, 3 and 4 are out: "
+                               r"there is still cycle 25, node 2, its offset term ")
+        by = re.search(r"was (\d+) to (\d+) microticks too great", page)
+        self.assertTrue(int(by[1]) <= 40 <= int(by[2]), by[0])
         self.assertNotIn("no other sender takes the ID", page)
         self.assertIn("seen/: params.csv, log.csv, observed.csv, blame.csv, observed.txt", page)
-        self.assertIn("Blame           node 1 is out", self.read("seen", "observed.txt"))
+        self.assertIn("Blame           SUSPECT node 2", self.read("seen", "observed.txt"))
         # It is what flexray tells of the log with a row more.
         self.write("log.csv", "arbitrary,2,,,\n" + self.read("seen", "log.csv"))
         self.assertNotIn("\nfault,", self.flexray("observe", "seen/params.csv", "log.csv")[1])
@@ -140,6 +143,64 @@ class Blame(Log):
             self.assertIn("no node alone was at fault, if all else is as the verdict has it: several were, or a frame was lost", page)
             self.assertNotIn("it is node", page)
             self.assertNotIn("cannot be excluded", page)
+            self.assertNotIn("SUSPECT", page)
+
+    def test_where_losses_are_stated(self):
+        """What is told of nodes leaves them aside, which the page says; and no node is a suspect."""
+        network = self.network(3, least=6)
+        self.write("net.toml", toml_of(network) + "lost = 1\n")
+        self.table(network, network.rows(lambda double, it: 60 if it == 1 and double >= 12 else 0))
+        found = self.object()
+        self.assertEqual(([one["node"] for one in found["blame"] if one["says"] != "out"], found["precision"]["lost"]), ([2], 1))
+        page = self.one_line(self.observe())
+        self.assertIn("Blame as if NO frame was lost, though the file allows a node to miss 1 sender of each double cycle: with such losses no "
+                      "node is shown to be out if one node alone was at fault, no frame was lost on the bus, and all else is as the verdict "
+                      "has it, it is node 2 node 2 cannot be excluded: ", page)
+        self.assertNotIn("SUSPECT", page)
+        # A stamp that fits nowhere rests on no loss.
+        one = blame.Blamed(4, "out", 7, "limit", 2, 5, 9, "")
+        cluster = read_cluster(self.path("net.toml"))
+        told = types.SimpleNamespace(lost=1, faults=())
+        self.assertIn("with such losses of these only node 4 is out", " ".join(blame.conclusion(cluster, [one], told)))
+        self.assertIn("no node is shown to be out", " ".join(blame.conclusion(cluster, [one._replace(kind="form")], told)))
+
+    def test_by_how_much(self):
+        """Of a node whose terms alone contradict: what its rows share, or else all of them, each way apart."""
+        def said(*rows):
+            faults = [results.ObservedFault(cycle, node, kind, tuple(map(str, fields))) for cycle, node, kind, *fields in rows]
+            return blame.size_lines(types.SimpleNamespace(faults=faults), 2)
+        begin, more = "by so much: by what all others sent its ", (9, 2, "offset", 3, 5, -18, -5)
+        two = "in each of 2 double cycles, the first in cycle 7 and the last in cycle 9"
+        first = (7, 2, "offset", 23, 26, 0, 10)
+        self.assertEqual(said(first), [f"{begin}offset term was 13 to 26 microticks too great in cycle 7"])
+        self.assertEqual(said(first, more), [f"{begin}offset term was 13 to 23 microticks too great {two}, if by the same each time"])
+        self.assertEqual(said(first, (9, 2, "offset", 3, 5, -1, 1)),
+                         [f"{begin}offset term was 2 to 26 microticks too great {two}, not by the same each time"])
+        self.assertEqual(said(first, (7, 2, "rate", -4, -4, -1, -1), (8, None, "start", 9, 9, "-", 4)),
+                         [f"{begin}offset term was 13 to 26 microticks too great in cycle 7",
+                          f"{begin}change of the rate term was 3 microticks too small in cycle 7"])
+        self.assertEqual(said(first, (9, 3, "rate", 3, 5, -18, -5)), [])
+        self.assertEqual(said((7, 2, "missing", "A", "-", "-", "-")), [])
+
+    def test_nodes_of_which_a_verdict_says_nothing(self):
+        """Arbitrary ones, and one that was seen nowhere: also where sync is stated."""
+        network = self.network(5, least=8)
+        rows = network.rows()
+        self.write("net.toml", toml_of(network, arbitrary=(2,)))
+        self.table(network, rows)
+        page = self.one_line(self.observe(status=(0, 1)))
+        self.assertIn("; nothing contradicts what is stated; node 2 was NOT checked: the file names it arbitrary ", page)
+        self.assertNotIn("NO cycle", page)
+        self.table(network, rows, lambda ns, node, channel: None if node == 4 else ns)
+        self.write("net.toml", toml_of(network, arbitrary=(2, 6)))
+        page = self.one_line(self.observe())
+        self.assertIn("Judged 0 of 20 double cycles, since node 4 was not seen in cycle 0; it was seen in no cycle at all: leave it out of the "
+                      "file if it is not in the network; if it is, its silence is the finding, or the analyzer takes none of its frames", page)
+        self.assertIn("; node 4 was seen in NO cycle; nodes 2 and 6 were NOT checked: the file names them arbitrary ", page)
+        self.write("net.toml", toml_of(network) + "in_sync_from_cycle = 0\n")
+        page = self.one_line(self.observe(status=(0, 1)))
+        self.assertNotIn("Verdict open", page)
+        self.assertIn("; node 4 was seen in NO cycle ", page)
 
     def test_nodes_that_are_too_few(self):
         """Of three nodes with one arbitrary no double cycle is judged: all of them are open."""
@@ -163,7 +224,8 @@ class Blame(Log):
         self.assertEqual(sorted(said), [1, 3, 4, 5, 6, 7, 8])
         self.assertEqual(said[5], "left")
         self.assertEqual(self.read("seen", "log.csv").count("arbitrary,"), 1)
-        self.assertIn("if one node alone beside those that are named arbitrary was at fault", self.one_line(self.observe()))
+        self.assertIn("SUSPECT node 5: without its frames no contradiction is left, and 20 of 20 double cycles are judged; no other single "
+                      "node beside those that are named arbitrary explains the log", self.one_line(self.observe()))
 
     def test_when_it_is_asked(self):
         """By itself where a contradiction asks what nodes hear of each other; a node that channels place nowhere is named already."""
@@ -198,8 +260,9 @@ class Blame(Log):
         self.assertIn("UNHEARD nodes 1 and 2 have no common channel, so a node misses 1 sender in each double cycle, and lost of [observer] is "
                       "0: state 1 or more.", page)
         self.assertIn("Verdict NO:", page)
-        self.assertIn("nothing follows from that, since nodes 1 and 2 have no common channel", page)
+        self.assertIn("Blame nothing follows from what is below, since nodes 1 and 2 have no common channel", page)
         self.assertNotIn("it is node", page)
+        self.assertNotIn("SUSPECT", page)
         self.assertEqual(self.object()["unheard"], 1)
         self.write("net.toml", toml_of(network, channels=channels) + "lost = 1\n")
         page = self.one_line(self.observe(status=(0, 1)))
@@ -229,8 +292,8 @@ class Blame(Log):
         found = self.object("--blame")
         self.assertEqual([fault["kind"] for fault in found["faults"]], ["form"])
         self.assertEqual(self.held(found), {1: "out", 2: "out", 3: "left", 4: "out"})
-        self.assertIn("it is node 3; a frame of another form, or on a channel that its node does not have, counts as a contradiction, "
-                      "which takes for granted that no other sender takes the ID of a node", self.one_line(self.observe("--blame")))
+        self.assertIn("all else is as the verdict has it; a frame of another form, or on a channel that its node does not have, counts "
+                      "as a contradiction, which takes for granted that no other sender takes the ID of a node", self.one_line(self.observe("--blame")))
 
     def test_each_part_and_each_log(self):
         network = self.network(3)
@@ -318,6 +381,7 @@ class Hints(Log):
         self.assertEqual((aside["of"], 2 * aside["double_cycles"] > 20), (20, True))
         self.assertTrue(-640 < aside["ppm"] < -201, aside)
         self.assertIn(f"Hint in {aside['double_cycles']} of 20 double cycles the cycles of all nodes were slower than nominal ones by ", page)
+        self.assertIn("for certain; all this if what is stated is so: see Hint Hint in ", page)
         self.assertIn(" ppm or more, and oscillators within 200 ppm and an analyzer within 0 ppm come to 200: rate terms may", page)
         self.write("net.toml", toml_of(network).replace("drift_ppm = 0", "drift_ppm = 440"))
         self.assertIsNone(self.object(status=(0, 1))["aside"])
@@ -343,12 +407,17 @@ class Hints(Log):
     def test_when_nothing_is_said_of_lost_frames(self):
         """Where a node is left, where a term is right in no way, and where none is asked."""
         def told(*least):
-            return types.SimpleNamespace(missed=[results.ObservedMissed(7, node, "offset", one) for node, one in enumerate(least, 1)],
+            return types.SimpleNamespace(lost=0, missed=[results.ObservedMissed(7, node, "offset", one)
+                                                         for node, one in enumerate(least, 1)],
                                          faults=[results.ObservedFault(7, node, "offset", ()) for node, _ in enumerate(least, 1)])
         out, left = (types.SimpleNamespace(says=says) for says in ("out", "left"))
         for least, blamed, wanted in (((1, 3), (out, out), 3), ((1, 3), (out, left), None), ((1, None), (out, out), None), ((), (out,), None),
                                       ((1,), (), None)):
             self.assertEqual(hints.least_lost(told(*least), blamed), wanted)
+        # Where losses are stated, that a node is left leaves them aside.
+        stated = told(2, 3)
+        stated.lost = 1
+        self.assertEqual(hints.least_lost(stated, (out, left)), 3)
 
     def test_a_node_that_is_two_faced(self):
         """Where most nodes contradict at once and one is left, the hint names that first."""

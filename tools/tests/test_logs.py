@@ -18,7 +18,7 @@ import test_judged
 import test_observe
 from bench import EXAMPLE, REPOSITORY, Bench, edited, needs
 from flexray import texts
-from flexray.results import ObservedFault, ObservedMissed
+from flexray.results import ObservedFault, ObservedMissed, ObservedSender
 from flexlab.captures import observed, observer, observing, packets
 from flexlab.program import report
 from flexlab.captures.frames import frame_bytes
@@ -39,6 +39,7 @@ class Cluster:
     """What words of contradictions and of a verdict ask of a cluster."""
     microtick_ns = Fraction(25)
     nodes = {}
+    arbitrary = ()
 
     @staticmethod
     def called(number):
@@ -101,11 +102,49 @@ class Rows(Bench):
         if ROWS >= 80:
             self.assertLessEqual({"no", "over", "open", "within", "partly", "judged", "unseen", "count", "missed"}, said)
 
+    def test_rows_that_may_follow_from_others(self):
+        """Of starts, lengths and clocks, behind a term of the double cycle before alone."""
+        def of(kind, cycle):
+            return words.of(ObservedFault(cycle, None, kind, ("80000000", "-", "-", "40000000")))
+        for term, told, kinds in (("offset", "offset term", ("start", "skew")), ("rate", "change of the rate term", ("lengths", "skew"))):
+            faults = (ObservedFault(7, 2, term, ("5", "6", "1", "3")),)
+            words = observed.Words(Cluster, SimpleNamespace(missed=(), faults=faults, senders=(), last=19))
+            for kind in ("start", "lengths", "skew"):
+                said = f"at most 1.000 us (which may follow from the {told} of cycle 7)"
+                self.assertEqual(said in of(kind, 8), kind in kinds)
+                self.assertEqual([("follow" in of(kind, cycle)) for cycle in (6, 7, 9, 10)], [False, False, kind in kinds, False])
+
+    def test_a_node_that_is_gone(self):
+        """From which cycle on, at its first row alone; and that the others are not listed, where that is so."""
+        def told(last, *rows):
+            faults = [ObservedFault(cycle, 2, "missing", (channel, "-", "-", "-")) for cycle, channel in rows]
+            senders = [ObservedSender(2, "A", 9, 0, last, 3), ObservedSender(2, "B", 9, 0, 19, 3)]
+            words = observed.Words(Cluster, SimpleNamespace(missed=(), faults=faults, senders=senders, last=19))
+            return [words.told(fault).removeprefix("its frame on channel ") for fault in faults]
+        gone, alone = "A is not there: missing from cycle 8 to the end", "; the first double cycle alone is listed"
+        self.assertEqual(told(7, (8, "A"), (9, "A")), [gone + alone, "A is not there"])
+        self.assertEqual(told(7, (8, "A"), (8, "B"), (10, "A")), [gone, "B is not there", "A is not there"])
+        self.assertEqual(told(17, (18, "A")), [gone.replace("8", "18")])
+        self.assertEqual(told(8, (8, "B")), ["B is not there"])
+        self.assertEqual(told(12, (8, "A")), ["A is not there"])
+
+    def test_cycles_in_runs(self):
+        for numbers, said in (([1, 2, 3, 9], ", 1 to 3, then 9"), ([4], ", 4"), ([1, 3, 5, 7], ", 1, then 3, then 5, then 7"),
+                              ([1, 3, 5, 7, 20], ", of double cycles 0 to 3, then 10"),
+                              ([1, 5, 9, 13, 17, 21], ", of double cycles 0, then 2, then 4, then 6, and 2 more runs to 10")):
+            self.assertEqual(observed.runs_words(numbers), said)
+
     def hold(self, told, page):
         words = {word: [row.cycle for row in told.cycles if row.says == word] for word in ("within", "over", "open")}
         self.assertEqual(bool(re.search(r"OVER in", page)), bool(words["over"]), page)
-        if found := re.search(r"OVER in (\d+) cycles?, the first of them (\d+) and the last (\d+), the clocks", page):
-            self.assertEqual(tuple(map(int, found.groups())), (len(words["over"]), words["over"][0], words["over"][-1]))
+        if found := re.search(r"OVER in (\d+) cycles?,( of double cycles)? (\d[^a-z]*(?:(?:to|then) [^a-z]*)*)(and \d+ more runs to \d+, )?the "
+                              "clocks", page):
+            named = {number for run in re.findall(r"(\d+)(?: to (\d+))?", found[3]) for number in range(int(run[0]), int(run[1] or run[0]) + 1)}
+            over = {cycle // 2 for cycle in words["over"]} if found[2] else set(words["over"])
+            self.assertEqual(int(found[1]), len(words["over"]))
+            self.assertEqual(named, {cycle for cycle in over if cycle <= max(named)} if found[4] else over, page)
+            begins = {told.cycles[0].cycle // 2, *(row.double for row in told.spreads[:1])}
+            self.assertEqual("may be of a startup" in page, words["over"][0] // 2 in begins)
         self.assertEqual(found is not None, bool(words["over"]), page)
         if found := re.search(r"at least (\S+) us in cycle (\d+); at most (\S+) us", page):
             self.assertLessEqual(Fraction(found[1]), Fraction(found[3]), page)
@@ -247,8 +286,8 @@ class Logs(Bench):
         self.assertIn("Analyzer stamps of 10 ns, its clock within 20 ppm, delays from 100 to 200 ns", page)
         self.assertIn("Frames 160 say where a clock was, 0 are damaged", page)
         self.assertIn("Left out 40 frames of static slots that are no key slots", page)
-        self.assertIn("Cycles 0 to 19, by the cycle counts: 17 within the precision, 0 over it, 3 open, the last since no next double "
-                      "cycle shows its end", page)
+        self.assertIn("Cycles 0 to 19, by the cycle counts: 17 within the precision, 0 over it, 3 open (1, 3 and 19), the last since no next "
+                      "double cycle shows its end", page)
         self.assertIn("Precision 4.256 us, the sharp one beside arbitrary nodes where delays flutter by no more than 25 ns: a yardstick, which "
                       "is promised where the checks of flexray bound params.csv sharp 1000000 hold", page)
         self.assertIn("Judged 0 of 10 double cycles, since node 5 has no key slot, so no frame shows its clock; it moves no clock, so leave it "
@@ -274,7 +313,8 @@ class Logs(Bench):
     def test_clocks_that_begin_far_apart(self):
         path = self.sent(SHORT.replace("start_us = 1.5", "start_us = 20") + OBSERVER)
         page = self.one_line(self.flexlab("observe", "-o", "seen", path, "net.toml", status=1)[0])
-        self.assertRegex(page, r"OVER in 20 cycles, the first of them 0 and the last 19, the clocks of the nodes that sent lay")
+        self.assertRegex(page, r"OVER in 20 cycles, 0 to 19, the clocks of the nodes that sent lay further apart than the precision, for "
+                               r"certain; cycles at the begin of a log may be of a startup, before the clocks are in sync: --from leaves ")
         self.assertRegex(page, r"Verdict OVER: in 20 cycles .*; the last is cycle 19, with 0 cycles within the precision behind it; no double "
                                r"cycle is judged, so no correction is held against the rules")
         found = json.loads(self.flexlab("observe", "--json", "-o", "seen", path, "net.toml", status=1)[0])
@@ -295,7 +335,7 @@ class Logs(Bench):
         page = self.one_line(self.flexlab("observe", "-o", "seen", "--from", "0.0199", path, "net.toml")[0])
         self.assertIn("Judged 8 of 8 double cycles, by what is seen and known of them, from double cycle 2 on", page)
         self.assertIn("Verdict in cycles 4 to 18 the clocks of the nodes that sent lay within the precision; nothing contradicts what is "
-                      "stated ", page)
+                      "stated; node 6 was NOT checked: the file names it arbitrary ", page)
 
     def test_a_cluster_of_production_shape(self):
         """It is judged by what is seen of it; a node that drops out is told of, too."""
@@ -360,13 +400,14 @@ class Logs(Bench):
 
     def test_contradictions_in_words(self):
         missed = [ObservedMissed(7, 2, "offset", 2), ObservedMissed(7, 2, "rate", None), ObservedMissed(9, 2, "rate", 1)]
-        words = observed.Words(Cluster, SimpleNamespace(missed=missed))
+        words = observed.Words(Cluster, SimpleNamespace(missed=missed, faults=(), senders=(), last=19))
         for kind, fields, told in (
                 ("limit", ("1", "40000", "80000", "120000"), "both its cycles last 0.000 to 0.001 us, and one of the"),
                 ("correction", ("500", "501", "-200", "200"), "an offset term of 500 to 501 microticks, and the limit is 200"),
-                ("offset", ("5", "6", "1", "3"), "an offset term of 5 to 6 microticks, and by all that were seen it must be 1 to 3, unless it "
-                                                 "missed at least 2 senders"),
+                ("offset", ("5", "6", "1", "3"), "an offset term of 5 to 6 microticks, and by all that were seen it must be 1 to 3, 2 to 5 "
+                                                 "too great, unless it missed at least 2 senders"),
                 ("rate", ("5", "6", "1", "3"), "a change of the rate term of 5 to 6 microticks, and by all that were seen it must be 1 to 3"),
+                ("rate", ("-9", "-6", "-5", "-5"), "and by all that were seen it must be -5 to -5, 1 to 4 too small"),
                 ("skew", ("80000000", "-", "-", "40000000"), "clocks at least 2.000 us apart, and by what is known at most 1.000 us"),
                 ("start", ("80000000", "9", "-", "40000000"), "starts at least 2.000 us apart, and by what is known at most 1.000"),
                 ("lengths", ("80000000", "9", "-", "40000000"), "lengths of cycles at least 2.000 us apart"),

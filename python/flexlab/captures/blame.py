@@ -17,7 +17,7 @@ from ..pages.page import field as lines_of
 from ..program.report import understood
 from ..runs.runs import answer
 from ..toml.cluster import Cluster
-from .observed import ALWAYS, IRREGULAR, Words, deaf_in, why_unjudged
+from .observed import ALWAYS, IRREGULAR, TERMS, Words, deaf_in, excess_of, listed, nodes_words, senders, span, why_unjudged
 
 BLAME = "blame.csv"
 OWN = ("; a frame of another form, or on a channel that its node does not have, counts as a contradiction, which takes for granted that no "
@@ -77,27 +77,78 @@ def blamed(program: str, cluster: Cluster, params: str, log: str) -> list[Blamed
 # ---- in words
 
 
-def listed(cluster: Cluster, nodes: Sequence[int]) -> str:
-    names = [cluster.called(node) for node in nodes]
-    return ", ".join(names[:-1]) + (" or " if names[:-1] else "") + names[-1]
+SHORT = {
+    "skew": "clocks too far apart", "start": "starts too far apart", "lengths": "lengths of cycles too far apart",
+    "length": "the length of a cycle", "offset": "its offset term", "rate": "the change of its rate term", "missing": "no frame of it",
+    "channels": "its stamps on both channels", "limit": "its stamps", "correction": "its offset term",
+    "twice": "a frame that is there twice", "cycle": "a frame at another time", "stranger": "a frame that it does not send",
+    "form": "a frame of another form"}
 
 
-def blame_lines(cluster: Cluster, found: Sequence[Blamed]) -> list[str]:
-    """What is told of each node, and what follows of all of them."""
+def out_lines(cluster: Cluster, found: Sequence[Blamed]) -> list[str]:
+    """Those that are out, by the contradiction that is left."""
+    reasons = dict[tuple[int | None, str | None, int | None], list[int]]()
+    for one in found:
+        if one.says == "out":
+            reasons.setdefault((one.cycle, one.kind, one.other), []).append(one.node)
+    return [f"{nodes_words(cluster, nodes)} {'is' if len(nodes) == 1 else 'are'} out: there is still cycle {cycle}"
+            + ("" if other is None else f", node {cluster.called(other)}") + f", {SHORT[kind or '']}"
+            for (cycle, kind, other), nodes in reasons.items()]
+
+
+def size_lines(told: Observation, node: int) -> list[str]:
+    """By how much the terms of a node were wrong where they contradict, if those of no other node do."""
+    terms = [fault for fault in told.faults if fault.kind in TERMS]
+    if any(fault.node != node for fault in terms):
+        return []
+    ways, found = dict[tuple[str, str], list[tuple[int, int, int]]](), list[str]()
+    for fault in terms:
+        if excess := excess_of(fault):
+            ways.setdefault((fault.kind, excess.way), []).append((fault.cycle, excess.low, excess.high))
+    for (kind, way), rows in ways.items():
+        low, high = max(row[1] for row in rows), min(row[2] for row in rows)
+        same = ", if by the same each time" if len(rows) > 1 else ""
+        if low > high:
+            low, high, same = min(row[1] for row in rows), max(row[2] for row in rows), ", not by the same each time"
+        where = (f"in cycle {rows[0][0]}" if len(rows) == 1 else
+                 f"in each of {len(rows)} double cycles, the first in cycle {rows[0][0]} and the last in cycle {rows[-1][0]}")
+        found.append(f"by so much: by what all others sent its {TERMS[kind]} was {span(low, high)} microticks {way} {where}{same}")
+    return found
+
+
+def conclusion(cluster: Cluster, found: Sequence[Blamed], told: Observation) -> list[str]:
+    """What follows of all nodes, as if no frame was lost; and whether anything does with the losses that the file allows."""
+    if deaf := deaf_in(cluster):
+        return [f"nothing follows from what is below, since {deaf.words(cluster)}"]
+    left, beside = [one for one in found if one.says != "out"], " beside those that are named arbitrary" if cluster.arbitrary else ""
+    own, lines = OWN if any(one.kind in IRREGULAR for one in found) else "", list[str]()
+    if told.lost:
+        firm = [one.node for one in found if one.kind in ALWAYS and one.kind not in IRREGULAR and one.says == "out"]
+        lines.append(f"as if NO frame was lost, though the file allows a node to miss {senders(told.lost)} of each double cycle: with such "
+                     "losses " + (f"of these only {nodes_words(cluster, firm)} {'is' if len(firm) == 1 else 'are'} out" if firm
+                                  else "no node is shown to be out"))
+    if not left:
+        lines.append(f"no node alone{beside} was at fault, if all else is as the verdict has it: several were, or a frame was lost on the "
+                     f"bus, or the analyzer or something that is stated is wrong{own}")
+    elif len(left) > 1 or told.lost:
+        names = listed([cluster.called(one.node) for one in left], "or")
+        lines.append(f"if one node alone{beside} was at fault, no frame was lost on the bus, and all else is as the verdict has it, it is "
+                     f"node {names}{own}")
+    else:
+        lines.append(f"SUSPECT node {cluster.called(left[0].node)}: without its frames {left[0].told}; no other single node{beside} "
+                     f"explains the log, if no frame was lost on the bus and all else is as the verdict has it{own}")
+        lines += size_lines(told, left[0].node)
+    return lines
+
+
+def blame_lines(cluster: Cluster, found: Sequence[Blamed], told: Observation) -> list[str]:
+    """What follows of all nodes, and then what is told of each."""
     if not found:
         return []
-    words = {"out": "is out: there is still", "left": "cannot be excluded:", "open": "cannot be excluded:"}
-    lines = [f"node {cluster.called(one.node)} {words[one.says]} {one.told}" for one in found]
-    some, beside = [one.node for one in found if one.says != "out"], " beside those that are named arbitrary" if cluster.arbitrary else ""
-    lines.append(f"if one node alone{beside} was at fault, no frame was lost on the bus, and all else is as the verdict has it, it is node "
-                 f"{listed(cluster, some)}" if some else
-                 f"no node alone{beside} was at fault, if all else is as the verdict has it: several were, or a frame was lost on the bus, "
-                 "or the analyzer or something that is stated is wrong")
-    if deaf := deaf_in(cluster):
-        lines[-1] = f"nothing follows from that, since {deaf.words(cluster)}"
-    elif any(one.kind in IRREGULAR for one in found):
-        lines[-1] += OWN
-    return lines_of("Blame", *lines)
+    lines = conclusion(cluster, found, told)
+    named = [] if any(line.startswith("SUSPECT") for line in lines) else [one for one in found if one.says != "out"]
+    return lines_of("Blame", *lines, *(f"node {cluster.called(one.node)} cannot be excluded: {one.told}" for one in named),
+                    *out_lines(cluster, found))
 
 
 def blame_rows(found: Sequence[Blamed]) -> Iterator[str]:

@@ -78,18 +78,30 @@ def aside_of(cluster: Cluster, log: Log, told: Observation) -> Aside | None:
     return Aside(len(found), len(doubles), min(found, key=abs)) if 2 * len(found) > len(doubles) else None
 
 
+def is_doubted(cluster: Cluster, log: Log, told: Observation) -> bool:
+    """Whether a hint doubts what is stated of an analyzer or of oscillators."""
+    return is_coarse(log) or aside_of(cluster, log, told) is not None
+
+
+def is_coarse(log: Log) -> bool:
+    """Whether stamps have steps of which no error is stated."""
+    grain = grain_of(log)
+    return grain is not None and log.error < (grain - 1) * log.unit
+
+
 def least_lost(told: Observation, blame: Sequence[Blamed]) -> int | None:
-    """How many senders nodes have to miss, where no node alone can have been at fault, and each term that contradicts may be right so."""
+    """How many senders nodes have to miss, where each term that contradicts may be right so, and no node alone can have been at fault or
+    losses are stated, which that leaves aside."""
     terms = {(fault.cycle, fault.node, fault.kind) for fault in told.faults if fault.kind in ("offset", "rate")}
     least = [row.least for row in told.missed if (row.cycle, row.node, row.kind) in terms]
-    if not least or None in least or not blame or any(one.says != "out" for one in blame):
+    if not least or None in least or not blame or not told.lost and any(one.says != "out" for one in blame):
         return None
     return max(count for count in least if count is not None)
 
 
 def hint_lines(cluster: Cluster, log: Log, told: Observation, anew: int | None, blame: Sequence[Blamed] = ()) -> list[str]:
     found, grain, first = [], grain_of(log), first_of(told)
-    if grain and log.error < (grain - 1) * log.unit:
+    if grain and is_coarse(log):
         unit = log.unit * Fraction(cluster.microtick_ns) / TICKS
         found.append(f"all stamps are multiples of {plain(grain * unit)} ns, counted from the first frame: if the analyzer counts in such "
                      f"steps, state resolution_ns = {plain(grain * unit)}, which is an error of {grain - 1} units of {plain(unit)} ns")

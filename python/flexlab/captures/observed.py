@@ -20,10 +20,15 @@ FATES = ("say where a clock was", "are damaged", "are of arbitrary nodes", "tell
          "come at another time than their cycle count has it or are of a past double cycle or of none",
          "come behind a silence of more than 30 cycles")
 MOST_FAULTS = 8
+# How many open cycles, and how many runs of cycles over the precision, the page names.
+MOST_NAMED = 4
 # Kinds of contradictions to that each whole frame with the ID of a node is one that it sends.
 IRREGULAR = ("stranger", "form")
 # Kinds of contradictions that ask nothing of what nodes hear of each other: by itself each names a node.
 ALWAYS = ("channels", "limit", "correction", "twice", "cycle", *IRREGULAR)
+TERMS = {"offset": "offset term", "rate": "change of the rate term"}
+# Of which terms at the end of a double cycle it goes how far apart clocks are in the next one, by what is known from the one before.
+BEFORE = {"start": ("offset",), "lengths": ("rate",), "skew": ("offset", "rate")}
 ORIGIN = ("Every limit here is one that flexray printed, converted and rounded outwards: it holds in every run of the "
           "cluster that can have given the log, if what is stated of the analyzer and of the oscillators is so. "
           "flexlab computes no answer of its own.")
@@ -76,12 +81,29 @@ def offset_of(row: ObservedNode) -> Limits | None:
 # ---- contradictions
 
 
+class Excess(NamedTuple):
+    """By how many microticks a term was too great, or too small: what was seen less what it must be."""
+    low: int
+    high: int
+    way: str
+
+
+def excess_of(fault: ObservedFault) -> Excess | None:
+    if fault.kind not in TERMS or "-" in fault.fields:
+        return None
+    low, high, least, most = map(int, fault.fields)
+    if low > most:
+        return Excess(low - most, high - least, "too great")
+    return Excess(least - high, most - low, "too small") if high < least else None
+
+
 class Words:
     """Contradictions in words, with numbers in microseconds and microticks; `missed` has how many senders a node must have missed."""
 
     def __init__(self, cluster: Cluster, told: Observation) -> None:
-        self.cluster, self.unit = cluster, cluster.microtick_ns
+        self.cluster, self.unit, self.faults, self.last = cluster, cluster.microtick_ns, told.faults, told.last
         self.missed = {(row.cycle, row.node, row.kind): row for row in told.missed}
+        self.ends = {(row.node, row.channel): row.last for row in told.senders}
 
     def us(self, low: str, high: str) -> str:
         """A pair of numbers of ticks; the upper one may not be known."""
@@ -100,6 +122,25 @@ class Words:
         """How many senders its node may have missed instead."""
         row = None if fault.node is None else self.missed.get((fault.cycle, fault.node, fault.kind))
         return "" if row is None or row.least is None else f", unless it missed at least {senders(row.least)}"
+
+    def too_much(self, fault: ObservedFault) -> str:
+        excess = excess_of(fault)
+        return "" if excess is None else f", {span(excess.low, excess.high)} {excess.way}"
+
+    def behind(self, fault: ObservedFault) -> str:
+        """That a term of the double cycle before contradicts already: what is known here takes for granted that it was right."""
+        before = 2 * (fault.cycle // 2) - 1
+        kind = next((row.kind for row in self.faults if row.cycle == before and row.kind in BEFORE[fault.kind]), None)
+        return "" if kind is None else f" (which may follow from the {TERMS[kind]} of cycle {before})"
+
+    def gone(self, fault: ObservedFault) -> str:
+        """That no frame of its node comes on the channel any more, at the first row that says it is not there."""
+        rows = [row.cycle for row in self.faults if (row.node, row.kind, row.fields[0]) == (fault.node, "missing", fault.fields[0])]
+        end = None if fault.node is None else self.ends.get((fault.node, fault.fields[0]))
+        if end is None or self.last is None or end >= fault.cycle or fault.cycle != min(rows):
+            return ""
+        alone = max(rows) // 2 == fault.cycle // 2 < self.last // 2
+        return f": missing from cycle {end + 1} to the end" + ("; the first double cycle alone is listed" if alone else "")
 
     def told(self, fault: ObservedFault) -> str:
         kind, fields = fault.kind, fault.fields
@@ -124,14 +165,38 @@ class Words:
             return (f"the frame in its slot {three} on channel {one} has another payload length, or another sync or startup "
                     "indicator, than its frames there")
         if kind == "missing":
-            return f"its frame on channel {one} is not there"
+            return f"its frame on channel {one} is not there{self.gone(fault)}"
         if kind == "length":
             return f"a cycle of {self.us(one, two)}, and by what is known one of {self.us(three, four)}"
         if kind in ("offset", "rate"):
             step = "an offset term" if kind == "offset" else "a change of the rate term"
-            return f"{step} of {one} to {two} microticks, and by all that were seen it must be {three} to {four}{self.unless(fault)}"
+            return (f"{step} of {one} to {two} microticks, and by all that were seen it must be {three} to {four}{self.too_much(fault)}"
+                    f"{self.unless(fault)}")
         what = {"skew": "clocks", "start": "starts", "lengths": "lengths of cycles"}[kind]
-        return self.beyond(what, fields)
+        return self.beyond(what, fields) + self.behind(fault)
+
+
+def span(low: int, high: int) -> str:
+    return f"{low} to {high}" if low < high else str(low)
+
+
+def listed(names: Sequence[str], last: str = "and") -> str:
+    return ", ".join(names[:-1]) + (f" {last} " if names[:-1] else "") + names[-1]
+
+
+def nodes_words(cluster: Cluster, nodes: Sequence[int]) -> str:
+    return f"node{'s' * (len(nodes) > 1)} {listed([cluster.called(node) for node in nodes])}"
+
+
+def runs_of(numbers: Sequence[int]) -> list[tuple[int, int]]:
+    """Cycles as runs of such that follow each other: the first and the last of each."""
+    found = list[tuple[int, int]]()
+    for number in numbers:
+        if found and found[-1][1] == number - 1:
+            found[-1] = (found[-1][0], number)
+        else:
+            found.append((number, number))
+    return found
 
 
 def senders(count: int) -> str:
@@ -153,8 +218,8 @@ def fault_lines(cluster: Cluster, told: Observation) -> list[str]:
     words, faults = Words(cluster, told), {(fault.cycle, fault.node, fault.kind) for fault in told.faults}
 
     def of(row: ObservedMissed) -> str:
-        what = "the offset term" if row.kind == "offset" else "the change of the rate term"
-        return f"cycle {row.cycle}, node {cluster.called(row.node)}: it missed at least {senders(row.least or 0)}, by {what} that was seen"
+        return (f"cycle {row.cycle}, node {cluster.called(row.node)}: it missed at least {senders(row.least or 0)}, by the "
+                f"{TERMS[row.kind]} that was seen")
     return (some_lines("CONTRADICTION", [words.of(fault) for fault in told.faults])
             + some_lines("Missed", [of(row) for row in told.missed if (row.cycle, row.node, row.kind) not in faults]))
 
@@ -189,7 +254,9 @@ def advice(cluster: Cluster, told: Observation, why: Sequence[str]) -> str:
     if why[0] == "unseen" and node and not node.key_slot:
         aside = "it moves no clock, so leave it out of the file; or "
     elif why[0] == "unseen" and not any(row.frames for row in told.senders if str(row.node) == why[2]):
-        aside = "it was seen in no cycle at all: leave it out of the file if it is not in the network; if it is, "
+        return ("; it was seen in no cycle at all: leave it out of the file if it is not in the network; if it is, its silence is the "
+                "finding, or the analyzer takes none of its frames. in_sync_from_cycle of [observer] can state where the cluster, this "
+                "node too, is in sync, and does not hide that")
     elif why[0] == "reach":
         aside = "they do so by what is stated of the analyzer too: state closer delays and finer steps if that is true; or "
     elif why[0] == "drift":
@@ -220,8 +287,24 @@ def judged_lines(cluster: Cluster, told: Observation) -> list[str]:
     return lines_of("Judged", text)
 
 
-def verdict_text(cluster: Cluster, told: Observation) -> str:
-    """The verdict in words."""
+def beside_verdict(cluster: Cluster, told: Observation, is_doubted: bool) -> str:
+    """What a verdict does not say: which nodes were seen nowhere or are not checked, and that a hint doubts what is stated."""
+    silent = sorted({row.node for row in told.senders} - {row.node for row in told.senders if row.frames}) if told.cycles else []
+    text = f"; {nodes_words(cluster, silent)} {'was' if len(silent) == 1 else 'were'} seen in NO cycle" if silent else ""
+    if told.verdict[0] == "no":
+        return text
+    if wild := cluster.arbitrary:
+        were, them = ("was", "it") if len(wild) == 1 else ("were", "them")
+        text += f"; {nodes_words(cluster, wild)} {were} NOT checked: the file names {them} arbitrary"
+    return text + ("; all this if what is stated is so: see Hint" if is_doubted else "")
+
+
+def verdict_text(cluster: Cluster, told: Observation, is_doubted: bool = False) -> str:
+    """The verdict in words, and what it does not say."""
+    return verdict_alone(cluster, told) + beside_verdict(cluster, told, is_doubted)
+
+
+def verdict_alone(cluster: Cluster, told: Observation) -> str:
     verdict, clocks = told.verdict, "the clocks of the nodes that sent lay"
     unheld = "no correction is held against the rules"
     kept_to = "; nothing contradicts what is stated" if told.judged else f"; no double cycle is judged, so {unheld}"
@@ -245,11 +328,11 @@ def verdict_text(cluster: Cluster, told: Observation) -> str:
             f"in {cycles(told.within)} {clocks} within the precision, for certain")
 
 
-def verdict_lines(cluster: Cluster, told: Observation) -> list[str]:
+def verdict_lines(cluster: Cluster, told: Observation, is_doubted: bool = False) -> list[str]:
     """What the log comes to."""
     found = lines_of("Numbers", "that each frame comes within half a cycle of the schedule is taken for granted: the limits that are "
                                 "stated do not suffice to be sure of it of clocks near each other") if told.numbers[0] == "premise" else []
-    return found + judged_lines(cluster, told) + lines_of("Verdict", verdict_text(cluster, told))
+    return found + judged_lines(cluster, told) + lines_of("Verdict", verdict_text(cluster, told, is_doubted))
 
 
 # ---- the page
@@ -269,11 +352,28 @@ def skew_lines(cluster: Cluster, told: Observation) -> list[str]:
         text += (f"; at most {upper(us_of_ticks(high, unit))} us (cycle {cycle}) in the {len(known)} cycles of "
                  "which that is known")
     found = lines_of("Skew", text)
-    over = [row for row in told.cycles if row.says == "over"]
-    if over:
-        found += lines_of("OVER", f"in {cycles(len(over))}, the first of them {over[0].cycle} and the last {over[-1].cycle}, the clocks of "
-                                  "the nodes that sent lay further apart than the precision, for certain")
-    return found
+    return found + over_lines(told)
+
+
+def over_lines(told: Observation) -> list[str]:
+    """In which cycles the skew was over the precision, in runs."""
+    over = [row.cycle for row in told.cycles if row.says == "over"]
+    if not over:
+        return []
+    begins = {told.cycles[0].cycle // 2, *(row.double for row in told.spreads[:1])}
+    start = ("; cycles at the begin of a log may be of a startup, before the clocks are in sync: --from leaves them out"
+             if over[0] // 2 in begins else "")
+    return lines_of("OVER", f"in {cycles(len(over))}{runs_words(over)}, the clocks of the nodes that sent lay further apart than the "
+                            f"precision, for certain{start}")
+
+
+def runs_words(numbers: Sequence[int]) -> str:
+    """Cycles as runs; or, where these are many, the double cycles that have such."""
+    runs, of = runs_of(numbers), ", "
+    if len(runs) > MOST_NAMED:
+        runs, of = runs_of(sorted({number // 2 for number in numbers})), ", of double cycles "
+    more = f", and {len(runs) - MOST_NAMED} more runs to {runs[-1][1]}" if len(runs) > MOST_NAMED else ""
+    return of + ", then ".join(span(*run) for run in runs[:MOST_NAMED]) + more
 
 
 def node_lines(cluster: Cluster, told: Observation) -> list[str]:
@@ -335,8 +435,19 @@ def deaf_lines(cluster: Cluster, told: Observation) -> list[str]:
                                "that alone")
 
 
-def page_lines(cluster: Cluster, told: Observation, log: Log, name: str, more: Sequence[str] = ()) -> list[str]:
-    """The page of a log, with more lines behind its contradictions."""
+def cycles_line(told: Observation) -> list[str]:
+    """Which cycles the log has, and what is told of how many; open ones by name, where they are few."""
+    if not told.cycles:
+        return []
+    last, opened = told.cycles[-1], [str(row.cycle) for row in told.cycles if row.says == "open"]
+    named = f" ({listed(opened)})" if 0 < len(opened) <= MOST_NAMED else ""
+    end = ", the last since no next double cycle shows its end" if last.says == "open" and last.high is None else ""
+    return lines_of("Cycles", f"{told.cycles[0].cycle} to {last.cycle}, by the cycle counts: {told.within} within the precision, "
+                              f"{told.over} over it, {told.open} open{named}{end}")
+
+
+def page_lines(cluster: Cluster, told: Observation, log: Log, name: str, more: Sequence[str] = (), is_doubted: bool = False) -> list[str]:
+    """The page of a log, with more lines behind its contradictions; whether a hint among them doubts what is stated."""
     frames, keys = log.frames, sum(node.key_slot is not None for node in cluster.nodes.values())
     found = lines_of("Log", f"{name}: {log.entries} frames of key slots")
     wild = ", ".join(map(cluster.called, cluster.arbitrary))
@@ -348,18 +459,13 @@ def page_lines(cluster: Cluster, told: Observation, log: Log, name: str, more: S
     found += left_lines(frames)
     if differs := differences(cluster, frames):
         found += lines_of("DIFFERS", "most frames are not as the file of the cluster has them: is the log of another network?", *differs)
-    if told.cycles:
-        last = told.cycles[-1]
-        end = ", the last since no next double cycle shows its end" if last.says == "open" and last.high is None else ""
-        found += lines_of("Cycles", f"{told.cycles[0].cycle} to {last.cycle}, by the cycle counts: {told.within} within the precision, "
-                                    f"{told.over} over it, {told.open} open{end}")
-    found += unseen_lines(cluster, told)
+    found += cycles_line(told) + unseen_lines(cluster, told)
     precision, flutter = (us_of_ticks(ticks, cluster.microtick_ns) for ticks in (told.precision, told.flutter))
     asked = f", which is promised where the checks of flexray bound params.csv sharp {told.flutter} hold"
     promised, beside = asked if told.flutter <= MOST_FLUTTER else "", " beside arbitrary nodes" if wild else ""
     found += lines_of("Precision", f"{decimal(precision, 3)} us, the sharp one{beside} where delays flutter by no more than "
                                    f"{plain(1000 * flutter)} ns: a yardstick{promised}")
-    return [*found, *skew_lines(cluster, told), *verdict_lines(cluster, told), *fault_lines(cluster, told), *more,
+    return [*found, *skew_lines(cluster, told), *verdict_lines(cluster, told, is_doubted), *fault_lines(cluster, told), *more,
             *node_lines(cluster, told), *lines_of("Origin", ORIGIN)]
 
 

@@ -23,7 +23,7 @@ from ..program.report import understood
 from ..runs.runs import answer, keep
 from ..toml.cluster import Cluster, read_cluster
 from .blame import BLAME, Blamed, blame_lines, blame_object, blame_rows, blamed, is_asked
-from .hints import anew_of, hint_lines, hints_object
+from .hints import anew_of, hint_lines, hints_object, is_doubted
 from .numbering import SILENCE
 from .observed import draw_observed, observed_object, page_lines, verdict_text
 from .observer import Frames, Log, Observer, taken, write_log
@@ -62,8 +62,11 @@ class Part(NamedTuple):
     anew: int | None = None
 
     def page(self, cluster: Cluster, name: str) -> list[str]:
-        more = blame_lines(cluster, self.blame) + hint_lines(cluster, self.log, self.told, self.anew, self.blame)
-        return page_lines(cluster, self.told, self.log, name, more)
+        more = blame_lines(cluster, self.blame, self.told) + hint_lines(cluster, self.log, self.told, self.anew, self.blame)
+        return page_lines(cluster, self.told, self.log, name, more, is_doubted(cluster, self.log, self.told))
+
+    def verdict(self, cluster: Cluster) -> str:
+        return verdict_text(cluster, self.told, is_doubted(cluster, self.log, self.told))
 
     def object(self, cluster: Cluster) -> dict[str, Any]:
         return {**observed_object(cluster, self.told, self.log), "blame": blame_object(self.blame),
@@ -124,7 +127,7 @@ def pages_of(cluster: Cluster, parts: list[Part], name: str) -> list[str]:
     counts = ", ".join(f"{verdicts.count(word)} {word}" for word in WORST if word in verdicts)
     found += lines_of("Parts", f"{len(parts)}, since behind a silence of more than {SILENCE} cycles, and where --part cuts, a count begins "
                                f"anew: {counts}. Each may be of a history of its own: nothing is said across parts")
-    return found + lines_of("Verdict", f"the worst, of part {worst + 1}: {verdict_text(cluster, parts[worst].told)}")
+    return found + lines_of("Verdict", f"the worst, of part {worst + 1}: {parts[worst].verdict(cluster)}")
 
 
 def worst_of(parts: list[Part]) -> int:
