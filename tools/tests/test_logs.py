@@ -407,7 +407,7 @@ class Logs(Bench):
                 ("offset", ("5", "6", "1", "3"), "an offset term of 5 to 6 microticks, and by all that were seen it must be 1 to 3, 2 to 5 "
                                                  "too great, unless it missed at least 2 senders"),
                 ("rate", ("5", "6", "1", "3"), "a change of the rate term of 5 to 6 microticks, and by all that were seen it must be 1 to 3"),
-                ("rate", ("-9", "-6", "-5", "-5"), "and by all that were seen it must be -5 to -5, 1 to 4 too small"),
+                ("rate", ("-9", "-6", "-5", "-5"), "and by all that were seen it must be -5, 1 to 4 too small"),
                 ("skew", ("80000000", "-", "-", "40000000"), "clocks at least 2.000 us apart, and by what is known at most 1.000 us"),
                 ("start", ("80000000", "9", "-", "40000000"), "starts at least 2.000 us apart, and by what is known at most 1.000"),
                 ("lengths", ("80000000", "9", "-", "40000000"), "lengths of cycles at least 2.000 us apart"),

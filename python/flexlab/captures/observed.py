@@ -170,8 +170,8 @@ class Words:
             return f"a cycle of {self.us(one, two)}, and by what is known one of {self.us(three, four)}"
         if kind in ("offset", "rate"):
             step = "an offset term" if kind == "offset" else "a change of the rate term"
-            return (f"{step} of {one} to {two} microticks, and by all that were seen it must be {three} to {four}{self.too_much(fault)}"
-                    f"{self.unless(fault)}")
+            seen, must = span(int(one), int(two)), span(int(three), int(four))
+            return f"{step} of {seen} microticks, and by all that were seen it must be {must}{self.too_much(fault)}{self.unless(fault)}"
         what = {"skew": "clocks", "start": "starts", "lengths": "lengths of cycles"}[kind]
         return self.beyond(what, fields) + self.behind(fault)
 
