@@ -1,6 +1,6 @@
 -- Which words ask for what: three for what a log tells, of which the first is no word of the core; five for a report by the
 -- sharper bounds, which the core has not; four for how long from power-on, of which the third is no number; and one for a page.
-use Rattle.std.proofs.Common.{◌≡◌, ◌∙◌, ◌<◌, ℕ, length, arith, List, [], ◌∷◌, Option, Some, None, Result, Ok, Err, ap, inl, inr, refl, subst, sym}
+use Rattle.std.proofs.Common.{◌≡◌, ◌∙◌, ◌<◌, ℕ, length, arith, List, [], ◌∷◌, Option, Some, None, Result, Ok, Err, ap, refl, subst, sym}
 use Rattle.std.specs.Prelude.{String, codes, if◌then◌else◌, unwrap_or}
 use Rattle.std.specs.Str.{bytes_eq}
 use Rattle.std.specs.String.{string_bytes}
@@ -56,16 +56,8 @@ not_both words one other is also = sym (ap length is) ∙ ap length also
 
 -- a page is asked for by one word
 one_word : (words : List (List ℕ)) (asked : Page) → AsksPage words asked → length words ≡ 1
-one_word words Help asks =
-    elim asks [
-      | inl long ↦ ap length long
-      | inr short ↦ ap length short
-    ]
-one_word words Version asks =
-    elim asks [
-      | inl long ↦ ap length long
-      | inr short ↦ ap length short
-    ]
+one_word words Help asks = ap length asks
+one_word words Version asks = ap length asks
 
 pub page_not_short : (words : List (String Global)) (asked : Page) → AsksPage (texts words) asked → length words < 1 → ⊥
 page_not_short words asked asks short =
@@ -83,34 +75,16 @@ no_page_of : (words : List (List ℕ)) (asked : Page) (count : ℕ) → 1 < coun
 no_page_of words asked count more many asks = let one = one_word words asked asks in absurd (omega (arith, more, one, many))
 
 abbrev page_in : List (List ℕ) → Option Page
-page_in (word ∷ []) =
-    if bytes_eq word (codes "--help") then Some Help
-    else (if bytes_eq word (codes "-h") then Some Help else (if bytes_eq word (codes "--version") then Some Version else (if bytes_eq word (codes "-V") then Some Version else None)))
+page_in (word ∷ []) = if bytes_eq word (codes "help") then Some Help else (if bytes_eq word (codes "version") then Some Version else None)
 page_in others = None
 
 page_again : (words : List (List ℕ)) (asked : Page) → AsksPage words asked → page_in words ≡ Some asked
-page_again words Help asks =
-    elim asks [
-      | inl long ↦ ap page_in long
-      | inr short ↦ ap page_in short
-    ]
-page_again words Version asks =
-    elim asks [
-      | inl long ↦ ap page_in long
-      | inr short ↦ ap page_in short
-    ]
+page_again words Help asks = ap page_in asks
+page_again words Version asks = ap page_in asks
 
 no_core : (words : List (List ℕ)) (which : Page) (asked : Asked) → AsksPage words which → AsksFor words asked → ⊥
-no_core words Help asked is asks =
-    elim is [
-      | inl long ↦ asks_nothing (codes "--help" ∷ []) refl asked (subst (λ (given : List (List ℕ)). AsksFor given asked) long asks)
-      | inr short ↦ asks_nothing (codes "-h" ∷ []) refl asked (subst (λ (given : List (List ℕ)). AsksFor given asked) short asks)
-    ]
-no_core words Version asked is asks =
-    elim is [
-      | inl long ↦ asks_nothing (codes "--version" ∷ []) refl asked (subst (λ (given : List (List ℕ)). AsksFor given asked) long asks)
-      | inr short ↦ asks_nothing (codes "-V" ∷ []) refl asked (subst (λ (given : List (List ℕ)). AsksFor given asked) short asks)
-    ]
+no_core words Help asked is asks = asks_nothing (codes "help" ∷ []) refl asked (subst (λ (given : List (List ℕ)). AsksFor given asked) is asks)
+no_core words Version asked is asks = asks_nothing (codes "version" ∷ []) refl asked (subst (λ (given : List (List ℕ)). AsksFor given asked) is asks)
 
 files_of_log : List (List ℕ) → WholeAsked
 files_of_log (command ∷ params ∷ log ∷ []) = observe params log

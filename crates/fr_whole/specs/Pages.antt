@@ -1,5 +1,5 @@
 -- What the program says of itself: the words of its requests, and its version. No file is asked for.
-use Rattle.std.specs.Prelude.{◌≡◌, ◌⊎◌, ℕ, List, [], ◌∷◌, ◌++◌, codes, Option, Some, None}
+use Rattle.std.specs.Prelude.{◌≡◌, ℕ, List, [], ◌∷◌, ◌++◌, codes, Option, Some, None}
 use Rattle.fr_program.specs.Command.{Command}
 use Rattle.fr_text.specs.Files.{IsNeverSaid, text}
 use Rattle.fr_whole.specs.declared.pages.Page.{Page}
@@ -53,8 +53,8 @@ page_text Version = version_text
 
 -- the words ask for this page: one word alone
 abbrev pub AsksPage : List (List ℕ) → Page → Type 0
-AsksPage words Help = (words ≡ codes "--help" ∷ []) ⊎ (words ≡ codes "-h" ∷ [])
-AsksPage words Version = (words ≡ codes "--version" ∷ []) ⊎ (words ≡ codes "-V" ∷ [])
+AsksPage words Help = words ≡ codes "help" ∷ []
+AsksPage words Version = words ≡ codes "version" ∷ []
 
 abbrev pub IsNoPage : List (List ℕ) → Type 0
 IsNoPage words = (page : Page) → AsksPage words page → ⊥

@@ -56,7 +56,7 @@ statuses; flexlab does it in nanoseconds and ppm, and flexlab explain WORDS says
 // That of the file VERSION.
 const VERSION: &[u8] = b"flexray 0.2.0\n";
 
-/// The page that the words ask for, `--help` or `-h` and `--version` or `-V`, each alone, and none of other words. It takes
+/// The page that the words ask for, `help` or `version`, each alone, and none of other words. It takes
 /// no memory.
 #[tactic(auto, using(crate::proofs::Words::page_not_short, crate::proofs::Words::page_not_long))]
 pub fn page_request(words: &[String]) -> Option<Page>
@@ -72,10 +72,8 @@ fn page_by_word(word: &str) -> Option<Page>
     ensures { IsPageRequest (word.now ∷ []) result }
 {
     match word {
-        "--help" => Some(Page::Help),
-        "-h" => Some(Page::Help),
-        "--version" => Some(Page::Version),
-        "-V" => Some(Page::Version),
+        "help" => Some(Page::Help),
+        "version" => Some(Page::Version),
         _ => None,
     }
 }
