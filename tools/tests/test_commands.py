@@ -10,7 +10,7 @@ from bench import FLEXRAY, REPOSITORY, TOOLS, Bench
 
 from flexlab.pages.explain import USAGE
 
-SELF = ["--help", "--version"]
+SELF = ["help", "version"]
 
 
 def said(*words):
@@ -46,7 +46,7 @@ def read(*path):
 class Commands(Bench):
     def setUp(self):
         super().setUp()
-        self.rows = rows_of(said(FLEXRAY, "--help"))
+        self.rows = rows_of(said(FLEXRAY, "help"))
         self.words = [words.removeprefix("flexray ") for words in self.rows]
         self.requests = [request for words in self.words for request in each(words)]
 
@@ -56,20 +56,19 @@ class Commands(Bench):
             self.assertRegex(words, r"^flexray [a-z]+( [a-z]+| [A-Z]+| A\|B)+$")
             self.assertRegex(what, r"^\w.*\w$")
         self.assertEqual(len(set(self.requests)), len(self.requests))
-        self.assertEqual(said(FLEXRAY, "-h"), said(FLEXRAY, "--help"))
 
     def test_the_launcher_has_the_same_without_the_program(self):
         launcher = os.path.join(REPOSITORY, "flexray")
-        for word in ("--help", "-h"):
+        for word in ("--help", "-h", "help"):
             told = said(launcher, word)
-            self.assertEqual(told.split("\n\n")[:2], said(FLEXRAY, "--help").split("\n\n")[:2])
+            self.assertEqual(told.split("\n\n")[:2], said(FLEXRAY, "help").split("\n\n")[:2])
             self.assertNotIn('"', told.split("\n\n")[0])
 
     def test_the_version_is_that_of_the_file(self):
         version = f"flexray {read('VERSION')}"
-        for program in (FLEXRAY, os.path.join(REPOSITORY, "flexray")):
-            for word in ("--version", "-V"):
-                self.assertEqual(said(program, word), version)
+        self.assertEqual(said(FLEXRAY, "version"), version)
+        for word in ("--version", "-V", "version"):
+            self.assertEqual(said(os.path.join(REPOSITORY, "flexray"), word), version)
 
     def test_the_manual_page(self):
         synopsis = read("docs", "flexray.1").split(".SH SYNOPSIS\n")[1].split(".SH ")[0]
@@ -85,8 +84,7 @@ class Commands(Bench):
     def test_the_documents(self):
         table = read("docs", "FORMATS.md").split("## The commands\n")[1].split("\n\n")[1]
         named = [words for row in table.splitlines()[2:] for words in re.findall(r"`([^`]*)`", row.split(" | ")[0])]
-        self.assertEqual({words for words in named if not words.startswith(("-", "flexray-series"))}, set(self.requests))
-        self.assertEqual([words for words in named if words.startswith("-")], ["--help", "-h", "--version", "-V"])
+        self.assertEqual({words for words in named if not words.startswith("flexray-series")}, {*self.requests, *SELF})
 
     def test_what_flexlab_explains(self):
         self.assertEqual([form for forms in USAGE.values() for form in re.split(", | or ", forms) if form not in self.requests], [])

@@ -178,7 +178,7 @@ class Package(Bench):
             self.assertTrue(told.startswith(f"usage: {name} "), told)
             self.assertNotIn("tools/", told)
             self.assertNotIn("build", told)
-        self.assertEqual(self.installed(root, os.path.join(root, "usr/bin/flexray"), "--help"), self.installed(root, FLEXRAY, "--help"))
+        self.assertEqual(self.installed(root, os.path.join(root, "usr/bin/flexray"), "--help"), self.installed(root, FLEXRAY, "help"))
 
     @needs("dpkg-deb")
     def test_it_says_what_is_in_it(self):
