@@ -6,6 +6,8 @@ pub mod FarRun
 pub mod Flutter
 pub mod HaltingRun
 pub mod Hearing
+pub mod HeldHistories
+pub mod HeldWalks
 pub mod JoinedFiles
 pub mod JoinedHistories
 pub mod JudgedStates

@@ -1,5 +1,5 @@
 -- What the sharper promise rests on, whatever the bytes of the files are: a run that is sharply covered is a steady one.
-use Rattle.std.specs.Prelude.{◌≡◌, ◌↔◌, ◌<◌, ◌≤◌, ℕ, pos, true, false, None}
+use Rattle.std.specs.Prelude.{◌≡◌, ◌↔◌, ◌<◌, ◌≤◌, ◌||◌, ℕ, pos, true, false, None}
 use Rattle.fr_cluster.specs.Values.{Values}
 use Rattle.fr_cluster.specs.Sane.{IsSane}
 use Rattle.fr_drift.specs.Questions.{doubles_of}
@@ -13,6 +13,7 @@ use Rattle.fr_promise.specs.Statement.{IsRunOf}
 use Rattle.fr_sharp.specs.Flutter.{FluttersWithin}
 use Rattle.fr_bound.specs.SharpBounds.{walk_lasts}
 use Rattle.fr_bound.specs.SharpChecks.{sharp_holds_of}
+use Rattle.fr_sharp.specs.HeldWalks.{sync_lasts, walk_is_held}
 use Rattle.fr_sharp.specs.SettlingHistories.{AreStatedNear}
 use Rattle.fr_sharp.specs.SharpWay.{IsSharpWay}
 use Rattle.fr_sharp.specs.WayHistories.{ComesByTheWay}
@@ -54,6 +55,12 @@ CoveredFilesKeepSharply =
 abbrev pub FirstCheckLastsOn : Type 0
 FirstCheckLastsOn =
     (p : Values) (flutter reach : ℕ) → IsSane p → (sharp_holds_of 1 flutter reach p ≡ true) ↔ (walk_lasts p flutter ≡ None)
+
+-- so does sharp sync exactly where it holds or the walk is held
+abbrev pub SyncLastsOn : Type 0
+SyncLastsOn =
+    (p : Values) (flutter reach : ℕ) → IsSane p
+    → (sync_lasts p flutter ≡ None) ↔ ((sharp_holds_of 1 flutter reach p || walk_is_held p flutter) ≡ true)
 
 -- the run of sane parameters, a drift and a script without a gap but of the checks, that no node joins, comes into sharp sync as is
 -- told of its way by numbers within which its starts and first lengths lie, in ticks, where no check for the way fails

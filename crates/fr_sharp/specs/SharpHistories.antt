@@ -167,22 +167,22 @@ pub record CyclesKeepApart (x : Setting) (h : Cycles) (double apart : ℕ) : Typ
   pub uncut : (cycle : ℕ) (c : Cycle) → 2 * double ≤ cycle → cycle_at h cycle ≡ Some c → All (λ row. row.cut ≡ 0) c.told.rows
   pub after : (node : NodeSpec) → Contains (correct_nodes x) node → (status_in x.params (told_of h) node.id).state ≡ Active
 
--- from a double cycle on a history is in sharp sync in each one to the end, with lengths in their range, and each ends well; and no
--- macroticks lie further apart than the sharper precision
-pub record KeepsSharpPrecision (beside : Bool) (x : Setting) (flutter : ℕ) (h : Cycles) (double : ℕ) : Type 0 where
-  pub synced : (k : ℕ) → double ≤ k → k < x.doubles → IsInSharpSyncAt beside x.params flutter (pos 0) h k
+-- from a double cycle on a history is in sharp sync in each one to the end, with lengths at most so far beyond their range, and each
+-- ends well; and no macroticks lie further apart than the sharper precision
+pub record KeepsSharpPrecision (beside : Bool) (x : Setting) (flutter : ℕ) (beyond : ℤ) (h : Cycles) (double : ℕ) : Type 0 where
+  pub synced : (k : ℕ) → double ≤ k → k < x.doubles → IsInSharpSyncAt beside x.params flutter beyond h k
   pub ends :
       (k : ℕ) (earlier : Cycles) (even odd : Cycle) → double ≤ k → k < x.doubles → IsDoubleOf h k earlier even odd
       → EndsWell x earlier even odd
   pub cycles : CyclesKeepApart x h double (sharp_precision beside x.params flutter)
 
--- under all five checks it is so from a double cycle in sharp sync on
+-- under all five checks it is so from a double cycle in sharp sync on, with lengths in their range
 abbrev pub HistoriesKeepSharpPrecision : Type 0
 HistoriesKeepSharpPrecision =
     (beside : Bool) (x : Setting) (flutter : ℕ) (h : Cycles) (double : ℕ)
     → IsSteadyRun beside x flutter h
     → ((k : ℕ) → 1 ≤ k → k ≤ 5 → sharp_holds_of k flutter (sharp_near beside x.params flutter) x.params ≡ true)
-    → IsInSharpSyncAt beside x.params flutter (pos 0) h double → KeepsSharpPrecision beside x flutter h double
+    → IsInSharpSyncAt beside x.params flutter (pos 0) h double → KeepsSharpPrecision beside x flutter (pos 0) h double
 
 -- all cycles of a run that is stated so are such a history
 abbrev pub StatedRunsAreSteady : Type 0

@@ -1,6 +1,6 @@
 -- What `sharp covered yes` and `sharp synced DOUBLE` promise. The words of it, from the top: `IsLawful` (what a run is),
--- `IsSharplyCovered` (what is asked of the files), `sharp_precision`, `IsInSharpSyncAt`, `walk_lasts`, `KeepsApart`.
-use Rattle.std.specs.Prelude.{◌≡◌, ◌<◌, ◌≤◌, ◌-◌, ℕ, pos, Bool, true, false, ◌&&◌, List}
+-- `IsSharplyCovered` (what is asked of the files), `sharp_precision`, `IsInSharpSyncAt`, `sync_lasts`, `KeepsApart`.
+use Rattle.std.specs.Prelude.{◌≡◌, ◌<◌, ◌≤◌, ◌-◌, ℕ, pos, Bool, false, ◌&&◌, List, None}
 use Rattle.std.specs.List.{list_any}
 use Rattle.fr_cluster.specs.Sane.{IsSane}
 use Rattle.fr_cluster.specs.Setting.{Setting}
@@ -17,11 +17,10 @@ use Rattle.fr_coverage.specs.Links.{is_sync}
 use Rattle.fr_coverage.specs.Order.{HasNoGapOfRun}
 use Rattle.fr_history.specs.Cycles.{Cycles}
 use Rattle.fr_promise.specs.Statement.{IsRunOf}
-use Rattle.fr_sharp.specs.Lengths.{walked_after}
+use Rattle.fr_sharp.specs.HeldWalks.{beyond_after, beyond_for_ever, sync_lasts, SyncLastsAfter, SyncLastsUpTo}
 use Rattle.fr_bound.specs.SharpBounds.{sharp_near, sharp_precision}
-use Rattle.fr_bound.specs.SharpChecks.{sharp_holds_of, SharpChecksHold}
+use Rattle.fr_bound.specs.SharpChecks.{SharpChecksHold}
 use Rattle.fr_sharp.specs.SharpHistories.{IsInSharpSyncAt, KeepsApart, KeepsSharpPrecision}
-use Rattle.fr_sharp.specs.SharpRun.{WalkLastsAfter, WalkLastsUpTo}
 
 -- whether some node with a key slot is arbitrary
 abbrev pub has_arbitrary_in : List NodeSpec → ScriptView → Bool
@@ -40,19 +39,19 @@ pub record IsSharplyCovered (p : Values) (d : DriftView) (s : ScriptView) (flutt
 
 -- what is kept from a double cycle on
 pub record KeepsSharply (beside : Bool) (x : Setting) (flutter : ℕ) (h : Cycles) (double : ℕ) : Type 0 where
-  -- in each double cycle of the run, as long as the rate limit holds the walk since then (on and on where it lasts without a
-  -- number), no corresponding macroticks lie further apart than the sharper precision, in ticks, no term is cut or missing, and
-  -- each correct node is active behind it
+  -- in each double cycle of the run, as long as sharp sync lasts since then (on and on where it lasts without a number), no
+  -- corresponding macroticks lie further apart than the sharper precision, in ticks, no term is cut or missing, and each correct
+  -- node is active behind it
   pub keeps :
-      (k : ℕ) → double ≤ k → k < x.doubles → WalkLastsAfter x.params flutter (k - double)
+      (k : ℕ) → double ≤ k → k < x.doubles → SyncLastsAfter x.params flutter (k - double)
       → KeepsApart x h k (sharp_precision beside x.params flutter)
   -- and each is in sharp sync, behind the last of those too
   pub synced :
-      (k : ℕ) → double ≤ k → k < x.doubles → WalkLastsUpTo x.params flutter (k - double)
-      → IsInSharpSyncAt beside x.params flutter (walked_after x.params flutter (k - double)) h k
-  -- where the first of the sharper checks holds too it is so by the cycle, to the end of the run
+      (k : ℕ) → double ≤ k → k < x.doubles → SyncLastsUpTo x.params flutter (k - double)
+      → IsInSharpSyncAt beside x.params flutter (beyond_after x.params flutter (k - double)) h k
+  -- where it lasts without a number it is so by the cycle, to the end of the run
   pub always :
-      sharp_holds_of 1 flutter (sharp_near beside x.params flutter) x.params ≡ true → KeepsSharpPrecision beside x flutter h double
+      sync_lasts x.params flutter ≡ None → KeepsSharpPrecision beside x flutter (beyond_for_ever x.params flutter) h double
 
 -- the promise: of three accepted files that are sharply covered, from each double cycle in sharp sync on
 abbrev pub FilesKeepSharpPrecision : Type 0

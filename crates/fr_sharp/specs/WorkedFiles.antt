@@ -52,7 +52,7 @@ FlutteringFilesKeepSharply =
     (beside : Bool) (h : Cycles) → IsRunOf (setting_of steady_cluster fluttering_drift (marking_script beside)) h
     → IsInSharpSyncAt beside steady_cluster 250 (pos 0) h 0
     × KeepsSharply beside (setting_of steady_cluster fluttering_drift (marking_script beside)) 250 h 0
-    × KeepsSharpPrecision beside (setting_of steady_cluster fluttering_drift (marking_script beside)) 250 h 0
+    × KeepsSharpPrecision beside (setting_of steady_cluster fluttering_drift (marking_script beside)) 250 (pos 0) h 0
 
 -- node 4 joins instead: it listens to node 1 in double cycle 0
 abbrev pub joining_script : ScriptView

@@ -1,0 +1,18 @@
+ghost use Rattle.fr_sharp.specs.HeldHistories.{HeldHistoriesKeepSharpSync, HistoriesKeepForEver};
+ghost use Rattle.fr_sharp.specs.HeldWalks.{LevelsAreThere, LevelsHold};
+
+/// The law of levels: where oscillators do not change, and lengths walk by less than two thirds of a microtick in a double
+/// cycle, there is a length above their range, in ticks, and one below it, over which no receiver's next length comes.
+pub fn levels_hold()
+    ensures there { LevelsAreThere }
+    ensures hold { LevelsHold }
+{}
+
+/// The law of a held walk: in a lawful history of a run that no node joins, from a double cycle in sharp sync on, under the
+/// checks but the first, the nodes are in sharp sync to the end of the run, with lengths less than a microtick beyond their
+/// range. No term is cut or missing, each node is active, and no corresponding macroticks lie further apart than the sharper
+/// precision, in ticks. So it is by the cycle where the first check holds, with lengths in their range.
+pub fn held_walks_keep_sharp_sync()
+    ensures each { HeldHistoriesKeepSharpSync }
+    ensures precise { HistoriesKeepForEver }
+{}
