@@ -64,7 +64,7 @@ loss_figures_text p flutter figures =
     ++ loss_check_line 3 flutter figures.row.reach p
     ++ loss_check_line 4 flutter figures.row.reach p
     ++ loss_check_line 5 flutter figures.row.reach p
-    ++ lasts_text p flutter
+    ++ lasts_text false p flutter
     ++ line (codes "back " ++ decimal figures.row.back)
     ++ second_line p flutter figures.second
     ++ longest_line figures.longest

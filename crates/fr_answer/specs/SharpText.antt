@@ -4,8 +4,9 @@ use Rattle.std.specs.Prelude.{ℕ, Bool, true, false, if◌then◌else◌, List,
 use Rattle.std.specs.Fmt.{decimal}
 use Rattle.fr_cluster.specs.Values.{Values}
 use Rattle.fr_bound.specs.Checks.{holds_of}
-use Rattle.fr_bound.specs.SharpBounds.{sharp_lambda, sharp_near, sharp_pi, sharp_precision, walk_lasts}
+use Rattle.fr_bound.specs.SharpBounds.{sharp_lambda, sharp_near, sharp_pi, sharp_precision}
 use Rattle.fr_bound.specs.SharpChecks.{sharp_holds_of, sharp_left_of, sharp_right_of}
+use Rattle.fr_sharp.specs.HeldWalks.{lasts_by}
 use Rattle.fr_text.specs.Pieces.{line}
 use Rattle.fr_answer.specs.BoundText.{holds_text}
 
@@ -21,9 +22,10 @@ abbrev pub lasting_text : Option ℕ → List ℕ
 lasting_text None = line (codes "lasts on")
 lasting_text (Some doubles) = line (codes "lasts " ++ decimal doubles)
 
--- for as many as the rate limit holds the walk of lengths, and for none where the second check fails
-abbrev pub lasts_text : Values → ℕ → List ℕ
-lasts_text p flutter = lasting_text (if holds_of 2 p then walk_lasts p flutter else Some 0)
+-- for as many as sharp sync lasts, or, where frames may be lost, as the rate limit holds the walk of lengths; and for none where the
+-- second check fails
+abbrev pub lasts_text : Bool → Values → ℕ → List ℕ
+lasts_text heard p flutter = lasting_text (if holds_of 2 p then lasts_by heard p flutter else Some 0)
 
 -- which kind of cluster a line is of
 abbrev pub kind_text : Bool → List ℕ
@@ -62,7 +64,7 @@ sharp_checks_text p flutter =
     ++ sharp_check_line (kind_text true) true flutter 3 p
     ++ sharp_check_line (kind_text true) true flutter 4 p
     ++ sharp_check_line (kind_text true) true flutter 5 p
-    ++ lasts_text p flutter
+    ++ lasts_text true p flutter
 
 unfoldable pub sharp_text : Values → ℕ → List ℕ
 sharp_text p flutter = sharp_bounds_text p flutter ++ sharp_checks_text p flutter

@@ -184,7 +184,7 @@ fn figure_lines(params: &Params, flutter: u64, figures: &LossFigures) -> [Option
         Some(check_line(params, flutter, reach, 3)),
         Some(check_line(params, flutter, reach, 4)),
         Some(check_line(params, flutter, reach, 5)),
-        Some(lasts_line(params, flutter)),
+        Some(lasts_line(params, false, flutter)),
         Some(value_line(b"back ", u64::from(figures.row.back))),
         Some(second_line(params, flutter, &figures.second)),
         Some(longest_line(figures.longest)),

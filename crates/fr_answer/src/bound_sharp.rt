@@ -14,10 +14,11 @@ ghost use Rattle.fr_answer.specs.SharpText.{sharp_checks_text, sharp_text};
 
 use crate::bound::value_line;
 use fr_base::{PutFault, Shelf, Sink};
-use fr_bound::{CheckSides, sharp_bounds, sharp_lasts, sharp_side, side};
+use fr_bound::{CheckSides, sharp_bounds, sharp_side, side};
 use fr_cluster::Params;
 use fr_params::ParamsFile;
 use fr_program::Failure;
+use fr_sharp::lasts_by;
 use fr_text::Piece::{Natural, Word};
 use fr_text::{Line, accepted, line_of, put_lines};
 use std::alloc::Global;
@@ -140,7 +141,7 @@ fn check_lines(params: &Params, flutter: u64) -> [Option<Line>; 9]
         Some(sharp_line(b"beside ", params, true, flutter, 3)),
         Some(sharp_line(b"beside ", params, true, flutter, 4)),
         Some(sharp_line(b"beside ", params, true, flutter, 5)),
-        Some(lasts_line(params, flutter)),
+        Some(lasts_line(params, true, flutter)),
     ]
 }
 
@@ -163,12 +164,12 @@ fn sharp_line(front: &[u8], params: &Params, beside: bool, flutter: u64, number:
     ])
 }
 
-pub(crate) fn lasts_line(params: &Params, flutter: u64) -> Line
+pub(crate) fn lasts_line(params: &Params, heard: bool, flutter: u64) -> Line
     requires { flutter ≤ most_flutter }
-    ensures { result ≡ lasts_text params.now flutter }
+    ensures { result ≡ lasts_text heard params.now flutter }
 {
     if side(params, 2).holds {
-        lasting_line(sharp_lasts(params, flutter))
+        lasting_line(lasts_by(params, heard, flutter))
     } else {
         lasting_line(Some(0))
     }

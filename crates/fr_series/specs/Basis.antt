@@ -10,9 +10,11 @@ use Rattle.fr_time.specs.Position.{grid_for}
 use Rattle.fr_time.specs.declared.grid.Grid.{Grid}
 use Rattle.fr_skew.specs.Sync.{are_in_sync_by_even}
 use Rattle.fr_history.specs.Cycles.{Cycles}
+use Rattle.fr_history.specs.Unfollowed.{is_none}
+use Rattle.fr_sharp.specs.HeldWalks.{lasts_by}
 use Rattle.fr_sharp.specs.JoinedHistories.{first_rates_last}
 use Rattle.fr_sharp.specs.LossRuns.{is_through_losses, losses_of}
-use Rattle.fr_bound.specs.SharpBounds.{sharp_near, sharp_precision, walk_lasts}
+use Rattle.fr_bound.specs.SharpBounds.{sharp_near, sharp_precision}
 use Rattle.fr_bound.specs.SharpChecks.{sharp_holds_of}
 use Rattle.fr_sharp.specs.SharpStatement.{has_arbitrary}
 use Rattle.fr_sharp.specs.SharpTested.{first_sharp_sync_of, is_in_sharp_sync, sharp_sync_bounds_of}
@@ -43,21 +45,23 @@ pub record AreScales (grid : Grid) (scales : Scales) : Type 0 where
   pub older_is : IsScale scales.older
   pub sharp_is : IsScale scales.sharp
 
--- for how many double cycles the rate limit holds the walk of lengths, on and on without a number, and for none where the second
--- check fails
-abbrev pub walk_held : Bool → Values → ℕ → Option ℕ
-walk_held beside p flutter = if sharp_holds_of 2 flutter (sharp_near beside p flutter) p then walk_lasts p flutter else Some 0
+-- for how many double cycles sharp sync lasts, on and on without a number, where the run is sharply covered; and else for how many the
+-- rate limit holds the walk of lengths; for none where the second check fails
+abbrev pub sync_held : Bool → Bool → Values → ℕ → Option ℕ
+sync_held covered beside p flutter =
+    if sharp_holds_of 2 flutter (sharp_near beside p flutter) p then lasts_by covered p flutter else Some 0
 
 -- where a correct node joins, for as many as it holds it and suffices for first rates
-abbrev pub sharp_held : Bool → Bool → Values → ℕ → Option ℕ
-sharp_held joins beside p flutter = if joins then first_rates_last p flutter else walk_held beside p flutter
+abbrev pub sharp_held : Bool → Bool → Bool → Values → ℕ → Option ℕ
+sharp_held joins covered beside p flutter = if joins then first_rates_last p flutter else sync_held covered beside p flutter
 
 -- that of the run of some parameters, a drift and a script, with its own flutter
 abbrev pub basis_of : Values → DriftView → ScriptView → Basis
 basis_of p d s = record {
   flutter = flutter_of p d s;
   beside = has_arbitrary p s;
-  lasts = sharp_held (some_join p s) (has_arbitrary p s) p (flutter_of p d s);
+  lasts =
+      sharp_held (some_join p s) (is_none (first_sharp_gap p d s (flutter_of p d s))) (has_arbitrary p s) p (flutter_of p d s);
   gap = first_sharp_gap p d s (flutter_of p d s);
   lost = (losses_of p d s (flutter_of p d s)).doubles;
   last_lost = (losses_of p d s (flutter_of p d s)).last;

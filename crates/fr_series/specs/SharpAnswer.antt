@@ -15,7 +15,7 @@ use Rattle.fr_history.specs.Lawful.{IsLawful}
 use Rattle.fr_sharp.specs.JoinedFiles.{KeepsSharplyJoined}
 use Rattle.fr_sharp.specs.SharpStatement.{has_arbitrary, KeepsSharply}
 use Rattle.fr_sharp.specs.SharpTested.{IsFirstSharpSync}
-use Rattle.fr_series.specs.Basis.{basis_of, sharp_figures_of, sharp_held}
+use Rattle.fr_series.specs.Basis.{basis_of, sharp_figures_of}
 use Rattle.fr_series.specs.SharpCovered.{first_sharp_gap, IsCoveredSharply}
 use Rattle.fr_series.specs.SharpMeaning.{AreSharpFigures}
 use Rattle.fr_series.specs.SharpText.{sharp_above_text, sharp_series_by, sharp_within_text}
@@ -39,7 +39,7 @@ pub record KeepsAndTells (p : Values) (d : DriftView) (s : ScriptView) (h : Cycl
   pub keeps : some_join p s ≡ false → KeepsSharply (has_arbitrary p s) (setting_of p d s) (flutter_of p d s) h first
   pub joined : some_join p s ≡ true → KeepsSharplyJoined (has_arbitrary p s) (setting_of p d s) (flutter_of p d s) h first
   pub tells :
-      TellsSharply (sharp_held (some_join p s) (has_arbitrary p s) p (flutter_of p d s)) (doubles_of d) first
+      TellsSharply (basis_of p d s).lasts (doubles_of d) first
       (sharp_figures_of (has_arbitrary p s) p (flutter_of p d s) h)
 
 -- a text is the sharper series of the lawful cycles of that run: there is one such list of all its cycles and no other. It says

@@ -1,5 +1,5 @@
 ghost use Rattle.std.specs.Prelude.{◌≡◌, ◌≤◌};
-ghost use Rattle.fr_series.specs.Basis.{basis_of, scales_of, sharp_held, sharp_scale_of, walk_held, AreScales};
+ghost use Rattle.fr_series.specs.Basis.{basis_of, scales_of, sharp_held, sharp_scale_of, sync_held, AreScales};
 ghost use Rattle.fr_series.specs.Scale.{IsScale};
 ghost use Rattle.fr_bound.specs.SharpBounds.{most_flutter};
 ghost use Rattle.fr_time.specs.Position.{grid_for};
@@ -7,12 +7,12 @@ ghost use Rattle.fr_time.specs.Position.{grid_for};
 use crate::scale::Scale;
 use crate::sharp_covered::first_sharp_gap;
 use crate::through::is_through;
-use fr_bound::{sharp_bounds, sharp_lasts, sharp_side};
+use fr_bound::{sharp_bounds, sharp_side};
 use fr_cluster::Params;
 use fr_coverage::{Gap, flutter, some_join};
 use fr_drift::Drift;
 use fr_script::Script;
-use fr_sharp::{first_rates_last, has_arbitrary, run_losses};
+use fr_sharp::{first_rates_last, has_arbitrary, lasts_by, run_losses};
 use fr_skew::{SyncBounds, sync_bounds};
 use fr_time::grid_of;
 
@@ -32,8 +32,9 @@ pub struct Basis {
     pub flutter: u64,
     /// Whether some sync node is arbitrary.
     pub beside: bool,
-    /// For how many double cycles the rate limit holds the walk of lengths, 0 where the second check fails; and where a
-    /// correct node joins, for how many it suffices for first rates too, 0 where the sixth check fails. None: for ever.
+    /// For how many double cycles sharp sync lasts, 0 where the second check fails; where the run is not sharply covered,
+    /// for how many the rate limit holds the walk of lengths; and where a correct node joins, for how many it suffices for
+    /// first rates too, 0 where the sixth check fails. None: for ever.
     pub lasts: Option<u64>,
     /// Why the run is not sharply covered; None where it is.
     pub gap: Option<Gap>,
@@ -61,11 +62,13 @@ impl Basis {
         let flutter = flutter(params, drift, script);
         let beside = has_arbitrary(params, script);
         let losses = run_losses(params, drift, script, flutter);
+        let gap = first_sharp_gap(params, drift, script, flutter);
+        let joins = some_join(&params.nodes, script);
         Basis {
             flutter,
             beside,
-            lasts: sharp_held(params, some_join(&params.nodes, script), beside, flutter),
-            gap: first_sharp_gap(params, drift, script, flutter),
+            lasts: sharp_held(params, joins, gap.is_none(), beside, flutter),
+            gap,
             lost: losses.doubles,
             last_lost: losses.last,
             through: is_through(params, drift, script, flutter, &losses),
@@ -76,23 +79,29 @@ impl Basis {
     }
 }
 
-fn sharp_held(params: &Params, joins: bool, beside: bool, flutter: u64) -> Option<u64>
+fn sharp_held(
+    params: &Params,
+    joins: bool,
+    covered: bool,
+    beside: bool,
+    flutter: u64,
+) -> Option<u64>
     requires { flutter ≤ most_flutter }
-    ensures { result ≡ sharp_held joins beside params.now flutter }
+    ensures { result ≡ sharp_held joins covered beside params.now flutter }
 {
     if joins {
         first_rates_last(params, flutter)
     } else {
-        walk_held(params, beside, flutter)
+        sync_held(params, covered, beside, flutter)
     }
 }
 
-fn walk_held(params: &Params, beside: bool, flutter: u64) -> Option<u64>
+fn sync_held(params: &Params, covered: bool, beside: bool, flutter: u64) -> Option<u64>
     requires { flutter ≤ most_flutter }
-    ensures { result ≡ walk_held beside params.now flutter }
+    ensures { result ≡ sync_held covered beside params.now flutter }
 {
     if sharp_side(params, beside, flutter, 2).holds {
-        sharp_lasts(params, flutter)
+        lasts_by(params, covered, flutter)
     } else {
         Some(0)
     }

@@ -32,6 +32,10 @@ beyond_for_ever p flutter = if walk_is_held p flutter then pos (shortest_micro p
 abbrev pub sync_lasts : Values → ℕ → Option ℕ
 sync_lasts p flutter = if walk_is_held p flutter then None else walk_lasts p flutter
 
+-- the same where all is heard, and else by the walk alone
+abbrev pub lasts_by : Bool → Values → ℕ → Option ℕ
+lasts_by heard p flutter = if heard then sync_lasts p flutter else walk_lasts p flutter
+
 -- how far beyond their range lengths may lie after so many of them
 abbrev pub beyond_after : Values → ℕ → ℕ → ℤ
 beyond_after p flutter passed = if walk_is_held p flutter then beyond_for_ever p flutter else walked_after p flutter passed

@@ -1,5 +1,9 @@
 ghost use Rattle.fr_sharp.specs.HeldHistories.{HeldHistoriesKeepSharpSync, HistoriesKeepForEver};
-ghost use Rattle.fr_sharp.specs.HeldWalks.{LevelsAreThere, LevelsHold};
+ghost use Rattle.fr_bound.specs.SharpBounds.{most_flutter};
+ghost use Rattle.fr_sharp.specs.HeldWalks.{lasts_by, LevelsAreThere, LevelsHold};
+
+use fr_bound::sharp_lasts;
+use fr_cluster::Params;
 
 /// The law of levels: where oscillators do not change, and lengths walk by less than two thirds of a microtick in a double
 /// cycle, there is a length above their range, in ticks, and one below it, over which no receiver's next length comes.
@@ -16,3 +20,16 @@ pub fn held_walks_keep_sharp_sync()
     ensures each { HeldHistoriesKeepSharpSync }
     ensures precise { HistoriesKeepForEver }
 {}
+
+/// For how many double cycles from one in sharp sync it lasts, under the second check: where all is heard, and else by the
+/// walk of lengths alone; None for ever. Delays flutter by no more than so many ticks, 0 to 1,000,000,000.
+pub fn lasts_by(params: &Params, heard: bool, flutter: u64) -> Option<u64>
+    requires { flutter ≤ most_flutter }
+    ensures { result ≡ lasts_by heard params.now flutter }
+{
+    if heard {
+        sync_lasts(params, flutter)
+    } else {
+        sharp_lasts(params, flutter)
+    }
+}
