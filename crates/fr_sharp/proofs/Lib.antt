@@ -93,3 +93,4 @@ pub mod JoinedFilesWorked
 pub mod JudgedLaws
 pub mod JudgedWorked
 pub mod JudgedCarried
+pub mod LevelSums

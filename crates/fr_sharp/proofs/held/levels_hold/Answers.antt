@@ -1,0 +1,8 @@
+use Rattle.fr_sharp.proofs.LevelSums.{levels_are_there_lem}
+use Rattle.fr_sharp.proofs.held.levels_hold.Goals as goal
+
+pub returns-clause-there : goal.returns-clause-there
+returns-clause-there c = levels_are_there_lem
+
+pub returns-clause-hold : goal.returns-clause-hold
+returns-clause-hold c = ?
