@@ -1,5 +1,39 @@
+ghost use Rattle.std.specs.Prelude.{◌≡◌, ◌≤◌};
+ghost use Rattle.fr_bound.specs.SharpBounds.{most_flutter};
 ghost use Rattle.fr_sharp.specs.HeldHistories.{HeldHistoriesKeepSharpSync, HistoriesKeepForEver};
-ghost use Rattle.fr_sharp.specs.HeldWalks.{LevelsAreThere, LevelsHold};
+ghost use Rattle.fr_sharp.specs.HeldWalks.{LevelsAreThere, LevelsHold, sync_lasts, walk_is_held};
+
+use fr_bound::{rate_room, rate_walk, sharp_lasts, shortest_microtick};
+use fr_cluster::{ParamName, Params};
+
+/// For how many double cycles from one in sharp sync the nodes stay so, under the second check; None where lengths do not
+/// walk, or where their walk is held, so that they do for ever. Delays flutter by no more than so many ticks, 0 to
+/// 1,000,000,000.
+pub fn sync_lasts(params: &Params, flutter: u64) -> Option<u64>
+    requires { flutter ≤ most_flutter }
+    ensures { result ≡ sync_lasts params.now flutter }
+{
+    if walk_is_held(params, flutter) {
+        None
+    } else {
+        sharp_lasts(params, flutter)
+    }
+}
+
+// Whether lengths walk and come less than a microtick beyond their range in all.
+fn walk_is_held(params: &Params, flutter: u64) -> bool
+    requires { flutter ≤ most_flutter }
+    ensures { result ≡ walk_is_held params.now flutter }
+{
+    let (gain, loss) = rate_walk(params, flutter);
+    let shortest = shortest_microtick(params);
+    let room = rate_room(params);
+    let change = params.natural(ParamName::xChangeBound);
+    change == 0
+        && loss < gain
+        && 3 * (gain - loss) < 2 * shortest
+        && shortest + (gain - loss) <= room + 1
+}
 
 /// The law of levels: where oscillators do not change, and lengths walk by less than two thirds of a microtick in a double
 /// cycle, there is a length above their range, in ticks, and one below it, over which no receiver's next length comes.
@@ -15,4 +49,6 @@ pub fn levels_hold()
 pub fn held_walks_keep_sharp_sync()
     ensures each { HeldHistoriesKeepSharpSync }
     ensures precise { HistoriesKeepForEver }
-{}
+{
+    levels_hold();
+}
