@@ -1,6 +1,6 @@
 -- A run that is sharply covered keeps the sharper precision from its first double cycle in sharp sync on, and its series says so.
 use Rattle.std.proofs.Common.{◌≡◌, ◌⊎◌, inl, inr, List, ℕ, zero, suc, ◌+◌, ◌-◌, ◌*◌, ◌/◌, ◌%◌, ◌==◌, ◌<◌, ◌≤◌, ℤ, pos, Bool, true, false, [], ◌∷◌, length, Option, Some, None, refl, ap, sym, ◌∙◌, subst, arith}
-use Rattle.std.specs.Prelude.{◌≤ℤ◌, nat_lt, int_lt, unwrap_or, IfSome, if◌then◌else◌}
+use Rattle.std.specs.Prelude.{◌≤ℤ◌, nat_lt, int_lt, is_none, unwrap_or, IfSome, if◌then◌else◌}
 use Rattle.std.specs.Option.{option_map, option_or}
 use Rattle.std.proofs.lemmas.List.{length-map}
 use Rattle.fr_cluster.specs.Sane.{IsSane}
@@ -9,6 +9,8 @@ use Rattle.fr_cluster.specs.declared.names.ParamName.TheVariants as name
 use Rattle.fr_coverage.specs.Coverage.{some_join}
 use Rattle.fr_coverage.specs.Decided.{setting_of}
 use Rattle.fr_coverage.specs.Flutter.{flutter_of}
+use Rattle.fr_coverage.specs.Order.{FindsGapOfRun}
+use Rattle.fr_coverage.specs.declared.gap.Gap.{Gap}
 use Rattle.fr_drift.specs.Questions.{doubles_of}
 use Rattle.fr_drift.specs.View.{DriftView}
 use Rattle.fr_script.specs.View.{ScriptView}
@@ -23,22 +25,24 @@ use Rattle.fr_base.specs.declared.node_row.NodeRow.{NodeRow}
 use Rattle.fr_skew.specs.Spreads.{spread_at}
 use Rattle.fr_skew.specs.declared.peak.Peak.{Peak}
 use Rattle.fr_skew.specs.declared.sync.SyncBounds.{SyncBounds}
+use Rattle.fr_sharp.specs.HeldWalks.{sync_lasts}
 use Rattle.fr_sharp.specs.JoinedFiles.{CoveredFilesKeepSharplyJoined, KeepsSharplyJoined}
 use Rattle.fr_sharp.specs.JoinedHistories.{first_rates_last}
-use Rattle.fr_bound.specs.SharpBounds.{sharp_precision, walk_lasts}
+use Rattle.fr_bound.specs.SharpBounds.{sharp_precision}
 use Rattle.fr_sharp.specs.SharpFiles.{CoveredFilesKeepSharply}
 use Rattle.fr_sharp.specs.SharpStatement.{has_arbitrary, KeepsSharply}
 use Rattle.fr_sharp.specs.SharpTested.{IsFirstSharpSync, first_sharp_sync_of, is_in_sharp_sync, sharp_sync_bounds_of}
 use Rattle.fr_sharp.proofs.FirstRates.{first_rates_last_so}
 use Rattle.fr_sharp.proofs.FreeLemmas.{first_sharp_sync_is, first_sharp_sync_is_one, never_sharp_sync}
-use Rattle.fr_series.specs.Basis.{sharp_figures_of, sharp_held}
+use Rattle.fr_series.specs.Basis.{basis_of, sharp_figures_of, sharp_held}
 use Rattle.fr_series.specs.Figures.{DoubleTest, above_from, figures_by}
 use Rattle.fr_series.specs.Scale.{above_at, first_above}
 use Rattle.fr_series.specs.SharpAnswer.{FitsToJoin, KeepsAndTells, TellsSharply}
-use Rattle.fr_series.specs.SharpCovered.{IsCoveredSharply}
+use Rattle.fr_series.specs.SharpCovered.{first_sharp_gap, IsCoveredSharply}
 use Rattle.fr_series.specs.SharpText.{sharp_within_text}
 use Rattle.fr_series.specs.declared.scale.Scale.{Scale}
 use Rattle.fr_series.proofs.Above.{none_above}
+use Rattle.fr_series.proofs.SharpCovering.{no_sharp_gap}
 
 -- ---- where the skew is above a limit
 
@@ -195,7 +199,7 @@ found_is beside p flutter h first at (Some other) is =
 
 -- in which double cycles since then the skew is not above the sharper precision, where no node joins and where one does
 apart_alone : (p : Values) (d : DriftView) (s : ScriptView) (h : Cycles) (first : ℕ) → KeepsSharply (has_arbitrary p s) (setting_of p d s) (flutter_of p d s) h first
-    → (k : ℕ) → first ≤ k → k < doubles_of d → IfSome (walk_lasts p (flutter_of p d s)) (λ held. k - first < held) → IsApart p (pos (sharp_precision (has_arbitrary p s) p (flutter_of p d s))) h k
+    → (k : ℕ) → first ≤ k → k < doubles_of d → IfSome (sync_lasts p (flutter_of p d s)) (λ held. k - first < held) → IsApart p (pos (sharp_precision (has_arbitrary p s) p (flutter_of p d s))) h k
 apart_alone p d s h first kept k low high held =
     let near = kept.keeps k low high held in
     record { even = λ macrotick in_cycle. near.skew macrotick false in_cycle; odd = λ macrotick in_cycle. near.skew macrotick true in_cycle }
@@ -232,9 +236,9 @@ told_for p d s h first lasts whole at apart =
     subst P (sym is) (tells_by p bounds limit test lasts (doubles_of d) first h whole apart)
 
 pub stays_sharp : CoveredFilesKeepSharply → CoveredFilesKeepSharplyJoined → (p : Values) (d : DriftView) (s : ScriptView) (h : Cycles) (first : ℕ) → IsSane p → FitsToJoin p d s
-    → IsCoveredSharply p d s (flutter_of p d s)
+    → FindsGapOfRun p d s → IsCoveredSharply p d s (flutter_of p d s)
     → IsLawful (setting_of p d s) h → length h ≡ 2 * doubles_of d → IsFirstSharpSync (has_arbitrary p s) p (flutter_of p d s) h first → KeepsAndTells p d s h first
-stays_sharp keeps joined p d s h first sane fits covered lawful whole at =
+stays_sharp keeps joined p d s h first sane fits finds covered lawful whole at =
     record { keeps = alone_keeps; joined = joined_keeps; tells = by (some_join p s) refl }
   where
     alone_keeps : some_join p s ≡ false → KeepsSharply (has_arbitrary p s) (setting_of p d s) (flutter_of p d s) h first
@@ -243,18 +247,22 @@ stays_sharp keeps joined p d s h first sane fits covered lawful whole at =
     joined_keeps : some_join p s ≡ true → KeepsSharplyJoined (has_arbitrary p s) (setting_of p d s) (flutter_of p d s) h first
     joined_keeps some = joined p d s (flutter_of p d s) h first sane (fits some).0 (fits some).1 (covered.joined some) (record { lawful = lawful; whole = whole }) at.unfollowed
 
-    by : (joins : Bool) → some_join p s ≡ joins
-        → TellsSharply (sharp_held (some_join p s) (has_arbitrary p s) p (flutter_of p d s)) (doubles_of d) first (sharp_figures_of (has_arbitrary p s) p (flutter_of p d s) h)
+    found : is_none (first_sharp_gap p d s (flutter_of p d s)) ≡ true
+    found = ap (λ (gap : Option Gap). is_none gap) (no_sharp_gap p d s (flutter_of p d s) sane finds covered)
+
+    by : (joins : Bool) → some_join p s ≡ joins → TellsSharply (basis_of p d s).lasts (doubles_of d) first (sharp_figures_of (has_arbitrary p s) p (flutter_of p d s) h)
     by false none =
         let beside : Bool = has_arbitrary p s in
         let flutter : ℕ = flutter_of p d s in
         let T : Option ℕ → Type 0 = λ lasts. TellsSharply lasts (doubles_of d) first (sharp_figures_of beside p flutter h) in
-        let held : sharp_held (some_join p s) beside p flutter ≡ walk_lasts p flutter =
-        ap (λ (b : Bool). sharp_held b beside p flutter) none ∙ ap (λ (holds : Bool). if holds then walk_lasts p flutter else Some 0) ((covered.alone none).checks 2 (omega arith) (omega arith)) in
-        subst T (sym held) (told_for p d s h first (walk_lasts p flutter) whole at (apart_alone p d s h first (alone_keeps none)))
+        let held : (basis_of p d s).lasts ≡ sync_lasts p flutter =
+        ap (λ (b : Bool). sharp_held b (is_none (first_sharp_gap p d s flutter)) beside p flutter) none
+        ∙ ap (λ (b : Bool). sharp_held false b beside p flutter) found
+        ∙ ap (λ (holds : Bool). if holds then sync_lasts p flutter else Some 0) ((covered.alone none).checks 2 (omega arith) (omega arith)) in
+        subst T (sym held) (told_for p d s h first (sync_lasts p flutter) whole at (apart_alone p d s h first (alone_keeps none)))
     by true some =
         let beside : Bool = has_arbitrary p s in
         let flutter : ℕ = flutter_of p d s in
         let T : Option ℕ → Type 0 = λ lasts. TellsSharply lasts (doubles_of d) first (sharp_figures_of beside p flutter h) in
-        let held : sharp_held (some_join p s) beside p flutter ≡ first_rates_last p flutter = ap (λ (b : Bool). sharp_held b beside p flutter) some in
+        let held : (basis_of p d s).lasts ≡ first_rates_last p flutter = ap (λ (b : Bool). sharp_held b (is_none (first_sharp_gap p d s flutter)) beside p flutter) some in
         subst T (sym held) (told_for p d s h first (first_rates_last p flutter) whole at (apart_joined p d s h first (joined_keeps some)))

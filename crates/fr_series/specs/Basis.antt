@@ -1,5 +1,5 @@
 -- What a sharper series rests on, and how its figures follow from those before a double cycle.
-use Rattle.std.specs.Prelude.{◌≡◌, ℕ, pos, Bool, List, Option, Some, if◌then◌else◌}
+use Rattle.std.specs.Prelude.{◌≡◌, ℕ, pos, Bool, List, Option, Some, is_none, if◌then◌else◌}
 use Rattle.fr_base.specs.declared.node_row.NodeRow.{NodeRow}
 use Rattle.fr_cluster.specs.Values.{Values}
 use Rattle.fr_coverage.specs.Coverage.{gap_of_run, some_join}
@@ -10,7 +10,6 @@ use Rattle.fr_time.specs.Position.{grid_for}
 use Rattle.fr_time.specs.declared.grid.Grid.{Grid}
 use Rattle.fr_skew.specs.Sync.{are_in_sync_by_even}
 use Rattle.fr_history.specs.Cycles.{Cycles}
-use Rattle.fr_history.specs.Unfollowed.{is_none}
 use Rattle.fr_sharp.specs.HeldWalks.{lasts_by}
 use Rattle.fr_sharp.specs.JoinedHistories.{first_rates_last}
 use Rattle.fr_sharp.specs.LossRuns.{is_through_losses, losses_of}

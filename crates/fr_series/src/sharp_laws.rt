@@ -73,4 +73,5 @@ pub fn a_covered_run_stays_in_sharp_sync()
 {
     covered_files_keep_sharply();
     covered_files_keep_sharply_joined();
+    found_gap_of_run_is_first();
 }

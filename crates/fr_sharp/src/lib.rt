@@ -65,7 +65,7 @@ pub use grouping::sharp_groups_are_kept;
 pub use halting_run::the_first_sharp_check_is_needed;
 pub use heard::all_reach;
 pub use hearing::rounds_are_heard_steadily;
-pub use held::{held_walks_keep_sharp_sync, lasts_by, levels_hold};
+pub use held::{held_walks_keep_sharp_sync, lasts_by, levels_hold, sync_lasts};
 pub use histories::{
     histories_come_into_sharp_sync, histories_keep_sharp_sync, histories_settle_sharply,
     stated_runs_are_steady,
