@@ -153,18 +153,6 @@ files_give_steady_runs p d s flutter h sane none le alone run = record {
 
 -- ---- what they keep
 
-pub first_check_lasts_on : FirstCheckLastsOn
-first_check_lasts_on p flutter reach sane = (λ holds. does_not_walk p flutter ((first_check_stops_walk p flutter reach sane).0 holds), λ still. (first_check_stops_walk p flutter reach sane).1 (stands p flutter still))
-  where
-    stands : (p : Values) (flutter : ℕ) → walk_lasts p flutter ≡ None → rate_walk p flutter ≤ℤ pos 0
-    stands p flutter still = by (int_le (rate_walk p flutter) (pos 0)) refl
-      where
-        by : (b : Bool) → int_le (rate_walk p flutter) (pos 0) ≡ b → rate_walk p flutter ≤ℤ pos 0
-        by true is = grind (arith, ints)
-        by false is =
-            let some : walk_lasts p flutter ≡ Some (rate_room p / nat_abs (rate_walk p flutter)) = rw is refl in
-            let e = sym some ∙ still in absurd (cc)
-
 module _ (beside : Bool) (p : Values) (d : DriftView) (s : ScriptView) (flutter : ℕ) (h : Cycles) (double : ℕ) (run : IsSteadyRun beside (setting_of p d s) flutter h)
     (checks : SharpChecksHold flutter (sharp_near beside p flutter) p) (sync : IsInSharpSyncAt beside p flutter (pos 0) h double) where
   stays : (k : ℕ) → double ≤ k → k < doubles_of d → StaysInSharpSyncAt beside (setting_of p d s) flutter h double (k - double)
