@@ -1,7 +1,7 @@
 -- Where the walk is held, a lawful history that no node joins stays in sharp sync to the end of the run: its lengths stay between
 -- two levels.
-use Rattle.std.proofs.Common.{◌≡◌, ℕ, zero, suc, ◌+◌, ◌-◌, ◌*◌, ◌/◌, ◌<◌, ◌≤◌, Bool, true, false, ◌&&◌, if◌then◌else◌, ℤ, pos, None, Some, List, ◌++◌, length, map, All, refl, ap, sym, ◌∙◌, subst, inl, inr, ◌⊎◌, lit≤, arith}
-use Rattle.std.specs.Prelude.{◌+ℤ◌, ◌-ℤ◌, ◌*ℤ◌, ◌≤ℤ◌, ◌<ℤ◌, int_le, int_lt, nat_eq, nat_lt, Contains}
+use Rattle.std.proofs.Common.{◌≡◌, ℕ, zero, suc, ◌+◌, ◌-◌, ◌*◌, ◌/◌, ◌<◌, ◌≤◌, Bool, true, false, ◌&&◌, ◌||◌, if◌then◌else◌, ℤ, pos, None, Some, List, ◌++◌, length, map, All, refl, ap, sym, ◌∙◌, subst, inl, inr, ◌⊎◌, lit≤, arith}
+use Rattle.std.specs.Prelude.{◌↔◌, ◌+ℤ◌, ◌-ℤ◌, ◌*ℤ◌, ◌≤ℤ◌, ◌<ℤ◌, int_le, int_lt, nat_eq, nat_lt, Contains}
 use Rattle.std.proofs.lemmas.Bool.{and_parts, cases_eq}
 use Rattle.std.proofs.lemmas.Int.{ints}
 use Rattle.std.proofs.lemmas.List.{length-append, length-map}
@@ -33,6 +33,7 @@ use Rattle.fr_runs.proofs.Rows.{contains_map}
 use Rattle.fr_sharp.specs.HeldHistories.{HeldHistoriesKeepSharpSync, HistoriesKeepForEver, IsHeldAt}
 use Rattle.fr_sharp.specs.HeldWalks.{beyond_for_ever, micros_of, sync_lasts, walk_is_held, IsHighLevel, IsLowLevel, LevelsAreThere, LevelsHold, LieBetween}
 use Rattle.fr_sharp.specs.Lengths.{IsAboutCycle, IsNextEven, IsSteadyRound, KeepSenders}
+use Rattle.fr_sharp.specs.SharpFiles.{SyncLastsOn}
 use Rattle.fr_sharp.specs.SharpHistories.{members_at, senders_at, BeginsActive, IsInSharpSyncAt, IsSteadyRun, KeepsApart, KeepsSharpPrecision}
 use Rattle.fr_sharp.specs.SharpRun.{AllUncut, IsNextDouble}
 use Rattle.fr_sharp.specs.SharpStep.{ComputesSharply, IsInSharpSync, IsSharpDouble}
@@ -101,8 +102,35 @@ held_beyond p flutter held = ap (λ b. if b then less_than_micro p else pos 0) h
 never_beyond : (p : Values) (flutter : ℕ) → walk_is_held p flutter ≡ false → beyond_for_ever p flutter ≡ pos 0
 never_beyond p flutter never = ap (λ b. if b then less_than_micro p else pos 0) never
 
-never_lasts : (p : Values) (flutter : ℕ) → walk_is_held p flutter ≡ false → sync_lasts p flutter ≡ walk_lasts p flutter
+pub held_lasts : (p : Values) (flutter : ℕ) → walk_is_held p flutter ≡ true → sync_lasts p flutter ≡ None
+held_lasts p flutter held = ap (λ b. if b then None else walk_lasts p flutter) held
+
+pub never_lasts : (p : Values) (flutter : ℕ) → walk_is_held p flutter ≡ false → sync_lasts p flutter ≡ walk_lasts p flutter
 never_lasts p flutter never = ap (λ b. if b then None else walk_lasts p flutter) never
+
+either : (a : Bool) → (a || true) ≡ true
+either true = refl
+either false = refl
+
+as_first : (a : Bool) → a ≡ true → (a || false) ≡ true
+as_first true is = refl
+as_first false is = is
+
+first_of : (a b : Bool) → b ≡ false → (a || b) ≡ true → a ≡ true
+first_of true b is or = refl
+first_of false b is or = absurd (let e : true ≡ false = sym or ∙ is in cc)
+
+-- sync lasts without a number exactly where the first check holds or the walk is held
+pub sync_lasts_on : SyncLastsOn
+sync_lasts_on p flutter reach sane = by (walk_is_held p flutter) refl
+  where
+    by : (b : Bool) → walk_is_held p flutter ≡ b → (sync_lasts p flutter ≡ None) ↔ ((sharp_holds_of 1 flutter reach p || walk_is_held p flutter) ≡ true)
+    by true held = (λ lasts. rw held (either (sharp_holds_of 1 flutter reach p)), λ some. held_lasts p flutter held)
+    by false never =
+        let first = first_check_lasts_on p flutter reach sane in (
+          λ lasts. rw never (as_first (sharp_holds_of 1 flutter reach p) (first.1 (sym (never_lasts p flutter never) ∙ lasts))),
+          λ some. never_lasts p flutter never ∙ first.0 (first_of (sharp_holds_of 1 flutter reach p) (walk_is_held p flutter) never some),
+        )
 
 rest : (k double : ℕ) → double ≤ k → double + (k - double) ≡ k
 rest k double from = omega (arith, from)
