@@ -43,6 +43,8 @@ pub mod RunSettles
 pub mod RunStated
 pub mod RunWay
 pub mod RunCycles
+pub mod HeldSenders
+pub mod HeldRuns
 pub mod RunWorked
 pub mod RunReached
 pub mod RunHalting
