@@ -1,6 +1,6 @@
 -- Where the walk is held, a lawful history that no node joins stays in sharp sync to the end of the run: its lengths stay between
 -- two levels.
-use Rattle.std.proofs.Common.{◌≡◌, ℕ, zero, suc, ◌+◌, ◌-◌, ◌*◌, ◌/◌, ◌<◌, ◌≤◌, Bool, true, false, ◌&&◌, ◌||◌, if◌then◌else◌, ℤ, pos, None, Some, List, ◌++◌, length, map, All, refl, ap, sym, ◌∙◌, subst, inl, inr, ◌⊎◌, lit≤, arith}
+use Rattle.std.proofs.Common.{◌≡◌, ℕ, zero, suc, ◌+◌, ◌-◌, ◌*◌, ◌/◌, ◌<◌, ◌≤◌, Bool, true, false, ◌&&◌, ◌||◌, if◌then◌else◌, ℤ, pos, None, List, ◌++◌, length, map, All, refl, ap, sym, ◌∙◌, subst, inl, inr, ◌⊎◌, arith}
 use Rattle.std.specs.Prelude.{◌↔◌, ◌+ℤ◌, ◌-ℤ◌, ◌*ℤ◌, ◌≤ℤ◌, ◌<ℤ◌, int_le, int_lt, nat_eq, nat_lt, Contains}
 use Rattle.std.proofs.lemmas.Bool.{and_parts, cases_eq}
 use Rattle.std.proofs.lemmas.Int.{ints}
@@ -8,7 +8,6 @@ use Rattle.std.proofs.lemmas.List.{length-append, length-map}
 use Rattle.std.proofs.lemmas.List.Elements.{All-contains, All-contains_itself, All-map}
 use Rattle.std.proofs.lemmas.List.Sorted.{length_permutation}
 use Rattle.std.proofs.lemmas.Slice.Zip.{AllZip-long}
-use Rattle.fr_base.specs.Within.{IsWithin}
 use Rattle.fr_base.specs.declared.node_row.NodeRow.{NodeRow}
 use Rattle.fr_base.specs.declared.state.Outcome.TheVariants.{Within}
 use Rattle.fr_cluster.specs.Sane.{IsSane}
@@ -17,7 +16,7 @@ use Rattle.fr_cluster.specs.Values.{Values, amount}
 use Rattle.fr_cluster.specs.declared.names.ParamName.TheVariants as name
 use Rattle.fr_midpoint.specs.Midpoint.{discarded}
 use Rattle.fr_midpoint.specs.Receivers.{Hears}
-use Rattle.fr_bound.specs.Bounds.{longest_micro, shortest_micro}
+use Rattle.fr_bound.specs.Bounds.{shortest_micro}
 use Rattle.fr_bound.specs.Sync.{cycle_length_of}
 use Rattle.fr_bound.specs.SharpBounds.{last_action, rate_room, rate_walk, sharp_lambda, sharp_near, sharp_pi, sharp_precision, walk_lasts}
 use Rattle.fr_bound.specs.SharpChecks.{sharp_holds_of, RateSuffices, SharpChecksHold}
@@ -25,24 +24,22 @@ use Rattle.fr_precision.specs.Placement.{IsRegular}
 use Rattle.fr_precision.specs.Rows.{longest_cycle, shortest_cycle, Sender}
 use Rattle.fr_precision.specs.Step.{IsAmong, IsFollowed, Member}
 use Rattle.fr_precision.proofs.Senders.{All-along}
-use Rattle.fr_history.specs.Cycles.{Cycle, Cycles}
-use Rattle.fr_history.specs.Lawful.{IsLawful}
-use Rattle.fr_runs.specs.Rounds.{IsDoubleOf}
+use Rattle.fr_history.specs.Cycles.{Cycles}
 use Rattle.fr_runs.proofs.Parts.{cycle_within}
 use Rattle.fr_runs.proofs.Rows.{contains_map}
 use Rattle.fr_sharp.specs.HeldHistories.{HeldHistoriesKeepSharpSync, HistoriesKeepForEver, IsHeldAt}
 use Rattle.fr_sharp.specs.HeldWalks.{beyond_for_ever, micros_of, sync_lasts, walk_is_held, IsHighLevel, IsLowLevel, LevelsAreThere, LevelsHold, LieBetween}
-use Rattle.fr_sharp.specs.Lengths.{IsAboutCycle, IsNextEven, IsSteadyRound, KeepSenders}
+use Rattle.fr_sharp.specs.Lengths.{IsAboutCycle, IsNextEven, KeepSenders}
 use Rattle.fr_sharp.specs.SharpFiles.{SyncLastsOn}
-use Rattle.fr_sharp.specs.SharpHistories.{members_at, senders_at, BeginsActive, IsInSharpSyncAt, IsSteadyRun, KeepsApart, KeepsSharpPrecision}
+use Rattle.fr_sharp.specs.SharpHistories.{members_at, senders_at, IsInSharpSyncAt, IsSteadyRun, KeepsApart, KeepsSharpPrecision}
 use Rattle.fr_sharp.specs.SharpRun.{AllUncut, IsNextDouble}
-use Rattle.fr_sharp.specs.SharpStep.{ComputesSharply, IsInSharpSync, IsSharpDouble}
+use Rattle.fr_sharp.specs.SharpStep.{ComputesSharply, IsSharpDouble}
 use Rattle.fr_sharp.specs.Steady.{PlacesEven}
 use Rattle.fr_sharp.proofs.HeldSenders.{micros_are_own, own_are_proper, own_micros, some_sender, unchanged}
 use Rattle.fr_sharp.proofs.OlderLemmas.{first_check_lasts_on}
 use Rattle.fr_sharp.proofs.RunCycles.{histories_keep_sharp_precision, keeps_by_cycle}
 use Rattle.fr_sharp.proofs.RunDoubles.{all_have, senders_found}
-use Rattle.fr_sharp.proofs.RunSync.{active, found_at, heard, next_at, own_sync, rows_at, stay, step_comes_to, step_keeps_apart, sync_at, sync_of_members, uncut}
+use Rattle.fr_sharp.proofs.RunSync.{active, found_at, heard, next_at, rows_at, stay, step_comes_to, step_keeps_apart, sync_at, sync_of_members, uncut}
 use Rattle.fr_sharp.proofs.Signed.{signed_of}
 use Rattle.fr_sharp.proofs.StepLemmas.{among_rows, sharp_is_wider}
 

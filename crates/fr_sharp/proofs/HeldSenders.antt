@@ -1,6 +1,6 @@
 -- Where oscillators do not change, the senders of a run that no node joins have the same microticks in each double cycle: those of
 -- the correct sync nodes.
-use Rattle.std.proofs.Common.{◌≡◌, ℕ, zero, suc, ◌+◌, ◌*◌, ◌<◌, ◌≤◌, Bool, true, false, ◌&&◌, ℤ, Option, Some, None, List, [], ◌∷◌, filter_map, length, map, refl, ap, sym, ◌∙◌, subst, inl, inr, arith, if◌then◌else◌}
+use Rattle.std.proofs.Common.{◌≡◌, ℕ, zero, suc, ◌*◌, ◌<◌, ◌≤◌, Bool, true, false, ◌&&◌, ℤ, Option, Some, None, List, [], ◌∷◌, filter_map, length, map, refl, ap, ◌∙◌, subst, inl, inr, arith, if◌then◌else◌}
 use Rattle.std.specs.Prelude.{◌-ℤ◌, ◌≤ℤ◌, pos, All, Contains, option_and_then}
 use Rattle.std.specs.List.{cons_option, range_with_len}
 use Rattle.std.specs.Option.{option_map}

@@ -231,7 +231,7 @@ module _ (beside : Bool) (x : Setting) (flutter : ℕ) (h : Cycles) (w : IsStead
   can_walk : CanWalk x.params flutter beyond (rate_walk x.params flutter)
   can_walk = record { bounds = walk_is_bounded x.params flutter w.covered.timed.sane; suffices = walks }
 
-  pub own_sync : IsInSharpSync beside x.params flutter beyond (map (λ (node : Member). node.even) (members_at x h double)) (map (λ (node : Member). node.odd) (members_at x h double))
+  own_sync : IsInSharpSync beside x.params flutter beyond (map (λ (node : Member). node.even) (members_at x h double)) (map (λ (node : Member). node.odd) (members_at x h double))
   own_sync = sync_of_members beside x flutter h w double beyond within sync
 
   pub active : BeginsActive h double
