@@ -93,3 +93,5 @@ pub mod JoinedFilesWorked
 pub mod JudgedLaws
 pub mod JudgedWorked
 pub mod JudgedCarried
+pub mod CrowdLemmas
+pub mod LevelLemmas

@@ -1,0 +1,8 @@
+use Rattle.fr_sharp.proofs.LevelLemmas.{levels_hold_lem}
+use Rattle.fr_sharp.proofs.held.levels_hold.Goals as goal
+
+pub returns-clause-there : goal.returns-clause-there
+returns-clause-there c = ?
+
+pub returns-clause-hold : goal.returns-clause-hold
+returns-clause-hold c = levels_hold_lem
