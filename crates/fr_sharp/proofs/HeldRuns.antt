@@ -324,7 +324,9 @@ module _ (beside : Bool) (x : Setting) (flutter : ℕ) (h : Cycles) (w : IsStead
             micro = followed.next.even_micro;
             steady = followed.next.even_steady;
           } in
-          hold p flutter crowd senders low high node.odd node.rates node.rate_term even w.covered.timed.sane held (subst (λ (some : List ℤ). IsLowLevel p flutter crowd some low) micros lows)
+          hold p flutter crowd senders low high node.odd node.rates node.rate_term even w.covered.timed.sane held
+          (subst (λ (some : List ℤ). All (λ (micro : ℤ). pos (shortest_micro p) ≤ℤ micro) some) micros (own_are_proper x flutter w.covered.timed (omega (arith, within))))
+          (subst (λ (some : List ℤ). IsLowLevel p flutter crowd some low) micros lows)
           (subst (λ (some : List ℤ). IsHighLevel p flutter crowd some high) micros highs) senders_lie (subst (λ (z : ℤ). low <ℤ z) same own.0) (subst (λ (z : ℤ). z <ℤ high) same own.1)
           (crowd_holds node here) c.by_rate (stay_here node here) after
 

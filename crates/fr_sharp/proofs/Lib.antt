@@ -96,3 +96,5 @@ pub mod JudgedLaws
 pub mod JudgedWorked
 pub mod JudgedCarried
 pub mod LevelSums
+pub mod CrowdLemmas
+pub mod LevelLemmas

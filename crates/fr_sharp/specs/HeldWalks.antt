@@ -86,11 +86,11 @@ abbrev pub LieBetween : Values → ℤ → ℤ → List NodeRow → Type 0
 LieBetween p low high rows = All (λ row. (low <ℤ cycle_length_of p row) × (cycle_length_of p row <ℤ high)) rows
 
 -- a receiver whose list discards no more than the crowd, and whose own length lies between two levels as those of all senders do,
--- stays between them
+-- stays between them; the senders' microticks are no shorter than the shortest, as where there are levels
 abbrev pub LevelsHold : Type 0
 LevelsHold =
     (p : Values) (flutter crowd : ℕ) (senders : List Sender) (low high : ℤ) (row : NodeRow) (values : List ℤ) (term : Term) (even : NodeRow)
-    → IsSane p → walk_is_held p flutter ≡ true
+    → IsSane p → walk_is_held p flutter ≡ true → All (λ micro. pos (shortest_micro p) ≤ℤ micro) (micros_of senders)
     → IsLowLevel p flutter crowd (micros_of senders) low → IsHighLevel p flutter crowd (micros_of senders) high
     → LieBetween p low high (map (λ sender. sender.even) senders) → low <ℤ cycle_length_of p row → cycle_length_of p row <ℤ high
     → discarded (length values) ≤ crowd → IsSteadyRound p flutter senders row values term → term.outcome ≡ Within
