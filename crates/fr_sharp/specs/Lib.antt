@@ -40,6 +40,7 @@ pub mod SharpTested
 pub mod SharpTraces
 pub mod SharpWay
 pub mod Steady
+pub mod Traffic
 pub mod SteadyRuns
 pub mod WayHistories
 pub mod WorkedFiles

@@ -1,7 +1,7 @@
 -- What a run loses, by its files: in how many double cycles, how far macroticks may then lie apart in each, whether each correct node
 -- has some value in each, and whether the run is covered through losses.
 use Rattle.std.specs.Prelude.{◌≡◌, ◌↔◌, ◌+◌, ◌<◌, ◌≤◌, ℕ, zero, suc, pos, max, nat_lt, Bool, true, false, not, ◌&&◌, ◌||◌, if◌then◌else◌, List, Option, Some, None}
-use Rattle.std.specs.List.{list_all, list_any}
+use Rattle.std.specs.List.{list_all}
 use Rattle.fr_base.specs.declared.channel.Channel.{Channel}
 use Rattle.fr_base.specs.declared.channel.Channel.TheVariants as channel
 use Rattle.fr_cluster.specs.Sane.{IsSane}
@@ -9,19 +9,20 @@ use Rattle.fr_cluster.specs.Values.{Values}
 use Rattle.fr_cluster.specs.declared.nodes.NodeSpec.{NodeSpec}
 use Rattle.fr_drift.specs.Questions.{doubles_of}
 use Rattle.fr_drift.specs.View.{DriftView}
-use Rattle.fr_script.specs.View.{ScriptView, is_arbitrary}
+use Rattle.fr_script.specs.View.{ScriptView}
 use Rattle.fr_coverage.specs.Coverage.{gap_of_run, some_join}
 use Rattle.fr_coverage.specs.Decided.{setting_of}
 use Rattle.fr_coverage.specs.Flutter.{flutter_of}
-use Rattle.fr_coverage.specs.Links.{is_carried, is_carried_on, is_link, is_sync, shares}
+use Rattle.fr_coverage.specs.Links.{is_carried_on, is_link, shares}
 use Rattle.fr_coverage.specs.declared.gap.Gap.{Gap}
 use Rattle.fr_coverage.specs.declared.gap.Gap.TheVariants as gap
 use Rattle.fr_history.specs.Cycles.{Cycles}
 use Rattle.fr_promise.specs.Statement.{IsRunOf}
-use Rattle.fr_sharp.specs.Among.{lost_spread}
+use Rattle.fr_bound.specs.declared.judging.Heard.{Heard}
+use Rattle.fr_sharp.specs.Among.{apart_by, spread_by}
 use Rattle.fr_sharp.specs.LossCosts.{limits_hold}
-use Rattle.fr_sharp.specs.Losses.{lost_apart}
-use Rattle.fr_sharp.specs.LossStatement.{whole_in, IsCoveredThroughLosses}
+use Rattle.fr_sharp.specs.LossStatement.{apart_in, whole_in, IsCoveredThroughLosses}
+use Rattle.fr_sharp.specs.Traffic.{all_trusted, heard_in, traffic_in}
 use Rattle.fr_bound.specs.SharpChecks.{sharp_holds_of}
 use Rattle.fr_sharp.specs.SharpHistories.{IsInSharpSyncAt, KeepsApart}
 use Rattle.fr_sharp.specs.SharpRun.{WalkLastsAfter}
@@ -46,16 +47,6 @@ reaches_each nodes s when a = list_all (λ b. not (is_link s a b) || reaches s a
 abbrev pub all_reach : List NodeSpec → ScriptView → Option ℕ → Bool
 all_reach nodes s when = list_all (reaches_each nodes s when) nodes
 
--- a node has a value of some of these nodes, or its own, if it is correct
-abbrev pub hears_of_some : List NodeSpec → ScriptView → ℕ → NodeSpec → Bool
-hears_of_some nodes s double node = list_any (λ a. is_link s a node && is_carried s a node double) nodes
-
-abbrev pub hears_among : List NodeSpec → ScriptView → ℕ → NodeSpec → Bool
-hears_among nodes s double node = is_arbitrary s node.id || (is_sync node || hears_of_some nodes s double node)
-
-abbrev pub all_hear : List NodeSpec → ScriptView → ℕ → Bool
-all_hear nodes s double = list_all (hears_among nodes s double) nodes
-
 -- ---- what a run loses
 
 -- how many of the first so many double cycles lose frames
@@ -70,43 +61,45 @@ IsLastLost whole doubles (Some last) =
     (last < doubles) × (whole last ≡ false) × ((k : ℕ) → last < k → k < doubles → whole k ≡ true)
 
 -- in how many of the first so many, one or more, and the last of these; the greatest of the numbers by what was heard since the first,
--- and the first double cycle with it; a reach that takes in how far action points may lie apart; and whether each node has some value
-pub record AreLosses (p : Values) (flutter : ℕ) (whole hears : ℕ → Bool) (doubles : ℕ) (losses : RunLosses) : Type 0 where
+-- and the first double cycle with it; a reach that takes in how far action points may lie apart; and whether each correct node trusts its
+-- lists
+pub record AreLosses (beside : Bool) (p : Values) (flutter : ℕ) (whole : ℕ → Bool) (what : ℕ → Heard) (trusted : ℕ → Bool) (doubles : ℕ) (losses : RunLosses) : Type 0 where
   pub count : losses.doubles ≡ lost_before whole doubles
   pub last : IsLastLost whole doubles losses.last
-  pub greatest : (k : ℕ) → k < doubles → lost_apart p flutter whole k ≤ losses.peak
+  pub greatest : (k : ℕ) → k < doubles → apart_by beside p flutter what k ≤ losses.peak
   pub place : losses.place < doubles
-  pub reached : lost_apart p flutter whole losses.place ≡ losses.peak
-  pub first : (k : ℕ) → k < losses.place → lost_apart p flutter whole k < losses.peak
-  pub near : (k : ℕ) → k < doubles → sharply_near_in p (lost_spread p flutter whole k) ≤ losses.reach
-  pub least : (reach : ℕ) → ((k : ℕ) → k < doubles → sharply_near_in p (lost_spread p flutter whole k) ≤ reach) → losses.reach ≤ reach
-  pub never_deaf : losses.hears ≡ true → (k : ℕ) → k < doubles → hears k ≡ true
-  pub none_deaf : ((k : ℕ) → k < doubles → hears k ≡ true) → losses.hears ≡ true
+  pub reached : apart_by beside p flutter what losses.place ≡ losses.peak
+  pub first : (k : ℕ) → k < losses.place → apart_by beside p flutter what k < losses.peak
+  pub near : (k : ℕ) → k < doubles → sharply_near_in p (spread_by beside p flutter what k) ≤ losses.reach
+  pub least : (reach : ℕ) → ((k : ℕ) → k < doubles → sharply_near_in p (spread_by beside p flutter what k) ≤ reach) → losses.reach ≤ reach
+  pub always_trusted : losses.trusted ≡ true → (k : ℕ) → k < doubles → trusted k ≡ true
+  pub all_are_trusted : ((k : ℕ) → k < doubles → trusted k ≡ true) → losses.trusted ≡ true
 
 -- ---- the same, one double cycle after another
 
 abbrev pub no_losses : RunLosses
-no_losses = record { doubles = 0; last = None; peak = 0; place = 0; reach = 0; hears = true }
+no_losses = record { doubles = 0; last = None; peak = 0; place = 0; reach = 0; trusted = true }
 
 abbrev pub next_losses : Bool → Bool → ℕ → ℕ → ℕ → RunLosses → RunLosses
-next_losses heard hears double apart near was = record {
+next_losses heard trusted double apart near was = record {
   doubles = if heard then was.doubles else was.doubles + 1;
   last = if heard then was.last else Some double;
   peak = if nat_lt was.peak apart then apart else was.peak;
   place = if nat_lt was.peak apart then double else was.place;
   reach = max was.reach near;
-  hears = was.hears && hears;
+  trusted = was.trusted && trusted;
 }
 
-unfoldable pub losses_by : Values → ℕ → (ℕ → Bool) → (ℕ → Bool) → ℕ → RunLosses
-losses_by p flutter whole hears zero = no_losses
-losses_by p flutter whole hears (suc k) =
-    next_losses (whole k) (hears k) k (lost_apart p flutter whole k) (sharply_near_in p (lost_spread p flutter whole k))
-    (losses_by p flutter whole hears k)
+unfoldable pub losses_by : Bool → Values → ℕ → (ℕ → Bool) → (ℕ → Heard) → (ℕ → Bool) → ℕ → RunLosses
+losses_by beside p flutter whole what trusted zero = no_losses
+losses_by beside p flutter whole what trusted (suc k) =
+    next_losses (whole k) (trusted k) k (apart_by beside p flutter what k) (sharply_near_in p (spread_by beside p flutter what k))
+    (losses_by beside p flutter whole what trusted k)
 
 -- what the run of some parameters, a drift and a script loses, where its delays flutter by so many ticks
 abbrev pub losses_of : Values → DriftView → ScriptView → ℕ → RunLosses
-losses_of p d s flutter = losses_by p flutter (whole_in p s) (all_hear p.nodes s) (doubles_of d)
+losses_of p d s flutter =
+    losses_by (has_arbitrary p s) p flutter (whole_in p s) (heard_in (traffic_in p s)) (all_trusted (traffic_in p s)) (doubles_of d)
 
 -- ---- whether it is covered through losses
 
@@ -126,10 +119,10 @@ through_checks p flutter reach = sharp_holds_of 2 flutter reach p && limits_hold
 
 -- what else is asked of the nodes and the links
 abbrev pub through_nodes : Values → ScriptView → Option Gap → Bool
-through_nodes p s found = not (has_arbitrary p s) && (not (some_join p s) && (is_link_at_most found && all_reach p.nodes s None))
+through_nodes p s found = not (some_join p s) && (is_link_at_most found && all_reach p.nodes s None)
 
 abbrev pub is_through_losses : Values → ScriptView → ℕ → Option Gap → RunLosses → Bool
-is_through_losses p s flutter found losses = losses.hears && (through_checks p flutter losses.reach && through_nodes p s found)
+is_through_losses p s flutter found losses = losses.trusted && (through_checks p flutter losses.reach && through_nodes p s found)
 
 -- ---- laws
 
@@ -137,7 +130,9 @@ is_through_losses p s flutter found losses = losses.hears && (through_checks p f
 abbrev pub LossesAreTold : Type 0
 LossesAreTold =
     (p : Values) (d : DriftView) (s : ScriptView) (flutter : ℕ)
-    → 1 ≤ doubles_of d → AreLosses p flutter (whole_in p s) (all_hear p.nodes s) (doubles_of d) (losses_of p d s flutter)
+    → 1 ≤ doubles_of d
+    → AreLosses (has_arbitrary p s) p flutter (whole_in p s) (heard_in (traffic_in p s)) (all_trusted (traffic_in p s)) (doubles_of d)
+    (losses_of p d s flutter)
 
 -- what is said to be covered through losses is, with the reach of what it loses
 abbrev pub ThroughLossesIsTold : Type 0
@@ -153,6 +148,6 @@ abbrev pub RunsKeepTheirBounds : Type 0
 RunsKeepTheirBounds =
     (p : Values) (d : DriftView) (s : ScriptView) (flutter : ℕ) (h : Cycles) (double passed : ℕ)
     → IsSane p → IsCoveredThroughLosses p d s flutter (losses_of p d s flutter).reach → IsRunOf (setting_of p d s) h
-    → IsInSharpSyncAt false p flutter (pos 0) h double → double + passed < doubles_of d → WalkLastsAfter p flutter passed
-    → KeepsApart (setting_of p d s) h (double + passed) (lost_apart p flutter (whole_in p s) (double + passed))
+    → IsInSharpSyncAt (has_arbitrary p s) p flutter (pos 0) h double → double + passed < doubles_of d → WalkLastsAfter p flutter passed
+    → KeepsApart (setting_of p d s) h (double + passed) (apart_in p s flutter (double + passed))
     × KeepsApart (setting_of p d s) h (double + passed) (losses_of p d s flutter).peak

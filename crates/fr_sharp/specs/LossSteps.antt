@@ -1,9 +1,10 @@
 -- How far clocks may lie apart through losses, from one double cycle to the next, in ticks.
-use Rattle.std.specs.Prelude.{ℕ, ◌+◌, ◌*◌, ◌≤◌, max, Bool}
+use Rattle.std.specs.Prelude.{ℕ, ◌+◌, ◌*◌, ◌≤◌, max}
 use Rattle.fr_cluster.specs.Values.{Values}
 use Rattle.fr_bound.specs.Bounds.{longest_micro}
 use Rattle.fr_bound.specs.declared.settling.Spread.{Spread}
-use Rattle.fr_bound.specs.SharpSpreads.{next_lost_spread}
+use Rattle.fr_bound.specs.Judged.{heard_spread}
+use Rattle.fr_bound.specs.declared.judging.Heard.{Heard}
 use Rattle.fr_bound.specs.SharpBounds.{precision_by}
 
 -- how far starts and even lengths may lie apart
@@ -29,8 +30,7 @@ pub record IsReckoned (starts lengths passed : ℕ) : Type 0 where
 abbrev pub most_lost : ℕ
 most_lost = 100_000_000_000_000_000_000_000
 
--- how far macroticks may lie apart in a double cycle, by whether all is heard in it: as far as its starts and lengths say, or
--- as the next starts do
-abbrev pub heard_apart : Bool → Values → ℕ → Spread → ℕ
-heard_apart whole p flutter s =
-    max (precision_by p s.starts s.lengths) ((next_lost_spread whole p flutter s).starts + longest_micro p)
+-- how far macroticks may lie apart in a double cycle, by what is heard in it: as far as its starts and lengths say, or as the
+-- next starts do
+abbrev pub heard_apart : Heard → Values → ℕ → Spread → ℕ
+heard_apart what p flutter s = max (precision_by p s.starts s.lengths) ((heard_spread what p flutter s).starts + longest_micro p)

@@ -1,5 +1,5 @@
--- A run in which frames are lost: what a node still makes of those that come, and how far its clocks then lie apart. Nothing is asked
--- of links but that no node is left without any value; no sync node is arbitrary.
+-- A run in which frames are lost: what a node still makes of those that come, and how far its clocks then lie apart. Of links nothing
+-- is asked but that each correct node has a value, and discards at each end as many as there may be of arbitrary nodes.
 use Rattle.std.specs.Prelude.{◌≡◌, ◌⊎◌, ◌+◌, ◌<◌, ◌≤◌, ℕ, suc, ℤ, pos, max, Bool, true, false, if◌then◌else◌, List, length, map, Contains, Option, None, IsSome, is_some}
 use Rattle.std.specs.List.{filter_map, range_with_len}
 use Rattle.fr_cluster.specs.Setting.{Setting, correct_nodes}
@@ -8,14 +8,17 @@ use Rattle.fr_cluster.specs.declared.nodes.NodeSpec.{NodeSpec}
 use Rattle.fr_bound.specs.Bounds.{longest_micro}
 use Rattle.fr_correct.specs.Terms.{offset_term_of}
 use Rattle.fr_precision.specs.Placement.{IsRegular}
-use Rattle.fr_precision.specs.Round.{offsets_of, rates_of, sender_at, Hearer, IsRound, IsSender, Round}
+use Rattle.fr_precision.specs.Round.{offsets_of, rates_of, sender_at, sync_count, Hearer, IsRound, IsSender, Round}
 use Rattle.fr_precision.specs.Rows.{Sender}
 use Rattle.fr_precision.specs.Step.{Member}
 use Rattle.fr_history.specs.Cycles.{Cycle, Cycles, some_joins}
 use Rattle.fr_runs.specs.Links.{IsCarried, IsLinked}
 use Rattle.fr_runs.specs.Rounds.{IsDoubleOf}
-use Rattle.fr_sharp.specs.Among.{lost_spread, ComputesOwn}
-use Rattle.fr_sharp.specs.Hearing.{AllowsArbitrary, AreSteadyPairs, IsHeardInPart}
+use Rattle.fr_midpoint.specs.Midpoint.{discarded}
+use Rattle.fr_measure.specs.Values.{offset_at, rate_at}
+use Rattle.fr_sharp.specs.Among.{apart_by, lost_spread, spread_by, ComputesOwn, HearInCommon}
+use Rattle.fr_sharp.specs.Traffic.{all_trusted, heard_in, lists_meet, traffic_of}
+use Rattle.fr_sharp.specs.Hearing.{AreSteadyPairs, IsHeardInPart}
 use Rattle.fr_bound.specs.SharpBounds.{last_action, precision_by, sharp_precision}
 use Rattle.fr_bound.specs.SharpChecks.{SharpChecksHold}
 use Rattle.fr_sharp.specs.SharpHistories.{IsInSharpSyncAt, IsStatedRun, KeepsApart}
@@ -42,10 +45,17 @@ pub record IsSuppliedInPart (r : Round) (flutter : ℕ) (n : Hearer) : Type 0 wh
   pub some_offsets : 1 ≤ length (offsets_of n)
   pub some_rates : 1 ≤ length (rates_of n)
 
--- a round without arbitrary nodes, in which each receiver is supplied so
+-- a list has values of so many arbitrary nodes alone as it discards at each end
+pub record IsTrustedOf (r : Round) (at : ℕ → Option ℤ) (values : List ℤ) : Type 0 where
+  pub few : sync_count r.params r.is_arbitrary ≤ discarded (length (heard_of r at) + sync_count r.params r.is_arbitrary)
+  pub some : 1 ≤ length (heard_of r at)
+
+-- a round in which each receiver is supplied so, and trusts both its lists
 pub record IsRoundInPart (r : Round) (flutter : ℕ) (rows : List Hearer) : Type 0 where
   pub round : IsRound r
-  pub none_arbitrary : AllowsArbitrary false r
+  pub trusted :
+      (n : Hearer) → Contains rows n
+      → IsTrustedOf r (offset_at n.look n.own) (offsets_of n) × IsTrustedOf r (rate_at n.look n.own) (rates_of n)
   pub supplied : (n : Hearer) → Contains rows n → IsSuppliedInPart r flutter n
   pub among :
       (node : NodeSpec) (slot : ℕ) → IsSender r node slot
@@ -69,25 +79,34 @@ HearsSome x node double =
 abbrev pub NoneIsDeaf : Setting → ℕ → Type 0
 NoneIsDeaf x double = (node : NodeSpec) → Contains (correct_nodes x) node → HearsSome x node double
 
--- in one of its double cycles each node with a row computes its terms from the values of senders of its own
+-- in one of its double cycles each node with a row computes its terms from the values of senders of its own, where each correct node
+-- trusts its lists
 abbrev pub RowsComputeOwn : Type 0
 RowsComputeOwn =
     (x : Setting) (flutter : ℕ) (h earlier : Cycles) (even odd : Cycle) (double : ℕ) (reach : ℤ) (node : Member)
-    → MayHaveArbitrary false x → some_joins x ≡ false → IsTimedPart x flutter h → IsDoubleOf h double earlier even odd
-    → NoneIsDeaf x double
+    → some_joins x ≡ false → IsTimedPart x flutter h → IsDoubleOf h double earlier even odd
+    → all_trusted (traffic_of x) double ≡ true
     → AreRowsInReach x earlier even odd reach → Contains (row_members x earlier even odd) node
     → ComputesOwn x.params flutter (row_members x earlier even odd) (pos (last_action x.params)) node
 
--- a whole lawful history of such a run without arbitrary sync nodes; it is said of each double cycle whether all is heard in it, and in
--- none is a node deaf
-pub record IsLossyRun (x : Setting) (flutter : ℕ) (whole : ℕ → Bool) (h : Cycles) : Type 0 where
-  pub run : IsStatedRun x flutter h
-  pub none_arbitrary : MayHaveArbitrary false x
-  pub wholes : (double : ℕ) → double < x.doubles → whole double ≡ true → IsWhole x double
-  pub hears : (double : ℕ) → double < x.doubles → NoneIsDeaf x double
+-- and where the lists of any two correct nodes meet, any two of the nodes with rows have enough in common
+abbrev pub RowsMeet : Type 0
+RowsMeet =
+    (x : Setting) (flutter : ℕ) (h earlier : Cycles) (even odd : Cycle) (double : ℕ) (reach : ℤ) (one other : Member)
+    → some_joins x ≡ false → IsTimedPart x flutter h → IsDoubleOf h double earlier even odd
+    → all_trusted (traffic_of x) double ≡ true
+    → lists_meet false (traffic_of x) double ≡ true → lists_meet true (traffic_of x) double ≡ true
+    → AreRowsInReach x earlier even odd reach → Contains (row_members x earlier even odd) one → Contains (row_members x earlier even odd) other
+    → (one ≡ other) ⊎ HearInCommon x.params flutter (row_members x earlier even odd) (pos (last_action x.params)) one other
 
--- how far macroticks may lie apart so many double cycles after one in sharp sync, by what was heard since: as far as starts and lengths
--- say, or as the next starts do
+-- a whole lawful history of such a run, with arbitrary sync nodes or without; in each double cycle each correct node trusts its lists
+pub record IsLossyRun (beside : Bool) (x : Setting) (flutter : ℕ) (h : Cycles) : Type 0 where
+  pub run : IsStatedRun x flutter h
+  pub arbitrary : MayHaveArbitrary beside x
+  pub trusted : (double : ℕ) → double < x.doubles → all_trusted (traffic_of x) double ≡ true
+
+-- how far macroticks may lie apart so many double cycles after one in sharp sync without arbitrary nodes, where all is heard in some and
+-- nothing is asked of others: as far as starts and lengths say, or as the next starts do
 abbrev pub lost_apart : Values → ℕ → (ℕ → Bool) → ℕ → ℕ
 lost_apart p flutter whole passed =
     max (precision_by p (lost_spread p flutter whole passed).starts (lost_spread p flutter whole passed).lengths)
@@ -97,12 +116,13 @@ lost_apart p flutter whole passed =
 -- follows: whatever is lost, no macroticks lie further apart than that, no term is cut or missing, and each node is active
 abbrev pub HistoriesKeepThroughLosses : Type 0
 HistoriesKeepThroughLosses =
-    (x : Setting) (flutter : ℕ) (whole : ℕ → Bool) (h : Cycles) (double reach : ℕ)
-    → IsLossyRun x flutter whole h → SharpChecksHold flutter reach x.params
-    → ((k : ℕ) → double + k < x.doubles → sharply_near_in x.params (lost_spread x.params flutter (λ m. whole (double + m)) k) ≤ reach)
-    → IsInSharpSyncAt false x.params flutter (pos 0) h double
+    (beside : Bool) (x : Setting) (flutter : ℕ) (h : Cycles) (double reach : ℕ)
+    → IsLossyRun beside x flutter h → SharpChecksHold flutter reach x.params
+    → ((k : ℕ) → double + k < x.doubles
+    → sharply_near_in x.params (spread_by beside x.params flutter (λ m. heard_in (traffic_of x) (double + m)) k) ≤ reach)
+    → IsInSharpSyncAt beside x.params flutter (pos 0) h double
     → (passed : ℕ) → double + passed < x.doubles → WalkLastsAfter x.params flutter passed
-    → KeepsApart x h (double + passed) (lost_apart x.params flutter (λ m. whole (double + m)) passed)
+    → KeepsApart x h (double + passed) (apart_by beside x.params flutter (λ m. heard_in (traffic_of x) (double + m)) passed)
 
 -- where all was heard in the two double cycles before one and is heard in it, that is the sharper precision again
 abbrev pub SharpAfterTwoWhole : Type 0

@@ -1,6 +1,6 @@
 ghost use Rattle.std.specs.Prelude.{◌≡◌, ◌≤◌, ◌||◌, ◌&&◌, not, IfSome};
 ghost use Rattle.fr_coverage.specs.Links.{is_carried_on, is_free};
-ghost use Rattle.fr_sharp.specs.LossRuns.{all_hear, all_reach, hears_among, hears_of_some, reaches, reaches_each, reaches_on};
+ghost use Rattle.fr_sharp.specs.LossRuns.{all_reach, reaches, reaches_each, reaches_on};
 
 use fr_base::Channel;
 use fr_cluster::{NodeList, NodeSpec};
@@ -81,44 +81,4 @@ fn is_free(
         script.at(cycle, sender.id, receiver.id, channel),
         Event::Regular
     )
-}
-
-// Whether each correct node has some value in a double cycle.
-pub(crate) fn all_hear(nodes: &NodeList, script: &Script, double: u32) -> bool
-    requires { double ≤ 100_000 }
-    ensures { result ≡ all_hear nodes.now script.now double }
-{
-    let mut all = true;
-    for place in 0..nodes.len() {
-        match nodes.get(place) {
-            Some(node) => all = all && hears_among(nodes, script, double, node),
-            None => {}
-        }
-    }
-    all
-}
-
-fn hears_among(nodes: &NodeList, script: &Script, double: u32, node: &NodeSpec) -> bool
-    requires { double ≤ 100_000 }
-    ensures { result ≡ hears_among nodes.now script.now double node.now }
-{
-    script.arbitrary(node.id) || node.key.is_some() || hears_of_some(nodes, script, double, node)
-}
-
-fn hears_of_some(nodes: &NodeList, script: &Script, double: u32, receiver: &NodeSpec) -> bool
-    requires { double ≤ 100_000 }
-    ensures { result ≡ hears_of_some nodes.now script.now double receiver.now }
-{
-    let mut found = false;
-    for place in 0..nodes.len() {
-        match nodes.get(place) {
-            Some(node) => {
-                let heard = is_link(script, node, receiver)
-                    && reaches(script, node, receiver, Some(double));
-                found = found || heard;
-            }
-            None => {}
-        }
-    }
-    found
 }

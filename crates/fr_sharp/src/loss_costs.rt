@@ -6,6 +6,7 @@ ghost use Rattle.fr_bound.specs.SharpBounds.{most_flutter};
 
 use crate::loss_checks::limits_hold;
 use crate::loss_steps::LossSpread;
+use fr_bound::Heard;
 use fr_cluster::{ParamName, Params};
 
 /// What it costs, in ticks, where any frames may be lost in so many double cycles in a row, from one in sharp sync on
@@ -43,7 +44,7 @@ pub fn loss_cost(params: &Params, flutter: u64, count: u32) -> LossCost
     let _macros = params.value(ParamName::gMacroPerCycle);
     let spread = behind(params, flutter, count);
     LossCost {
-        peak: spread.apart(params, flutter, true),
+        peak: spread.apart(params, flutter, Heard::Clean),
         reach: spread.near(params),
         back: count + 2,
     }
@@ -55,9 +56,9 @@ fn behind(params: &Params, flutter: u64, count: u32) -> LossSpread
     requires flutter { flutter ≤ most_flutter }
     ensures { result.spread ≡ lost_spread params.now flutter (heard_behind count) count }
 {
-    let mut spread = LossSpread::first(params, flutter);
+    let mut spread = LossSpread::first(params, false, flutter);
     for _double in 0..count {
-        spread.step(params, flutter, false);
+        spread.step(params, flutter, Heard::Poor);
     }
     spread
 }
@@ -70,12 +71,12 @@ pub fn every_second_cost(params: &Params, flutter: u64) -> SecondCost
     ensures most { result.reach ≤ most_lost }
 {
     let _macros = params.value(ParamName::gMacroPerCycle);
-    let mut spread = LossSpread::first(params, flutter);
-    spread.step(params, flutter, false);
-    spread.step(params, flutter, true);
-    spread.step(params, flutter, false);
+    let mut spread = LossSpread::first(params, false, flutter);
+    spread.step(params, flutter, Heard::Poor);
+    spread.step(params, flutter, Heard::Clean);
+    spread.step(params, flutter, Heard::Poor);
     SecondCost {
-        peak: spread.apart(params, flutter, true),
+        peak: spread.apart(params, flutter, Heard::Clean),
         reach: spread.near(params),
     }
 }
@@ -87,12 +88,12 @@ pub fn longest_loss(params: &Params, flutter: u64) -> Option<u32>
     ensures { IsLongest params.now flutter result }
 {
     let _macros = params.value(ParamName::gMacroPerCycle);
-    let mut spread = LossSpread::first(params, flutter);
+    let mut spread = LossSpread::first(params, false, flutter);
     for count in 0..100 {
         if !limits_hold(params, flutter, spread.near(params)) {
             return before(count);
         }
-        spread.step(params, flutter, false);
+        spread.step(params, flutter, Heard::Poor);
     }
     unreachable!()
 }

@@ -1,22 +1,23 @@
-ghost use Rattle.std.specs.Prelude.{Bool, ℕ, ◌≡◌, ◌≤◌, ◌<◌, ◌+◌, ◌*◌, ◌/◌};
+ghost use Rattle.std.specs.Prelude.{ℕ, ◌≡◌, ◌≤◌, ◌<◌, ◌+◌, ◌*◌, ◌/◌};
 ghost use Rattle.fr_bound.specs.Bounds.{cycle_change, longest_micro};
 ghost use Rattle.fr_cluster.specs.Values.{amount};
 ghost use Rattle.fr_cluster.specs.declared.names.ParamName.TheVariants as name;
-ghost use Rattle.fr_bound.specs.SharpSpreads.{next_lost_spread};
-ghost use Rattle.fr_sharp.specs.Among.{lost_spread};
+ghost use Rattle.fr_bound.specs.Judged.{heard_spread};
+ghost use Rattle.fr_bound.specs.declared.judging.Heard.{Heard};
+ghost use Rattle.fr_sharp.specs.Among.{spread_by};
 ghost use Rattle.fr_sharp.specs.LossSteps.{LossDouble, IsReckoned, heard_apart, most_lost, most_passed, spread_with};
 ghost use Rattle.fr_bound.specs.SharpBounds.{last_action, most_flutter, odd_spread, precision_by, steady_error};
 ghost use Rattle.fr_bound.specs.SharpSpreads.{sharply_near_in};
 
 use fr_bound::{
-    arrival_error, cycle_change, even_lambda, last_action, longest_microtick, sharp_pi,
+    Heard, arrival_error, cycle_change, even_lambda, last_action, longest_microtick, sharp_pi,
     steady_error,
 };
 use fr_cluster::{ParamName, Params};
 use std::marker::Model;
 
-/// How far starts and even lengths may lie apart in a double cycle by what was heard since one in sharp sync, without
-/// arbitrary sync nodes, in ticks; and how many double cycles passed since then.
+/// How far starts and even lengths may lie apart in a double cycle by what was heard since one in sharp sync, in ticks; and
+/// how many double cycles passed since then.
 #[derive(Drop)]
 pub struct LossSpread {
     starts: u128,
@@ -33,39 +34,40 @@ impl Model for LossSpread {
 }
 
 impl LossSpread {
-    /// That of a double cycle in sharp sync, where delays flutter by no more than so many ticks, 0 to 1,000,000,000.
-    pub fn first(params: &Params, flutter: u64) -> LossSpread
+    /// That of a double cycle in sharp sync, beside arbitrary sync nodes or without, where delays flutter by no more than so
+    /// many ticks, 0 to 1,000,000,000.
+    pub fn first(params: &Params, beside: bool, flutter: u64) -> LossSpread
         requires { flutter ≤ most_flutter }
-        ensures spread { (whole : ℕ → Bool) → result.spread ≡ lost_spread params.now flutter whole 0 }
+        ensures spread { (what : ℕ → Heard) → result.spread ≡ spread_by beside params.now flutter what 0 }
         ensures passed { result.passed ≡ 0 }
     {
         LossSpread {
-            starts: u128::from(sharp_pi(params, false, flutter)),
-            lengths: u128::from(even_lambda(params, false, flutter)),
+            starts: u128::from(sharp_pi(params, beside, flutter)),
+            lengths: u128::from(even_lambda(params, beside, flutter)),
             passed: 0,
         }
     }
 
-    /// Goes on to the next double cycle, by whether all is heard in this one; up to 1,000,000 may pass.
-    pub fn step(&mut self, params: &Params, flutter: u64, whole: bool)
+    /// Goes on to the next double cycle, by what is heard in this one; up to 1,000,000 may pass.
+    pub fn step(&mut self, params: &Params, flutter: u64, what: Heard)
         requires few { self.old.passed < most_passed }
         requires flutter { flutter ≤ most_flutter }
-        ensures spread { self.new.spread ≡ next_lost_spread whole params.now flutter self.old.spread }
+        ensures spread { self.new.spread ≡ heard_spread what params.now flutter self.old.spread }
         ensures passed { self.new.passed ≡ self.old.passed + 1 }
     {
-        let (starts, lengths) = next(params, flutter, whole, self.starts, self.lengths);
+        let (starts, lengths) = next(params, flutter, what, self.starts, self.lengths);
         self.starts = starts;
         self.lengths = lengths;
         self.passed += 1;
     }
 
-    /// How far macroticks may lie apart in this double cycle, by whether all is heard in it, in ticks.
-    pub fn apart(&self, params: &Params, flutter: u64, whole: bool) -> u128
+    /// How far macroticks may lie apart in this double cycle, by what is heard in it, in ticks.
+    pub fn apart(&self, params: &Params, flutter: u64, what: Heard) -> u128
         requires { flutter ≤ most_flutter }
-        ensures value { result ≡ heard_apart whole params.now flutter self.now.spread }
+        ensures value { result ≡ heard_apart what params.now flutter self.now.spread }
         ensures most { result ≤ most_lost }
     {
-        let (next_starts, _) = next(params, flutter, whole, self.starts, self.lengths);
+        let (next_starts, _) = next(params, flutter, what, self.starts, self.lengths);
         let behind = next_starts + u128::from(longest_microtick(params));
         macroticks(params, self.starts, self.lengths).max(behind)
     }
@@ -82,25 +84,28 @@ impl LossSpread {
 }
 
 // The next starts and the next lengths.
-fn next(params: &Params, flutter: u64, whole: bool, starts: u128, lengths: u128) -> (u128, u128)
+fn next(params: &Params, flutter: u64, what: Heard, starts: u128, lengths: u128) -> (u128, u128)
     requires starts { starts ≤ 30_000_100_000_000_000_000_000 }
     requires lengths { lengths ≤ 14_000_000_000_000_000 }
     requires flutter { flutter ≤ most_flutter }
     ensures next { spread_with result.0 result.1 ≡
-        next_lost_spread whole params.now flutter (spread_with starts lengths) }
+        heard_spread what params.now flutter (spread_with starts lengths) }
     ensures starts { result.0 ≤ starts + 30_000_000_000_000_000 }
     ensures lengths { result.1 ≤ lengths + 13_000_000_000 }
 {
     let error = u128::from(arrival_error(params));
     let longest = u128::from(longest_microtick(params));
     let clean = odd(params, lengths) + 2 * error + 3 * longest;
-    if whole {
-        (clean, u128::from(even_lambda(params, false, flutter)))
-    } else {
-        (
+    match what {
+        Heard::Clean => (clean, u128::from(even_lambda(params, false, flutter))),
+        Heard::Meeting => (
+            (starts + lengths + 2 * odd(params, lengths) + 4 * error + 7 * longest) / 2,
+            (lengths + u128::from(even_lambda(params, true, flutter))) / 2,
+        ),
+        Heard::Poor => (
             starts + lengths + clean,
             lengths + u128::from(lengthened(params, flutter)),
-        )
+        ),
     }
 }
 

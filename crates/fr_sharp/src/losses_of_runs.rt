@@ -1,18 +1,19 @@
 ghost use Rattle.std.specs.Prelude.{◌≡◌, ◌≤◌, ◌<◌, ◌+◌, nat_lt, None, Some, if◌then◌else◌};
-ghost use Rattle.fr_sharp.specs.LossRuns.{all_hear, losses_of, next_losses, no_losses, LossesAreTold, RunsKeepTheirBounds, ThroughLossesIsTold};
+ghost use Rattle.fr_sharp.specs.LossRuns.{losses_of, next_losses, no_losses, LossesAreTold, RunsKeepTheirBounds, ThroughLossesIsTold};
 ghost use Rattle.fr_sharp.specs.LossStatement.{whole_in};
 ghost use Rattle.fr_sharp.specs.LossSteps.{most_lost};
 ghost use Rattle.fr_bound.specs.SharpBounds.{most_flutter};
 
-use crate::heard::{all_hear, all_reach};
+use crate::arbitrary::has_arbitrary;
+use crate::heard::all_reach;
 use crate::loss_steps::LossSpread;
+use crate::traffic::{all_trusted, heard_in};
 use fr_cluster::Params;
 use fr_coverage::found_gap_of_run_is_first;
 use fr_drift::Drift;
 use fr_script::Script;
 
-/// What a run loses, by its files, and how far apart that may take its clocks, from a double cycle in sharp sync on without
-/// arbitrary sync nodes.
+/// What a run loses, by its files, and how far apart that may take its clocks, from a double cycle in sharp sync on.
 #[derive(Clone, Copy, Debug, PartialEq, Eq)]
 pub struct RunLosses {
     /// In how many double cycles frames are lost: between two correct nodes no channel carries those of both cycles.
@@ -25,8 +26,8 @@ pub struct RunLosses {
     pub place: u32,
     /// How far instants of the same action point may lie apart, in ticks.
     pub reach: u128,
-    /// Whether each correct node has some value in each double cycle.
-    pub hears: bool,
+    /// Whether in each double cycle each correct node has a value, and discards as many as there may be of arbitrary nodes.
+    pub trusted: bool,
 }
 
 /// What the run of some files loses, where its delays flutter by so many ticks, 0 to 1,000,000,000.
@@ -35,14 +36,15 @@ pub fn run_losses(params: &Params, drift: &Drift, script: &Script, flutter: u64)
     ensures value { result ≡ losses_of params.now drift.now script.now flutter }
     ensures most { result.reach ≤ most_lost }
 {
-    let mut spread = LossSpread::first(params, flutter);
+    let mut spread = LossSpread::first(params, has_arbitrary(params, script), flutter);
     let mut losses = RunLosses::none();
     for double in 0..drift.doubles() {
-        let heard = is_whole(params, script, double);
-        let hears = none_is_deaf(params, script, double);
-        let apart = spread.apart(params, flutter, heard);
-        losses = losses.followed(double, heard, hears, apart, spread.near(params));
-        spread.step(params, flutter, heard);
+        let whole = is_whole(params, script, double);
+        let trusted = all_trusted(params, script, double);
+        let what = heard_in(params, script, double);
+        let apart = spread.apart(params, flutter, what);
+        losses = losses.followed(double, whole, trusted, apart, spread.near(params));
+        spread.step(params, flutter, what);
     }
     losses
 }
@@ -53,14 +55,6 @@ fn is_whole(params: &Params, script: &Script, double: u32) -> bool
 {
     let nodes = &params.nodes;
     all_reach(nodes, script, Some(double))
-}
-
-fn none_is_deaf(params: &Params, script: &Script, double: u32) -> bool
-    requires { double ≤ 100_000 }
-    ensures { result ≡ all_hear params.now.nodes script.now double }
-{
-    let nodes = &params.nodes;
-    all_hear(nodes, script, double)
 }
 
 impl RunLosses {
@@ -74,14 +68,14 @@ impl RunLosses {
             peak: 0,
             place: 0,
             reach: 0,
-            hears: true,
+            trusted: true,
         }
     }
 
     // Those after one more double cycle, by what is heard in it and how far its macroticks and action points may lie apart.
-    fn followed(self, double: u32, heard: bool, hears: bool, apart: u128, near: u128) -> RunLosses
+    fn followed(self, double: u32, heard: bool, trusted: bool, apart: u128, near: u128) -> RunLosses
         requires { self.doubles < 100_000 }
-        ensures { result ≡ next_losses heard hears double apart near self }
+        ensures { result ≡ next_losses heard trusted double apart near self }
     {
         let (doubles, last) = self.counted(double, heard);
         let (peak, place) = self.raised(double, apart);
@@ -91,7 +85,7 @@ impl RunLosses {
             peak,
             place,
             reach: self.reach.max(near),
-            hears: self.hears && hears,
+            trusted: self.trusted && trusted,
         }
     }
 

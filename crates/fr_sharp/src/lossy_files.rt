@@ -1,5 +1,5 @@
 ghost use Rattle.fr_sharp.specs.WorkedLosses.{LosingFilesAreCovered, LosingFilesKeep};
-ghost use Rattle.fr_sharp.specs.LossStatement.{CoveredFilesKeepThroughLosses, FilesKeepThroughLosses, LaterIsNoFurther, LossyFilesGiveRuns};
+ghost use Rattle.fr_sharp.specs.LossStatement.{CoveredFilesKeepThroughLosses, FilesKeepThroughLosses, LossyFilesGiveRuns};
 
 /// The promise where frames are lost: the run that three accepted files decide, where they are covered through losses,
 /// keeps from each double cycle in sharp sync on to the numbers by what was heard since, in ticks, whatever frames are
@@ -8,12 +8,10 @@ pub fn files_keep_through_losses()
     ensures { FilesKeepThroughLosses }
 {}
 
-/// A law: so it is of any sane parameters, drift and script; they give a run as the law of losses asks for; and the
-/// numbers from a later double cycle on are no greater than those from the first one on, in ticks.
+/// A law: so it is of any sane parameters, drift and script; they give a run as the law of losses asks for.
 pub fn lossy_files_give_runs()
     ensures keep { CoveredFilesKeepThroughLosses }
     ensures runs { LossyFilesGiveRuns }
-    ensures later { LaterIsNoFurther }
 {}
 
 /// A law: a script by which every frame of a cycle is lost, with a drift whose delays flutter by 250 ticks, is covered
