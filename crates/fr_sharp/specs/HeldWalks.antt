@@ -1,6 +1,6 @@
 -- A walk that is held: where oscillators do not change, lengths that walk by less than two thirds of a microtick in a double cycle
 -- come less than a microtick beyond their range in all, since each is a whole number of microticks.
-use Rattle.std.specs.Prelude.{ℕ, ◌≡◌, ◌+◌, ◌*◌, ◌<◌, ◌≤◌, int_le, int_lt, nat_eq, if◌then◌else◌, IfSome, ◌&&◌, Bool, true, Option, None, ℤ, pos, ◌+ℤ◌, ◌-ℤ◌, ◌*ℤ◌, ◌≤ℤ◌, ◌<ℤ◌, List, length, map, count_by, All}
+use Rattle.std.specs.Prelude.{ℕ, ◌≡◌, ◌*◌, ◌<◌, ◌≤◌, int_le, int_lt, nat_eq, if◌then◌else◌, IfSome, ◌&&◌, Bool, true, Option, None, ℤ, pos, ◌+ℤ◌, ◌-ℤ◌, ◌*ℤ◌, ◌≤ℤ◌, ◌<ℤ◌, List, length, map, count_by, All}
 use Rattle.fr_base.specs.declared.node_row.NodeRow.{NodeRow}
 use Rattle.fr_base.specs.declared.Outcome.TheVariants.{Within}
 use Rattle.fr_cluster.specs.Values.{Values, amount}
