@@ -15,11 +15,15 @@ use Rattle.fr_bound.specs.Sync.{cycle_length_of}
 use Rattle.fr_precision.specs.Rows.{longest_cycle, shortest_cycle, Sender}
 use Rattle.fr_sharp.specs.Lengths.{walked_after, IsNextEven, IsSteadyRound}
 
--- no oscillator changes; lengths walk, by less than two thirds of the shortest microtick in a double cycle; and the rate limit
--- suffices for lengths not quite a microtick beyond their range, and one such walk further
+-- oscillators do not change
+abbrev pub oscillators_stay : Values → Bool
+oscillators_stay p = nat_eq (amount p name.xChangeBound) 0
+
+-- they do not; lengths walk, by less than two thirds of the shortest microtick in a double cycle; and the rate limit suffices
+-- for lengths not quite a microtick beyond their range, and one such walk further
 abbrev pub walk_is_held : Values → ℕ → Bool
 walk_is_held p flutter =
-    nat_eq (amount p name.xChangeBound) 0 && int_lt (pos 0) (rate_walk p flutter)
+    oscillators_stay p && int_lt (pos 0) (rate_walk p flutter)
     && int_lt (pos 3 *ℤ rate_walk p flutter) (pos (2 * shortest_micro p))
     && int_le ((pos (shortest_micro p) -ℤ pos 1) +ℤ rate_walk p flutter) (pos (rate_room p))
 
