@@ -1,7 +1,7 @@
 -- Where the walk is held, a lawful history that no node joins stays in sharp sync to the end of the run: its lengths stay between
 -- two levels.
 use Rattle.std.proofs.Common.{◌≡◌, ℕ, zero, suc, ◌+◌, ◌-◌, ◌*◌, ◌/◌, ◌<◌, ◌≤◌, Bool, true, false, ◌&&◌, ◌||◌, if◌then◌else◌, ℤ, pos, None, List, ◌++◌, length, map, All, refl, ap, sym, ◌∙◌, subst, inl, inr, ◌⊎◌, arith}
-use Rattle.std.specs.Prelude.{◌↔◌, ◌+ℤ◌, ◌-ℤ◌, ◌*ℤ◌, ◌≤ℤ◌, ◌<ℤ◌, int_le, int_lt, nat_eq, nat_lt, Contains}
+use Rattle.std.specs.Prelude.{◌↔◌, ◌+ℤ◌, ◌-ℤ◌, ◌*ℤ◌, ◌≤ℤ◌, ◌<ℤ◌, int_le, int_lt, nat_lt, Contains}
 use Rattle.std.proofs.lemmas.Bool.{and_parts, cases_eq}
 use Rattle.std.proofs.lemmas.Int.{ints}
 use Rattle.std.proofs.lemmas.List.{length-append, length-map}
@@ -28,7 +28,7 @@ use Rattle.fr_history.specs.Cycles.{Cycles}
 use Rattle.fr_runs.proofs.Parts.{cycle_within}
 use Rattle.fr_runs.proofs.Rows.{contains_map}
 use Rattle.fr_sharp.specs.HeldHistories.{HeldHistoriesKeepSharpSync, HistoriesKeepForEver, IsHeldAt}
-use Rattle.fr_sharp.specs.HeldWalks.{beyond_for_ever, micros_of, sync_lasts, walk_is_held, IsHighLevel, IsLowLevel, LevelsAreThere, LevelsHold, LieBetween}
+use Rattle.fr_sharp.specs.HeldWalks.{beyond_for_ever, micros_of, oscillators_stay, sync_lasts, walk_is_held, IsHighLevel, IsLowLevel, LevelsAreThere, LevelsHold, LieBetween}
 use Rattle.fr_sharp.specs.Lengths.{IsAboutCycle, IsNextEven, KeepSenders}
 use Rattle.fr_sharp.specs.SharpFiles.{SyncLastsOn}
 use Rattle.fr_sharp.specs.SharpHistories.{members_at, senders_at, IsInSharpSyncAt, IsSteadyRun, KeepsApart, KeepsSharpPrecision}
@@ -51,7 +51,7 @@ less_than_micro p = pos (shortest_micro p) -ℤ pos 1
 
 -- no oscillator changes, the walk goes on, and the rate limit suffices before a walk and after it
 pub record HeldNumbers (p : Values) (flutter : ℕ) : Type 0 where
-  pub still : amount p name.xChangeBound ≡ 0
+  pub still : oscillators_stay p ≡ true
   pub from : pos 0 ≤ℤ less_than_micro p
   pub before : RateSuffices p (less_than_micro p)
   pub after : RateSuffices p (less_than_micro p +ℤ rate_walk p flutter)
@@ -60,15 +60,15 @@ pub record HeldNumbers (p : Values) (flutter : ℕ) : Type 0 where
 pub held_numbers : (p : Values) (flutter : ℕ) → IsSane p → walk_is_held p flutter ≡ true → HeldNumbers p flutter
 held_numbers p flutter sane held =
     let s = signed_of p sane in
-    let three = nat_eq (amount p name.xChangeBound) 0 && int_lt (pos 0) (rate_walk p flutter) && int_lt (pos 3 *ℤ rate_walk p flutter) (pos (2 * shortest_micro p)) in
-    let two = nat_eq (amount p name.xChangeBound) 0 && int_lt (pos 0) (rate_walk p flutter) in
+    let three = oscillators_stay p && int_lt (pos 0) (rate_walk p flutter) && int_lt (pos 3 *ℤ rate_walk p flutter) (pos (2 * shortest_micro p)) in
+    let two = oscillators_stay p && int_lt (pos 0) (rate_walk p flutter) in
     let all = and_parts three (int_le (less_than_micro p +ℤ rate_walk p flutter) (pos (rate_room p))) held in
     let first = and_parts two (int_lt (pos 3 *ℤ rate_walk p flutter) (pos (2 * shortest_micro p))) all.0 in
-    let both = and_parts (nat_eq (amount p name.xChangeBound) 0) (int_lt (pos 0) (rate_walk p flutter)) first.0 in
+    let both = and_parts (oscillators_stay p) (int_lt (pos 0) (rate_walk p flutter)) first.0 in
     let more = rises (rate_walk p flutter) both.1 in
     let room = fits (less_than_micro p) (rate_walk p flutter) (amount p name.pRateCorrectionOut * shortest_micro p) (2 * (amount p name.pMicroPerCycle * amount p name.xRateBound)) (none (shortest_micro p) s.qm_from) more all.1 in
     record {
-      still = is_none (amount p name.xChangeBound) both.0;
+      still = both.0;
       from = none (shortest_micro p) s.qm_from;
       before = room.0;
       after = room.1;
@@ -77,9 +77,6 @@ held_numbers p flutter sane held =
   where
     rises : (walk : ℤ) → int_lt (pos 0) walk ≡ true → pos 0 <ℤ walk
     rises walk is = grind (arith, ints)
-
-    is_none : (n : ℕ) → nat_eq n 0 ≡ true → n ≡ 0
-    is_none n is = grind arith
 
     none : (qm : ℕ) → pos 1 ≤ℤ pos qm → pos 0 ≤ℤ (pos qm -ℤ pos 1)
     none qm le = omega (arith, ints, le)
@@ -224,9 +221,9 @@ between_about p low high near row lies =
     by short long micro low high z a b c d = (omega (arith, ints, a, c), omega (arith, ints, b, d))
 
 -- a node's odd cycle is as long as its even one
-odd_is_even : (p : Values) (even odd : NodeRow) → amount p name.xChangeBound ≡ 0 → IsRegular p even odd → cycle_length_of p odd ≡ cycle_length_of p even
+odd_is_even : (p : Values) (even odd : NodeRow) → oscillators_stay p ≡ true → IsRegular p even odd → cycle_length_of p odd ≡ cycle_length_of p even
 odd_is_even p even odd still regular =
-    let length_is = unchanged (amount p name.xChangeBound) even.length odd.length still regular.steady in
+    let length_is = unchanged _ even.length odd.length still regular.steady in
     ap (λ (rate : ℤ). (p.micros +ℤ rate) *ℤ odd.length) regular.double.same_rate ∙ ap (λ (length : ℤ). (p.micros +ℤ even.rate) *ℤ length) length_is
 
 -- ---- a run

@@ -1,7 +1,7 @@
 -- Where oscillators do not change, the senders of a run that no node joins have the same microticks in each double cycle: those of
 -- the correct sync nodes.
 use Rattle.std.proofs.Common.{◌≡◌, ℕ, zero, suc, ◌*◌, ◌<◌, ◌≤◌, Bool, true, false, ◌&&◌, ℤ, Option, Some, None, List, [], ◌∷◌, filter_map, length, map, refl, ap, ◌∙◌, subst, inl, inr, arith, if◌then◌else◌}
-use Rattle.std.specs.Prelude.{◌-ℤ◌, ◌≤ℤ◌, pos, All, Contains, option_and_then}
+use Rattle.std.specs.Prelude.{◌-ℤ◌, ◌≤ℤ◌, pos, nat_eq, All, Contains, option_and_then}
 use Rattle.std.specs.List.{cons_option, range_with_len}
 use Rattle.std.specs.Option.{option_map}
 use Rattle.std.proofs.lemmas.Int.{ints}
@@ -9,7 +9,6 @@ use Rattle.std.proofs.lemmas.List.Elements.{All-cons, All-nil}
 use Rattle.fr_base.specs.Within.{IsWithin}
 use Rattle.fr_cluster.specs.Questions.{key_slot_of}
 use Rattle.fr_cluster.specs.Setting.{Setting, correct_nodes, is_correct}
-use Rattle.fr_cluster.specs.Values.{amount}
 use Rattle.fr_cluster.specs.declared.names.ParamName.TheVariants as name
 use Rattle.fr_cluster.specs.declared.nodes.NodeSpec.{NodeSpec}
 use Rattle.fr_cluster.proofs.Elements.{kept_filtered}
@@ -26,7 +25,7 @@ use Rattle.fr_history.specs.Standing.{has_row}
 use Rattle.fr_runs.specs.Gathered.{round_at}
 use Rattle.fr_runs.proofs.Courses.{row_two}
 use Rattle.fr_runs.proofs.Doubles.{even_length}
-use Rattle.fr_sharp.specs.HeldWalks.{micros_of}
+use Rattle.fr_sharp.specs.HeldWalks.{micros_of, oscillators_stay}
 use Rattle.fr_sharp.specs.SteadyRuns.{IsTimedSetting}
 use Rattle.fr_sharp.proofs.RowsSupplied.{few_in, LawfulRows}
 use Rattle.fr_sharp.proofs.RunDoubles.{all_among, AllHave}
@@ -59,14 +58,17 @@ All_told P who (i ∷ is) each = told P who i is (who i) refl (λ y at. each i y
 
 -- ---- a node's microtick
 
-pub unchanged : (bound : ℕ) (a b : ℤ) → bound ≡ 0 → IsWithin (pos bound) (b -ℤ a) → b ≡ a
-unchanged bound a b none near = let low = near.low in let high = near.high in omega (arith, ints, none, low, high)
+pub unchanged : (bound : ℕ) (a b : ℤ) → nat_eq bound 0 ≡ true → IsWithin (pos bound) (b -ℤ a) → b ≡ a
+unchanged bound a b none near = let low = near.low in let high = near.high in let zero : bound ≡ 0 = is_zero bound none in omega (arith, ints, zero, low, high)
+  where
+    is_zero : (n : ℕ) → nat_eq n 0 ≡ true → n ≡ 0
+    is_zero n is = grind arith
 
-pub same_microtick : (x : Setting) (flutter : ℕ) → IsTimedSetting x flutter → amount x.params name.xChangeBound ≡ 0 → (node : NodeSpec) → Contains (correct_nodes x) node → (cycle : ℕ) → cycle < 2 * x.doubles
+pub same_microtick : (x : Setting) (flutter : ℕ) → IsTimedSetting x flutter → oscillators_stay x.params ≡ true → (node : NodeSpec) → Contains (correct_nodes x) node → (cycle : ℕ) → cycle < 2 * x.doubles
     → x.microtick node.id cycle ≡ x.microtick node.id 0
 same_microtick x flutter covered still node there zero less = refl
 same_microtick x flutter covered still node there (suc cycle) less =
-    unchanged (amount x.params name.xChangeBound) (x.microtick node.id cycle) (x.microtick node.id (suc cycle)) still (covered.changes node cycle there less)
+    unchanged _ (x.microtick node.id cycle) (x.microtick node.id (suc cycle)) still (covered.changes node cycle there less)
     ∙ same_microtick x flutter covered still node there cycle (omega (arith, less))
 
 -- ---- those of the correct sync nodes, by key index
@@ -97,7 +99,7 @@ own_are_proper x flutter covered some =
         subst (λ (z : ℤ). pos (shortest_micro x.params) ≤ℤ z) same (covered.least node 0 (kept_filtered (λ (n : NodeSpec). is_correct x n.id) x.params.nodes node there correct) some)
     proper node micro there false correct is = absurd (cc)
 
-module _ (x : Setting) (flutter : ℕ) (h : Cycles) (even odd : Cycle) (double : ℕ) (s : LawfulRows x flutter h even odd double) (all : AllHave x h) (still : amount x.params name.xChangeBound ≡ 0) where
+module _ (x : Setting) (flutter : ℕ) (h : Cycles) (even odd : Cycle) (double : ℕ) (s : LawfulRows x flutter h even odd double) (all : AllHave x h) (still : oscillators_stay x.params ≡ true) where
   abbrev round : Round
   round = round_at x h even odd
 
