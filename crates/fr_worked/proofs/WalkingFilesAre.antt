@@ -398,6 +398,7 @@ unfolding on_cycles first_free_of are_in_sync_by_even cycle_at cycles_of doubles
 changing_begins = refl
 
 changing_worked : AreWorked changing_files 200_000
+unfolding doubles_of
 changing_worked = record {
   sane = changing_is_sane;
   fails = changing_fails;
@@ -511,6 +512,7 @@ sync_goes_on_so_far =
 
 pub keep_while_the_walk_lasts : ((x : Setting) (n : ℕ) → IsSetting x → IsLawful x (cycles_of x n)) → ((x : Setting) (n : ℕ) → length (cycles_of x n) ≡ n)
     → FilesKeepSharpPrecision → KeepWhileTheWalkLasts changing_files 200_000 6
+unfolding doubles_of
 keep_while_the_walk_lasts lawful long promise =
     let kept : AreKept changing_files 200_000 = are_kept changing_files 200_000 lawful long promise changing_worked changing_checks_hold changing_join in record {
       walking = kept.walking;
