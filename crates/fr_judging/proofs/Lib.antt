@@ -1,2 +1,3 @@
+pub mod Clear
 pub mod Least
 pub mod Rows
