@@ -1,3 +1,4 @@
 pub mod Onward
 pub mod Told
+pub mod ZeroTerms
 pub mod Firsts

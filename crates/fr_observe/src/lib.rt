@@ -14,6 +14,7 @@ mod skews;
 mod slot_faults;
 mod telling;
 mod term;
+mod zeros;
 
 pub use apart_faults::{Apart, put_apart, put_skews};
 pub use fault::{Fault, LogSpan, Range, known_node};

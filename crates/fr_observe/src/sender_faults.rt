@@ -17,6 +17,7 @@ use crate::rows::terms_of;
 use crate::scene::Scene;
 use crate::telling::tell;
 use crate::term::Term;
+use crate::zeros::{others_may_be_0, seen_may_be_0};
 use fr_base::{NodeId, PutFault, Sink};
 use fr_bound::{longest_microtick, shortest_microtick};
 use fr_cluster::{ParamName, Params};
@@ -256,7 +257,7 @@ pub fn stated_flutter(params: &Params, log: &Log) -> u64
 }
 
 // How the nodes measure where delays flutter by no more.
-fn measuring_of(scene: &Scene<'_>) -> Measuring
+pub(crate) fn measuring_of(scene: &Scene<'_>) -> Measuring
     ensures value { result ≡ measuring_of scene.now.params.now (stated_flutter scene.now.params.now scene.now.log.now) }
     ensures sane { IsMeasuring result }
 {
@@ -323,13 +324,18 @@ fn offset_fault(scene: &Scene<'_>, lost: usize, sender: &Sender) -> Option<Fault
     ensures { result ≡ offset_fault scene.now.params.now scene.now.log.now scene.now.scale.now scene.now.number
         scene.now.senders.now lost sender.now }
 {
-    unlike_fault(
-        Term::Offset,
-        2 * scene.number + 1,
-        sender.node,
-        terms_of(scene.scale, sender),
-        offset_due(scene, lost, sender),
-    )
+    let seen = terms_of(scene.scale, sender);
+    if seen_may_be_0(seen) && others_may_be_0(Term::Offset, scene, sender) {
+        None
+    } else {
+        unlike_fault(
+            Term::Offset,
+            2 * scene.number + 1,
+            sender.node,
+            seen,
+            offset_due(scene, lost, sender),
+        )
+    }
 }
 
 // By how much the rate term of a sender grew.
@@ -353,13 +359,18 @@ fn rate_fault(scene: &Scene<'_>, lost: usize, sender: &Sender) -> Option<Fault>
     ensures { result ≡ rate_fault scene.now.params.now scene.now.log.now scene.now.scale.now scene.now.number
         scene.now.senders.now lost sender.now }
 {
-    unlike_fault(
-        Term::Rate,
-        2 * scene.number + 1,
-        sender.node,
-        step_of(scene.scale, sender),
-        rate_due(scene, lost, sender),
-    )
+    let seen = step_of(scene.scale, sender);
+    if seen_may_be_0(seen) && others_may_be_0(Term::Rate, scene, sender) {
+        None
+    } else {
+        unlike_fault(
+            Term::Rate,
+            2 * scene.number + 1,
+            sender.node,
+            seen,
+            rate_due(scene, lost, sender),
+        )
+    }
 }
 
 /// What contradicts a run by this of a sender of a double cycle.
