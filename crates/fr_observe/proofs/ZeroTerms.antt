@@ -1,17 +1,18 @@
 -- Where all values that a node has of the others may be 0, so may their midpoint, and a term that may be 0 contradicts nothing.
-use Rattle.std.proofs.Common.{◌≡◌, ◌∙◌, ℕ, zero, suc, ◌+◌, ◌-◌, ◌*◌, ◌/◌, ◌≤◌, ◌<◌, ◌==◌, Bool, true, false, cond, not, ℤ, pos, negsuc, List, [], ◌∷◌, length, map, Option, Some, None, IfSome, refl, sym, ap, subst, arith}
-use Rattle.std.specs.Prelude.{◌+ℤ◌, ◌-ℤ◌, ◌*ℤ◌, ◌≤ℤ◌, ◌<ℤ◌, ◌||◌, neg_ℤ, int_div, int_lt, nat_lt, find, filter, unwrap_or, if◌then◌else◌}
+use Rattle.std.proofs.Common.{◌≡◌, ℕ, zero, suc, ◌+◌, ◌-◌, ◌*◌, ◌/◌, ◌≤◌, ◌==◌, Bool, true, false, cond, not, ℤ, pos, negsuc, List, [], ◌∷◌, length, map, Option, Some, None, IfSome, refl, sym, ap, subst, arith}
+use Rattle.std.specs.Prelude.{◌+ℤ◌, ◌-ℤ◌, ◌*ℤ◌, ◌≤ℤ◌, ◌<ℤ◌, ◌||◌, neg_ℤ, int_div, int_le, int_lt, nat_lt, find, filter, unwrap_or, if◌then◌else◌}
 use Rattle.std.specs.Option.{option_map}
 use Rattle.std.proofs.lemmas.Int.{ints, clamps}
-use Rattle.fr_base.specs.Within.{IsBetween}
+use Rattle.fr_base.specs.Within.{IsWithin}
+use Rattle.fr_midpoint.proofs.Products.{lez_of_mulz-lez, mulz_comm, mulz_within, negz-mulz}
 use Rattle.fr_bound.specs.Bounds.{nominal}
 use Rattle.fr_cluster.specs.Values.{Values}
 use Rattle.fr_log.specs.View.{LogView}
 use Rattle.fr_midpoint.specs.Midpoint.{discarded, half_of_sum, is_high, is_low}
 use Rattle.fr_time.specs.Position.{floor_of}
-use Rattle.fr_course.specs.Computed.{further_by, measuring_of, rate_value_seen}
+use Rattle.fr_course.specs.Computed.{deviation_seen, further_by, measuring_of, rate_value_seen}
 use Rattle.fr_course.specs.declared.measuring.Measuring.{Measuring}
-use Rattle.fr_course.specs.Course.{between}
+use Rattle.fr_course.specs.Course.{between, odd_macrotick, share_from, share_to}
 use Rattle.fr_course.specs.declared.courses.Course.{Course}
 use Rattle.fr_course.specs.Middles.{greatest_left, greatest_middle, highs_of, hull, least_left, least_middle, lows_of, middle, middle_missing, middle_where, middle_with}
 use Rattle.fr_course.specs.Near.{IsMeasuring}
@@ -19,12 +20,11 @@ use Rattle.fr_course.specs.Readings.{ceiling_of, fast_million, least_ticks, most
 use Rattle.fr_course.specs.declared.intervals.Interval.{Interval}
 use Rattle.fr_course.specs.declared.scales.Scale.{Scale}
 use Rattle.fr_course.specs.Terms.{rate_step_seen}
-use Rattle.fr_course.proofs.Floors.{ceiling_below, floor_above}
+use Rattle.fr_course.proofs.Floors.{ceiling_above, ceiling_below, floor_above, floor_below}
 use Rattle.fr_sightings.specs.declared.sender.Sender.{Sender}
 use Rattle.fr_observe.specs.Faults.{further_of, offset_fault, other_courses, rate_fault, stated_flutter, unlike_fault, unlike_with}
 use Rattle.fr_observe.specs.Observing.{terms_of}
-use Rattle.fr_observe.specs.Zeros.{MayBeZero, OthersMayBeZero, value_for}
-use Rattle.fr_observe.specs.declared.fault.Fault.{Fault}
+use Rattle.fr_observe.specs.Zeros.{HasRoom, MayBeZero, OthersMayBeZero, value_for}
 use Rattle.fr_observe.specs.declared.term.Term.{Term}
 use Rattle.fr_observe.specs.declared.term.Term.TheVariants as term
 
@@ -91,6 +91,115 @@ rate-zero scale m receiver sender few near may =
 
     more : (ticks error : ℤ) → pos 0 ≤ℤ ticks → pos 0 ≤ℤ error → pos 0 ≤ℤ (ticks +ℤ error)
     more ticks error one other = omega (arith, ints)
+
+-- ---- a deviation
+
+floor-low : (n d : ℤ) → pos 0 <ℤ d → n ≤ℤ pos 0 → floor_of n d ≤ℤ pos 0
+floor-low n d some le = lez_of_mulz-lez (floor_of n d) (pos 0) d some (down (floor_of n d *ℤ d) n (pos 0 *ℤ d) (floor_below n d some) le (omega (arith, ints)))
+  where
+    down : (f n z : ℤ) → f ≤ℤ n → n ≤ℤ pos 0 → z ≡ pos 0 → f ≤ℤ z
+    down f n z one other is = omega (arith, ints)
+
+-- a quotient is no more and no less than what a product says
+floor-room : (n d room : ℤ) → pos 0 <ℤ d → n ≤ℤ (d *ℤ room) → floor_of n d ≤ℤ room
+floor-room n d room some le =
+    lez_of_mulz-lez (floor_of n d) room d some (down (floor_of n d *ℤ d) n (d *ℤ room) (room *ℤ d) (floor_below n d some) le (mulz_comm d room))
+  where
+    down : (f n z t : ℤ) → f ≤ℤ n → n ≤ℤ z → z ≡ t → f ≤ℤ t
+    down f n z t one other is = omega (arith, ints)
+
+ceiling-room : (n d room : ℤ) → pos 0 <ℤ d → (d *ℤ room) ≤ℤ n → room ≤ℤ ceiling_of n d
+ceiling-room n d room some le =
+    lez_of_mulz-lez room (ceiling_of n d) d some (up (room *ℤ d) (d *ℤ room) n (ceiling_of n d *ℤ d) (mulz_comm room d) le (ceiling_above n d some))
+  where
+    up : (t z n c : ℤ) → t ≡ z → z ≤ℤ n → n ≤ℤ c → t ≤ℤ c
+    up t z n c is one other = omega (arith, ints)
+
+module _ (scale : Scale) (receiver sender : Course) (some : pos 1 ≤ℤ scale.macros) where
+  abbrev ahead_by : ℤ
+  ahead_by = sender.action -ℤ receiver.action
+
+  abbrev macrotick_in : Interval → Interval
+  macrotick_in lengths =
+      record {
+        low = (receiver.odd.low +ℤ share_from scale ahead_by lengths.low) -ℤ scale.micro_to;
+        high = (receiver.odd.high +ℤ share_to scale ahead_by lengths.high) +ℤ scale.micro_to;
+      }
+
+  abbrev exchanged : Interval → Interval
+  exchanged lengths = record { low = lengths.high; high = lengths.low }
+
+  room-zero : (lengths : Interval) → HasRoom scale receiver.odd sender.odd ahead_by lengths → MayBeZero (between (macrotick_in lengths) sender.odd)
+  room-zero lengths room =
+      let more : pos 0 <ℤ scale.macros = above_none scale.macros some in
+      record {
+        low =
+            less sender.odd.low receiver.odd.high (share_to scale ahead_by lengths.high) scale.micro_to
+            (ceiling-room (ahead_by *ℤ lengths.high) scale.macros ((sender.odd.low -ℤ receiver.odd.high) -ℤ scale.micro_to) more room.behind);
+        high =
+            rest sender.odd.high receiver.odd.low (share_from scale ahead_by lengths.low) scale.micro_to
+            (floor-room (ahead_by *ℤ lengths.low) scale.macros ((sender.odd.high -ℤ receiver.odd.low) +ℤ scale.micro_to) more room.before);
+      }
+    where
+      above_none : (macros : ℤ) → pos 1 ≤ℤ macros → pos 0 <ℤ macros
+      above_none macros le = omega (arith, ints)
+
+      less : (s r share micro : ℤ) → ((s -ℤ r) -ℤ micro) ≤ℤ share → (s -ℤ ((r +ℤ share) +ℤ micro)) ≤ℤ pos 0
+      less s r share micro le = omega (arith, ints)
+
+      rest : (s r share micro : ℤ) → share ≤ℤ ((s -ℤ r) +ℤ micro) → pos 0 ≤ℤ (s -ℤ ((r +ℤ share) -ℤ micro))
+      rest s r share micro le = omega (arith, ints)
+
+  pub ahead-zero : int_le (pos 0) ahead_by ≡ true → HasRoom scale receiver.odd sender.odd ahead_by receiver.length
+      → MayBeZero (between (odd_macrotick scale receiver sender.action) sender.odd)
+  ahead-zero is room =
+      subst (λ (b : Bool). MayBeZero (between (if b then macrotick_in receiver.length else macrotick_in (exchanged receiver.length)) sender.odd)) (sym is)
+      (room-zero receiver.length room)
+
+  pub before-zero : int_le (pos 0) ahead_by ≡ false → HasRoom scale receiver.odd sender.odd ahead_by (exchanged receiver.length)
+      → MayBeZero (between (odd_macrotick scale receiver sender.action) sender.odd)
+  before-zero is room =
+      subst (λ (b : Bool). MayBeZero (between (if b then macrotick_in receiver.length else macrotick_in (exchanged receiver.length)) sender.odd)) (sym is)
+      (room-zero (exchanged receiver.length) room)
+
+pub deviation-zero : (scale : Scale) (m : Measuring) (receiver sender : Course) → scale.drift ≤ 1000 → IsMeasuring m
+    → MayBeZero (between (odd_macrotick scale receiver sender.action) sender.odd) → MayBeZero (deviation_seen scale m receiver sender)
+deviation-zero scale m receiver sender few near may =
+    let late : Interval = between (odd_macrotick scale receiver sender.action) sender.odd in
+    let least : ℤ = least_ticks scale.drift late.low -ℤ m.arrival_error in
+    let most : ℤ = most_ticks scale.drift late.high +ℤ m.arrival_error in
+    let shortest : pos 0 <ℤ m.shortest = some m.shortest near.shortest.low in
+    let longest : pos 0 <ℤ m.longest = some m.longest near.longest.low in
+    record {
+      low =
+          floor-low least (if int_lt least (pos 0) then m.shortest else m.longest) (above (int_lt least (pos 0)) m.shortest m.longest shortest longest)
+          (less (least_ticks scale.drift late.low) m.arrival_error (ticks-low scale.drift late.low few may.low) near.arrival_error.low);
+      high =
+          floor-high most (if int_lt most (pos 0) then m.longest else m.shortest) (above (int_lt most (pos 0)) m.longest m.shortest longest shortest)
+          (more (most_ticks scale.drift late.high) m.arrival_error (ticks-high scale.drift late.high few may.high) near.arrival_error.low);
+    }
+  where
+    some : (micro : ℤ) → pos 998_500 ≤ℤ micro → pos 0 <ℤ micro
+    some micro le = omega (arith, ints)
+
+    less : (ticks error : ℤ) → ticks ≤ℤ pos 0 → pos 0 ≤ℤ error → (ticks -ℤ error) ≤ℤ pos 0
+    less ticks error one other = omega (arith, ints)
+
+    more : (ticks error : ℤ) → pos 0 ≤ℤ ticks → pos 0 ≤ℤ error → pos 0 ≤ℤ (ticks +ℤ error)
+    more ticks error one other = omega (arith, ints)
+
+-- a product of macroticks and readings
+pub product-near : (a b : ℤ) → IsWithin (pos 16_000) a → IsWithin (pos 4_000_000_000_000_000_000) b → IsWithin (pos 64_000_000_000_000_000_000_000) (a *ℤ b)
+product-near (pos n) b one other = by (mulz_within (pos n) b (pos 16_000) (pos 4_000_000_000_000_000_000) (omega (arith, ints)) one.high other)
+  where
+    by : IsWithin (pos 16_000 *ℤ pos 4_000_000_000_000_000_000) (pos n *ℤ b) → IsWithin (pos 64_000_000_000_000_000_000_000) (pos n *ℤ b)
+    by near = near
+product-near (negsuc n) b one other =
+    let near : IsWithin (pos 64_000_000_000_000_000_000_000) (pos (suc n) *ℤ b) = mulz_within (pos (suc n)) b (pos 16_000) (pos 4_000_000_000_000_000_000) (omega (arith, ints)) (omega (arith, ints, one.low)) other in
+    turned (pos (suc n) *ℤ b) (negsuc n *ℤ b) (negz-mulz (pos (suc n)) b) near
+  where
+    turned : (x y : ℤ) → y ≡ neg_ℤ x → IsWithin (pos 64_000_000_000_000_000_000_000) x → IsWithin (pos 64_000_000_000_000_000_000_000) y
+    turned x y is near = record { low = omega (arith, ints, is, near.high); high = omega (arith, ints, is, near.low) }
 
 -- ---- the midpoint
 

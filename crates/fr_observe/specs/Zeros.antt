@@ -1,5 +1,5 @@
 -- Values that may be 0: where all that a node has of the others may be, so may their midpoint.
-use Rattle.std.specs.Prelude.{◌≡◌, ◌==◌, not, true, pos, List, [], ◌∷◌}
+use Rattle.std.specs.Prelude.{◌≡◌, ◌==◌, not, true, ℤ, pos, ◌+ℤ◌, ◌-ℤ◌, ◌*ℤ◌, ◌≤ℤ◌, List, [], ◌∷◌}
 use Rattle.fr_base.specs.Within.{IsBetween}
 use Rattle.fr_course.specs.Computed.{deviation_seen, rate_value_seen}
 use Rattle.fr_course.specs.declared.measuring.Measuring.{Measuring}
@@ -13,6 +13,11 @@ use Rattle.fr_observe.specs.declared.term.Term.TheVariants as term
 -- 0 lies in an interval
 abbrev pub MayBeZero : Interval → Type 0
 MayBeZero interval = IsBetween interval.low interval.high (pos 0)
+
+-- so many macroticks ahead of a receiver's action point, in cycles from the one length to the other, may lie a sender's
+pub record HasRoom (scale : Scale) (receiver sender : Interval) (ahead : ℤ) (lengths : Interval) : Type 0 where
+  pub before : (ahead *ℤ lengths.low) ≤ℤ (scale.macros *ℤ ((sender.high -ℤ receiver.low) +ℤ scale.micro_to))
+  pub behind : (scale.macros *ℤ ((sender.low -ℤ receiver.high) -ℤ scale.micro_to)) ≤ℤ (ahead *ℤ lengths.high)
 
 -- what a receiver has of a sender for a term
 abbrev pub value_for : Term → Scale → Measuring → Course → Course → Interval

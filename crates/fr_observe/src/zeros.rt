@@ -1,16 +1,17 @@
-ghost use Rattle.std.specs.Prelude.{◌≡◌, ◌==◌, pos, not, true, IfSome};
-ghost use Rattle.fr_course.specs.Course.{between};
+ghost use Rattle.std.specs.Prelude.{◌≡◌, ◌==◌, ◌+ℤ◌, ◌-ℤ◌, ◌*ℤ◌, ◌≤ℤ◌, pos, not, true, IfSome};
+ghost use Rattle.fr_base.specs.Within.{IsWithin};
+ghost use Rattle.fr_course.specs.Course.{between, odd_macrotick};
 ghost use Rattle.fr_course.specs.Computed.{measuring_of};
 ghost use Rattle.fr_course.specs.Near.{IsMeasuring, IsNearCourse, IsReadingScale, EndWithin};
 ghost use Rattle.fr_sightings.specs.Ranges.{IsProperSender};
 ghost use Rattle.fr_observe.specs.Faults.{stated_flutter};
 ghost use Rattle.fr_observe.specs.Scenes.{IsScene};
-ghost use Rattle.fr_observe.specs.Zeros.{OthersMayBeZero, MayBeZero, value_for};
+ghost use Rattle.fr_observe.specs.Zeros.{HasRoom, OthersMayBeZero, MayBeZero, value_for};
 
 use crate::scene::Scene;
 use crate::sender_faults::measuring_of;
 use crate::term::Term;
-use fr_course::{Course, Interval, Measuring, Scale, between, deviation_seen};
+use fr_course::{Course, Interval, Measuring, Scale, between};
 use fr_sightings::Sender;
 
 // Whether 0 lies in an interval.
@@ -39,6 +40,134 @@ fn apart_may_be_0(receiver: &Course, sender: &Course) -> bool
     may_be_0(&between(&receiver.length, &sender.apart))
 }
 
+// A number of macroticks times a number of readings.
+fn times(macroticks: i128, readings: i128) -> i128
+    requires macroticks { IsWithin (pos 16_000) macroticks }
+    requires readings { IsWithin (pos 4_000_000_000_000_000_000) readings }
+    ensures { result ≡ macroticks *ℤ readings }
+{
+    macroticks * readings
+}
+
+// How much a macrotick of the receiver can lie behind its action point, at most, so that it lies before the sender's.
+fn room_before(scale: &Scale, receiver: &Interval, sender: &Interval) -> i128
+    requires scale { IsReadingScale scale.now }
+    requires receiver { EndWithin (pos 1_900_000_000_000_000_000) receiver.now }
+    requires sender { EndWithin (pos 1_900_000_000_000_000_000) sender.now }
+    ensures value { result ≡ (sender.now.high -ℤ receiver.now.low) +ℤ scale.now.micro_to }
+    ensures within { IsWithin (pos 4_000_000_000_000_000_000) result }
+{
+    sender.high - receiver.low + scale.micro_to
+}
+
+// And at least, so that it lies behind it.
+fn room_behind(scale: &Scale, receiver: &Interval, sender: &Interval) -> i128
+    requires scale { IsReadingScale scale.now }
+    requires receiver { EndWithin (pos 1_900_000_000_000_000_000) receiver.now }
+    requires sender { EndWithin (pos 1_900_000_000_000_000_000) sender.now }
+    ensures value { result ≡ (sender.now.low -ℤ receiver.now.high) -ℤ scale.now.micro_to }
+    ensures within { IsWithin (pos 4_000_000_000_000_000_000) result }
+{
+    sender.low - receiver.high - scale.micro_to
+}
+
+// Whether so many macroticks of cycles of a length can take no more than so long: no quotient is needed for that.
+fn take_at_most(scale: &Scale, macroticks: i128, length: i128, most: i128) -> bool
+    requires scale { IsReadingScale scale.now }
+    requires macroticks { IsWithin (pos 16_000) macroticks }
+    requires length { IsWithin (pos 930_000_000_000_000_000) length }
+    requires most { IsWithin (pos 4_000_000_000_000_000_000) most }
+    ensures { result ≡ true → (macroticks *ℤ length) ≤ℤ (scale.now.macros *ℤ most) }
+{
+    times(macroticks, length) <= times(scale.macros, most)
+}
+
+// And no less.
+fn take_at_least(scale: &Scale, macroticks: i128, length: i128, least: i128) -> bool
+    requires scale { IsReadingScale scale.now }
+    requires macroticks { IsWithin (pos 16_000) macroticks }
+    requires length { IsWithin (pos 930_000_000_000_000_000) length }
+    requires least { IsWithin (pos 4_000_000_000_000_000_000) least }
+    ensures { result ≡ true → (scale.now.macros *ℤ least) ≤ℤ (macroticks *ℤ length) }
+{
+    times(scale.macros, least) <= times(macroticks, length)
+}
+
+// Whether a macrotick, so many ahead of the receiver's action point in cycles from the one length to the other, may lie where the
+// sender's action point does.
+fn has_room(
+    scale: &Scale,
+    receiver: &Interval,
+    sender: &Interval,
+    ahead: i128,
+    lengths: &Interval,
+) -> bool
+    requires scale { IsReadingScale scale.now }
+    requires receiver { EndWithin (pos 1_900_000_000_000_000_000) receiver.now }
+    requires sender { EndWithin (pos 1_900_000_000_000_000_000) sender.now }
+    requires ahead { IsWithin (pos 16_000) ahead }
+    requires lengths { EndWithin (pos 930_000_000_000_000_000) lengths.now }
+    ensures { result ≡ true → HasRoom scale.now receiver.now sender.now ahead lengths.now }
+{
+    take_at_most(
+        scale,
+        ahead,
+        lengths.low,
+        room_before(scale, receiver, sender),
+    ) && take_at_least(
+        scale,
+        ahead,
+        lengths.high,
+        room_behind(scale, receiver, sender),
+    )
+}
+
+// The ends exchanged.
+fn turned(lengths: &Interval) -> Interval
+    requires { EndWithin (pos 930_000_000_000_000_000) lengths.now }
+    ensures low { result.low ≡ lengths.now.high }
+    ensures high { result.high ≡ lengths.now.low }
+    ensures near { EndWithin (pos 930_000_000_000_000_000) result }
+{
+    Interval {
+        low: lengths.high,
+        high: lengths.low,
+    }
+}
+
+// How many macroticks the action point of a sender is ahead.
+fn ahead_of(scale: &Scale, receiver: &Course, sender: &Course) -> i128
+    requires scale { IsReadingScale scale.now }
+    requires receiver { IsNearCourse scale.now receiver.now }
+    requires sender { IsNearCourse scale.now sender.now }
+    ensures value { result ≡ sender.now.action -ℤ receiver.now.action }
+    ensures within { IsWithin (pos 16_000) result }
+{
+    sender.action - receiver.action
+}
+
+// Whether the receiver's macrotick of the sender's action point may lie where that does.
+fn deviation_may_be_0(scale: &Scale, receiver: &Course, sender: &Course) -> bool
+    requires scale { IsReadingScale scale.now }
+    requires receiver { IsNearCourse scale.now receiver.now }
+    requires sender { IsNearCourse scale.now sender.now }
+    ensures { result ≡ true →
+        MayBeZero (between (odd_macrotick scale.now receiver.now sender.now.action) sender.now.odd) }
+{
+    let ahead = ahead_of(scale, receiver, sender);
+    if ahead >= 0 {
+        has_room(scale, &receiver.odd, &sender.odd, ahead, &receiver.length)
+    } else {
+        has_room(
+            scale,
+            &receiver.odd,
+            &sender.odd,
+            ahead,
+            &turned(&receiver.length),
+        )
+    }
+}
+
 // Whether the value that a receiver has of a sender may be 0.
 fn value_may_be_0(
     what: Term,
@@ -54,7 +183,7 @@ fn value_may_be_0(
     ensures { result ≡ true → MayBeZero (value_for what scale.now measuring.now receiver.now sender.now) }
 {
     match what {
-        Term::Offset => may_be_0(&deviation_seen(scale, measuring, receiver, sender)),
+        Term::Offset => deviation_may_be_0(scale, receiver, sender),
         Term::Rate => apart_may_be_0(receiver, sender),
     }
 }
