@@ -1,15 +1,13 @@
 -- Where all values that a node has of the others may be 0, so may their midpoint, and a term that may be 0 contradicts nothing.
 use Rattle.std.proofs.Common.{◌≡◌, ℕ, zero, suc, ◌+◌, ◌-◌, ◌*◌, ◌/◌, ◌≤◌, ◌==◌, Bool, true, false, cond, not, ℤ, pos, negsuc, List, [], ◌∷◌, length, map, Option, Some, None, IfSome, refl, sym, ap, subst, arith}
 use Rattle.std.specs.Prelude.{◌+ℤ◌, ◌-ℤ◌, ◌*ℤ◌, ◌≤ℤ◌, ◌<ℤ◌, ◌||◌, neg_ℤ, int_div, int_le, int_lt, nat_lt, find, filter, unwrap_or, if◌then◌else◌}
+use Rattle.std.specs.Int.{int_div_euclid}
 use Rattle.std.specs.Option.{option_map}
-use Rattle.std.proofs.lemmas.Int.{ints, clamps}
-use Rattle.fr_base.specs.Within.{IsWithin}
-use Rattle.fr_midpoint.proofs.Products.{lez_of_mulz-lez, mulz_comm, mulz_within, negz-mulz}
+use Rattle.std.proofs.lemmas.Int.{ints, clamps, by_lt_z}
+use Rattle.std.proofs.Math.Nat.{mul-le-mul_right}
 use Rattle.fr_bound.specs.Bounds.{nominal}
 use Rattle.fr_cluster.specs.Values.{Values}
 use Rattle.fr_log.specs.View.{LogView}
-use Rattle.fr_midpoint.specs.Midpoint.{discarded, half_of_sum, is_high, is_low}
-use Rattle.fr_time.specs.Position.{floor_of}
 use Rattle.fr_course.specs.Computed.{deviation_seen, further_by, measuring_of, rate_value_seen}
 use Rattle.fr_course.specs.declared.measuring.Measuring.{Measuring}
 use Rattle.fr_course.specs.Course.{between, odd_macrotick, share_from, share_to}
@@ -40,7 +38,7 @@ ceiling-low n d some le = ceiling_below n d (pos 0) some (with_0 n (pos 0 *ℤ d
     with_0 : (n m : ℤ) → n ≤ℤ pos 0 → m ≡ pos 0 → n ≤ℤ m
     with_0 n m le is = omega (arith, ints)
 
-floor-high : (n d : ℤ) → pos 0 <ℤ d → pos 0 ≤ℤ n → pos 0 ≤ℤ floor_of n d
+floor-high : (n d : ℤ) → pos 0 <ℤ d → pos 0 ≤ℤ n → pos 0 ≤ℤ int_div_euclid n d
 floor-high n d some le = floor_above n d (pos 0) some (with_0 n (pos 0 *ℤ d) le (omega (arith, ints)))
   where
     with_0 : (n m : ℤ) → pos 0 ≤ℤ n → m ≡ pos 0 → m ≤ℤ n
@@ -94,23 +92,45 @@ rate-zero scale m receiver sender few near may =
 
 -- ---- a deviation
 
-floor-low : (n d : ℤ) → pos 0 <ℤ d → n ≤ℤ pos 0 → floor_of n d ≤ℤ pos 0
-floor-low n d some le = lez_of_mulz-lez (floor_of n d) (pos 0) d some (down (floor_of n d *ℤ d) n (pos 0 *ℤ d) (floor_below n d some) le (omega (arith, ints)))
+-- a product with a number above 0 tells the order
+lez-by : (a b : ℤ) (k : ℕ) → (a *ℤ pos (suc k)) ≤ℤ (b *ℤ pos (suc k)) → a ≤ℤ b
+lez-by (pos m) (pos n) k le =
+    by_lt_z (pos n) (pos m)
+    (λ less.
+    let next : suc n * suc k ≤ m * suc k = mul-le-mul_right (suc k) (omega (arith, ints, less)) in
+    absurd (omega (arith, ints, next, le)))
+    (λ h. h)
+lez-by (negsuc m) (pos n) k le = omega (arith, ints)
+lez-by (pos m) (negsuc n) k le = absurd (omega (arith, ints, le))
+lez-by (negsuc m) (negsuc n) k le =
+    by_lt_z (negsuc n) (negsuc m)
+    (λ less.
+    let next : suc (suc m) * suc k ≤ suc n * suc k = mul-le-mul_right (suc k) (omega (arith, ints, less)) in
+    absurd (omega (arith, ints, next, le)))
+    (λ h. h)
+
+lez-of-product : (a b d : ℤ) → pos 0 <ℤ d → (a *ℤ d) ≤ℤ (b *ℤ d) → a ≤ℤ b
+lez-of-product a b (pos zero) some le = absurd (omega (arith, ints, some))
+lez-of-product a b (pos (suc k)) some le = lez-by a b k le
+lez-of-product a b (negsuc k) some le = absurd (omega (arith, ints, some))
+
+floor-low : (n d : ℤ) → pos 0 <ℤ d → n ≤ℤ pos 0 → int_div_euclid n d ≤ℤ pos 0
+floor-low n d some le = lez-of-product (int_div_euclid n d) (pos 0) d some (down (int_div_euclid n d *ℤ d) n (pos 0 *ℤ d) (floor_below n d some) le (omega (arith, ints)))
   where
     down : (f n z : ℤ) → f ≤ℤ n → n ≤ℤ pos 0 → z ≡ pos 0 → f ≤ℤ z
     down f n z one other is = omega (arith, ints)
 
 -- a quotient is no more and no less than what a product says
-floor-room : (n d room : ℤ) → pos 0 <ℤ d → n ≤ℤ (d *ℤ room) → floor_of n d ≤ℤ room
+floor-room : (n d room : ℤ) → pos 0 <ℤ d → n ≤ℤ (d *ℤ room) → int_div_euclid n d ≤ℤ room
 floor-room n d room some le =
-    lez_of_mulz-lez (floor_of n d) room d some (down (floor_of n d *ℤ d) n (d *ℤ room) (room *ℤ d) (floor_below n d some) le (mulz_comm d room))
+    lez-of-product (int_div_euclid n d) room d some (down (int_div_euclid n d *ℤ d) n (d *ℤ room) (room *ℤ d) (floor_below n d some) le (omega (arith, ints)))
   where
     down : (f n z t : ℤ) → f ≤ℤ n → n ≤ℤ z → z ≡ t → f ≤ℤ t
     down f n z t one other is = omega (arith, ints)
 
 ceiling-room : (n d room : ℤ) → pos 0 <ℤ d → (d *ℤ room) ≤ℤ n → room ≤ℤ ceiling_of n d
 ceiling-room n d room some le =
-    lez_of_mulz-lez room (ceiling_of n d) d some (up (room *ℤ d) (d *ℤ room) n (ceiling_of n d *ℤ d) (mulz_comm room d) le (ceiling_above n d some))
+    lez-of-product room (ceiling_of n d) d some (up (room *ℤ d) (d *ℤ room) n (ceiling_of n d *ℤ d) (omega (arith, ints)) le (ceiling_above n d some))
   where
     up : (t z n c : ℤ) → t ≡ z → z ≤ℤ n → n ≤ℤ c → t ≤ℤ c
     up t z n c is one other = omega (arith, ints)
@@ -188,19 +208,6 @@ deviation-zero scale m receiver sender few near may =
     more : (ticks error : ℤ) → pos 0 ≤ℤ ticks → pos 0 ≤ℤ error → pos 0 ≤ℤ (ticks +ℤ error)
     more ticks error one other = omega (arith, ints)
 
--- a product of macroticks and readings
-pub product-near : (a b : ℤ) → IsWithin (pos 16_000) a → IsWithin (pos 4_000_000_000_000_000_000) b → IsWithin (pos 64_000_000_000_000_000_000_000) (a *ℤ b)
-product-near (pos n) b one other = by (mulz_within (pos n) b (pos 16_000) (pos 4_000_000_000_000_000_000) (omega (arith, ints)) one.high other)
-  where
-    by : IsWithin (pos 16_000 *ℤ pos 4_000_000_000_000_000_000) (pos n *ℤ b) → IsWithin (pos 64_000_000_000_000_000_000_000) (pos n *ℤ b)
-    by near = near
-product-near (negsuc n) b one other =
-    let near : IsWithin (pos 64_000_000_000_000_000_000_000) (pos (suc n) *ℤ b) = mulz_within (pos (suc n)) b (pos 16_000) (pos 4_000_000_000_000_000_000) (omega (arith, ints)) (omega (arith, ints, one.low)) other in
-    turned (pos (suc n) *ℤ b) (negsuc n *ℤ b) (negz-mulz (pos (suc n)) b) near
-  where
-    turned : (x y : ℤ) → y ≡ neg_ℤ x → IsWithin (pos 64_000_000_000_000_000_000_000) x → IsWithin (pos 64_000_000_000_000_000_000_000) y
-    turned x y is near = record { low = omega (arith, ints, is, near.high); high = omega (arith, ints, is, near.low) }
-
 -- ---- the midpoint
 
 abbrev AllMayBeZero : List Interval → Type 0
@@ -238,10 +245,10 @@ half-high (pos a) le =
     is
 half-high (negsuc a) le = absurd (omega (arith, ints, le))
 
-sum-low : (a b : ℤ) → a ≤ℤ pos 0 → b ≤ℤ pos 0 → half_of_sum a b ≤ℤ pos 0
+sum-low : (a b : ℤ) → a ≤ℤ pos 0 → b ≤ℤ pos 0 → int_div (a +ℤ b) (pos 2) ≤ℤ pos 0
 sum-low a b one other = half-low (a +ℤ b) (omega (arith, ints, one, other))
 
-sum-high : (a b : ℤ) → pos 0 ≤ℤ a → pos 0 ≤ℤ b → pos 0 ≤ℤ half_of_sum a b
+sum-high : (a b : ℤ) → pos 0 ≤ℤ a → pos 0 ≤ℤ b → pos 0 ≤ℤ int_div (a +ℤ b) (pos 2)
 sum-high a b one other = half-high (a +ℤ b) (omega (arith, ints, one, other))
 
 abbrev Holds : Option Interval → Type 0
@@ -263,12 +270,12 @@ module _ (known : List Interval) (zero_in : AllMayBeZero known) where
       low : least_middle further missed ends known ≤ℤ pos 0
       low =
           sum-low (least_left (ends - further) (lows_of known)) (greatest_left (ends + missed) (lows_of known))
-          (found-low (is_low (ends - further) (lows_of known)) known zero_in) (found-low (is_high (ends + missed) (lows_of known)) known zero_in)
+          (found-low _ known zero_in) (found-low _ known zero_in)
 
       high : pos 0 ≤ℤ greatest_middle further missed ends known
       high =
           sum-high (least_left (ends + missed) (highs_of known)) (greatest_left (ends - further) (highs_of known))
-          (found-high (is_low (ends + missed) (highs_of known)) known zero_in) (found-high (is_high (ends - further) (highs_of known)) known zero_in)
+          (found-high _ known zero_in) (found-high _ known zero_in)
 
       by : (b : Bool)
           → Holds (if b then None else Some (record { low = least_middle further missed ends known; high = greatest_middle further missed ends known }))
@@ -277,10 +284,10 @@ module _ (known : List Interval) (zero_in : AllMayBeZero known) where
 
   missing-zero : (further missed : ℕ) → Holds (middle_missing further missed known)
   unfolding middle_missing
-  missing-zero zero missed = where-zero 0 missed (discarded ((length known - missed) + 0))
+  missing-zero zero missed = where-zero 0 missed _
   missing-zero (suc further) missed =
       hull-zero (middle_missing further missed known) (middle_with (suc further) missed known) (missing-zero further missed)
-      (where-zero (suc further) missed (discarded ((length known - missed) + suc further)))
+      (where-zero (suc further) missed _)
 
   middle-zero : (further lost : ℕ) → Holds (middle further lost known)
   unfolding middle
