@@ -11,6 +11,7 @@ ghost use Rattle.fr_judging.specs.Knowing.{standing_faults};
 ghost use Rattle.fr_judging.specs.Missing.{least_missed, missed_if_any, missed_where, missed_with, missed_of_term, missed_row, missed_told, unlike_term};
 
 use crate::knowing::{Standing, judged_met};
+use crate::zeros::term_may_be_0;
 use fr_base::{NodeId, PutFault, Sink};
 use fr_log::Log;
 use fr_observe::{Asked, Fault, Scene, Term, sender_fault};
@@ -31,7 +32,12 @@ pub struct Missed {
 }
 
 // What contradicts a term of a sender that missed at most so many of the others.
-fn unlike_term(term: Term, scene: &Scene<'_>, sender: &Sender, lost: usize) -> Option<Fault>
+pub(crate) fn unlike_term(
+    term: Term,
+    scene: &Scene<'_>,
+    sender: &Sender,
+    lost: usize,
+) -> Option<Fault>
     requires scene { IsScene scene.now }
     requires lost { lost ≤ 64 }
     requires among { Contains scene.now.senders.now sender.now }
@@ -39,7 +45,11 @@ fn unlike_term(term: Term, scene: &Scene<'_>, sender: &Sender, lost: usize) -> O
     ensures { result ≡ unlike_term term scene.now.params.now scene.now.log.now scene.now.scale.now scene.now.number
         scene.now.senders.now sender.now lost }
 {
-    sender_fault(Asked::Term(term, lost), scene, sender)
+    if term_may_be_0(term, scene, sender) {
+        None
+    } else {
+        sender_fault(Asked::Term(term, lost), scene, sender)
+    }
 }
 
 // The least number that nothing contradicts.

@@ -1,4 +1,3 @@
 pub mod Onward
 pub mod Told
-pub mod ZeroTerms
 pub mod Firsts

@@ -4,4 +4,3 @@ pub mod Faults
 pub mod Telling
 pub mod Skews
 pub mod Scenes
-pub mod Zeros

@@ -17,7 +17,6 @@ use crate::rows::terms_of;
 use crate::scene::Scene;
 use crate::telling::tell;
 use crate::term::Term;
-use crate::zeros::{others_may_be_0, seen_may_be_0};
 use fr_base::{NodeId, PutFault, Sink};
 use fr_bound::{longest_microtick, shortest_microtick};
 use fr_cluster::{ParamName, Params};
@@ -257,7 +256,7 @@ pub fn stated_flutter(params: &Params, log: &Log) -> u64
 }
 
 // How the nodes measure where delays flutter by no more.
-pub(crate) fn measuring_of(scene: &Scene<'_>) -> Measuring
+fn measuring_of(scene: &Scene<'_>) -> Measuring
     ensures value { result ≡ measuring_of scene.now.params.now (stated_flutter scene.now.params.now scene.now.log.now) }
     ensures sane { IsMeasuring result }
 {
@@ -324,22 +323,17 @@ fn offset_fault(scene: &Scene<'_>, lost: usize, sender: &Sender) -> Option<Fault
     ensures { result ≡ offset_fault scene.now.params.now scene.now.log.now scene.now.scale.now scene.now.number
         scene.now.senders.now lost sender.now }
 {
-    let seen = terms_of(scene.scale, sender);
-    if seen_may_be_0(seen) && others_may_be_0(Term::Offset, scene, sender) {
-        None
-    } else {
-        unlike_fault(
-            Term::Offset,
-            2 * scene.number + 1,
-            sender.node,
-            seen,
-            offset_due(scene, lost, sender),
-        )
-    }
+    unlike_fault(
+        Term::Offset,
+        2 * scene.number + 1,
+        sender.node,
+        terms_of(scene.scale, sender),
+        offset_due(scene, lost, sender),
+    )
 }
 
-// By how much the rate term of a sender grew.
-fn step_of(scale: &Scale, sender: &Sender) -> Option<Interval>
+/// By how much the rate term of a sender grew, in microticks.
+pub fn step_of(scale: &Scale, sender: &Sender) -> Option<Interval>
     requires scale { IsReadingScale scale.now }
     requires sender { IsProperSender scale.now sender.now }
     ensures value { result ≡ option_map (rate_step_seen scale.now sender.now.course) sender.now.next }
@@ -359,18 +353,13 @@ fn rate_fault(scene: &Scene<'_>, lost: usize, sender: &Sender) -> Option<Fault>
     ensures { result ≡ rate_fault scene.now.params.now scene.now.log.now scene.now.scale.now scene.now.number
         scene.now.senders.now lost sender.now }
 {
-    let seen = step_of(scene.scale, sender);
-    if seen_may_be_0(seen) && others_may_be_0(Term::Rate, scene, sender) {
-        None
-    } else {
-        unlike_fault(
-            Term::Rate,
-            2 * scene.number + 1,
-            sender.node,
-            seen,
-            rate_due(scene, lost, sender),
-        )
-    }
+    unlike_fault(
+        Term::Rate,
+        2 * scene.number + 1,
+        sender.node,
+        step_of(scene.scale, sender),
+        rate_due(scene, lost, sender),
+    )
 }
 
 /// What contradicts a run by this of a sender of a double cycle.

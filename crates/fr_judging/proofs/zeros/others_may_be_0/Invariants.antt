@@ -1,8 +1,8 @@
 use Rattle.std.proofs.Common.{drop}
 use Rattle.fr_course.specs.Computed.{measuring_of}
 use Rattle.fr_observe.specs.Faults.{stated_flutter}
-use Rattle.fr_observe.specs.Zeros.{OthersMayBeZero}
-use Rattle.fr_observe.proofs.zeros.others_may_be_0.Given as goal
+use Rattle.fr_judging.specs.Zeros.{OthersMayBeZero}
+use Rattle.fr_judging.proofs.zeros.others_may_be_0.Given as goal
 
 -- what is so of those that are left is so of all
 abbrev pub invariant-loop-other : goal.invariant-loop-other

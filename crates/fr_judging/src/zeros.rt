@@ -6,12 +6,10 @@ ghost use Rattle.fr_course.specs.Near.{IsMeasuring, IsNearCourse, IsReadingScale
 ghost use Rattle.fr_sightings.specs.Ranges.{IsProperSender};
 ghost use Rattle.fr_observe.specs.Faults.{stated_flutter};
 ghost use Rattle.fr_observe.specs.Scenes.{IsScene};
-ghost use Rattle.fr_observe.specs.Zeros.{HasRoom, OthersMayBeZero, MayBeZero, value_for};
+ghost use Rattle.fr_judging.specs.Zeros.{MayMeet, OthersMayBeZero, MayBeZero, seen_for, value_for};
 
-use crate::scene::Scene;
-use crate::sender_faults::measuring_of;
-use crate::term::Term;
 use fr_course::{Course, Interval, Measuring, Scale, between};
+use fr_observe::{Scene, Term, stated_flutter, step_of, terms_of};
 use fr_sightings::Sender;
 
 // Whether 0 lies in an interval.
@@ -21,13 +19,25 @@ fn may_be_0(interval: &Interval) -> bool
     interval.low <= 0 && 0 <= interval.high
 }
 
-// Whether it lies in what was seen, if anything was.
-pub(crate) fn seen_may_be_0(seen: Option<Interval>) -> bool
+// Whether it lies in one that may be without limits.
+fn may_be_0_if(seen: Option<Interval>) -> bool
     ensures { result ≡ true → IfSome seen MayBeZero }
 {
     match seen {
         None => true,
         Some(seen) => may_be_0(&seen),
+    }
+}
+
+// Whether a term of a sender may be 0 by what is seen of it.
+fn seen_may_be_0(what: Term, scale: &Scale, sender: &Sender) -> bool
+    requires scale { IsReadingScale scale.now }
+    requires sender { IsProperSender scale.now sender.now }
+    ensures { result ≡ true → IfSome (seen_for what scale.now sender.now) MayBeZero }
+{
+    match what {
+        Term::Offset => may_be_0_if(terms_of(scale, sender)),
+        Term::Rate => may_be_0_if(step_of(scale, sender)),
     }
 }
 
@@ -107,7 +117,7 @@ fn has_room(
     requires sender { EndWithin (pos 1_900_000_000_000_000_000) sender.now }
     requires ahead { IsWithin (pos 16_000) ahead }
     requires lengths { EndWithin (pos 930_000_000_000_000_000) lengths.now }
-    ensures { result ≡ true → HasRoom scale.now receiver.now sender.now ahead lengths.now }
+    ensures { result ≡ true → MayMeet scale.now receiver.now sender.now ahead lengths.now }
 {
     take_at_most(
         scale,
@@ -211,18 +221,30 @@ fn other_may_be_0(
 }
 
 // Whether all values that a sender has of the others may be 0.
-pub(crate) fn others_may_be_0(what: Term, scene: &Scene<'_>, sender: &Sender) -> bool
+fn others_may_be_0(what: Term, scene: &Scene<'_>, sender: &Sender) -> bool
     requires scene { IsScene scene.now }
     requires sender { IsProperSender scene.now.scale.now sender.now }
     ensures { result ≡ true → OthersMayBeZero what scene.now.scale.now
         (measuring_of scene.now.params.now (stated_flutter scene.now.params.now scene.now.log.now)) sender.now
         scene.now.senders.now }
 {
-    let measuring = measuring_of(scene);
+    let measuring = Measuring::of(scene.params, stated_flutter(scene.params, scene.log));
     for other in scene.senders {
         if !other_may_be_0(what, scene.scale, &measuring, sender, other) {
             return false;
         }
     }
     true
+}
+
+/// Whether a term of a sender may be 0, and so may all values that it has of the others: then nothing contradicts the term.
+pub(crate) fn term_may_be_0(what: Term, scene: &Scene<'_>, sender: &Sender) -> bool
+    requires scene { IsScene scene.now }
+    requires sender { IsProperSender scene.now.scale.now sender.now }
+    ensures seen { result ≡ true → IfSome (seen_for what scene.now.scale.now sender.now) MayBeZero }
+    ensures others { result ≡ true → OthersMayBeZero what scene.now.scale.now
+        (measuring_of scene.now.params.now (stated_flutter scene.now.params.now scene.now.log.now)) sender.now
+        scene.now.senders.now }
+{
+    seen_may_be_0(what, scene.scale, sender) && others_may_be_0(what, scene, sender)
 }

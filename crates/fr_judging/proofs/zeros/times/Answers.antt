@@ -2,7 +2,7 @@ use Rattle.std.proofs.Common.{FitsSigned, arith}
 use Rattle.std.specs.Prelude.{◌*ℤ◌}
 use mir.Syntax.{w128}
 use Rattle.std.proofs.lemmas.Int.{ints, fits_signed_mul, to_z-of_z}
-use Rattle.fr_observe.proofs.zeros.times.Goals as goal
+use Rattle.fr_judging.proofs.zeros.times.Goals as goal
 
 pub returns : goal.returns
 returns c =

@@ -2,7 +2,7 @@ use Rattle.std.proofs.Common.{FitsSigned, ℤ, subst, arith}
 use Rattle.std.specs.Prelude.{◌*ℤ◌, ◌≤ℤ◌}
 use mir.Syntax.{w128}
 use Rattle.std.proofs.lemmas.Int.{ints, to_z-of_z}
-use Rattle.fr_observe.proofs.zeros.has_room.Goals as goal
+use Rattle.fr_judging.proofs.zeros.has_room.Goals as goal
 
 pub returns-then-take_at_most : goal.returns-then-take_at_most
 returns-then-take_at_most c = λ is.

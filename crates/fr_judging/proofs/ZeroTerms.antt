@@ -22,7 +22,8 @@ use Rattle.fr_course.proofs.Floors.{ceiling_above, ceiling_below, floor_above, f
 use Rattle.fr_sightings.specs.declared.sender.Sender.{Sender}
 use Rattle.fr_observe.specs.Faults.{further_of, offset_fault, other_courses, rate_fault, stated_flutter, unlike_fault, unlike_with}
 use Rattle.fr_observe.specs.Observing.{terms_of}
-use Rattle.fr_observe.specs.Zeros.{HasRoom, MayBeZero, OthersMayBeZero, value_for}
+use Rattle.fr_judging.specs.Missing.{unlike_term}
+use Rattle.fr_judging.specs.Zeros.{MayMeet, MayBeZero, OthersMayBeZero, seen_for, value_for}
 use Rattle.fr_observe.specs.declared.term.Term.{Term}
 use Rattle.fr_observe.specs.declared.term.Term.TheVariants as term
 
@@ -149,7 +150,7 @@ module _ (scale : Scale) (receiver sender : Course) (some : pos 1 ≤ℤ scale.m
   abbrev exchanged : Interval → Interval
   exchanged lengths = record { low = lengths.high; high = lengths.low }
 
-  room-zero : (lengths : Interval) → HasRoom scale receiver.odd sender.odd ahead_by lengths → MayBeZero (between (macrotick_in lengths) sender.odd)
+  room-zero : (lengths : Interval) → MayMeet scale receiver.odd sender.odd ahead_by lengths → MayBeZero (between (macrotick_in lengths) sender.odd)
   room-zero lengths room =
       let more : pos 0 <ℤ scale.macros = above_none scale.macros some in
       record {
@@ -170,13 +171,13 @@ module _ (scale : Scale) (receiver sender : Course) (some : pos 1 ≤ℤ scale.m
       rest : (s r share micro : ℤ) → share ≤ℤ ((s -ℤ r) +ℤ micro) → pos 0 ≤ℤ (s -ℤ ((r +ℤ share) -ℤ micro))
       rest s r share micro le = omega (arith, ints)
 
-  pub ahead-zero : int_le (pos 0) ahead_by ≡ true → HasRoom scale receiver.odd sender.odd ahead_by receiver.length
+  pub ahead-zero : int_le (pos 0) ahead_by ≡ true → MayMeet scale receiver.odd sender.odd ahead_by receiver.length
       → MayBeZero (between (odd_macrotick scale receiver sender.action) sender.odd)
   ahead-zero is room =
       subst (λ (b : Bool). MayBeZero (between (if b then macrotick_in receiver.length else macrotick_in (exchanged receiver.length)) sender.odd)) (sym is)
       (room-zero receiver.length room)
 
-  pub before-zero : int_le (pos 0) ahead_by ≡ false → HasRoom scale receiver.odd sender.odd ahead_by (exchanged receiver.length)
+  pub before-zero : int_le (pos 0) ahead_by ≡ false → MayMeet scale receiver.odd sender.odd ahead_by (exchanged receiver.length)
       → MayBeZero (between (odd_macrotick scale receiver sender.action) sender.odd)
   before-zero is room =
       subst (λ (b : Bool). MayBeZero (between (if b then macrotick_in receiver.length else macrotick_in (exchanged receiver.length)) sender.odd)) (sym is)
@@ -346,3 +347,8 @@ module _ (p : Values) (l : LogView) (scale : Scale) (double lost : ℕ) (senders
       damped : (found : Option Interval) → Holds found → Holds (option_map (further_by measuring.damping) found)
       damped None may = tt
       damped (Some found) may = record { low = omega (arith, ints, may.low); high = omega (arith, ints, may.high) }
+
+  pub term-none : (what : Term) → IfSome (seen_for what scale s) MayBeZero → OthersMayBeZero what scale measuring s senders
+      → unlike_term what p l scale double senders s lost ≡ None
+  term-none term.Offset seen may = offset-none seen may
+  term-none term.Rate seen may = rate-none seen may

@@ -1,8 +1,8 @@
 use Rattle.std.proofs.Common.{sym, subst}
-use Rattle.fr_observe.specs.Zeros.{MayBeZero, value_for}
+use Rattle.fr_judging.specs.Zeros.{MayBeZero, value_for}
 use Rattle.fr_observe.specs.declared.term.Term.{Term}
-use Rattle.fr_observe.proofs.ZeroTerms.{deviation-zero, rate-zero}
-use Rattle.fr_observe.proofs.zeros.value_may_be_0.Goals as goal
+use Rattle.fr_judging.proofs.ZeroTerms.{deviation-zero, rate-zero}
+use Rattle.fr_judging.proofs.zeros.value_may_be_0.Goals as goal
 
 pub returns-in-Offset : goal.returns-in-Offset
 returns-in-Offset c = λ is.
