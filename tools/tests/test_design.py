@@ -238,10 +238,10 @@ class Topologies(Bench):
             return [line for line in text.splitlines() if re.match(rf"(?:{kind} )?C\d", line)], text
 
         lines, text = asked(p)
-        self.assertTrue(all(" holds " in line for line in lines), text)
+        self.assertEqual([line.split()[-4] for line in lines if " holds " not in line], ["C1"] if told.design.task.held else [], text)
         self.assertIn(f"{kind} precision {told.design.bounds['precision']}\n", text)
         self.assertIn("lasts on\n", text)
-        named = [one for one in told.neighbours if one.check]
+        named = [one for one in told.neighbours if one.check or one.lasts is not None]
         self.assertGreaterEqual(len(named), 2)
         for one in named:
             changed = dict(p)
@@ -251,8 +251,9 @@ class Topologies(Bench):
                 changed[one.parameter] -= 1
                 changed["gdStaticSlot"] -= one.parameter == "gdActionPointOffset"
             changed["gdNIT"] = changed["gMacroPerCycle"] - changed["gNumberOfStaticSlots"] * changed["gdStaticSlot"]
-            lines = asked(changed)[0]
-            self.assertTrue(any(line.endswith("{} fails {} {}".format(*one.check)) for line in lines), (one, lines))
+            lines, text = asked(changed)
+            self.assertTrue(one.check is None or any(line.endswith("{} fails {} {}".format(*one.check)) for line in lines), (one, lines))
+            self.assertTrue(one.lasts is None or f"lasts {one.lasts}\n" in text, (one, text))
 
     def test_the_example(self):
         """The page that stands beside the example."""
@@ -273,7 +274,9 @@ class Topologies(Bench):
             text = self.flexray("bound", self.path("chain", name), "sharp", "200000")[1]
             failing = re.findall(r"^(?:alone )?(C\d) fails", text, re.M)
             if name == "design.csv":
-                self.assertEqual(failing, [])
+                self.assertEqual((failing, "\nlasts on\n" in text), (["C1"], True))
+            elif "held" in name:
+                self.assertRegex(text, r"\nlasts [1-9]\d*\n")
             else:
                 self.assertIn(name[3:5], failing)
 
@@ -295,6 +298,9 @@ class Topologies(Bench):
         p = found["design"]["parameters"]
         self.assertEqual((p["gMacroPerCycle"], p["pClusterDriftDamping"], found["kept"]),
                          (800, 4, {"gMacroPerCycle": 800, "pClusterDriftDamping": 4}))
+        none = json.loads(self.flexlab("design", "bus.toml", "--json", "--keep", "pClusterDriftDamping=0", status=1)[0])
+        self.assertEqual([(one["demand"], one["parameter"]) for one in none["in_the_way"]], [("held walk", "pClusterDriftDamping")])
+        self.write("bus.toml", BUS.replace("change_ppm_per_cycle = 0", "change_ppm_per_cycle = 1"))
         none = json.loads(self.flexlab("design", "bus.toml", "--json", "--keep", "pClusterDriftDamping=1", status=1)[0])
         self.assertEqual([(one["demand"], one["parameter"]) for one in none["in_the_way"]], [("C1", "pClusterDriftDamping")])
         for words, told in ((("--keep", "gdNIT=3"), "NAME one of"), (("--keep", "gdStaticSlot=0"), "is from 2 to 1000"),
@@ -324,7 +330,10 @@ class Topologies(Bench):
     def test_around_a_cluster(self):
         sharp = os.path.join(REPOSITORY, "examples", "sharp", "sharp.toml")
         out = self.one_line(self.flexlab("design", sharp, "--keep", "gMacroPerCycle=3636", "--flutter-ns", "1")[0])
-        self.assertIn("Verdict yes: 0.906 us is the least proved precision that there is, with what is kept", out)
+        self.assertIn("Verdict yes: 0.756 us is the least proved precision that there is, with what is kept", out)
+        self.assertIn("all checks but C1 hold by flexray bound, the walk is held, and with each free parameter at one less", out)
+        self.assertIn("Held walk C1 fails by 0.040 microticks, but the walk is held: oscillators do not change", out)
+        self.assertRegex(out, r"pClusterDriftDamping 1 0\.025 at 0 the walk is not held: sync lasts \d+ double cycles")
         self.assertIn("Now the file's own parameters have 0.906 us", out)
         self.assertIn("is a cluster and no topology", self.flexlab("design", sharp, "-o", "x.toml", status=2)[1])
 

@@ -75,11 +75,10 @@ def lasting_words(run: Run, ms_of_cycle: Callable[[int, Cluster], Fraction]) -> 
         return None
     if not lasts:
         return "NOT PROVED: C1 fails, and the rate limit holds the walk of all rates for no double cycle"
-    told = (f"{lasts} double cycles from there ({lasting(ms_of_cycle(2 * lasts, run.cluster))}), since {run.sharp.bounds.ending}: the "
-            "rates of all may walk together")
+    told = (f"{lasts} double cycles from there ({lasting(ms_of_cycle(2 * lasts, run.cluster))}), since {run.sharp.bounds.ending}")
     if end is None:
-        return f"proved of {told}, to the end of this run"
-    return f"PROVED IN PART, of {told}, not from cycle {2 * end} on"
+        return f"proved of {told}: to the end of this run"
+    return f"PROVED IN PART, of {told}: not from cycle {2 * end} on"
 
 
 def skew_lines(run: Run, field: Lines) -> list[str]:
