@@ -15,7 +15,7 @@ from flexlab.base.units import TICKS, decimal
 from flexlab.design import solving
 from flexlab.design.confirming import Nodes, confirm, parameters_of
 from flexlab.design.request import nodes_of_network, wish_of_network
-from flexlab.design.solving import BEHIND, Design, NoDesign, Raise, Task, compensations, least, search
+from flexlab.design.solving import BEHIND, Design, NoDesign, Raise, Task, best_at, compensations, least, search
 from flexlab.design.tasks import Wish, tasks_of
 from flexlab.design.topology import read_network
 from flexlab.runs.least import Kind, Sides, holds, sharp_bounds_of
@@ -62,6 +62,14 @@ def random_task(chance, micros=2000):
                 chance.choice((0, 1500000, 9000000)), 0, chance.choice((None, Fraction(500))), chance.choice((0, 0, 100000)))
 
 
+def is_walk_held(task, p):
+    """Whether lengths walk, by less than two thirds of the shortest microtick, and the rate limit has room for almost one and that."""
+    short, damping = TICKS - task.rate, p["pClusterDriftDamping"]
+    walk = task.kind.flutter - 1 + (short - damping * short if damping else TICKS + task.rate)
+    room = p["pRateCorrectionOut"] * short - 2 * p["pMicroPerCycle"] * task.rate
+    return not task.join and not task.change and 0 < 3 * walk < 2 * short and room - walk >= short - 1
+
+
 def meets(task, p, behind):
     """Whether these parameters meet all that is asked, by the sides of the checks and by the formulas as docs/FLEXLAB.md has them."""
     sides, macros = sharp_bounds_of(p, task.kind), p["gMacroPerCycle"]
@@ -69,7 +77,7 @@ def meets(task, p, behind):
     for number in (1, 2, 3, 4, 5, 6, 7, 8, 9) if task.join else (1, 2, 3, 4, 5):
         left, right = sides[number]
         right += 0 if number in (1, 2, 6) else margin * (1 if number in (3, 7) else macros)
-        if not holds(number, Sides(left, right)):
+        if not (is_walk_held(task, p) if task.held and number == 1 else holds(number, Sides(left, right))):
             return False
     # The last arrival and the bits behind it end before the slot does, by the shortest microticks in the longest slot.
     apart = sides["reach" if task.join else "near"] + margin
@@ -102,14 +110,15 @@ class LeastSolutions(unittest.TestCase):
     def brute(self, seed, count, reach):
         """Random tasks: each point of a box from the bottom of all ranges that meets what is asked lies in each part at or above
         what is found, which meets it itself."""
-        chance, found, points = random.Random(seed), 0, 0
+        chance, found, points, held = random.Random(seed), 0, 0, 0
         for _ in range(count):
             task = random_task(chance)
             macros = chance.randint(10, 50)
+            task = task.with_held_walk or task if chance.random() < 0.7 else task
             one = least(task, macros)
             if isinstance(one, NoDesign):
                 continue
-            found += 1
+            found, held = found + 1, held + task.held
             values = five(one)
             self.assertTrue(meets(task, *at(task, macros, values)), (task, macros, values))
             box = [range(max(low, value - reach), value + 2) for low, value in zip((0, 1, 1, 1, 1), values)]
@@ -117,12 +126,34 @@ class LeastSolutions(unittest.TestCase):
                 points += 1
                 if any(mine < value for mine, value in zip(point, values)):
                     self.assertFalse(meets(task, *at(task, macros, point)), (task, macros, values, point))
-        return found, points
+        return found, points, held
 
     def test_no_point_that_meets_all_lies_below(self):
-        found, points = self.brute(1, 60, 2)
+        found, points, held = self.brute(1, 60, 2)
         self.assertGreater(found, 15)
         self.assertGreater(points, 5000)
+        self.assertGreater(held, 2)
+
+    def test_a_held_walk_is_taken_where_it_is_better(self):
+        """No point that meets all by C1 or by a held walk has a lower precision, or a shorter slot by that purpose."""
+        chance, held = random.Random(8), 0
+        for _ in range(24):
+            task = replace(random_task(chance), change=0, join=False)
+            task = replace(task, kind=replace(task.kind, flutter=chance.choice((2, 40000, 660000, 700000, 999998, 1200000))))
+            macros, purpose = chance.randint(10, 50), chance.choice(("precision", "slot"))
+            one = best_at(task, macros, purpose)
+            if isinstance(one, NoDesign):
+                continue
+            self.assertTrue(meets(one.task, *at(one.task, macros, five(one))))
+            held += one.task.held
+            box = [range(4), *(range(max(1, value - 2), value + 2) for value in five(one)[1:])]
+            for point in itertools.product(*box):
+                if purpose == "slot" and point[3] + point[4] >= one.parameters["gdStaticSlot"]:
+                    continue
+                p, behind = at(task, macros, point)
+                if purpose == "slot" or sharp_bounds_of(p, task.kind)["precision"] < one.bounds["precision"]:
+                    self.assertFalse(meets(task, p, behind) or meets(replace(task, held=True), p, behind), (task, macros, five(one), point))
+        self.assertGreater(held, 5)
 
     def test_from_the_bottom_of_all_ranges(self):
         """One goal, and all sets of the five parameters from the bottom on."""
