@@ -190,10 +190,11 @@ def held_lines(answer: Answer) -> list[str]:
     if not design.task.held:
         return []
     left, right = design.bounds[1]
-    return field("Held walk", f"C1 fails by {decimal(Fraction(right - left, TICKS), 3)} microticks, but the walk is held: oscillators do not "
-                              "change, and lengths walk by less than two thirds of a microtick in a double cycle, so they come less than "
-                              "one beyond their range, for which the rate limit has room. Where frames are lost it is proved of "
-                              f"{design.bounds.walks} double cycles only; a damping of one more meets C1")
+    short = decimal(Fraction(right - left, TICKS), 3)
+    return field("Held walk", f"C1 fails by {short} microticks, but the walk is held: oscillators do not change, and lengths walk by less "
+                              "than two thirds of a microtick in a double cycle, so they come less than one beyond their range, for which "
+                              f"the rate limit has room. Where frames are lost it is proved of {design.bounds.walks} double cycles only; "
+                              "a damping of one more meets C1")
 
 
 def note_lines(answer: Answer) -> Iterator[str]:
@@ -233,7 +234,8 @@ def why_words(why: NoDesign) -> str:
         return "slots and offset correction have no room in the cycle"
     if why.name == "kept":
         return "the kept gdStaticSlot is too short for action point and what is behind it"
-    return f"{'a held walk' if why.name == HELD else OTHERS.get(why.name, why.name)} asks for more {named(why.parameter)} than its range or what is kept allows"
+    who = "a held walk" if why.name == HELD else OTHERS.get(why.name, why.name)
+    return f"{who} asks for more {named(why.parameter)} than its range or what is kept allows"
 
 
 def no_page(answer: Answer) -> str:
