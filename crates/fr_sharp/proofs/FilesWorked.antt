@@ -22,15 +22,17 @@ use Rattle.fr_runs.proofs.Nodes.{correct_node}
 use Rattle.fr_script.specs.Deeds.{deed_in}
 use Rattle.fr_script.specs.Events.{event_of}
 use Rattle.fr_script.specs.View.{deed_of, is_arbitrary, join_of}
+use Rattle.fr_sharp.specs.HeldWalks.{sync_lasts}
 use Rattle.fr_sharp.specs.Lengths.{IsAboutCycle}
 use Rattle.fr_sharp.specs.SettlingHistories.{AreStatedNear}
 use Rattle.fr_bound.specs.SharpBounds.{last_of, sharp_lambda, sharp_near, sharp_pi}
-use Rattle.fr_bound.specs.SharpChecks.{sharp_holds_of, SharpChecksHold}
+use Rattle.fr_bound.specs.SharpChecks.{SharpChecksHold}
+use Rattle.fr_sharp.specs.SharpFiles.{CoveredFilesKeepSharply}
 use Rattle.fr_sharp.specs.SharpHistories.{IsInSharpSyncAt, IsSteadyRun}
 use Rattle.fr_sharp.specs.SharpStatement.{has_arbitrary, IsSharplyCovered, KeepsSharply}
 use Rattle.fr_sharp.specs.WorkedFiles.{fluttering_drift, marking_script, FlutteringFilesAreCovered, FlutteringFilesKeepSharply}
 use Rattle.fr_sharp.specs.WorkedRun.{steady_cluster}
-use Rattle.fr_sharp.proofs.FromFiles.{covered_files_keep_sharply, files_give_steady_runs}
+use Rattle.fr_sharp.proofs.FromFiles.{files_give_steady_runs}
 use Rattle.fr_sharp.proofs.RunStated.{stated_runs_begin_in_sharp_sync}
 use Rattle.fr_sharp.proofs.SharpWorked.{is_sane}
 
@@ -161,8 +163,8 @@ three_doubles : (beside : Bool) → 1 ≤ (worked beside).doubles
 unfolding doubles_of
 three_doubles beside = lit≤ tt
 
-first_holds : (beside : Bool) → sharp_holds_of 1 250 (sharp_near beside steady_cluster 250) steady_cluster ≡ true
-first_holds beside = refl
+lasts_on : sync_lasts steady_cluster 250 ≡ None
+lasts_on = refl
 
 steady : (beside : Bool) (h : Cycles) → IsRunOf (worked beside) h → IsSteadyRun beside (worked beside) 250 h
 steady beside h run =
@@ -170,12 +172,12 @@ steady beside h run =
     let Steady : Bool → Type 0 = λ b. IsSteadyRun b (worked beside) 250 h in
     subst Steady (kind_is beside) (files_give_steady_runs steady_cluster fluttering_drift (marking_script beside) 250 h is_sane c.none c.flutters c.none_joins run)
 
-pub fluttering_files_keep_sharply : FlutteringFilesKeepSharply
-fluttering_files_keep_sharply beside h run =
+pub fluttering_files_keep_sharply : CoveredFilesKeepSharply → FlutteringFilesKeepSharply
+fluttering_files_keep_sharply keep beside h run =
     let x : Setting = worked beside in
     let sync : IsInSharpSyncAt beside steady_cluster 250 (pos 0) h 0 = stated_runs_begin_in_sharp_sync beside x 250 h (steady beside h run) (stated_near beside) (three_doubles beside) in
     let In : Bool → Type 0 = λ b. IsInSharpSyncAt b steady_cluster 250 (pos 0) h 0 in
     let Keeps : Bool → Type 0 = λ b. KeepsSharply b x 250 h 0 in
     let kept : KeepsSharply beside x 250 h 0 =
-    subst Keeps (kind_is beside) (covered_files_keep_sharply steady_cluster fluttering_drift (marking_script beside) 250 h 0 is_sane (covered beside) run (subst In (sym (kind_is beside)) sync)) in
-    (sync, kept, kept.always (first_holds beside))
+    subst Keeps (kind_is beside) (keep steady_cluster fluttering_drift (marking_script beside) 250 h 0 is_sane (covered beside) run (subst In (sym (kind_is beside)) sync)) in
+    (sync, kept, kept.always lasts_on)

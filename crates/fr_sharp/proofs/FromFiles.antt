@@ -1,9 +1,9 @@
 -- The run that files decide is a steady one where it has no gap but of the checks, and keeps the sharper precision where it is
 -- sharply covered.
-use Rattle.std.proofs.Common.{◌≡◌, ℕ, suc, ◌+◌, ◌*◌, ◌-◌, ◌<◌, ◌≤◌, ◌==◌, ℤ, pos, Bool, true, false, ◌&&◌, not, Option, Some, None, List, [], ◌∷◌, refl, sym, ◌∙◌, subst, ◌⊎◌, inl, inr, arith}
-use Rattle.std.specs.Prelude.{◌-ℤ◌, ◌≤ℤ◌, ◌/◌, nat_abs, int_le, Contains, count_by, is_some}
+use Rattle.std.proofs.Common.{◌≡◌, ℕ, suc, ◌+◌, ◌*◌, ◌-◌, ◌<◌, ◌≤◌, ◌==◌, ℤ, pos, Bool, true, false, ◌&&◌, not, Option, Some, None, IfSome, if◌then◌else◌, List, [], ◌∷◌, refl, ap, sym, ◌∙◌, subst, ◌⊎◌, inl, inr, arith}
+use Rattle.std.specs.Prelude.{◌-ℤ◌, nat_abs, Contains, count_by, is_some}
 use Rattle.std.specs.List.{list_any}
-use Rattle.std.proofs.lemmas.Bool.{and_parts, cases_eq, eq-eqb, ne_eqb, not-true, or_parts}
+use Rattle.std.proofs.lemmas.Bool.{and_parts, eq-eqb, ne_eqb, not-true, or_parts}
 use Rattle.std.proofs.lemmas.Int.{ints}
 use Rattle.fr_base.specs.Within.{IsWithin}
 use Rattle.fr_base.specs.declared.channel.Channel.{Channel}
@@ -25,16 +25,16 @@ use Rattle.fr_runs.specs.Links.{IsLinked, Share}
 use Rattle.fr_runs.proofs.Nodes.{correct_node}
 use Rattle.fr_promise.proofs.Covering.{few_nodes, nodes_keep_within, HaveNoGapOfRun}
 use Rattle.fr_sharp.specs.Flutter.{FluttersWithin}
+use Rattle.fr_sharp.specs.HeldHistories.{HeldHistoriesKeepSharpSync, HistoriesKeepForEver, IsHeldAt}
+use Rattle.fr_sharp.specs.HeldWalks.{beyond_after, beyond_for_ever, walk_is_held, SyncLastsAfter, SyncLastsUpTo}
 use Rattle.fr_sharp.specs.Lengths.{walked_after}
-use Rattle.fr_bound.specs.SharpBounds.{rate_room, rate_walk, sharp_near, sharp_precision, walk_lasts}
-use Rattle.fr_bound.specs.SharpChecks.{sharp_holds_of, SharpChecksHold}
-use Rattle.fr_sharp.specs.SharpFiles.{ArbitraryIsTold, CoveredFilesKeepSharply, FilesAreSteady, FilesFlutter, FilesGiveSteadyRuns, FilesSettleSharply, FirstCheckLastsOn}
+use Rattle.fr_bound.specs.SharpBounds.{sharp_near, sharp_precision}
+use Rattle.fr_bound.specs.SharpChecks.{SharpChecksHold}
+use Rattle.fr_sharp.specs.SharpFiles.{ArbitraryIsTold, CoveredFilesKeepSharply, FilesAreSteady, FilesFlutter, FilesGiveSteadyRuns, FilesSettleSharply}
 use Rattle.fr_sharp.specs.SharpHistories.{IsInSharpSyncAt, IsSteadyRun, KeepsApart, StaysInSharpSyncAt}
 use Rattle.fr_sharp.specs.SharpStatement.{has_arbitrary, FilesKeepSharpPrecision, KeepsSharply}
 use Rattle.fr_sharp.specs.SteadyRuns.{MayHaveArbitrary}
-use Rattle.fr_sharp.proofs.BoundLemmas.{first_check_stops_walk}
-use Rattle.fr_sharp.proofs.OlderLemmas.{does_not_walk}
-use Rattle.fr_sharp.proofs.RunCycles.{histories_keep_sharp_precision}
+use Rattle.fr_sharp.proofs.HeldRuns.{never_lasts}
 use Rattle.fr_sharp.proofs.RunWay.{stated_runs_settle_sharply}
 use Rattle.fr_sharp.proofs.RunSync.{histories_keep_sharp_sync_lem}
 
@@ -153,53 +153,60 @@ files_give_steady_runs p d s flutter h sane none le alone run = record {
 
 -- ---- what they keep
 
-pub first_check_lasts_on : FirstCheckLastsOn
-first_check_lasts_on p flutter reach sane = (λ holds. does_not_walk p flutter ((first_check_stops_walk p flutter reach sane).0 holds), λ still. (first_check_stops_walk p flutter reach sane).1 (stands p flutter still))
-  where
-    stands : (p : Values) (flutter : ℕ) → walk_lasts p flutter ≡ None → rate_walk p flutter ≤ℤ pos 0
-    stands p flutter still = by (int_le (rate_walk p flutter) (pos 0)) refl
-      where
-        by : (b : Bool) → int_le (rate_walk p flutter) (pos 0) ≡ b → rate_walk p flutter ≤ℤ pos 0
-        by true is = grind (arith, ints)
-        by false is =
-            let some : walk_lasts p flutter ≡ Some (rate_room p / nat_abs (rate_walk p flutter)) = rw is refl in
-            let e = sym some ∙ still in absurd (cc)
-
-module _ (beside : Bool) (p : Values) (d : DriftView) (s : ScriptView) (flutter : ℕ) (h : Cycles) (double : ℕ) (run : IsSteadyRun beside (setting_of p d s) flutter h)
-    (checks : SharpChecksHold flutter (sharp_near beside p flutter) p) (sync : IsInSharpSyncAt beside p flutter (pos 0) h double) where
+module _ (each : HeldHistoriesKeepSharpSync) (precise : HistoriesKeepForEver) (beside : Bool) (p : Values) (d : DriftView) (s : ScriptView) (flutter : ℕ) (h : Cycles) (double : ℕ)
+    (run : IsSteadyRun beside (setting_of p d s) flutter h) (checks : SharpChecksHold flutter (sharp_near beside p flutter) p) (sync : IsInSharpSyncAt beside p flutter (pos 0) h double) where
   stays : (k : ℕ) → double ≤ k → k < doubles_of d → StaysInSharpSyncAt beside (setting_of p d s) flutter h double (k - double)
   stays k from within = histories_keep_sharp_sync_lem beside (setting_of p d s) flutter h double run checks sync (k - double) (omega (arith, from, within))
 
-  all_checks : sharp_holds_of 1 flutter (sharp_near beside p flutter) p ≡ true → (k : ℕ) → 1 ≤ k → k ≤ 5 → sharp_holds_of k flutter (sharp_near beside p flutter) p ≡ true
-  all_checks first k from to = by (cases_eq k 1)
+  held_at : walk_is_held p flutter ≡ true → (k : ℕ) → double ≤ k → k < doubles_of d → IsHeldAt beside (setting_of p d s) flutter h k
+  held_at held k from within =
+      let same : double + (k - double) ≡ k = omega (arith, from) in
+      subst (IsHeldAt beside (setting_of p d s) flutter h) same (each beside (setting_of p d s) flutter h double run checks held sync (k - double) (omega (arith, from, within)))
+
+  keeps_at : (k : ℕ) → double ≤ k → k < doubles_of d → SyncLastsAfter p flutter (k - double) → KeepsApart (setting_of p d s) h k (sharp_precision beside p flutter)
+  keeps_at k from within lasts = by (walk_is_held p flutter) refl
     where
-      by : (k ≡ 1) ⊎ (k ≡ 1 → ⊥) → sharp_holds_of k flutter (sharp_near beside p flutter) p ≡ true
-      by (inl one) = let Holds : ℕ → Type 0 = λ n. sharp_holds_of n flutter (sharp_near beside p flutter) p ≡ true in subst Holds (sym one) first
-      by (inr more) = checks k (omega (arith, from, more)) to
+      by : (b : Bool) → walk_is_held p flutter ≡ b → KeepsApart (setting_of p d s) h k (sharp_precision beside p flutter)
+      by true held = (held_at held k from within).keeps
+      by false never =
+          let same : double + (k - double) ≡ k = omega (arith, from) in
+          let At : ℕ → Type 0 = λ m. KeepsApart (setting_of p d s) h m (sharp_precision beside p flutter) in
+          let Lasts : Option ℕ → Type 0 = λ o. IfSome o (λ lasts. k - double < lasts) in
+          subst At same ((stays k from within).keeps (subst Lasts (never_lasts p flutter never) lasts))
+
+  synced_at : (k : ℕ) → double ≤ k → k < doubles_of d → SyncLastsUpTo p flutter (k - double) → IsInSharpSyncAt beside p flutter (beyond_after p flutter (k - double)) h k
+  synced_at k from within lasts = by (walk_is_held p flutter) refl
+    where
+      by : (b : Bool) → walk_is_held p flutter ≡ b → IsInSharpSyncAt beside p flutter (beyond_after p flutter (k - double)) h k
+      by true held =
+          let Beyond : ℤ → Type 0 = λ beyond. IsInSharpSyncAt beside p flutter beyond h k in
+          let beyond : beyond_after p flutter (k - double) ≡ beyond_for_ever p flutter =
+          ap (λ b. if b then beyond_for_ever p flutter else walked_after p flutter (k - double)) held in
+          subst Beyond (sym beyond) (held_at held k from within).synced
+      by false never =
+          let same : double + (k - double) ≡ k = omega (arith, from) in
+          let At : ℕ → Type 0 = λ m. IsInSharpSyncAt beside p flutter (walked_after p flutter (k - double)) h m in
+          let Lasts : Option ℕ → Type 0 = λ o. IfSome o (λ lasts. k - double ≤ lasts) in
+          let Beyond : ℤ → Type 0 = λ beyond. IsInSharpSyncAt beside p flutter beyond h k in
+          let beyond : beyond_after p flutter (k - double) ≡ walked_after p flutter (k - double) =
+          ap (λ b. if b then beyond_for_ever p flutter else walked_after p flutter (k - double)) never in
+          subst Beyond (sym beyond) (subst At same ((stays k from within).synced (subst Lasts (never_lasts p flutter never) lasts)))
 
   pub keeps_sharply : KeepsSharply beside (setting_of p d s) flutter h double
   keeps_sharply = record {
-    keeps =
-        λ k from within lasts.
-        let same : double + (k - double) ≡ k = omega (arith, from) in
-        let At : ℕ → Type 0 = λ m. KeepsApart (setting_of p d s) h m (sharp_precision beside p flutter) in
-        subst At same ((stays k from within).keeps lasts);
-    synced =
-        λ k from within lasts.
-        let same : double + (k - double) ≡ k = omega (arith, from) in
-        let At : ℕ → Type 0 = λ m. IsInSharpSyncAt beside p flutter (walked_after p flutter (k - double)) h m in
-        subst At same ((stays k from within).synced lasts);
-    always = λ first. histories_keep_sharp_precision beside (setting_of p d s) flutter h double run (all_checks first) sync;
+    keeps = keeps_at;
+    synced = synced_at;
+    always = λ lasts. precise beside (setting_of p d s) flutter h double run checks lasts sync;
   }
 
-pub covered_files_keep_sharply : CoveredFilesKeepSharply
-covered_files_keep_sharply p d s flutter h double sane covered run sync =
-    keeps_sharply (has_arbitrary p s) p d s flutter h double
+pub covered_files_keep_sharply : HeldHistoriesKeepSharpSync → HistoriesKeepForEver → CoveredFilesKeepSharply
+covered_files_keep_sharply each precise p d s flutter h double sane covered run sync =
+    keeps_sharply each precise (has_arbitrary p s) p d s flutter h double
     (files_give_steady_runs p d s flutter h sane covered.none covered.flutters covered.none_joins run) covered.checks sync
 
-pub files_keep_sharp_precision : FilesKeepSharpPrecision
-files_keep_sharp_precision p d s drift script flutter h double sane drift_file script_file covered run sync =
-    covered_files_keep_sharply p d s flutter h double sane covered run sync
+pub files_keep_sharp_precision : HeldHistoriesKeepSharpSync → HistoriesKeepForEver → FilesKeepSharpPrecision
+files_keep_sharp_precision each precise p d s drift script flutter h double sane drift_file script_file covered run sync =
+    covered_files_keep_sharply each precise p d s flutter h double sane covered run sync
 
 pub files_settle_sharply_lem : FilesSettleSharply
 files_settle_sharply_lem p d s flutter start rate way h sane none le alone run is holds near double within =

@@ -43,6 +43,8 @@ pub mod RunSettles
 pub mod RunStated
 pub mod RunWay
 pub mod RunCycles
+pub mod HeldSenders
+pub mod HeldRuns
 pub mod RunWorked
 pub mod RunReached
 pub mod RunHalting
@@ -94,3 +96,5 @@ pub mod JudgedLaws
 pub mod JudgedWorked
 pub mod JudgedCarried
 pub mod LevelSums
+pub mod CrowdLemmas
+pub mod LevelLemmas

@@ -1,6 +1,6 @@
 -- From sync in the older sense: in its first double cycle action points lie within the older precision, since the odd lengths lie
 -- as near as the even ones; from then on the numbers of the sharper step say so.
-use Rattle.std.proofs.Common.{◌≡◌, ℕ, zero, suc, ◌+◌, ◌*◌, ◌<◌, ◌≤◌, Bool, true, ℤ, pos, Option, Some, None, IfSome, List, map, refl, sym, subst, arith}
+use Rattle.std.proofs.Common.{◌≡◌, ℕ, zero, suc, ◌+◌, ◌*◌, ◌<◌, ◌≤◌, Bool, true, false, ℤ, pos, Option, Some, None, IfSome, List, map, refl, sym, ◌∙◌, subst, arith}
 use Rattle.std.specs.Prelude.{◌+ℤ◌, ◌*ℤ◌, ◌≤ℤ◌, ◌/◌, Contains, if◌then◌else◌, int_le, nat_abs}
 use Rattle.std.proofs.lemmas.Int.{ints}
 use Rattle.std.proofs.lemmas.List.Elements.{All-contains}
@@ -17,6 +17,7 @@ use Rattle.fr_precision.proofs.OffsetLaws.{third_check_suffices}
 use Rattle.fr_precision.proofs.StepLaws.{nodes_near, reach_fits, sync_is_spread}
 use Rattle.fr_bound.specs.SharpBounds.{last_action, rate_room, rate_walk, sharp_near, walk_lasts}
 use Rattle.fr_sharp.specs.Lengths.{walked_after}
+use Rattle.fr_sharp.specs.SharpFiles.{FirstCheckLastsOn}
 use Rattle.fr_sharp.specs.SharpSettling.{sharp_spread_after, FitsOlder}
 use Rattle.fr_sharp.specs.SharpStep.{ActInReach}
 use Rattle.fr_sharp.specs.SharpRun.{lengths_from, starts_from, BeginInSync, BeginSharp, KeepsSharp, OlderSyncSettles, WalkLastsAfter}
@@ -34,6 +35,19 @@ pub does_not_walk : (p : Values) (flutter : ℕ) → rate_walk p flutter ≤ℤ 
 does_not_walk p flutter still =
     let lasts : Option ℕ = Some (rate_room p / nat_abs (rate_walk p flutter)) in
     subst (λ (stops : Bool). (if stops then None else lasts) ≡ None) (sym (stops (rate_walk p flutter) still)) refl
+
+-- so it is exactly where the first check holds
+pub first_check_lasts_on : FirstCheckLastsOn
+first_check_lasts_on p flutter reach sane = (λ holds. does_not_walk p flutter ((first_check_stops_walk p flutter reach sane).0 holds), λ still. (first_check_stops_walk p flutter reach sane).1 (stands p flutter still))
+  where
+    stands : (p : Values) (flutter : ℕ) → walk_lasts p flutter ≡ None → rate_walk p flutter ≤ℤ pos 0
+    stands p flutter still = by (int_le (rate_walk p flutter) (pos 0)) refl
+      where
+        by : (b : Bool) → int_le (rate_walk p flutter) (pos 0) ≡ b → rate_walk p flutter ≤ℤ pos 0
+        by true is = grind (arith, ints)
+        by false is =
+            let some : walk_lasts p flutter ≡ Some (rate_room p / nat_abs (rate_walk p flutter)) = rw is refl in
+            let e = sym some ∙ still in absurd (cc)
 
 -- and stay in their range
 pub stays_in_range : (p : Values) (flutter passed : ℕ) → rate_walk p flutter ≤ℤ pos 0 → walked_after p flutter passed ≡ pos 0

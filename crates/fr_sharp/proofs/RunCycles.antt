@@ -71,6 +71,20 @@ module _ (x : Setting) (h : Cycles) (whole : length h ≡ 2 * x.doubles) (double
     after = λ node there. active_last h refl node there;
   }
 
+-- ---- where each double cycle keeps it
+
+module _ (beside : Bool) (x : Setting) (flutter : ℕ) (beyond : ℤ) (h : Cycles) (double : ℕ) (w : IsSteadyRun beside x flutter h) (some : double < x.doubles)
+    (synced : (k : ℕ) → double ≤ k → k < x.doubles → IsInSharpSyncAt beside x.params flutter beyond h k)
+    (keeps : (k : ℕ) → double ≤ k → k < x.doubles → KeepsApart x h k (sharp_precision beside x.params flutter)) where
+  pub keeps_by_cycle : KeepsSharpPrecision beside x flutter beyond h double
+  keeps_by_cycle = record {
+    synced = synced;
+    ends = λ k earlier even odd from within d. (keeps k from within).ends earlier even odd d;
+    cycles =
+        cycles_keep_apart x h w.whole double (sharp_precision beside x.params flutter) some
+        (λ k from within earlier even odd d. let own = sync_in beside x flutter h w k beyond (synced k from within) earlier even odd d in (own.active_even, own.active_odd)) keeps;
+  }
+
 -- ---- under all checks
 
 module _ (beside : Bool) (x : Setting) (flutter : ℕ) (h : Cycles) (double : ℕ) (w : IsSteadyRun beside x flutter h)
@@ -99,17 +113,11 @@ module _ (beside : Bool) (x : Setting) (flutter : ℕ) (h : Cycles) (double : �
       let At : ℕ → Type 0 = λ m. KeepsApart x h m (sharp_precision beside x.params flutter) in
       subst At same ((stays k from within).keeps (lasts (k - double)))
 
-  pub keeps_precision : KeepsSharpPrecision beside x flutter h double
+  pub keeps_precision : KeepsSharpPrecision beside x flutter (pos 0) h double
   keeps_precision =
       let whole : length h ≡ 2 * x.doubles = w.whole in
       let below : 2 * double < length h = cycle_within h (2 * double) sync.even sync.has_even in
-      record {
-        synced = synced_at;
-        ends = λ k earlier even odd from within d. (keeps_at k from within).ends earlier even odd d;
-        cycles =
-            cycles_keep_apart x h whole double (sharp_precision beside x.params flutter) (omega (arith, whole, below))
-            (λ k from within earlier even odd d. let own = sync_in beside x flutter h w k (pos 0) (synced_at k from within) earlier even odd d in (own.active_even, own.active_odd)) keeps_at;
-      }
+      keeps_by_cycle beside x flutter (pos 0) h double w (omega (arith, whole, below)) synced_at keeps_at
 
 pub histories_keep_sharp_precision : HistoriesKeepSharpPrecision
 histories_keep_sharp_precision beside x flutter h double w checks sync = keeps_precision beside x flutter h double w checks sync

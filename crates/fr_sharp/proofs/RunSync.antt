@@ -96,7 +96,7 @@ module _ (beside : Bool) (x : Setting) (flutter : ℕ) (h : Cycles) (w : IsStead
       → IsSharpDouble beside x.params flutter (senders_at x h double) (members_at x h double) (pos (last_action x.params))
   heard_with double beyond reach short = heard_of x flutter h run beside double beyond reach w.arbitrary short (w.covered.links double short)
 
-  next_at : (double : ℕ) → BeginsActive h double → AllUncut (members_at x h double) → (earlier : Cycles) (even odd : Cycle) → IsDoubleOf h (suc double) earlier even odd
+  pub next_at : (double : ℕ) → BeginsActive h double → AllUncut (members_at x h double) → (earlier : Cycles) (even odd : Cycle) → IsDoubleOf h (suc double) earlier even odd
       → IsNextDouble x.params (members_at x h double) (members_at x h (suc double))
   next_at double = next_of x flutter h run double (each_at double)
 
@@ -167,7 +167,7 @@ module _ (beside : Bool) (x : Setting) (flutter : ℕ) (h : Cycles) (w : IsStead
         in_sync = subst Odd (odds_at double f.earlier f.even f.odd f.is) (subst Even (evens_at double f.earlier f.even f.odd f.is) sync);
       }
 
-  sync_of_members : (double : ℕ) (beyond : ℤ) → double < x.doubles → IsInSharpSyncAt beside x.params flutter beyond h double
+  pub sync_of_members : (double : ℕ) (beyond : ℤ) → double < x.doubles → IsInSharpSyncAt beside x.params flutter beyond h double
       → IsInSharpSync beside x.params flutter beyond (map (λ (node : Member). node.even) (members_at x h double)) (map (λ (node : Member). node.odd) (members_at x h double))
   sync_of_members = members_in_sync x flutter h run beside
 
@@ -234,10 +234,10 @@ module _ (beside : Bool) (x : Setting) (flutter : ℕ) (h : Cycles) (w : IsStead
   own_sync : IsInSharpSync beside x.params flutter beyond (map (λ (node : Member). node.even) (members_at x h double)) (map (λ (node : Member). node.odd) (members_at x h double))
   own_sync = sync_of_members beside x flutter h w double beyond within sync
 
-  active : BeginsActive h double
+  pub active : BeginsActive h double
   active = sync_active beside x flutter h w double beyond own_sync
 
-  heard : IsSharpDouble beside x.params flutter (senders_at x h double) (members_at x h double) (pos (last_action x.params))
+  pub heard : IsSharpDouble beside x.params flutter (senders_at x h double) (members_at x h double) (pos (last_action x.params))
   heard =
       let suffice = sharp_checks_suffice_lem x.params flutter near w.covered.timed.sane checks in
       heard_with beside x flutter h w double beyond (pos near) within suffice.0 suffice.1 suffices active own_sync.rows.about
@@ -246,11 +246,11 @@ module _ (beside : Bool) (x : Setting) (flutter : ℕ) (h : Cycles) (w : IsStead
       le_itself : (n : ℕ) → n ≤ n
       le_itself n = omega arith
 
-  stay : (one other : Member) → Contains (members_at x h double) one → Contains (members_at x h double) other → StaySharp beside x.params flutter next one other
+  pub stay : (one other : Member) → Contains (members_at x h double) one → Contains (members_at x h double) other → StaySharp beside x.params flutter next one other
   stay =
       sharp_sync_is_kept_lem beside x.params flutter (senders_at x h double) (members_at x h double) beyond (rate_walk x.params flutter) next w.covered.timed.sane checks can_walk from takes own_sync heard
 
-  uncut : AllUncut (members_at x h double)
+  pub uncut : AllUncut (members_at x h double)
   uncut =
       none_cuts x.params (sharp_pi beside x.params flutter) (sharp_lambda beside x.params flutter) next (members_at x h double) (λ one other here there. (stay one other here there).come)
 

@@ -1,11 +1,10 @@
 -- A walk that is held: where oscillators do not change, lengths that walk by less than two thirds of a microtick in a double cycle
 -- come less than a microtick beyond their range in all, since each is a whole number of microticks.
-use Rattle.std.specs.Prelude.{ℕ, ◌≡◌, ◌+◌, ◌*◌, ◌<◌, ◌≤◌, int_le, int_lt, nat_eq, if◌then◌else◌, IfSome, ◌&&◌, Bool, true, Option, None, ℤ, pos, ◌+ℤ◌, ◌-ℤ◌, ◌*ℤ◌, ◌≤ℤ◌, ◌<ℤ◌, List, length, map, count_by, All}
+use Rattle.std.specs.Prelude.{ℕ, ◌≡◌, ◌*◌, ◌<◌, ◌≤◌, int_le, int_lt, nat_abs, nat_eq, if◌then◌else◌, IfSome, ◌&&◌, Bool, true, Option, None, ℤ, pos, ◌+ℤ◌, ◌-ℤ◌, ◌*ℤ◌, ◌≤ℤ◌, ◌<ℤ◌, List, length, map, count_by, All}
 use Rattle.fr_base.specs.declared.node_row.NodeRow.{NodeRow}
 use Rattle.fr_base.specs.declared.Outcome.TheVariants.{Within}
-use Rattle.fr_cluster.specs.Values.{Values, amount}
+use Rattle.fr_cluster.specs.Values.{Values}
 use Rattle.fr_cluster.specs.Sane.{IsSane}
-use Rattle.fr_cluster.specs.declared.names.ParamName.TheVariants as name
 use Rattle.fr_midpoint.specs.Midpoint.{discarded}
 use Rattle.fr_time.specs.Position.{floor_of}
 use Rattle.fr_correct.specs.declared.term.Term.{Term}
@@ -15,11 +14,15 @@ use Rattle.fr_bound.specs.Sync.{cycle_length_of}
 use Rattle.fr_precision.specs.Rows.{longest_cycle, shortest_cycle, Sender}
 use Rattle.fr_sharp.specs.Lengths.{walked_after, IsNextEven, IsSteadyRound}
 
--- no oscillator changes; lengths walk, by less than two thirds of the shortest microtick in a double cycle; and the rate limit
--- suffices for lengths not quite a microtick beyond their range, and one such walk further
+-- oscillators do not change
+abbrev pub oscillators_stay : Values → Bool
+oscillators_stay p = nat_eq (nat_abs p.change_bound) 0
+
+-- they do not; lengths walk, by less than two thirds of the shortest microtick in a double cycle; and the rate limit suffices
+-- for lengths not quite a microtick beyond their range, and one such walk further
 abbrev pub walk_is_held : Values → ℕ → Bool
 walk_is_held p flutter =
-    nat_eq (amount p name.xChangeBound) 0 && int_lt (pos 0) (rate_walk p flutter)
+    oscillators_stay p && int_lt (pos 0) (rate_walk p flutter)
     && int_lt (pos 3 *ℤ rate_walk p flutter) (pos (2 * shortest_micro p))
     && int_le ((pos (shortest_micro p) -ℤ pos 1) +ℤ rate_walk p flutter) (pos (rate_room p))
 
@@ -86,11 +89,11 @@ abbrev pub LieBetween : Values → ℤ → ℤ → List NodeRow → Type 0
 LieBetween p low high rows = All (λ row. (low <ℤ cycle_length_of p row) × (cycle_length_of p row <ℤ high)) rows
 
 -- a receiver whose list discards no more than the crowd, and whose own length lies between two levels as those of all senders do,
--- stays between them
+-- stays between them; the senders' microticks are no shorter than the shortest, as where there are levels
 abbrev pub LevelsHold : Type 0
 LevelsHold =
     (p : Values) (flutter crowd : ℕ) (senders : List Sender) (low high : ℤ) (row : NodeRow) (values : List ℤ) (term : Term) (even : NodeRow)
-    → IsSane p → walk_is_held p flutter ≡ true
+    → IsSane p → walk_is_held p flutter ≡ true → All (λ micro. pos (shortest_micro p) ≤ℤ micro) (micros_of senders)
     → IsLowLevel p flutter crowd (micros_of senders) low → IsHighLevel p flutter crowd (micros_of senders) high
     → LieBetween p low high (map (λ sender. sender.even) senders) → low <ℤ cycle_length_of p row → cycle_length_of p row <ℤ high
     → discarded (length values) ≤ crowd → IsSteadyRound p flutter senders row values term → term.outcome ≡ Within

@@ -1,19 +1,27 @@
-ghost use Rattle.fr_sharp.specs.SharpFiles.{ArbitraryIsTold, CoveredFilesKeepSharply, FilesAreSteady, FilesFlutter, FilesGiveSteadyRuns, FilesSettleSharply, FirstCheckLastsOn};
+ghost use Rattle.fr_sharp.specs.SharpFiles.{ArbitraryIsTold, CoveredFilesKeepSharply, FilesAreSteady, FilesFlutter, FilesGiveSteadyRuns, FilesSettleSharply, FirstCheckLastsOn, SyncLastsOn};
 ghost use Rattle.fr_sharp.specs.SharpStatement.{FilesKeepSharpPrecision};
 
-/// The promise: the run that three accepted files decide, where they are sharply covered, keeps the sharper precision from
-/// each double cycle in sharp sync on, for as many double cycles as the rate limit holds the walk, and to the end of the run
-/// where the first of the sharper checks holds: no corresponding macroticks lie further apart, in ticks, no term is cut or
-/// missing, and every correct node is active.
+use crate::held::held_walks_keep_sharp_sync;
+
+/// The promise: the run that three accepted files decide, where they are sharply covered, keeps the sharper precision
+/// from each double cycle in sharp sync on, for as many double cycles as the rate limit holds the walk, and to the end
+/// of the run where the first of the sharper checks holds or the walk is held: no corresponding macroticks lie further
+/// apart, in ticks, no term is cut or missing, and every correct node is active.
 pub fn files_keep_sharp_precision()
     ensures { FilesKeepSharpPrecision }
-{}
+{
+    held_walks_keep_sharp_sync();
+}
 
-/// A law: so it is of any sane parameters, drift and script that are sharply covered.
+/// A law: so it is of any sane parameters, drift and script that are sharply covered. Walks last without a number
+/// exactly where the first of the sharper checks holds, and sharp sync exactly where it holds or the walk is held.
 pub fn covered_files_keep_sharply()
     ensures keep { CoveredFilesKeepSharply }
     ensures lasts { FirstCheckLastsOn }
-{}
+    ensures lasting { SyncLastsOn }
+{
+    held_walks_keep_sharp_sync();
+}
 
 /// A law: where sane parameters, a drift and a script have no gap but of the checks, the run is a steady one for any flutter,
 /// in ticks, that is not below its own; it has no arbitrary sync node where the script has none. Its delays flutter by no

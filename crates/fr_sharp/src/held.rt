@@ -1,13 +1,13 @@
 ghost use Rattle.std.specs.Prelude.{◌≡◌, ◌≤◌};
 ghost use Rattle.fr_bound.specs.SharpBounds.{most_flutter};
 ghost use Rattle.fr_sharp.specs.HeldHistories.{HeldHistoriesKeepSharpSync, HistoriesKeepForEver};
-ghost use Rattle.fr_sharp.specs.HeldWalks.{lasts_by, sync_lasts, walk_is_held, LevelsAreThere, LevelsHold};
+ghost use Rattle.fr_sharp.specs.HeldWalks.{lasts_by, oscillators_stay, sync_lasts, walk_is_held, LevelsAreThere, LevelsHold};
 
 use fr_bound::{rate_room, rate_walk, sharp_lasts, shortest_microtick};
-use fr_cluster::{ParamName, Params};
+use fr_cluster::Params;
 
-/// For how many double cycles from one in sharp sync the nodes stay so, under the second check; None where lengths do not
-/// walk, or where their walk is held, so that they do for ever. Delays flutter by no more than so many ticks, 0 to
+/// For how many double cycles from one in sharp sync the nodes stay so, under the second check; None where lengths do
+/// not walk, or where their walk is held, so that they do for ever. Delays flutter by no more than so many ticks, 0 to
 /// 1,000,000,000.
 pub fn sync_lasts(params: &Params, flutter: u64) -> Option<u64>
     requires { flutter ≤ most_flutter }
@@ -41,24 +41,32 @@ fn walk_is_held(params: &Params, flutter: u64) -> bool
     let (gain, loss) = rate_walk(params, flutter);
     let shortest = shortest_microtick(params);
     let room = rate_room(params);
-    let change = params.natural(ParamName::xChangeBound);
-    change == 0
+    oscillators_stay(params)
         && loss < gain
         && 3 * (gain - loss) < 2 * shortest
         && shortest + (gain - loss) <= room + 1
 }
 
-/// The law of levels: where oscillators do not change, and lengths walk by less than two thirds of a microtick in a double
-/// cycle, there is a length above their range, in ticks, and one below it, over which no receiver's next length comes.
+// Whether microticks are as long in each cycle as in the one before.
+fn oscillators_stay(params: &Params) -> bool
+    ensures { result ≡ oscillators_stay params.now }
+{
+    params.change_bound == 0
+}
+
+/// The law of levels: where oscillators do not change, and lengths walk by less than two thirds of a microtick in a
+/// double cycle, there is a length above their range, in ticks, and one below it, over which no receiver's next length
+/// comes.
 pub fn levels_hold()
     ensures there { LevelsAreThere }
     ensures hold { LevelsHold }
 {}
 
-/// The law of a held walk: in a lawful history of a run that no node joins, from a double cycle in sharp sync on, under the
-/// checks but the first, the nodes are in sharp sync to the end of the run, with lengths less than a microtick beyond their
-/// range. No term is cut or missing, each node is active, and no corresponding macroticks lie further apart than the sharper
-/// precision, in ticks. So it is by the cycle where the first check holds, with lengths in their range.
+/// The law of a held walk: in a lawful history of a run that no node joins, from a double cycle in sharp sync on, under
+/// the checks but the first, the nodes are in sharp sync to the end of the run, with lengths less than a microtick
+/// beyond their range. No term is cut or missing, each node is active, and no corresponding macroticks lie further
+/// apart than the sharper precision, in ticks. All that is so by the cycle too, and where the first check holds with
+/// lengths in their range.
 pub fn held_walks_keep_sharp_sync()
     ensures each { HeldHistoriesKeepSharpSync }
     ensures precise { HistoriesKeepForEver }

@@ -1,6 +1,7 @@
 ghost use Rattle.fr_sharp.specs.WorkedFiles.{FlutteringFilesAreCovered, FlutteringFilesKeepSharply, JoiningFilesAreCovered};
 ghost use Rattle.fr_sharp.specs.WorkedRun.{OlderChecksFail, SteadyPrecisions, SteadyRunKeepsPrecision, SteadyRunMeetsPremises, WalkingRunStaysInSharpSync};
 
+use crate::files::covered_files_keep_sharply;
 use fr_history::one_lawful_run;
 
 /// A law: a worked run, three of whose older checks fail, is in sharp sync from the start on and keeps the sharper
@@ -23,4 +24,6 @@ pub fn files_that_flutter()
     ensures covered { FlutteringFilesAreCovered }
     ensures keeps { FlutteringFilesKeepSharply }
     ensures joins { JoiningFilesAreCovered }
-{}
+{
+    covered_files_keep_sharply();
+}

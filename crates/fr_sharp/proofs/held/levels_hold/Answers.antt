@@ -1,3 +1,4 @@
+use Rattle.fr_sharp.proofs.LevelLemmas.{levels_hold_lem}
 use Rattle.fr_sharp.proofs.LevelSums.{levels_are_there_lem}
 use Rattle.fr_sharp.proofs.held.levels_hold.Goals as goal
 
@@ -5,4 +6,4 @@ pub returns-clause-there : goal.returns-clause-there
 returns-clause-there c = levels_are_there_lem
 
 pub returns-clause-hold : goal.returns-clause-hold
-returns-clause-hold c = ?
+returns-clause-hold c = levels_hold_lem
