@@ -15,7 +15,7 @@ KINDS = {"bursts": 1, "twentieths": 0.05, "halves": 0.5, "all": 1, "one": 0}
 
 
 class Numbers:
-    """Those of a cluster for a flutter, without arbitrary nodes: lambda, pi, the checks by a reach, and the walk."""
+    """Those of a cluster for a flutter, without arbitrary nodes: lambda, pi, the checks by a reach, the walk, and whether it is held."""
 
     def __init__(self, values, last_slot, flutter):
         self.values, self.flutter = values, flutter
@@ -34,6 +34,8 @@ class Numbers:
         walk = flutter + self.change + later - 1 + (self.longest if damping == 0 else -(damping - 1) * self.shortest)
         room = v["pRateCorrectionOut"] * self.shortest - 2 * v["pMicroPerCycle"] * bound
         self.lasts = 0 if room < 0 else None if walk <= 0 else room // walk
+        # Not a tick changes, lengths walk by 1 to 2/3 of a microtick less 1, and with almost one beyond and a walk more are in the limit.
+        self.is_held = not change and walk > 0 and 3 * walk < 2 * self.shortest and self.shortest - 1 + walk <= room
 
     def behind(self, heard, starts, lengths):
         """Starts and lengths of the next double cycle."""
@@ -246,8 +248,9 @@ def hold(run, series, trace=None):
     share = 0.0
     if is_covered and series.synced is not None:
         first = series.synced
-        assert series.lines["sharp synced"][1] == ("on" if numbers.lasts is None else str(numbers.lasts)), series.lines["sharp synced"]
-        end = run.doubles if numbers.lasts is None else min(run.doubles, first + numbers.lasts)
+        lasts = None if numbers.is_held and not lost else numbers.lasts
+        assert series.lines["sharp synced"][1] == ("on" if lasts is None else str(lasts)), series.lines["sharp synced"]
+        end = run.doubles if lasts is None else min(run.doubles, first + lasts)
         # By what is heard from the first double cycle in sync on, which is no more than from the first one of the run on.
         since, _ = numbers.by(heard[first:])
         assert all(one <= other for one, other in zip(since, apart[first:])), "less by what was heard before, too"

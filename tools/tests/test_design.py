@@ -15,7 +15,7 @@ from flexlab.base.units import TICKS, decimal
 from flexlab.design import solving
 from flexlab.design.confirming import Nodes, confirm, parameters_of
 from flexlab.design.request import nodes_of_network, wish_of_network
-from flexlab.design.solving import BEHIND, Design, NoDesign, Raise, Task, compensations, least, search
+from flexlab.design.solving import BEHIND, Design, NoDesign, Raise, Task, best_at, compensations, least, search
 from flexlab.design.tasks import Wish, tasks_of
 from flexlab.design.topology import read_network
 from flexlab.runs.least import Kind, Sides, holds, sharp_bounds_of
@@ -62,6 +62,14 @@ def random_task(chance, micros=2000):
                 chance.choice((0, 1500000, 9000000)), 0, chance.choice((None, Fraction(500))), chance.choice((0, 0, 100000)))
 
 
+def is_walk_held(task, p):
+    """Whether lengths walk, by less than two thirds of the shortest microtick, and the rate limit has room for almost one and that."""
+    short, damping = TICKS - task.rate, p["pClusterDriftDamping"]
+    walk = task.kind.flutter - 1 + (short - damping * short if damping else TICKS + task.rate)
+    room = p["pRateCorrectionOut"] * short - 2 * p["pMicroPerCycle"] * task.rate
+    return not task.join and not task.change and 0 < 3 * walk < 2 * short and room - walk >= short - 1
+
+
 def meets(task, p, behind):
     """Whether these parameters meet all that is asked, by the sides of the checks and by the formulas as docs/FLEXLAB.md has them."""
     sides, macros = sharp_bounds_of(p, task.kind), p["gMacroPerCycle"]
@@ -69,7 +77,7 @@ def meets(task, p, behind):
     for number in (1, 2, 3, 4, 5, 6, 7, 8, 9) if task.join else (1, 2, 3, 4, 5):
         left, right = sides[number]
         right += 0 if number in (1, 2, 6) else margin * (1 if number in (3, 7) else macros)
-        if not holds(number, Sides(left, right)):
+        if not (is_walk_held(task, p) if task.held and number == 1 else holds(number, Sides(left, right))):
             return False
     # The last arrival and the bits behind it end before the slot does, by the shortest microticks in the longest slot.
     apart = sides["reach" if task.join else "near"] + margin
@@ -102,14 +110,15 @@ class LeastSolutions(unittest.TestCase):
     def brute(self, seed, count, reach):
         """Random tasks: each point of a box from the bottom of all ranges that meets what is asked lies in each part at or above
         what is found, which meets it itself."""
-        chance, found, points = random.Random(seed), 0, 0
+        chance, found, points, held = random.Random(seed), 0, 0, 0
         for _ in range(count):
             task = random_task(chance)
             macros = chance.randint(10, 50)
+            task = task.with_held_walk or task if chance.random() < 0.7 else task
             one = least(task, macros)
             if isinstance(one, NoDesign):
                 continue
-            found += 1
+            found, held = found + 1, held + task.held
             values = five(one)
             self.assertTrue(meets(task, *at(task, macros, values)), (task, macros, values))
             box = [range(max(low, value - reach), value + 2) for low, value in zip((0, 1, 1, 1, 1), values)]
@@ -117,12 +126,34 @@ class LeastSolutions(unittest.TestCase):
                 points += 1
                 if any(mine < value for mine, value in zip(point, values)):
                     self.assertFalse(meets(task, *at(task, macros, point)), (task, macros, values, point))
-        return found, points
+        return found, points, held
 
     def test_no_point_that_meets_all_lies_below(self):
-        found, points = self.brute(1, 60, 2)
+        found, points, held = self.brute(1, 60, 2)
         self.assertGreater(found, 15)
         self.assertGreater(points, 5000)
+        self.assertGreater(held, 2)
+
+    def test_a_held_walk_is_taken_where_it_is_better(self):
+        """No point that meets all by C1 or by a held walk has a lower precision, or a shorter slot by that purpose."""
+        chance, held = random.Random(8), 0
+        for _ in range(24):
+            task = replace(random_task(chance), change=0, join=False)
+            task = replace(task, kind=replace(task.kind, flutter=chance.choice((2, 40000, 660000, 700000, 999998, 1200000))))
+            macros, purpose = chance.randint(10, 50), chance.choice(("precision", "slot"))
+            one = best_at(task, macros, purpose)
+            if isinstance(one, NoDesign):
+                continue
+            self.assertTrue(meets(one.task, *at(one.task, macros, five(one))))
+            held += one.task.held
+            box = [range(4), *(range(max(1, value - 2), value + 2) for value in five(one)[1:])]
+            for point in itertools.product(*box):
+                if purpose == "slot" and point[3] + point[4] >= one.parameters["gdStaticSlot"]:
+                    continue
+                p, behind = at(task, macros, point)
+                if purpose == "slot" or sharp_bounds_of(p, task.kind)["precision"] < one.bounds["precision"]:
+                    self.assertFalse(meets(task, p, behind) or meets(replace(task, held=True), p, behind), (task, macros, five(one), point))
+        self.assertGreater(held, 5)
 
     def test_from_the_bottom_of_all_ranges(self):
         """One goal, and all sets of the five parameters from the bottom on."""
@@ -238,10 +269,10 @@ class Topologies(Bench):
             return [line for line in text.splitlines() if re.match(rf"(?:{kind} )?C\d", line)], text
 
         lines, text = asked(p)
-        self.assertTrue(all(" holds " in line for line in lines), text)
+        self.assertEqual([line.split()[-4] for line in lines if " holds " not in line], ["C1"] if told.design.task.held else [], text)
         self.assertIn(f"{kind} precision {told.design.bounds['precision']}\n", text)
         self.assertIn("lasts on\n", text)
-        named = [one for one in told.neighbours if one.check]
+        named = [one for one in told.neighbours if one.check or one.lasts is not None]
         self.assertGreaterEqual(len(named), 2)
         for one in named:
             changed = dict(p)
@@ -251,8 +282,9 @@ class Topologies(Bench):
                 changed[one.parameter] -= 1
                 changed["gdStaticSlot"] -= one.parameter == "gdActionPointOffset"
             changed["gdNIT"] = changed["gMacroPerCycle"] - changed["gNumberOfStaticSlots"] * changed["gdStaticSlot"]
-            lines = asked(changed)[0]
-            self.assertTrue(any(line.endswith("{} fails {} {}".format(*one.check)) for line in lines), (one, lines))
+            lines, text = asked(changed)
+            self.assertTrue(one.check is None or any(line.endswith("{} fails {} {}".format(*one.check)) for line in lines), (one, lines))
+            self.assertTrue(one.lasts is None or f"lasts {one.lasts}\n" in text, (one, text))
 
     def test_the_example(self):
         """The page that stands beside the example."""
@@ -273,7 +305,9 @@ class Topologies(Bench):
             text = self.flexray("bound", self.path("chain", name), "sharp", "200000")[1]
             failing = re.findall(r"^(?:alone )?(C\d) fails", text, re.M)
             if name == "design.csv":
-                self.assertEqual(failing, [])
+                self.assertEqual((failing, "\nlasts on\n" in text), (["C1"], True))
+            elif "held" in name:
+                self.assertRegex(text, r"\nlasts [1-9]\d*\n")
             else:
                 self.assertIn(name[3:5], failing)
 
@@ -295,6 +329,9 @@ class Topologies(Bench):
         p = found["design"]["parameters"]
         self.assertEqual((p["gMacroPerCycle"], p["pClusterDriftDamping"], found["kept"]),
                          (800, 4, {"gMacroPerCycle": 800, "pClusterDriftDamping": 4}))
+        none = json.loads(self.flexlab("design", "bus.toml", "--json", "--keep", "pClusterDriftDamping=0", status=1)[0])
+        self.assertEqual([(one["demand"], one["parameter"]) for one in none["in_the_way"]], [("held walk", "pClusterDriftDamping")])
+        self.write("bus.toml", BUS.replace("change_ppm_per_cycle = 0", "change_ppm_per_cycle = 1"))
         none = json.loads(self.flexlab("design", "bus.toml", "--json", "--keep", "pClusterDriftDamping=1", status=1)[0])
         self.assertEqual([(one["demand"], one["parameter"]) for one in none["in_the_way"]], [("C1", "pClusterDriftDamping")])
         for words, told in ((("--keep", "gdNIT=3"), "NAME one of"), (("--keep", "gdStaticSlot=0"), "is from 2 to 1000"),
@@ -324,7 +361,10 @@ class Topologies(Bench):
     def test_around_a_cluster(self):
         sharp = os.path.join(REPOSITORY, "examples", "sharp", "sharp.toml")
         out = self.one_line(self.flexlab("design", sharp, "--keep", "gMacroPerCycle=3636", "--flutter-ns", "1")[0])
-        self.assertIn("Verdict yes: 0.906 us is the least proved precision that there is, with what is kept", out)
+        self.assertIn("Verdict yes: 0.756 us is the least proved precision that there is, with what is kept", out)
+        self.assertIn("all checks but C1 hold by flexray bound, the walk is held, and with each free parameter at one less", out)
+        self.assertIn("Held walk C1 fails by 0.040 microticks, but the walk is held: oscillators do not change", out)
+        self.assertRegex(out, r"pClusterDriftDamping 1 0\.025 at 0 the walk is not held: sync lasts \d+ double cycles")
         self.assertIn("Now the file's own parameters have 0.906 us", out)
         self.assertIn("is a cluster and no topology", self.flexlab("design", sharp, "-o", "x.toml", status=2)[1])
 

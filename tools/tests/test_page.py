@@ -467,6 +467,18 @@ class Page(Bench):
         self.assertNotIn("join", told)
         self.assertEqual(self.run_in('document.querySelectorAll("#chart svg:first-child line.level").length'), 3)
 
+    def test_a_held_walk(self):
+        """C1 fails, and what is said of it is no advice; of a run in which rates walk it is."""
+        for name, told in (("sharp/series-held", "C1 of these fails, but the walk is held"), ("sharp/walk", "for 62 double cycles")):
+            with self.subTest(name):
+                self.take(name)
+                self.run_in('selectTab("answers", "Checks")')
+                text = self.run_in('$("results-panel").innerText')
+                self.assertIn(told, text)
+                self.assertIn("it fails, but the walk is held" if "held" in told else "turn pClusterDriftDamping up", text.split("Of the classical")[0])
+                self.assertEqual("proved for" in self.run_in('$("verdict").innerText'), "held" not in told)
+                self.run_in('selectTab("answers", "Summary")')
+
     def test_checks_of_nodes_that_join(self):
         """The bounds are those of a cluster that nodes join, and whether C6 to C9 hold is told."""
         for name in ("sharp/series-joins", "joins/run", "joins/growing", "joins/missed"):

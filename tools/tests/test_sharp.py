@@ -56,6 +56,7 @@ class Formulas(Case):
                 for beside, name in ((False, "alone"), (True, "beside")):
                     last = max(node.key_slot or 0 for node in cluster.nodes.values())
                     found, bounds = least.sharp_bounds_of(cluster.parameters, least.Kind(beside, flutter, last)), told[name]
+                    self.assertEqual(found.is_held, bounds.is_held)
                     self.assertEqual([*(found[one] for one in ("lambda", "pi", "precision")), found.lasts],
                                      [bounds.lambda_, bounds.pi, bounds.precision, bounds.lasts])
                     self.assertEqual([(number, least.holds(number, found[number]), *found[number]) for number in range(1, 6)],
@@ -95,6 +96,138 @@ class Formulas(Case):
         self.assertEqual([least.least_sharp_damping(p, least.Kind(True, flutter, 8)) for flutter in (999901, 999902)], [2, 3])
         self.assertIn(f"is {ranges.PARAMETERS['gdActionPointOffset'][1]} at most",
                       least.least_sharp({**p, "pMicroPerCycle": 4000}, kind, 2)[1])
+
+
+class HeldWalks(Case):
+    """Where C1 fails by little and oscillators do not change: the borders of what is a held walk, by arithmetic of this test."""
+
+    # Two nodes; of 204,979 microticks a cycle a rate limit of 42 has room for a microtick and a walk of 101 ticks.
+    BASE = {"pClusterDriftDamping": 1, "xChangeBound": 0, "pMicroPerCycle": 200000, "pRateCorrectionOut": 601}
+    TIGHT = {"pMicroPerCycle": 204979, "pRateCorrectionOut": 42}
+    NODES = "node,1,1,A,1\nnode,2,2,A,1\n"
+    # Of a run in which one delay flutters by 10 ns, 0.4 microticks.
+    DELAYS = "".join(f"[[delay]]\nfrom = 1\nto = 2\nns = {ns}\nfrom_cycle = {cycle}\n" for cycle, ns in ((5, 290), (6, 300)))
+    # What is changed, the flutter, and whether the walk is held: each condition met just so, and missed by one.
+    BORDERS = (({}, 2, True), ({}, 1, False), ({}, 666600, True), ({}, 666601, False), ({"xChangeBound": 1}, 2, False),
+               (TIGHT, 102, True), (TIGHT, 103, False), ({"pClusterDriftDamping": 0}, 2, False),
+               ({"pClusterDriftDamping": 2}, 999901, False), ({"pClusterDriftDamping": 2}, 999902, True),
+               ({"pClusterDriftDamping": 2}, 1666500, True), ({"pClusterDriftDamping": 2}, 1666501, False))
+
+    def files(self, changes, flutter, script=""):
+        """Two clocks that agree, and one delay that flutters so much, in double cycle 1."""
+        p = {**self.cluster(PRODUCTION).parameters, **self.BASE, **changes}
+        rows = "".join(f"param,{name},{value},,\n" for name, value in p.items())
+        wait = p["pDelayCompensation"] * 1000000
+        drift = (f"doubles,6,,,,\nstart,1,0,0,,\nstart,2,0,0,,\ndelay,2,1,A,3,{wait + flutter}\ndelay,2,1,A,4,{wait}\n")
+        nodes = self.NODES + ("node,3,,A,0\n" if "join" in script else "")
+        return p, [self.write(f"{name}.csv", text) for name, text in (("params", rows + nodes), ("drift", drift), ("script", script))]
+
+    @staticmethod
+    def walks(p, flutter):
+        """For how many double cycles the rate limit holds the walk, None for on and on, and whether it is held."""
+        short, damping, change = 1000000 - p["xRateBound"], p["pClusterDriftDamping"], p["xChangeBound"]
+        longest = p["pMicroPerCycle"] + p["pRateCorrectionOut"]
+        walk = flutter + (2 * longest + p["pOffsetCorrectionOut"] + 1) * change - 1 + (
+            short * (1 - damping) if damping else 1000000 + p["xRateBound"])
+        room = p["pRateCorrectionOut"] * short - 2 * p["pMicroPerCycle"] * p["xRateBound"]
+        return (None if walk <= 0 else room // walk), change == 0 and walk > 0 and 3 * walk < 2 * short and room - walk >= short - 1
+
+    @needs_series
+    def test_bound_series_and_report_agree(self):
+        for changes, flutter, held in self.BORDERS:
+            with self.subTest(changes=changes, flutter=flutter):
+                p, paths = self.files(changes, flutter)
+                number, is_held = self.walks(p, flutter)
+                self.assertEqual(is_held, held)
+                lasts = None if held else number
+                told = texts.sharp_bound(self.flexray("bound", paths[0], "sharp", str(flutter))[1])
+                self.assertEqual((told.lasts, told.alone.checks[0].holds), (lasts, number is None))
+                lost = texts.lost_bound(self.flexray("bound", paths[0], "sharp", str(flutter), "lost", "1")[1])
+                self.assertEqual(lost.lasts, number)
+                series = texts.sharp_series(subprocess.run([SERIES, *paths, "sharp"], capture_output=True, text=True, check=True).stdout)
+                told = texts.sharp_report(self.flexray("run", *paths, "sharp")[1])
+                self.assertEqual((series.flutter, series.sharp_synced), (flutter, 0))
+                for one, covered in ((series, series.sharp_covered), (told, told.covered)):
+                    self.assertEqual(one.lasts, lasts if covered else number)
+                self.assertEqual(series.sharp_covered, told.covered)
+                found = least.sharp_bounds_of(p, least.Kind(False, flutter, 2))
+                self.assertEqual((found.lasts, found.walks, found.is_held), (lasts, number, held))
+
+    @needs_series
+    def test_a_lost_frame_and_a_node_that_joins_have_the_number(self):
+        for script in ("lose,4,2,1,A,,\n", "join,2,3,1,,,\n"):
+            with self.subTest(script=script):
+                p, paths = self.files({}, 400000, script)
+                number = self.walks(p, 400000)[0]
+                series = texts.sharp_series(subprocess.run([SERIES, *paths, "sharp"], capture_output=True, text=True, check=True).stdout)
+                told = texts.sharp_report(self.flexray("run", *paths, "sharp")[1])
+                self.assertEqual(series.sharp_covered, "join" in script, series.sharp_gap)
+                if "join" in script:
+                    bound = texts.sharp_bound(self.flexray("bound", paths[0], "sharp", "400000", "join")[1])
+                    self.assertEqual((bound.lasts, series.lasts), (None, bound.first_rates_last))
+                    self.assertIsNotNone(series.lasts)
+                else:
+                    self.assertEqual((series.lasts, told.lasts), (number, number))
+
+    def test_the_least_damping_with_which_it_lasts(self):
+        p = self.cluster(PRODUCTION).parameters
+        for flutter in (0, 1, 2, 500000, 666600, 666601, 999901, 999902, 1666500, 1666501, 5000000, sharp.MOST):
+            kind = least.Kind(False, flutter, 8)
+            damping = least.least_lasting_damping(p, kind)
+            on = [least.sharp_bounds_of({**p, "pClusterDriftDamping": value}, kind).lasts is None for value in range(damping + 3)]
+            self.assertEqual(on, [False] * damping + [True] * 3, flutter)
+            self.assertEqual(least.least_lasting_damping(p, kind, True), least.least_sharp_damping(p, kind))
+            tight, why = least.least_sharp({**p, "pRateCorrectionOut": 1}, kind, damping)
+            self.assertIsNone(why)
+            self.assertIsNone(least.sharp_bounds_of(tight, kind).lasts)
+            less = least.sharp_bounds_of({**tight, "pRateCorrectionOut": tight["pRateCorrectionOut"] - 1}, kind)
+            self.assertTrue(less.lasts is not None or not least.holds(2, less[2]), flutter)
+        # A rate limit without room for a microtick: then C1 has to hold.
+        narrow = {**p, "pRateCorrectionOut": 41}
+        self.assertEqual([least.least_lasting_damping(narrow, least.Kind(False, flutter, 8)) for flutter in (1, 2)], [1, 2])
+        self.assertEqual([least.least_lasting_damping({**p, "xChangeBound": change}, least.Kind(False, 1, 8)) for change in (0, 1)], [1, 2])
+
+    @needs_series
+    def test_what_a_page_says(self):
+        text, env = produced(SHORT, ("Damping = 2", "Damping = 1")) + self.DELAYS, {"FLEXRAY_SERIES": SERIES}
+        page = self.page(text)
+        self.assertIn("Covered yes", page)
+        self.assertIn("Checks C1 fails, 999901 against 1399900, but the walk is held: no oscillator changes, so where no frame is lost", page)
+        for told in ("since C1 fails", "PROVED IN PART", "turn pClusterDriftDamping", "Ways"):
+            self.assertNotIn(told, page)
+        found = json.loads(self.flexlab("run", "--json", "a.toml", env=env)[0])
+        told = found["sharp"]
+        self.assertEqual((told["lasts_double_cycles"], told["proved_before_double_cycle"], found["verdict"]["until_cycle"]), (None,) * 3)
+        self.assertEqual((told["checks"][0]["holds"], len(told["checks"][0]["told"])), (False, 1))
+        table = self.flexlab("precision", "a.toml", env=env)[0]
+        self.assertRegex(table, r"\nproved, no arbitrary +\S+ +\S+ +C1 \(held\) +on +100\.0 %")
+        self.assertIn("held: C1 fails, but the walk is held, so it lasts", self.one_line(table))
+        self.assertNotIn("since C1 fails", table)
+        case = json.loads(self.flexlab("case", "a.toml", "--flutter-ns", "10", "--json")[0])
+        self.assertIsNone(case["lasts_double_cycles"])
+        self.assertIn("it fails, but the walk is held", self.read("a.case.html"))
+        self.flexlab("build", "a.toml")
+        self.assertIn("C1 fails, 999901 against 1399900, but the walk is held",
+                      self.one_line(self.flexlab("explain", "bound", "a.lab/params.csv", "sharp", "400000")[0]))
+        self.assertIn("C1 asks for 2 at least",
+                      self.one_line(self.flexlab("explain", "bound", "a.lab/params.csv", "sharp", "400000", "join")[0]))
+
+    @needs_series
+    def test_where_a_frame_is_lost_the_walk_counts(self):
+        lost = '[[lose]]\nfrom = 1\nto = 2\ncycles = 20\n'
+        text = produced(SHORT, ("Damping = 2", "Damping = 1")) + self.DELAYS + lost
+        self.assertIn("covered through losses: from double cycle 2 on, for 1402 double cycles, the clocks lie no further apart", self.page(text))
+        found = json.loads(self.flexlab("run", "--json", "a.toml", env={"FLEXRAY_SERIES": SERIES})[0])["sharp"]
+        self.assertEqual((found["covered"], found["lasts_double_cycles"]), (False, 1402))
+
+    @needs_series
+    def test_ways_are_those_of_a_held_walk(self):
+        page = self.page(produced(SHORT, ("Damping = 2", "Damping = 0")) + self.DELAYS)
+        self.assertIn("C1 asks for 2 at least; or let delays flutter less", page)
+        self.assertIn("a damping of 1 suffices all the same: with that the walk is held", page)
+        self.assertIn("1. all checks but C1 hold, and the walk is held, with pClusterDriftDamping = 1. Precision", page)
+        self.assertIn("1. all checks hold with pClusterDriftDamping = 2. Precision",
+                      self.page(produced(SHORT, ("Damping = 2", "Damping = 0")) + self.DELAYS + JOINS))
 
 
 class Flutter(Case):
@@ -193,7 +326,7 @@ class Pages(Case):
     def test_the_first_check_decides_how_long_it_is_proved(self):
         page = self.page(produced(("Damping = 2", "Damping = 0"), SHORT))
         self.assertIn("Covered yes", page)
-        self.assertIn("proved of 560 double cycles from there (5600.000 ms), since C1 fails and the rates of all may walk together: "
+        self.assertIn("proved of 560 double cycles from there (5600.000 ms), since C1 fails and the walk is not held: "
                       "to the end of this run", page)
         self.assertIn("turn pClusterDriftDamping: it is 0, and with all else as it is C1 asks for 1 at least", page)
         self.assertIn("1. all checks hold with pClusterDriftDamping = 1. Precision 0.750 us; covered yes", page)
@@ -202,8 +335,8 @@ class Pages(Case):
                                "within double cycle 0, at cycle 1; a change at an even cycle is no flutter")
         first = int(re.search(r"In sync yes, from double cycle (\d+) on", page)[1])
         self.assertRegex(page, r"but for lengths that leave their range from double cycle \d+ on")
-        self.assertIn("PROVED IN PART, of 62 double cycles from there (620.000 ms), since C1 fails and the rates of all may walk "
-                      f"together: not from cycle {2 * (first + 62)} on", page)
+        self.assertIn("PROVED IN PART, of 62 double cycles from there (620.000 ms), since C1 fails and the walk is not held: "
+                      f"not from cycle {2 * (first + 62)} on", page)
         self.assertIn("C1 asks for 12 at least", page)
         self.assertRegex(page, r"Later skew .*? % of the classical bound; 99 % of cycles")
 
@@ -369,7 +502,7 @@ class Table(Case):
         page = self.table(produced(SHORT), "--flutter-ns", "50")
         bounds = self.told(2000000)
         self.assertRegex(page, rf"\nproved, no arbitrary +{bounds['alone'].precision * 25 / 10 ** 9:.3f} +\S+ +C1 +560 ")
-        self.assertIn("for 560 double cycles from the first one on (5600.000 ms), since C1 fails", self.one_line(page))
+        self.assertIn("for 560 double cycles from the first one on (5600.000 ms), since C1 fails and the walk is not held", self.one_line(page))
         page = self.one_line(self.table(produced(*WALK, SHORT) + EVEN_AND_ODD, "--flutter-ns", "249"))
         self.assertIn("nothing is proved of this run, whose delays flutter by 0.250 us", page)
         for words in ("501", "-1", "x", ""):
@@ -504,6 +637,7 @@ class Losses(Case):
                 self.assertEqual((told.every_second, told.every_second_holds),
                                  (max(max(apart) for apart, _ in seconds), self.holds(alone, max(reach for _, reach in seconds))))
                 self.assertEqual((told.longest, told.lasts), (longest if longest >= 0 else None, alone.lasts))
+                self.assertFalse(alone.is_held)
 
     @needs_series
     def test_what_a_run_loses(self):

@@ -5,7 +5,7 @@ ghost use Rattle.fr_base.specs.Device.{Puts};
 ghost use Rattle.fr_observe.specs.Faults.{fault_row, first_of_faults};
 ghost use Rattle.fr_observe.specs.Scenes.{IsScene};
 ghost use Rattle.fr_observe.specs.Telling.{TellsFaults};
-ghost use Rattle.fr_judging.specs.Knowing.{JudgedBySmall, spread_told};
+ghost use Rattle.fr_judging.specs.Knowing.{JudgedBySmall, spread_told, standing_faults};
 ghost use Rattle.fr_judging.specs.Missing.{missed_told};
 ghost use Rattle.fr_findings.specs.Ground.{IsDouble, IsGround, basis_in, double_in, scene_in, with_faults};
 ghost use Rattle.fr_findings.specs.Verdict.{known_told, own_told, standing_told};
@@ -116,22 +116,27 @@ pub(crate) fn put_faults<'a, O: Sink>(
     Ok(())
 }
 
-// How many senders its nodes must have missed, and the numbers that it is judged by.
+// How many senders its nodes must have missed, and the numbers that it is judged by; `against` is the first fault that put_faults
+// tells of it.
 pub(crate) fn put_numbers<'a, O: Sink>(
     ground: &'a Ground<'a>,
     double: &'a Double<'a>,
     standing: &Standing,
+    against: &Option<Fault>,
     out: &mut O,
 ) -> Result<(), PutFault>
     requires ground { IsGround ground.now }
     requires double { IsDouble ground.now double.now }
     requires small { JudgedBySmall standing.now }
+    requires against { against.now ≡ first_of_faults (standing_faults ground.now.params.now ground.now.scale.now
+        ground.now.log.now ground.now.span double.now.before.now double.now.here.now double.now.number
+        double.now.senders.now standing.now) }
     ensures { Puts result (O.state out.old) (O.state out.new)
         (missed_told ground.now.params.now ground.now.log.now ground.now.scale.now double.now.number
         double.now.senders.now standing.now
         ++ spread_told ground.now.params.now ground.now.log.now double.now.number standing.now) }
 {
     let scene = scene_of(ground, double);
-    put_missed(&scene, standing, out)?;
+    put_missed(&scene, standing, against, out)?;
     put_spread(&scene, standing, out)
 }

@@ -121,9 +121,11 @@ fn put_double<'a, O: Sink>(
     let mut told = None;
     put_own(ground, double, &mut told, out)?;
     let standing = standing_of(ground, double, progress.known, &told);
-    progress.first = earlier(progress.first, told);
+    let first = earlier(progress.first, told);
+    progress.first = None;
     put_faults(ground, double, &standing, progress, out)?;
-    put_numbers(ground, double, &standing, out)?;
+    put_numbers(ground, double, &standing, &progress.first, out)?;
+    progress.first = earlier(first, progress.first);
     let said = both_say(ground, double, double.skews);
     let over = first_over(double.number, double.skews, said.0, said.1);
     let outcome = Outcome {

@@ -1,2 +1,4 @@
+pub mod Clear
 pub mod Least
 pub mod Rows
+pub mod ZeroTerms

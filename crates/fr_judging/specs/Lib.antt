@@ -3,3 +3,4 @@ pub mod Hearing
 pub mod Obstacles
 pub mod Knowing
 pub mod Missing
+pub mod Zeros

@@ -9,6 +9,7 @@ mod obstacle;
 mod standing_faults;
 mod standings;
 mod unseen;
+mod zeros;
 
 pub use hearing::{heard, yardstick};
 pub use knowing::Standing;

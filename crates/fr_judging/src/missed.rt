@@ -1,15 +1,19 @@
-ghost use Rattle.std.specs.Prelude.{◌≡◌, ◌≤◌, ◌<◌, ◌++◌};
+ghost use Rattle.std.specs.Prelude.{◌≡◌, ◌≤◌, ◌<◌, ◌++◌, None, true};
 ghost use Rattle.std.specs.List.{Contains, flat_map};
 ghost use Rattle.fr_base.specs.Device.{Puts};
 ghost use Rattle.fr_sightings.specs.Ranges.{IsProperSender};
 ghost use Rattle.std.specs.Option.{option_to_list};
 ghost use Rattle.fr_text.specs.Pieces.{Spells};
+ghost use Rattle.fr_observe.specs.Faults.{first_of_faults};
 ghost use Rattle.fr_observe.specs.Observing.{known_count};
 ghost use Rattle.fr_observe.specs.Scenes.{IsScene};
+ghost use Rattle.fr_judging.specs.Knowing.{standing_faults};
 ghost use Rattle.fr_judging.specs.Missing.{least_missed, missed_if_any, missed_where, missed_with, missed_of_term, missed_row, missed_told, unlike_term};
 
 use crate::knowing::{Standing, judged_met};
+use crate::zeros::term_may_be_0;
 use fr_base::{NodeId, PutFault, Sink};
+use fr_log::Log;
 use fr_observe::{Asked, Fault, Scene, Term, sender_fault};
 use fr_sightings::Sender;
 use fr_text::Piece::{Natural, Word};
@@ -28,7 +32,12 @@ pub struct Missed {
 }
 
 // What contradicts a term of a sender that missed at most so many of the others.
-fn unlike_term(term: Term, scene: &Scene<'_>, sender: &Sender, lost: usize) -> Option<Fault>
+pub(crate) fn unlike_term(
+    term: Term,
+    scene: &Scene<'_>,
+    sender: &Sender,
+    lost: usize,
+) -> Option<Fault>
     requires scene { IsScene scene.now }
     requires lost { lost ≤ 64 }
     requires among { Contains scene.now.senders.now sender.now }
@@ -36,7 +45,11 @@ fn unlike_term(term: Term, scene: &Scene<'_>, sender: &Sender, lost: usize) -> O
     ensures { result ≡ unlike_term term scene.now.params.now scene.now.log.now scene.now.scale.now scene.now.number
         scene.now.senders.now sender.now lost }
 {
-    sender_fault(Asked::Term(term, lost), scene, sender)
+    if term_may_be_0(term, scene, sender) {
+        None
+    } else {
+        sender_fault(Asked::Term(term, lost), scene, sender)
+    }
 }
 
 // The least number that nothing contradicts.
@@ -153,14 +166,9 @@ fn put_both<O: Sink>(scene: &Scene<'_>, out: &mut O) -> Result<(), PutFault>
     put_of_term(Term::Rate, scene, out)
 }
 
-/// Puts how many senders a node of a double cycle that stands so must have missed, in which it is judged, where it must have
-/// missed one at least: each as a record, in one put.
+// How many senders the nodes of a double cycle must have missed, where it is judged, by all its terms.
 #[tactic(auto, unfolding(crate::specs::Missing::missed_told))]
-pub fn put_missed<O: Sink>(
-    scene: &Scene<'_>,
-    standing: &Standing,
-    out: &mut O,
-) -> Result<(), PutFault>
+fn put_judged<O: Sink>(scene: &Scene<'_>, standing: &Standing, out: &mut O) -> Result<(), PutFault>
     requires { IsScene scene.now }
     ensures { Puts result (O.state out.old) (O.state out.new) (missed_told scene.now.params.now scene.now.log.now
         scene.now.scale.now scene.now.number scene.now.senders.now standing.now) }
@@ -168,5 +176,36 @@ pub fn put_missed<O: Sink>(
     match judged_met(standing) {
         None => Ok(()),
         Some(_) => put_both(scene, out),
+    }
+}
+
+// Nodes missed none, as the log states, and nothing contradicts that.
+fn is_clear(log: &Log, against: &Option<Fault>) -> bool
+    ensures lost { result ≡ true → log.now.lost ≡ 0 }
+    ensures none { result ≡ true → against.now ≡ None }
+{
+    log.lost() == 0 && against.is_none()
+}
+
+/// Puts how many senders a node of a double cycle that stands so must have missed, in which it is judged, where it must have
+/// missed one at least: each as a record, in one put. `against` is the first contradiction of what it stands for: where there is
+/// none and the log states that nodes miss none, no term is computed again.
+pub fn put_missed<O: Sink>(
+    scene: &Scene<'_>,
+    standing: &Standing,
+    against: &Option<Fault>,
+    out: &mut O,
+) -> Result<(), PutFault>
+    requires scene { IsScene scene.now }
+    requires against { against.now ≡ first_of_faults (standing_faults scene.now.params.now scene.now.scale.now
+        scene.now.log.now scene.now.span scene.now.before.now scene.now.here.now scene.now.number
+        scene.now.senders.now standing.now) }
+    ensures { Puts result (O.state out.old) (O.state out.new) (missed_told scene.now.params.now scene.now.log.now
+        scene.now.scale.now scene.now.number scene.now.senders.now standing.now) }
+{
+    if is_clear(scene.log, against) {
+        Ok(())
+    } else {
+        put_judged(scene, standing, out)
     }
 }

@@ -1,18 +1,21 @@
-ghost use Rattle.std.specs.Prelude.{◌≡◌, ◌++◌, IfSome, Some, filter_map, pos};
+ghost use Rattle.std.specs.Prelude.{◌≡◌, ◌≤◌, ◌++◌, IfSome, Some, filter_map, pos};
 ghost use Rattle.fr_base.specs.Device.{Puts};
 ghost use Rattle.fr_bound.specs.Judged.{IsSmall};
 ghost use Rattle.fr_observe.specs.Faults.{length_beyond, offset_fault, rate_fault};
 ghost use Rattle.fr_judging.specs.Knowing.{JudgedBySmall, judged_skews, judged_terms, known_apart, known_missing, moving_faults, moving_heard, spread_heard, spread_row, spread_told, term_faults};
+ghost use Rattle.fr_judging.specs.Missing.{unlike_term};
 ghost use Rattle.fr_observe.specs.Scenes.{IsScene};
 ghost use Rattle.fr_observe.specs.Telling.{TellsFaults, apart_faults, skew_faults};
 
 use crate::knowing::{Standing, judged_met};
+use crate::missed::unlike_term;
 use fr_base::{PutFault, Sink};
 use fr_bound::{Heard, Known, apart_through};
 use fr_cluster::Params;
 use fr_log::Log;
 use fr_observe::{
     Asked, Fault, Scene, Term, put_apart, put_missing, put_of_senders, put_skews, stated_flutter,
+    tell,
 };
 use fr_text::Piece::{Natural, Word};
 use fr_text::{Line, put_line, row_of};
@@ -134,6 +137,26 @@ pub fn put_moving_faults<O: Sink>(
     }
 }
 
+// Those of a term that is none that its node must have computed where it missed at most so many of the others.
+fn put_term<O: Sink>(
+    term: Term,
+    lost: usize,
+    scene: &Scene<'_>,
+    first: &mut Option<Fault>,
+    out: &mut O,
+) -> Result<(), PutFault>
+    requires scene { IsScene scene.now }
+    requires lost { lost ≤ 64 }
+    ensures { TellsFaults result (O.state out.old) (O.state out.new) first.old first.new
+        (filter_map (λ s. unlike_term term scene.now.params.now scene.now.log.now scene.now.scale.now scene.now.number
+        scene.now.senders.now s lost) scene.now.senders.now) }
+{
+    for sender in scene.senders {
+        tell(unlike_term(term, scene, sender, lost), first, out)?;
+    }
+    Ok(())
+}
+
 // The terms that are not those that nodes must have computed, where each may have missed so many senders as the log states.
 fn put_terms<O: Sink>(
     scene: &Scene<'_>,
@@ -148,8 +171,8 @@ fn put_terms<O: Sink>(
         scene.now.senders.now scene.now.log.now.lost) scene.now.senders.now) }
 {
     let lost = scene.log.lost() as usize;
-    put_of_senders(Asked::Term(Term::Offset, lost), scene, first, out)?;
-    put_of_senders(Asked::Term(Term::Rate, lost), scene, first, out)
+    put_term(Term::Offset, lost, scene, first, out)?;
+    put_term(Term::Rate, lost, scene, first, out)
 }
 
 #[tactic(auto, unfolding(crate::specs::Knowing::judged_terms))]

@@ -19,10 +19,13 @@ pub use apart_faults::{Apart, put_apart, put_skews};
 pub use fault::{Fault, LogSpan, Range, known_node};
 pub use missing::put_missing;
 pub use own_faults::put_own_faults;
-pub use rows::{cycle_row, node_row, precision_row};
+pub use rows::{cycle_row, node_row, precision_row, terms_of};
 pub use says::Says;
 pub use scene::Scene;
-pub use sender_faults::{Asked, proper_lengths, put_of_senders, sender_fault, stated_flutter};
+pub use sender_faults::{
+    Asked, proper_lengths, put_of_senders, sender_fault, stated_flutter, step_of,
+};
 pub use skews::{Skews, courses_of, skews_of};
 pub use slot_faults::put_slot_faults;
+pub use telling::tell;
 pub use term::Term;

@@ -61,9 +61,9 @@ pub fn cycle_row(precision: i64, cycle: u32, senders: usize, low: i64, high: Opt
     )
 }
 
-// The limits of the offset term of a sender, in microticks.
+/// The limits of the offset term of a sender, in microticks.
 #[tactic(auto, unfolding(crate::specs::Observing::terms_of))]
-pub(crate) fn terms_of(scale: &Scale, sender: &Sender) -> Option<Interval>
+pub fn terms_of(scale: &Scale, sender: &Sender) -> Option<Interval>
     requires scale { IsReadingScale scale.now }
     requires sender { IsProperSender scale.now sender.now }
     ensures value { result ≡ terms_of scale.now sender.now }

@@ -332,8 +332,8 @@ fn offset_fault(scene: &Scene<'_>, lost: usize, sender: &Sender) -> Option<Fault
     )
 }
 
-// By how much the rate term of a sender grew.
-fn step_of(scale: &Scale, sender: &Sender) -> Option<Interval>
+/// By how much the rate term of a sender grew, in microticks.
+pub fn step_of(scale: &Scale, sender: &Sender) -> Option<Interval>
     requires scale { IsReadingScale scale.now }
     requires sender { IsProperSender scale.now sender.now }
     ensures value { result ≡ option_map (rate_step_seen scale.now sender.now.course) sender.now.next }

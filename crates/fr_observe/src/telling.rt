@@ -6,8 +6,8 @@ use crate::fault::{Fault, fault_row};
 use fr_base::{PutFault, Sink};
 use fr_text::put_line;
 
-// Puts the row of a contradiction, if it is there, and keeps the first one.
-pub(crate) fn tell<O: Sink>(
+/// Puts the row of a contradiction, in one put, if it is there, and keeps the first one.
+pub fn tell<O: Sink>(
     fault: Option<Fault>,
     first: &mut Option<Fault>,
     out: &mut O,

@@ -50,7 +50,7 @@ abbrev pub sync_held : Bool → Bool → Values → ℕ → Option ℕ
 sync_held covered beside p flutter =
     if sharp_holds_of 2 flutter (sharp_near beside p flutter) p then lasts_by covered p flutter else Some 0
 
--- where a correct node joins, for as many as it holds it and suffices for first rates
+-- where a correct node joins, for as many as the rate limit holds the walk and suffices for first rates
 abbrev pub sharp_held : Bool → Bool → Bool → Values → ℕ → Option ℕ
 sharp_held joins covered beside p flutter = if joins then first_rates_last p flutter else sync_held covered beside p flutter
 

@@ -32,9 +32,9 @@ pub struct Basis {
     pub flutter: u64,
     /// Whether some sync node is arbitrary.
     pub beside: bool,
-    /// For how many double cycles sharp sync lasts, 0 where the second check fails; where the run is not sharply covered,
-    /// for how many the rate limit holds the walk of lengths; and where a correct node joins, for how many it suffices for
-    /// first rates too, 0 where the sixth check fails. None: for ever.
+    /// For how many double cycles sharp sync lasts, 0 where the second check fails; where the run is not sharply
+    /// covered, for how many the rate limit holds the walk of lengths; and where a correct node joins, for how many
+    /// it suffices for first rates too, 0 where the sixth check fails. None: for ever.
     pub lasts: Option<u64>,
     /// Why the run is not sharply covered; None where it is.
     pub gap: Option<Gap>,

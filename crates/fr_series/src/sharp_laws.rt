@@ -60,10 +60,11 @@ pub fn a_gap_is_told()
     found_gap_of_run_is_first();
 }
 
-/// A law: where the run is sharply covered it keeps, from its first double cycle in sharp sync on in which no node follows,
-/// what the promise says, whoever joins: as long as the rate limit holds the walk, and suffices for first rates where a
-/// node joins, no macroticks lie further apart than the sharper precision. So its line `sharp within` names no place
-/// in those double cycles, and says yes where they reach to the end of the run. If one joins, drift and script fit.
+/// A law: where the run is sharply covered it keeps, from its first double cycle in sharp sync on in which no node
+/// follows, what the promise says, whoever joins: as long as sharp sync lasts, and, where a node joins, the rate
+/// limit suffices for first rates, no macroticks lie further apart than the sharper precision. So its line `sharp
+/// within` names no place in those double cycles, and says yes where they reach to the end of the run. If one joins,
+/// drift and script fit.
 pub fn a_covered_run_stays_in_sharp_sync()
     ensures { (p : Values) (d : DriftView) (s : ScriptView) (h : Cycles) (first : ℕ) →
         IsSane p → FitsToJoin p d s → IsCoveredSharply p d s (flutter_of p d s) →

@@ -1,5 +1,5 @@
--- The files of the two runs in which lengths walk: they are accepted and sharply covered, and their runs begin in sharp sync.
-use Rattle.std.proofs.Common.{◌≡◌, ◌<◌, ◌≤◌, ◌*◌, ℕ, zero, suc, ◌==◌, Bool, true, false, [], ◌∷◌, Some, None, length, pos, refl, sym, ◌∙◌, subst, lit≤, lit<, arith}
+-- The files of the three runs in which lengths walk: they are accepted and sharply covered, and their runs begin in sharp sync.
+use Rattle.std.proofs.Common.{◌≡◌, ◌<◌, ◌≤◌, ◌*◌, ◌<ℤ◌, ◌*ℤ◌, ℕ, zero, suc, ◌==◌, Bool, true, false, [], ◌∷◌, Some, None, length, pos, refl, sym, ◌∙◌, subst, lit≤, lit<, arith}
 use Rattle.std.specs.Prelude.{cond, IfSome}
 use Rattle.std.specs.Ordering.{nat_cmp}
 use Rattle.std.proofs.lemmas.Int.{ints}
@@ -40,13 +40,14 @@ use Rattle.fr_script.specs.Reasons.{deed_by, is_named_in, join_by, script_reason
 use Rattle.fr_script.specs.Rows.{script_row_of}
 use Rattle.fr_script.specs.View.{AreDeeds, IsScript, deed_of, deeds_on, is_arbitrary, join_of}
 use Rattle.fr_script.specs.declared.deeds.Passage.{Passage}
-use Rattle.fr_bound.specs.SharpBounds.{last_of, sharp_near, walk_lasts}
+use Rattle.fr_bound.specs.Bounds.{shortest_micro}
+use Rattle.fr_bound.specs.SharpBounds.{last_of, rate_walk, sharp_near, walk_lasts}
 use Rattle.fr_bound.specs.SharpChecks.{sharp_holds_of, SharpChecksHold}
+use Rattle.fr_sharp.specs.HeldWalks.{SyncLastsAfter, sync_lasts}
 use Rattle.fr_sharp.specs.JoinedFiles.{IsSharplyCoveredToJoin, JoinedFilesKeepSharpPrecision, KeepsSharplyJoined}
 use Rattle.fr_sharp.specs.JoinedHistories.{FirstRatesLast, FirstRatesLastSo, first_rates_last}
 use Rattle.fr_sharp.specs.SharpHistories.{IsInSharpSyncAt}
 use Rattle.fr_sharp.specs.SharpJoining.{SharpJoinChecksHold}
-use Rattle.fr_sharp.specs.SharpRun.{WalkLastsAfter}
 use Rattle.fr_sharp.specs.SharpStatement.{FilesKeepSharpPrecision, has_arbitrary, IsSharplyCovered, KeepsSharply}
 use Rattle.fr_sharp.specs.SharpTested.{IsUnfollowedSharpSyncAt, first_free_of, first_sharp_sync_of}
 use Rattle.fr_sharp.proofs.FreeLemmas.{first_sharp_sync_is}
@@ -56,7 +57,7 @@ use Rattle.fr_text.specs.Records.{records_of}
 use Rattle.fr_worked.specs.Files.{no_join}
 use Rattle.fr_worked.specs.RunFiles.{RunFiles, run_of_files}
 use Rattle.fr_worked.specs.SharplyJoinedFiles.{wide_cluster}
-use Rattle.fr_worked.specs.WalkingFiles.{AreWalking, KeepWhileFirstRatesLast, KeepWhileTheWalkLasts, walking_cluster, walking_drift, walking_drift_file, walking_files, walking_joined_files}
+use Rattle.fr_worked.specs.WalkingFiles.{AreWalking, KeepThoughLengthsWalk, KeepWhileFirstRatesLast, KeepWhileTheWalkLasts, changing_cluster, changing_drift, changing_drift_file, changing_files, walking_cluster, walking_drift, walking_drift_file, walking_files, walking_joined_files}
 use Rattle.fr_worked.proofs.Accepted.{AllKept, are_accepted, are_deeds, delay_is, found_is_told, length_is, none_refused, one_differs, said_once, same_delay, same_length, same_number, told_by}
 use Rattle.fr_worked.proofs.Decided.{none_marked}
 use Rattle.fr_worked.proofs.FilesKept.{files_are_a_setting}
@@ -87,6 +88,30 @@ walking_is_sane =
       lists = wide.lists;
     }
 
+-- that whose oscillators may change
+changing_in_range : (n : ParamName) → InRange n (figure changing_cluster n)
+changing_in_range name.gMacroPerCycle = (grind (arith, ints), grind (arith, ints))
+changing_in_range other = (grind (arith, ints), grind (arith, ints))
+
+changing_is_sane : IsSane changing_cluster
+changing_is_sane =
+    let walking : IsSane walking_cluster = walking_is_sane in
+    let c = walking.constraints in
+    record {
+      ranges = changing_in_range;
+      constraints = record {
+        whole_cycle = c.whole_cycle;
+        acts_in_slot = c.acts_in_slot;
+        corrects_after = c.corrects_after;
+        leaves_microticks = c.leaves_microticks;
+        passive_first = c.passive_first;
+        sync_nodes = c.sync_nodes;
+        own_slots = c.own_slots;
+        free_slots = c.free_slots;
+      };
+      lists = walking.lists;
+    }
+
 checks_hold : SharpChecksHold 400_000 (sharp_near false walking_cluster 400_000) walking_cluster
 unfolding last_of
 checks_hold zero from to = absurd (omega (arith, from))
@@ -96,6 +121,16 @@ checks_hold (suc (suc (suc zero))) from to = refl
 checks_hold (suc (suc (suc (suc zero)))) from to = refl
 checks_hold (suc (suc (suc (suc (suc zero))))) from to = refl
 checks_hold (suc (suc (suc (suc (suc (suc k)))))) from to = absurd (omega (arith, to))
+
+changing_checks_hold : SharpChecksHold 200_000 (sharp_near false changing_cluster 200_000) changing_cluster
+unfolding last_of
+changing_checks_hold zero from to = absurd (omega (arith, from))
+changing_checks_hold (suc zero) from to = absurd (omega (arith, from))
+changing_checks_hold (suc (suc zero)) from to = refl
+changing_checks_hold (suc (suc (suc zero))) from to = refl
+changing_checks_hold (suc (suc (suc (suc zero)))) from to = refl
+changing_checks_hold (suc (suc (suc (suc (suc zero))))) from to = refl
+changing_checks_hold (suc (suc (suc (suc (suc (suc k)))))) from to = absurd (omega (arith, to))
 
 join_checks_hold : SharpJoinChecksHold false 400_000 walking_cluster
 unfolding last_of
@@ -116,6 +151,18 @@ first_fails = refl
 
 walk_ends : walk_lasts walking_cluster 400_000 ≡ Some 9
 walk_ends = refl
+
+sync_goes_on : sync_lasts walking_cluster 400_000 ≡ None
+sync_goes_on = refl
+
+changing_fails : sharp_holds_of 1 200_000 (sharp_near false changing_cluster 200_000) changing_cluster ≡ false
+changing_fails = refl
+
+changing_ends : sync_lasts changing_cluster 200_000 ≡ Some 6
+changing_ends = refl
+
+changing_walks : (pos 3 *ℤ rate_walk changing_cluster 200_000) <ℤ pos (2 * shortest_micro changing_cluster)
+changing_walks = grind (arith, ints)
 
 rates_end : first_rates_last walking_cluster 400_000 ≡ Some 7
 rates_end = refl
@@ -145,6 +192,34 @@ drift_is = record {
     starts = λ node. found_is_told nat_cmp (λ row asked. row == asked) same_number walking_drift.starts node;
     lengths = λ node from. found_is_told length_cmp length_is same_length walking_drift.lengths (length_key node from);
     delays = delays_are;
+    order = record { starts = refl; lengths = refl; delays_a = refl; delays_b = refl };
+  };
+}
+
+-- that of the changing cluster
+changing_accepted : are_accepted (drift_reason_after changing_cluster) [] (records_of changing_drift_file) ≡ true
+unfolding are_accepted records_of strip_bom records_from next_record drift_row_of rate_in looked_up
+changing_accepted = refl
+
+changing_compensations : (ch : Channel) → compensation_on changing_drift ch ≡ compensation_of changing_cluster ch
+changing_compensations A = refl
+changing_compensations B = refl
+
+changing_delays : (sender receiver : ℕ) (ch : Channel) (from : ℕ) → delay_rows changing_drift sender receiver ch from ≡ delay_at sender receiver ch from (records_of changing_drift_file)
+unfolding told_by records_of strip_bom records_from next_record drift_row_of rate_in looked_up
+changing_delays sender receiver A from = found_is_told delay_cmp delay_is same_delay changing_drift.delays_a (delay_key sender receiver from)
+changing_delays sender receiver B from = refl
+
+changing_drift_is : IsDriftFile changing_cluster changing_drift changing_drift_file
+unfolding told_by records_of strip_bom records_from next_record drift_row_of rate_in looked_up
+changing_drift_is = record {
+  none_refused = none_refused (drift_reason_after changing_cluster) (records_of changing_drift_file) changing_accepted;
+  stands = record {
+    doubles = refl;
+    compensation = changing_compensations;
+    starts = λ node. found_is_told nat_cmp (λ row asked. row == asked) same_number changing_drift.starts node;
+    lengths = λ node from. found_is_told length_cmp length_is same_length changing_drift.lengths (length_key node from);
+    delays = changing_delays;
     order = record { starts = refl; lengths = refl; delays_a = refl; delays_b = refl };
   };
 }
@@ -202,6 +277,16 @@ none_is = record {
   };
 }
 
+changing_none_accepted : are_accepted (script_reason_after changing_cluster) [] (records_of changing_files.script_file) ≡ true
+unfolding are_accepted records_of strip_bom records_from next_record script_row_of looked_up
+changing_none_accepted = refl
+
+changing_none_is : IsScriptFile changing_cluster changing_files.script changing_files.script_file
+changing_none_is = record {
+  none_refused = none_refused (script_reason_after changing_cluster) (records_of changing_files.script_file) changing_none_accepted;
+  stands = none_is.stands;
+}
+
 -- that in which node 5 does
 joined_accepted : are_accepted (script_reason_after walking_cluster) [] (records_of walking_joined_files.script_file) ≡ true
 unfolding are_accepted records_of strip_bom records_from next_record script_row_of looked_up
@@ -246,16 +331,17 @@ joined_is = record {
 
 -- ---- what is computed of the files and their runs
 
-pub record AreWorked (f : RunFiles) : Type 0 where
-  pub params : f.params ≡ walking_cluster
+pub record AreWorked (f : RunFiles) (flutter : ℕ) : Type 0 where
+  pub sane : IsSane f.params
+  pub fails : sharp_holds_of 1 flutter (sharp_near false f.params flutter) f.params ≡ false
   pub drift : IsDriftFile f.params f.drift f.drift_file
   pub script : IsScriptFile f.params f.script f.script_file
   pub proper : IsScript f.script
   pub kind : has_arbitrary f.params f.script ≡ false
-  pub flutters : flutter_of f.params f.drift f.script ≡ 400_000
+  pub flutters : flutter_of f.params f.drift f.script ≡ flutter
   pub none : gap_of_run f.params f.drift f.script ≡ None
   pub long : 1 ≤ doubles_of f.drift
-  pub begins : first_sharp_sync_of false f.params 400_000 (cycles_of (run_of_files f) 2) ≡ Some 0
+  pub begins : first_sharp_sync_of false f.params flutter (cycles_of (run_of_files f) 2) ≡ Some 0
 
 none_gap : gap_of_run walking_cluster walking_drift walking_files.script ≡ None
 unfolding first_below first_in doubles_of length_of delay_of held is_arbitrary join_of deed_of deed_in event_of
@@ -277,9 +363,10 @@ none_begins : first_sharp_sync_of false walking_cluster 400_000 (cycles_of (run_
 unfolding on_cycles first_free_of are_in_sync_by_even cycle_at cycles_of doubles_of start_of rate_of length_of delay_of held is_arbitrary join_of deed_of deed_in event_of
 none_begins = refl
 
-none_worked : AreWorked walking_files
+none_worked : AreWorked walking_files 400_000
 none_worked = record {
-  params = refl;
+  sane = walking_is_sane;
+  fails = first_fails;
   drift = drift_is;
   script = none_is;
   proper = record { long = refl; joins_long = refl; deeds_a = no_deeds; deeds_b = no_deeds };
@@ -288,6 +375,41 @@ none_worked = record {
   none = none_gap;
   long = some_double;
   begins = none_begins;
+}
+
+changing_gap : gap_of_run changing_cluster changing_drift changing_files.script ≡ None
+unfolding first_below first_in doubles_of length_of delay_of held is_arbitrary join_of deed_of deed_in event_of
+changing_gap = refl
+
+changing_flutter : flutter_of changing_cluster changing_drift changing_files.script ≡ 200_000
+unfolding flutter_of greatest_below greatest_in doubles_of delay_of held is_arbitrary
+changing_flutter = refl
+
+changing_kind : has_arbitrary changing_cluster changing_files.script ≡ false
+unfolding is_arbitrary
+changing_kind = refl
+
+changing_join : some_join changing_cluster changing_files.script ≡ false
+unfolding is_arbitrary join_of
+changing_join = refl
+
+changing_begins : first_sharp_sync_of false changing_cluster 200_000 (cycles_of (run_of_files changing_files) 2) ≡ Some 0
+unfolding on_cycles first_free_of are_in_sync_by_even cycle_at cycles_of doubles_of start_of rate_of length_of delay_of held is_arbitrary join_of deed_of deed_in event_of
+changing_begins = refl
+
+changing_worked : AreWorked changing_files 200_000
+unfolding doubles_of
+changing_worked = record {
+  sane = changing_is_sane;
+  fails = changing_fails;
+  drift = changing_drift_is;
+  script = changing_none_is;
+  proper = record { long = refl; joins_long = refl; deeds_a = no_deeds; deeds_b = no_deeds };
+  kind = changing_kind;
+  flutters = changing_flutter;
+  none = changing_gap;
+  long = some_double;
+  begins = changing_begins;
 }
 
 joined_gap : gap_of_run walking_cluster walking_drift walking_joined_files.script ≡ None
@@ -306,9 +428,10 @@ joined_begins : first_sharp_sync_of false walking_cluster 400_000 (cycles_of (ru
 unfolding on_cycles first_free_of are_in_sync_by_even cycle_at cycles_of doubles_of start_of rate_of length_of delay_of held is_arbitrary join_of deed_of deed_in event_of
 joined_begins = refl
 
-joined_worked : AreWorked walking_joined_files
+joined_worked : AreWorked walking_joined_files 400_000
 joined_worked = record {
-  params = refl;
+  sane = walking_is_sane;
+  fails = first_fails;
   drift = drift_is;
   script = joined_is;
   proper = record { long = refl; joins_long = refl; deeds_a = no_deeds; deeds_b = no_deeds };
@@ -321,24 +444,47 @@ joined_worked = record {
 
 -- ---- so the promise speaks of them
 
-are_walking : (f : RunFiles) → ((x : Setting) (n : ℕ) → IsSetting x → IsLawful x (cycles_of x n)) → ((x : Setting) (n : ℕ) → length (cycles_of x n) ≡ n) → AreWorked f → AreWalking f 400_000
-are_walking f lawful long w =
-    let x : Setting = run_of_files f in
-    let sane : IsSane f.params = subst IsSane (sym w.params) walking_is_sane in
-    let Fails : (p : _) → Type 0 = λ p. sharp_holds_of 1 400_000 (sharp_near false p 400_000) p ≡ false in
-    record {
-      sane = sane;
+are_walking : (f : RunFiles) (flutter : ℕ) → ((x : Setting) (n : ℕ) → IsSetting x → IsLawful x (cycles_of x n)) → ((x : Setting) (n : ℕ) → length (cycles_of x n) ≡ n) → AreWorked f flutter
+    → AreWalking f flutter
+are_walking f flutter lawful long w =
+    let x : Setting = run_of_files f in record {
+      sane = w.sane;
       drift = w.drift;
       script = w.script;
       kind = w.kind;
       flutters = w.flutters;
-      fails = subst Fails (sym w.params) first_fails;
-      run = record { lawful = lawful x (2 * x.doubles) (files_are_a_setting f.params f.drift f.script sane w.proper); whole = long x (2 * x.doubles) };
+      fails = w.fails;
+      run = record { lawful = lawful x (2 * x.doubles) (files_are_a_setting f.params f.drift f.script w.sane w.proper); whole = long x (2 * x.doubles) };
       first = record {
-        unfollowed = begins_longer false f.params 400_000 x (2 * x.doubles) (let least = w.long in omega (arith, least)) (first_sharp_sync_is false f.params 400_000 (cycles_of x 2) 0 w.begins).unfollowed;
+        unfollowed = begins_longer false f.params flutter x (2 * x.doubles) (let least = w.long in omega (arith, least)) (first_sharp_sync_is false f.params flutter (cycles_of x 2) 0 w.begins).unfollowed;
         first = λ earlier less sync. absurd (omega (arith, less));
       };
     }
+
+-- where no node joins them
+pub record AreKept (f : RunFiles) (flutter : ℕ) : Type 0 where
+  pub walking : AreWalking f flutter
+  pub covered : IsSharplyCovered f.params f.drift f.script flutter
+  pub keeps : KeepsSharply false (run_of_files f) flutter (all_cycles (run_of_files f)) 0
+
+are_kept : (f : RunFiles) (flutter : ℕ) → ((x : Setting) (n : ℕ) → IsSetting x → IsLawful x (cycles_of x n)) → ((x : Setting) (n : ℕ) → length (cycles_of x n) ≡ n) → FilesKeepSharpPrecision
+    → AreWorked f flutter → SharpChecksHold flutter (sharp_near false f.params flutter) f.params → some_join f.params f.script ≡ false → AreKept f flutter
+are_kept f flutter lawful long promise worked checks joins =
+    let x : Setting = run_of_files f in
+    let w : AreWalking f flutter = are_walking f flutter lawful long worked in
+    let Hold : Bool → Type 0 = λ b. SharpChecksHold flutter (sharp_near b f.params flutter) f.params in
+    let covered : IsSharplyCovered f.params f.drift f.script flutter = record {
+      checks = subst Hold (sym w.kind) checks;
+      none_joins = joins;
+      none = (found-of-run f.params f.drift f.script w.sane).0 worked.none;
+      flutters = let same = w.flutters in omega (arith, same);
+    } in
+    let At : Bool → Type 0 = λ b. IsInSharpSyncAt b f.params flutter (pos 0) (all_cycles x) 0 in
+    let Keeps : Bool → Type 0 = λ b. KeepsSharply b x flutter (all_cycles x) 0 in
+    let keeps : KeepsSharply false x flutter (all_cycles x) 0 =
+    subst Keeps w.kind
+    (promise f.params f.drift f.script f.drift_file f.script_file flutter (all_cycles x) 0 w.sane w.drift w.script covered w.run (subst At (sym w.kind) w.first.unfollowed.synced)) in
+    record { walking = w; covered = covered; keeps = keeps }
 
 twelve : doubles_of walking_drift ≡ 12
 unfolding doubles_of
@@ -347,36 +493,35 @@ twelve = refl
 before_end : (lasts : ℕ) → lasts < 12 → lasts < doubles_of walking_drift
 before_end lasts less = let is = twelve in omega (arith, is, less)
 
-walk_goes_on : WalkLastsAfter walking_cluster 400_000 8
-walk_goes_on =
-    let In : (o : _) → Type 0 = λ o. IfSome o (λ lasts. 8 < lasts) in
-    subst In (sym walk_ends) (lit< tt)
+pub keep_though_lengths_walk : ((x : Setting) (n : ℕ) → IsSetting x → IsLawful x (cycles_of x n)) → ((x : Setting) (n : ℕ) → length (cycles_of x n) ≡ n)
+    → FilesKeepSharpPrecision → KeepThoughLengthsWalk walking_files 400_000 9
+keep_though_lengths_walk lawful long promise =
+    let kept : AreKept walking_files 400_000 = are_kept walking_files 400_000 lawful long promise none_worked checks_hold none_join in record {
+      walking = kept.walking;
+      covered = kept.covered;
+      walks = walk_ends;
+      short = before_end 9 (lit< tt);
+      held = sync_goes_on;
+      always = kept.keeps.always sync_goes_on;
+    }
+
+sync_goes_on_so_far : SyncLastsAfter changing_cluster 200_000 5
+sync_goes_on_so_far =
+    let In : (o : _) → Type 0 = λ o. IfSome o (λ lasts. 5 < lasts) in
+    subst In (sym changing_ends) (lit< tt)
 
 pub keep_while_the_walk_lasts : ((x : Setting) (n : ℕ) → IsSetting x → IsLawful x (cycles_of x n)) → ((x : Setting) (n : ℕ) → length (cycles_of x n) ≡ n)
-    → FilesKeepSharpPrecision → KeepWhileTheWalkLasts walking_files 400_000 9
+    → FilesKeepSharpPrecision → KeepWhileTheWalkLasts changing_files 200_000 6
+unfolding doubles_of
 keep_while_the_walk_lasts lawful long promise =
-    let f : RunFiles = walking_files in
-    let x : Setting = run_of_files f in
-    let w : AreWalking f 400_000 = are_walking f lawful long none_worked in
-    let Hold : Bool → Type 0 = λ b. SharpChecksHold 400_000 (sharp_near b walking_cluster 400_000) walking_cluster in
-    let covered : IsSharplyCovered f.params f.drift f.script 400_000 = record {
-      checks = subst Hold (sym none_kind) checks_hold;
-      none_joins = none_join;
-      none = (found-of-run f.params f.drift f.script walking_is_sane).0 none_gap;
-      flutters = let same = none_flutter in omega (arith, same);
-    } in
-    let At : Bool → Type 0 = λ b. IsInSharpSyncAt b f.params 400_000 (pos 0) (all_cycles x) 0 in
-    let Keeps : Bool → Type 0 = λ b. KeepsSharply b x 400_000 (all_cycles x) 0 in
-    let keeps : KeepsSharply false x 400_000 (all_cycles x) 0 =
-    subst Keeps none_kind
-    (promise f.params f.drift f.script f.drift_file f.script_file 400_000 (all_cycles x) 0 walking_is_sane drift_is none_is covered w.run (subst At (sym none_kind) w.first.unfollowed.synced)) in
-    record {
-      walking = w;
-      covered = covered;
-      ends = walk_ends;
-      short = before_end 9 (lit< tt);
-      keeps = keeps;
-      last = keeps.keeps 8 (lit≤ tt) (before_end 8 (lit< tt)) walk_goes_on;
+    let kept : AreKept changing_files 200_000 = are_kept changing_files 200_000 lawful long promise changing_worked changing_checks_hold changing_join in record {
+      walking = kept.walking;
+      covered = kept.covered;
+      little = changing_walks;
+      ends = changing_ends;
+      short = before_end 6 (lit< tt);
+      keeps = kept.keeps;
+      last = kept.keeps.keeps 5 (lit≤ tt) (before_end 5 (lit< tt)) sync_goes_on_so_far;
     }
 
 rates_go_on : FirstRatesLastSo → (m : ℕ) → m < 7 → FirstRatesLast walking_cluster 400_000 m
@@ -390,7 +535,7 @@ unfolding is_arbitrary join_of
 keep_while_first_rates_last lawful long promise so =
     let f : RunFiles = walking_joined_files in
     let x : Setting = run_of_files f in
-    let w : AreWalking f 400_000 = are_walking f lawful long joined_worked in
+    let w : AreWalking f 400_000 = are_walking f 400_000 lawful long joined_worked in
     let Hold : Bool → Type 0 = λ b. SharpJoinChecksHold b 400_000 walking_cluster in
     let covered : IsSharplyCoveredToJoin f.params f.drift f.script 400_000 = record {
       checks = subst Hold (sym joined_kind) join_checks_hold;

@@ -5,7 +5,7 @@ from fractions import Fraction
 
 from ..base.ending import Stop
 from ..base.units import TICKS, decimal
-from .solving import Design, Found, Task, least, macroticks, search
+from .solving import Design, Found, Task, best_at, macroticks, search
 from .tasks import Wish, nearer, shown_ns, tasks_of
 
 # By how much each premise is turned, to tell what it costs.
@@ -82,7 +82,7 @@ def turned(wish: Wish, design: Design, purpose: str, whole: bool) -> list[Turned
 
 
 def has_design(tasks: list[Task], whole: bool, kept: int | None) -> bool:
-    return any(isinstance(least(task, macros), Design) for task in tasks for macros in macroticks(task, whole, kept))
+    return any(isinstance(best_at(task, macros, "precision"), Design) for task in tasks for macros in macroticks(task, whole, kept))
 
 
 def halved(low: int, high: int, good: Callable[[int], bool]) -> int | None:

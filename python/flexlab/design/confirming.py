@@ -11,7 +11,7 @@ from ..program import calls as programs
 from ..program.report import SharpBounds, read_sharp_bounds
 from ..runs.least import Sides, holds
 from ..runs.sharp import sharp_words
-from .solving import BEHIND, FRAME, FREE, LEAST, MAX_DRIFT, SLOT, Design, Raise, Task, binding, least, put
+from .solving import BEHIND, FRAME, FREE, HELD, LEAST, MAX_DRIFT, SLOT, Design, Raise, Task, binding, least, put
 
 # What a demand is where it is no check of flexray.
 OTHERS = {MAX_DRIFT: "pdMaxDrift of the standard, quoted", SLOT: "the slot length of the standard, quoted",
@@ -21,12 +21,14 @@ OTHERS = {MAX_DRIFT: "pdMaxDrift of the standard, quoted", SLOT: "the slot lengt
 @dataclass
 class Neighbour:
     """A free parameter at one less than the design has it: by which demands that is refused, and the check of the program that
-    fails there, with both sides; None where no check of the program is named."""
+    fails there, with both sides; None where no check of the program is named. Where the walk is not held there it is for how many
+    double cycles sync lasts."""
     parameter: str
     value: int
     by: list[str]
     check: tuple[str, int, int] | None = None
     kept: bool = False
+    lasts: int | None = None
 
 
 @dataclass
@@ -94,7 +96,8 @@ def unlike(design: Design, bounds: SharpBounds) -> str | None:
         if design.bounds[name] != told:
             return f"{name} {told}, and reckoned are {design.bounds[name]}"
     for number, held, left, right in bounds.checks:
-        if design.bounds[number] != (left, right) or not held or not holds(number, Sides(left, right)):
+        wanted = number != 1 or not design.task.held
+        if design.bounds[number] != (left, right) or held != wanted or holds(number, Sides(left, right)) != wanted:
             return f"C{number} {'holds' if held else 'fails'} {left} {right}, and reckoned are {tuple(design.bounds[number])}"
     if bounds.lasts is not None:
         return f"that it lasts {bounds.lasts} double cycles"
@@ -120,18 +123,25 @@ def neighbour(program: str, design: Design, parameter: str, by: list[str], nodes
     p, _ = put(design.parameters, design.behind, parameter, value, task)
     bounds = asked(program, task, with_rest(p), nodes, path)
     check = next((found for found in (failing(bounds, name) for name in checks) if found), None)
-    if check is None and not task.margin:
+    lasts = bounds.lasts if HELD in by else None
+    if check is None and lasts is None and not task.margin:
         raise Stop(PROGRAM, f"flexray bound does not refuse {parameter} at {value}, which {' and '.join(checks)} should")
-    return Neighbour(parameter, value, by, check)
+    return Neighbour(parameter, value, by, check, lasts=lasts)
 
 
-def step(program: str, task: Task, one: Raise, number: int, nodes: Nodes, folder: str) -> Step:
-    """A step of the chain, as a file of which the program prints that the check fails."""
+def step(program: str, design: Design, one: Raise, number: int, nodes: Nodes, folder: str) -> Step:
+    """A step of the chain, as a file of which the program prints that the check fails, or how long sync lasts: that with what the
+    design has of damping and rate limit, since either falls short alone."""
+    task = design.task
     if one.name in OTHERS:
         return Step(one.name, one.parameter, one.value, OTHERS[one.name])
-    p, _ = put(one.before, one.behind, one.parameter, one.value - 1, task)
-    name = f"{number:02}-{one.name}.csv"
-    check = failing(asked(program, task, with_rest(p), nodes, os.path.join(folder, name)), one.name)
+    own = {name: design.parameters[name] for name in ("pClusterDriftDamping", "pRateCorrectionOut")} if one.name == HELD else {}
+    p, _ = put({**one.before, **own}, one.behind, one.parameter, one.value - 1, task)
+    name = f"{number:02}-{one.name.split()[0]}.csv"
+    bounds = asked(program, task, with_rest(p), nodes, os.path.join(folder, name))
+    if one.name == HELD and bounds.lasts is not None:
+        return Step(one.name, one.parameter, one.value, f"the walk is not held, lasts {bounds.lasts}", name)
+    check = failing(bounds, one.name)
     if check is None:
         if not task.margin:
             raise Stop(PROGRAM, f"flexray bound does not refuse {one.parameter} at {one.value - 1}, which {one.name} should")
@@ -145,14 +155,15 @@ def certificate(program: str, design: Design, nodes: Nodes, folder: str) -> list
     chain: list[Raise] = []
     least(design.task, design.parameters["gMacroPerCycle"], chain)
     files.hold(folder)
-    found = [step(program, design.task, one, number, nodes, folder) for number, one in enumerate(chain, 1)]
+    found = [step(program, design, one, number, nodes, folder) for number, one in enumerate(chain, 1)]
     asked(program, design.task, design.parameters, nodes, os.path.join(folder, "design.csv"))
     words = " ".join(sharp_words("FILE", design.task.kind.flutter, design.task.join))
     lines = [f"Each file is one of flexray {words}; of kind {design.task.kind.name} it prints what stands behind it.",
              "With all else no greater than in any solution the parameter is one too low there, so it is raised to the value.", ""]
     lines += [f"{one.file or '-':<16}{one.parameter if one.parameter != BEHIND else 'behind the action point':<24} to "
               f"{one.value:<7} {one.told}" for one in found]
-    files.put(os.path.join(folder, "chain.txt"), "\n".join([*lines, f"{'design.csv':<16}all checks hold"]) + "\n")
+    hold = "all checks but C1 hold, and the walk is held: lasts on" if design.task.held else "all checks hold"
+    files.put(os.path.join(folder, "chain.txt"), "\n".join([*lines, f"{'design.csv':<16}{hold}"]) + "\n")
     return found
 
 

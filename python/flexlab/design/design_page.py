@@ -12,7 +12,7 @@ from ..runs.least import Numbers, holds
 from .buying import Turned, ticks_ns
 from .confirming import OTHERS, Confirmed, Neighbour, Step, parameters_of
 from .quoted import quoted
-from .solving import BEHIND, CHOSEN, Design, Found, NoDesign
+from .solving import BEHIND, CHOSEN, HELD, Design, Found, NoDesign
 from .tasks import Wish, shown_ns
 
 ORIGIN = ("the search is exact arithmetic of flexlab over the sides of checks that flexray bound prints; that they hold, and that they "
@@ -83,8 +83,9 @@ def delay_lines(answer: Answer) -> list[str]:
 def verdict_words(answer: Answer) -> str:
     design = answer.best.design
     fixed = "with what is kept, " if answer.wish.kept else ""
+    hold = "all checks but C1 hold by flexray bound, the walk is held" if design.task.held else "all checks hold by flexray bound"
     least = "the least proved precision that there is" if answer.purpose == "precision" else "proved"
-    return (f"yes: {us(design.precision_ns)} is {least}, {fixed}{kind_words(answer.wish)}; all checks hold by flexray bound, and with "
+    return (f"yes: {us(design.precision_ns)} is {least}, {fixed}{kind_words(answer.wish)}; {hold}, and with "
             "each free parameter at one less what is named beside it fails")
 
 
@@ -94,9 +95,11 @@ def least_words(one: Neighbour) -> str:
         return "kept"
     if not one.by:
         return "the least of its range"
-    program = [name for name in one.by if name not in OTHERS]
+    program = [name for name in one.by if name not in (*OTHERS, HELD)]
     others = [OTHERS[name] for name in one.by if name in OTHERS]
     told = []
+    if one.lasts is not None:
+        told.append(f"at {one.value} the walk is not held: sync lasts {one.lasts} double cycles")
     if one.check:
         told.append(f"at {one.value} {one.check[0]} fails: {one.check[1]} against {one.check[2]}")
     elif program:
@@ -181,11 +184,25 @@ def quoted_lines(answer: Answer) -> list[str]:
     return lines
 
 
+def held_lines(answer: Answer) -> list[str]:
+    """Why a design is one though C1 fails of it."""
+    design = answer.best.design
+    if not design.task.held:
+        return []
+    left, right = design.bounds[1]
+    short = decimal(Fraction(right - left, TICKS), 3)
+    return field("Held walk", f"C1 fails by {short} microticks, but the walk is held: oscillators do not change, and lengths walk by less "
+                              "than two thirds of a microtick in a double cycle, so they come less than one beyond their range, for which "
+                              f"the rate limit has room. Where frames are lost it is proved of {design.bounds.walks} double cycles only; "
+                              "a damping of one more meets C1")
+
+
 def note_lines(answer: Answer) -> Iterator[str]:
     wish = answer.wish
     if not wish.flutter_ns:
-        yield from field("WARNING", "delays that flutter by nothing at all are stated, and no transceiver keeps that: with more than a "
-                                    "tick of it C1 asks for a damping of one more (below), so state what your hardware has")
+        much = "more than a tick" if wish.joins or wish.change else "two thirds of a microtick"
+        yield from field("WARNING", f"delays that flutter by nothing at all are stated, and no transceiver keeps that: with {much} of it a "
+                                    "damping of one more is asked for (below), so state what your hardware has")
     for note in answer.notes:
         yield from field("WARNING", note)
     if not wish.free:
@@ -199,12 +216,13 @@ def page(answer: Answer) -> str:
     design = answer.best.design
     if answer.now is not None:
         lines += field("Now", f"the file's own parameters have {us(ticks_ns(answer.now['precision'], design))}"
-                              + ("" if all(holds(number, answer.now[number]) for number in (1, 2, 3, 4, 5))
+                              + ("" if all(holds(number, answer.now[number]) or number == 1 and answer.now.is_held and not answer.wish.joins
+                                           for number in (1, 2, 3, 4, 5))
                                  else ", and a check fails with them"))
     lines += field("Precision", f"{us(design.precision_ns)} ({decimal(Fraction(design.bounds['precision'], TICKS), 3)} microticks), "
                                 "proved from sync on")
     lines += field("Slots", f"{us(design.slot_ns)} each; {design.fitting} of them would fit into the cycle")
-    lines += parameter_lines(answer) + check_lines(answer) + turned_lines(answer) + [""] + other_lines(answer)
+    lines += held_lines(answer) + parameter_lines(answer) + check_lines(answer) + turned_lines(answer) + [""] + other_lines(answer)
     for number, one in enumerate(answer.chain):
         lines += field("" if number else "Chain", f"{one.file or 'no file'}: {named(one.parameter)} to {one.value}: {one.told}")
     lines += [*note_lines(answer), *quoted_lines(answer), "", *field("Left out", LEFT_OUT), *field("Origin", ORIGIN)]
@@ -216,7 +234,8 @@ def why_words(why: NoDesign) -> str:
         return "slots and offset correction have no room in the cycle"
     if why.name == "kept":
         return "the kept gdStaticSlot is too short for action point and what is behind it"
-    return f"{OTHERS.get(why.name, why.name)} asks for more {named(why.parameter)} than its range or what is kept allows"
+    who = "a held walk" if why.name == HELD else OTHERS.get(why.name, why.name)
+    return f"{who} asks for more {named(why.parameter)} than its range or what is kept allows"
 
 
 def no_page(answer: Answer) -> str:
@@ -267,7 +286,8 @@ def answer_object(answer: Answer) -> dict[str, Any]:
     best = answer.best
     return {**head, "design": design_object(best.design),
             "least_by": [{"parameter": named(one.parameter), "one_less": one.value, "by": one.by,
-                          "check": one.check and {"check": one.check[0], "left": one.check[1], "right": one.check[2]}}
+                          "check": one.check and {"check": one.check[0], "left": one.check[1], "right": one.check[2]},
+                          **({} if one.lasts is None else {"lasts_double_cycles": one.lasts})}
                          for one in best.neighbours],
             "checks": [{"check": f"C{number}", "holds": held, "left": left, "right": right,
                         "slack_us": number_us(slack_ns(best.design, number, left, right))}

@@ -3,17 +3,20 @@
 Of one length of the macrotick five parameters are free: damping, both correction limits, the action point, and what is behind it in
 a slot. Every demand on them is a least value of one, and none of these falls where another of the five grows. So from the bottom of
 all ranges each is raised to what is asked of it until nothing asks for more: what comes out lies in each parameter at or below every
-other solution, and so do precision and slot length, which grow with them. Macroticks are tried through, all of them."""
+other solution, and so do precision and slot length, which grow with them. Macroticks are tried through, all of them.
+
+Sync lasts on and on by either of two demands on the damping: C1, or a walk that is held, which takes a microtick of damping less, and
+asks the rate limit for room. Where there may be one both are tried, and the better design is taken."""
 import heapq
 from collections.abc import Iterable, Iterator
-from dataclasses import dataclass, field
+from dataclasses import dataclass, field, replace
 from fractions import Fraction
 from functools import cached_property
 
 from ..base import ranges
 from ..base.units import TICKS
 from ..pages.advice import latest_start, up
-from ..runs.least import Kind, Numbers, sharp_bounds_of
+from ..runs.least import Kind, Numbers, held_damping, held_rate, sharp_bounds_of
 
 # The greatest deviation of an oscillator by the standard (cClockDeviationMax), and the bits of idle behind a frame
 # (cChannelIdleDelimiter).
@@ -31,14 +34,15 @@ CHOSEN = {"gMaxWithoutClockCorrectionPassive": 2, "gMaxWithoutClockCorrectionFat
           "pAllowPassiveToActive": 2}
 PURPOSES = ("precision", "slot", "slots", "free")
 
-# The names of demands that are not checks of flexray.
-MAX_DRIFT, SLOT, FRAME = "pdMaxDrift", "standard slot", "frame"
+# The names of demands that are not checks of flexray; of a held walk `flexray bound` says how long sync lasts.
+MAX_DRIFT, SLOT, FRAME, HELD = "pdMaxDrift", "standard slot", "frame", "held walk"
 
 
 @dataclass(frozen=True)
 class Task:
     """What a design has to meet at one length of the microtick, with one choice of compensations. Ticks but for what is named
-    otherwise; `standard_ns` is what the standard asks of a slot beside two action points, None where it is left out."""
+    otherwise; `standard_ns` is what the standard asks of a slot beside two action points, None where it is left out; `held` is whether
+    the walk has to be held in place of C1."""
     microtick_ns: Fraction
     micros: int
     slots: int
@@ -54,6 +58,21 @@ class Task:
     standard_ns: Fraction | None
     margin: int = 0
     kept: tuple[tuple[str, int], ...] = ()
+    held: bool = False
+
+    @cached_property
+    def with_held_walk(self) -> "Task | None":
+        """The same with a held walk in place of C1; None where oscillators change, a node joins, or C1 asks for no more damping."""
+        quick, kept = TICKS - self.rate, dict(self.kept).get("pClusterDriftDamping")
+        by_check = -(-(quick + self.kind.flutter - 1) // quick)
+        if self.join or self.change or self.damping == by_check or kept is not None and kept >= by_check:
+            return None
+        return replace(self, held=True)
+
+    @cached_property
+    def damping(self) -> int:
+        """The least with which a walk is held where oscillators do not change."""
+        return held_damping(self.kind.flutter, TICKS - self.rate)
 
     @cached_property
     def compensation(self) -> int:
@@ -153,8 +172,12 @@ def demands(p: dict[str, int], behind: int, task: Task) -> list[tuple[str, str, 
     sides, quick = sharp_bounds_of(p, task.kind), TICKS - task.rate
     macros, left, point = p["gMacroPerCycle"], p["pMicroPerCycle"] - p["pRateCorrectionOut"], p["gdActionPointOffset"]
     first, margin = 7 if task.join else 3, task.margin
-    found = [("C1", "pClusterDriftDamping", -(-(sides[1][1] - 1) // quick)),
-             ("C2", "pRateCorrectionOut", -(-sides[2][1] // quick))]
+    if task.held:
+        found = [(HELD, "pClusterDriftDamping", task.damping),
+                 (HELD, "pRateCorrectionOut", held_rate(p, task.kind.flutter, task.damping))]
+    else:
+        found = [("C1", "pClusterDriftDamping", -(-(sides[1][1] - 1) // quick))]
+    found.append(("C2", "pRateCorrectionOut", -(-sides[2][1] // quick)))
     if task.join:
         found.append(("C6", "pRateCorrectionOut", -(-sides[6][1] // quick)))
     if task.standard_ns is not None:
@@ -228,6 +251,15 @@ def closed(task: Task, p: dict[str, int], behind: int) -> Design | NoDesign:
     return Design(task, found, found["gdStaticSlot"] - found["gdActionPointOffset"], sharp_bounds_of(found, task.kind))
 
 
+def best_at(task: Task, macros: int, purpose: str) -> Design | NoDesign:
+    """The least solution with these macroticks by C1 or by a held walk, the better one where there are both."""
+    plain = least(task, macros)
+    held = least(task.with_held_walk, macros) if task.with_held_walk else None
+    if isinstance(held, Design) and isinstance(plain, Design):
+        return min(held, plain, key=lambda one: one.order(purpose))
+    return held if held is not None and (isinstance(held, Design) or isinstance(plain, NoDesign) and plain.name == "C1") else plain
+
+
 def binding(design: Design) -> dict[str, list[str]]:
     """Of each free parameter the demands that one less would not meet; none where it is kept or the least of its range."""
     found: dict[str, list[str]] = {name: [] for name in FREE}
@@ -290,7 +322,7 @@ def search(tasks: Iterable[Task], purpose: str = "precision", top: int = 2, whol
         for task in tasks:
             for macros in macroticks(task, whole, kept):
                 found.tried += 1
-                one = least(task, macros)
+                one = best_at(task, macros, purpose)
                 if isinstance(one, Design):
                     found.count += 1
                     yield one

@@ -16,10 +16,10 @@ from ..base.ending import USAGE as WORDS
 from ..base.files import check_is_file
 from ..base.ending import DONE, FILE, NO, Stop, printable
 from ..program.forms import FORMS
-from .gaps import check_words, gap_words, sharp_check_words, sharp_way_words
+from .gaps import check_words, gap_words, held_words, sharp_check_words, sharp_way_words
 from ..base.ranges import Parameters
 from ..program.known import Known, version_of
-from ..runs.least import Kind
+from ..runs.least import Kind, sharp_bounds_of
 from ..base.ranges import FILE_BYTES, NAMES, table
 from ..program.reasons import EXPLAIN, MEANING, short
 from ..program.records import Record, load
@@ -315,6 +315,9 @@ def explain_sharp_check(name: str, check: FailedCheck, words: Sequence[str]) -> 
     place = words.index("power" if is_power(words) else "sharp", 2)
     kind = Kind(name == "beside", int(words[place + 1]), max(key for _, key, _ in known.keys()))
     told = (sharp_way_words if way else sharp_check_words)(number, left, right, parameters, kind)
+    # `bound PARAMS sharp FLUTTER` alone is of runs that lose no frame and that no node joins.
+    if number == 1 and words[0] == "bound" and len(words) == 4 and sharp_bounds_of(parameters, kind).is_held:
+        return [f"it asks: {SHARP_FORMULA[1]}", f"with {SHARP_LETTERS}", held_words(left, right)]
     formula, letters = (SHARP_WAY_FORMULA, SHARP_WAY_LETTERS) if way else (SHARP_FORMULA, SHARP_LETTERS)
     turned = TURNS[number]
     return [f"it asks: {formula[number]}", f"with {letters}", *told[1:], f"{turned} stands on line {known.line(turned)}"]

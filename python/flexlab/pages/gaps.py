@@ -43,6 +43,12 @@ def sharp_check_words(number: int, left: int, right: int, parameters: Parameters
     return found + ([more] if more else [])
 
 
+def held_words(left: int, right: int) -> str:
+    """The first sharper check where it fails and the walk is held."""
+    return (f"C1 fails, {left} against {right}, but the walk is held: no oscillator changes, so where no frame is lost lengths come less "
+            "than a microtick beyond their range, and the precision is proved on and on")
+
+
 def sharp_way_words(number: int, left: int, right: int, parameters: Parameters, kind: Kind) -> list[str]:
     """A failing check for the way to sharp sync in words."""
     if number in (1, 2):

@@ -8,13 +8,13 @@ from collections.abc import Callable, Iterable
 from typing import Any, NamedTuple, TYPE_CHECKING
 
 from ..base.ending import DONE, UNMET, USAGE, Stop, printable
-from .gaps import check_words, gap_words, sharp_check_words
+from .gaps import check_words, gap_words, held_words, sharp_check_words
 from .model import warnings
 from .page import ms_of_cycle
 from ..program.report import Bounds, Skew
 from .verdict import gaps_told, verdict_object
 from ..runs.every_gap import every_gap, lost_frames
-from ..runs.sharp import ends_of, first_of, gap_of, is_within, kind_of, lost_of, skew_of
+from ..runs.sharp import ends_of, first_of, gap_of, is_within, kind_of, lasts_of, lost_of, skew_of
 from ..base.ranges import Parameters
 from ..base.units import Number, decimal, ppm_of, us_of_ticks
 from ..base.version import version
@@ -88,10 +88,11 @@ def sharp_object(run: Run) -> Object:
             "precision": {"ticks": bounds.precision, "us": us(bounds.precision, cluster)},
             "in_sharp_sync": sync_object(first_of(run), lost_of(run), cluster),
             "in_sync": sync_object(first_of(run), lost_of(run), cluster),
-            "lasts_double_cycles": bounds.lasts, "proved_before_double_cycle": ends_of(run),
+            "lasts_double_cycles": lasts_of(run), "proved_before_double_cycle": ends_of(run),
             "skew": skew_object(skew_of(run), cluster), "within_precision": is_within(run),
             "checks": [{"check": f"C{check.number}", "holds": check.holds, "left": check.left, "right": check.right,
-                        **({} if check.holds else {"told": sharp_check_words(check.number, check.left, check.right, p, kind)})}
+                        **({} if check.holds else {"told": [held_words(check.left, check.right)] if check.number == 1 and bounds.is_held
+                                                   else sharp_check_words(check.number, check.left, check.right, p, kind)})}
                        for check in bounds.checks]}
 
 

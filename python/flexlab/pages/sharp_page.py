@@ -5,9 +5,9 @@ from fractions import Fraction
 from collections.abc import Callable
 from typing import TYPE_CHECKING
 
-from .gaps import gap_words, sharp_check_words
-from ..runs.least import least_sharp_damping
-from ..runs.sharp import ends_of, first_of, gap_of, greatest_turn, is_covered, is_within, kind_of, lost_of, skew_of
+from .gaps import gap_words, held_words, sharp_check_words
+from ..runs.least import least_lasting_damping, least_sharp_damping
+from ..runs.sharp import ends_of, first_of, gap_of, greatest_turn, is_covered, is_within, kind_of, lasts_of, lost_of, skew_of
 from ..base.units import decimal, lasting, microseconds, percent
 
 if TYPE_CHECKING:
@@ -75,8 +75,7 @@ def lasting_words(run: Run, ms_of_cycle: Callable[[int, Cluster], Fraction]) -> 
         return None
     if not lasts:
         return "NOT PROVED: C1 fails, and the rate limit holds the walk of all rates for no double cycle"
-    told = (f"{lasts} double cycles from there ({lasting(ms_of_cycle(2 * lasts, run.cluster))}), since C1 fails and the "
-            "rates of all may walk together")
+    told = (f"{lasts} double cycles from there ({lasting(ms_of_cycle(2 * lasts, run.cluster))}), since {run.sharp.bounds.ending}")
     if end is None:
         return f"proved of {told}: to the end of this run"
     return f"PROVED IN PART, of {told}: not from cycle {2 * end} on"
@@ -105,7 +104,7 @@ def losses_lines(run: Run, field: Lines) -> list[str]:
         return []
     losses = told.losses
     where = (f"frames are lost in {losses.doubles} of {run.report.doubles} double cycles, the last is double cycle {losses.last}")
-    first, lasts = first_of(run), run.sharp.bounds.lasts
+    first, lasts = first_of(run), lasts_of(run)
     if losses.bound is None:
         return field("Losses", where, "nothing is proved of this run through losses")
     if first is None or lasts == 0:
@@ -131,16 +130,21 @@ def check_lines(run: Run, field: Lines) -> list[str]:
     """The checks of the precision: those that fail, or which is the tightest."""
     bounds, p = run.sharp.bounds, run.cluster.parameters
     kind, found = kind_of(run.cluster, run.sharp.flutter), list[str]()
+    lasting = least_lasting_damping(p, kind, bool(run.cluster.joins))
     for check in bounds.failing:
-        words = sharp_check_words(check.number, check.left, check.right, p, kind)
-        if check.number == 1:
+        if check.number == 1 and bounds.is_held:
+            words = [held_words(check.left, check.right)]
+        else:
+            words = sharp_check_words(check.number, check.left, check.right, p, kind)
+        if check.number == 1 and bounds.lasts is not None:
+            if lasting < least_sharp_damping(p, kind):
+                words.append(f"a damping of {lasting} suffices all the same: with that the walk is held")
             words.append(f"without that the precision is proved of {bounds.lasts or 'no'} double cycles from the first in sync on")
         found += field("" if found else "Checks", *words)
     if found:
         return found
     tight = max(bounds.checks, key=lambda check: Fraction(check.right, check.left) if check.left else Fraction(0))
     count = len(bounds.checks)
-    own, least = p["pClusterDriftDamping"], least_sharp_damping(p, kind)
-    less = f"; a damping of {least} would suffice" if least < own else ""
+    less = f"; a damping of {lasting} would suffice" if lasting < p["pClusterDriftDamping"] else ""
     return field("Checks", f"C1 to C{count} hold, those of the precision; C{tight.number} is the tightest, used to "
                            f"{percent(tight.right, tight.left)}{less}")

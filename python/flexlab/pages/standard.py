@@ -66,7 +66,8 @@ def sharp_for(run: Run, program: str, flutter: int) -> dict[str, SharpBounds]:
 
 
 def failing(bounds: Bounds | SharpBounds) -> str:
-    return ", ".join(f"C{check.number}" for check in bounds.failing) or "none"
+    held = isinstance(bounds, SharpBounds) and bounds.is_held
+    return ", ".join(f"C{check.number}" + (" (held)" if held and check.number == 1 else "") for check in bounds.failing) or "none"
 
 
 def simulated(run: Run) -> list[Row]:
@@ -118,7 +119,8 @@ def compared(run: Run, program: str, worst: int = WORST, flutter_ns: str | None 
     for row in table:
         lines.append(f"{row.name:<26}{decimal(us_of_ticks(row.ticks, unit), 3):>9}{decimal(Fraction(row.ticks, TICKS), 1):>12}"
                      f"{row.fails:>13}{row.lasts:>9}{percent(row.ticks, mine):>10}  {row.what}")
-    lines += ["", *field("", "fails: which of its checks do. lasts: for how many double cycles it holds, on: on and on. part: of "
+    held = "held: C1 fails, but the walk is held, so it lasts. " if any("held" in row.fails for row in table) else ""
+    lines += ["", *field("", f"fails: which of its checks do. {held}lasts: for how many double cycles it holds, on: on and on. part: of "
                              + ("the classical bound." if cluster.joins else "the precision of this cluster."))]
     lines += field("Precision", sharp_words(run, both[run.sharp.bounds.kind], flutter))
     return "\n".join(lines + field("Classical", older_words(run)) + closing_lines(worst)) + "\n"
@@ -140,7 +142,7 @@ def sharp_words(run: Run, bounds: SharpBounds, flutter: int) -> str:
     if bounds.lasts is None:
         return told
     return told + (f", for {bounds.lasts} double cycles from the first one on "
-                   f"({lasting(ms_of_cycle(2 * bounds.lasts, run.cluster))}), since C1 fails")
+                   f"({lasting(ms_of_cycle(2 * bounds.lasts, run.cluster))}), since {bounds.ending}")
 
 
 def older_words(run: Run) -> str:

@@ -59,7 +59,7 @@ def read_bounds(text: str) -> Bounds:
 @dataclass
 class SharpBounds:
     """The sharper bounds of one kind, `alone` or `beside` arbitrary nodes, where delays flutter so much; for how many double
-    cycles the walk lasts, and where nodes join first rates too, None where it does on and on; and the reach where nodes join."""
+    cycles sync lasts, and where nodes join first rates too, None where on and on; and the reach where nodes join."""
     kind: str
     flutter: int = 0
     lambda_: int = 0
@@ -77,6 +77,21 @@ class SharpBounds:
     def gap(self) -> list[str] | None:
         """The words of the first check behind C1 that fails, or None: C1 decides how long the bounds hold, and is no gap."""
         return next((["check", str(check.number), str(check.left), str(check.right)] for check in self.failing if check.number != 1), None)
+
+    @property
+    def is_held(self) -> bool:
+        """Whether C1 fails, and the bounds hold on and on all the same, since the walk is held."""
+        return self.lasts is None and not all(check.holds for check in self.checks if check.number == 1)
+
+    @property
+    def missing(self) -> set[int]:
+        """The numbers of the checks that fail, without C1 where the walk is held."""
+        return {check.number for check in self.failing} - ({1} if self.is_held else set())
+
+    @property
+    def ending(self) -> str:
+        """Why they hold for a number of double cycles alone. Of nodes that join C1 has to hold, whether the walk is held or not."""
+        return "C1 fails" + (" and the walk is not held" if self.reach is None else "")
 
 
 def read_sharp_bounds(text: str) -> dict[str, SharpBounds]:

@@ -34,11 +34,14 @@ class Common(NamedTuple):
 @dataclass
 class Numbers:
     """What `flexray bound` prints: bounds by their names, and both sides of checks by their numbers. Of sharper bounds, for how many
-    double cycles the walk and first rates last, None where they do on and on."""
+    double cycles sync lasts, and first rates do, None where on and on; and `walks`, for how many the rate limit holds the walk, which
+    is what counts where frames are lost. Where `is_held` that is a number, and sync lasts on and on all the same."""
     bounds: dict[str, int]
     sides: dict[int, Sides]
     lasts: int | None = None
     first_rates: int | None = None
+    walks: int | None = None
+    is_held: bool = False
 
     @overload
     def __getitem__(self, name: int) -> Sides: ...
@@ -103,7 +106,7 @@ def bounds_of(p: Parameters, join: bool = False) -> Numbers:
 
 def sharp_bounds_of(p: Parameters, kind: Kind) -> Numbers:
     """The sharper bounds of a cluster and both sides of their checks, as `flexray bound PARAMS sharp FLUTTER join` prints them;
-    with how far action points lie apart, and for how many double cycles the walk and first rates last (None: on and on)."""
+    with how far action points lie apart, and for how many double cycles sync, first rates and the walk last (None: on and on)."""
     wait = ranges.compensation(p)
     longest, shortest, error, change = common_of(p, wait)
     micros, damping, most = p["pMicroPerCycle"], p["pClusterDriftDamping"], p["pRateCorrectionOut"]
@@ -119,13 +122,15 @@ def sharp_bounds_of(p: Parameters, kind: Kind) -> Numbers:
     walk = kind.flutter + change + wide - 1 + (shortest - damping * shortest if damping else longest)
     room = most * shortest - 2 * micros * p["xRateBound"]
     counted = kind.flutter + change + longest
-    lasts = 0 if room < 0 else None if walk <= 0 else room // walk
+    walks = 0 if room < 0 else None if walk <= 0 else room // walk
+    is_held = p["xChangeBound"] == 0 and 0 < 3 * walk < 2 * shortest and shortest - 1 + walk <= room
     first_rates = 0 if room < counted else None if walk <= 0 else min(room // walk, (room - counted) // walk + 1)
     return Numbers({"lambda": lengths, "pi": starts, "precision": starts + lengths + odd + 2 * longest, "near": near,
                     "reach": reach},
                    {1: Sides(damping * shortest + 1, shortest + kind.flutter + change + wide),
                     2: Sides(most * shortest, 2 * micros * p["xRateBound"]), **slot_sides(p, 3, near, wait),
-                    6: Sides(most * shortest, 2 * micros * p["xRateBound"] + counted), **slot_sides(p, 7, reach, wait)}, lasts, first_rates)
+                    6: Sides(most * shortest, 2 * micros * p["xRateBound"] + counted), **slot_sides(p, 7, reach, wait)},
+                   None if is_held else walks, first_rates, walks, is_held)
 
 
 def holds(number: int, sides: Sides) -> bool:
@@ -160,6 +165,26 @@ def least_sharp_damping(p: Parameters, kind: Kind) -> int:
     return up(Fraction(right - 1, TICKS - p["xRateBound"]))
 
 
+def held_damping(flutter: int, shortest: int) -> int:
+    """The least damping with which lengths walk by less than two thirds of the shortest microtick in a double cycle, where
+    oscillators do not change."""
+    return max(1, (3 * (flutter - 1) - 2 * shortest) // (3 * shortest) + 2)
+
+
+def held_rate(p: Parameters, flutter: int, damping: int) -> int:
+    """The least rate limit with which such a walk is held with this damping, which is above 0."""
+    shortest = TICKS - p["xRateBound"]
+    return up(Fraction(2 * p["pMicroPerCycle"] * p["xRateBound"] + shortest - 1 + flutter - 1 + (1 - damping) * shortest, shortest))
+
+
+def least_lasting_damping(p: Parameters, kind: Kind, join: bool = False) -> int:
+    """The least damping with which sync lasts on and on, all else as it is: with which the walk is held, or else the first sharper check
+    holds. Of nodes that join that check alone counts."""
+    damping = held_damping(kind.flutter, TICKS - p["xRateBound"])
+    is_held = not join and sharp_bounds_of({**p, "pClusterDriftDamping": damping}, kind).is_held
+    return damping if is_held else least_sharp_damping(p, kind)
+
+
 def sharp_advise(number: int, parameters: Parameters, kind: Kind) -> tuple[str, int, int | None]:
     """The parameter that a failing sharper check asks for, the value it has, and the least that meets the check with all else
     as it is; None where none of its range does."""
@@ -171,10 +196,12 @@ def sharp_advise(number: int, parameters: Parameters, kind: Kind) -> tuple[str, 
 
 def least_sharp(parameters: Parameters, kind: Kind, damping: int, join: bool = False) -> Found:
     """These parameters with this damping, and the least changes by which all sharper checks behind the first hold, those for nodes
-    that join too where some do, or why there are none. Limits and slots stand in the right sides too, so they are fitted until
-    nothing changes."""
+    that join too where some do, or why there are none; and by which a walk is held that the damping leaves short enough. Limits and
+    slots stand in the right sides too, so they are fitted until nothing changes."""
     p = {**parameters, "pClusterDriftDamping": damping,
          "pRateCorrectionOut": max(parameters["pRateCorrectionOut"], least_rate(parameters, False))}
+    if can_be_held(p, kind, join):
+        p["pRateCorrectionOut"] = max(p["pRateCorrectionOut"], held_rate(p, kind.flutter, damping))
     before: Parameters | None = None
     name = too_great(p)
     if name:
@@ -189,6 +216,13 @@ def least_sharp(parameters: Parameters, kind: Kind, damping: int, join: bool = F
         if name:
             return None, beyond(name, p[name])
     return schedule(p)
+
+
+def can_be_held(p: Parameters, kind: Kind, join: bool) -> bool:
+    """Whether lengths walk with this damping by so little that a rate limit is there with which the walk is held."""
+    damping, most = p["pClusterDriftDamping"], ranges.PARAMETERS["pRateCorrectionOut"][1]
+    return (not join and p["xChangeBound"] == 0 and held_damping(kind.flutter, TICKS - p["xRateBound"]) <= damping
+            < least_sharp_damping(p, kind) and held_rate(p, kind.flutter, damping) <= most)
 
 
 def too_great(p: Parameters) -> str | None:

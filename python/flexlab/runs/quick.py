@@ -140,7 +140,7 @@ def with_series(run: Run, series: Series) -> Run | None:
     cycles, in_sync = series.cycles, list(series.cycles.in_sync[::2])
     synced = in_sync.index(True) if True in in_sync else None
     skew = series.greatest if synced is not None else None
-    if len(cycles) != run.cluster.cycles or unlike(run.sharp, series, False) or synced != run.report.in_sync or (
+    if len(cycles) != run.cluster.cycles or unlike(run.cluster, run.sharp, series, False) or synced != run.report.in_sync or (
             synced is not None and skew is None):
         return None
     # Of a run without a trace it is told how many cycles it has, and not what is in them.

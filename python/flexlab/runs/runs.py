@@ -123,7 +123,7 @@ def run_cluster(cluster: Cluster, folder: str, program: str, begin: int | None =
         raise Stop(PROGRAM, "flexray-series says of a double cycle that it is in sync, and the trace does not, or back")
     run.in_sync_skew = find_skew(run, program)
     if run.series:
-        why = unlike(run.sharp, run.series, bool(cycles))
+        why = unlike(run.cluster, run.sharp, run.series, bool(cycles))
         if why:
             raise Stop(PROGRAM, why)
         run.sharp.told = run.series

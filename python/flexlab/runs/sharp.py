@@ -6,7 +6,7 @@ from dataclasses import dataclass, field
 from typing import TYPE_CHECKING, NamedTuple
 
 from ..base import ranges
-from .least import TICKS, Kind
+from .least import TICKS, Kind, sharp_bounds_of
 from ..program.report import Series, SharpBounds, Skew, Trace, read_sharp_bounds
 from ..toml.cluster import Cluster, Steps
 from .sync import is_in_sharp_sync, sync_of
@@ -90,13 +90,20 @@ def sharp_of(cluster: Cluster, flutter: int, text: str, cycles: Trace) -> Sharp:
     return Sharp(flutter, both, bounds, sync_of(cycles, bounds, cluster.parameters, is_in_sharp_sync))
 
 
-def unlike(sharp: Sharp, told: Series, doubles: bool) -> str | None:
+def walks_of(cluster: Cluster, sharp: Sharp) -> int | None:
+    """For how many double cycles the rate limit holds the walk of rates, None where on and on: how long sync lasts where it is not
+    known to be longer."""
+    return sharp_bounds_of(cluster.parameters, kind_of(cluster, sharp.flutter)).walks if sharp.bounds.is_held else sharp.bounds.lasts
+
+
+def unlike(cluster: Cluster, sharp: Sharp, told: Series, doubles: bool) -> str | None:
     """What of the series does not fit the bounds, the file or the trace, or None."""
     if told.flutter != sharp.flutter:
         return f"flexray-series says that delays flutter by {told.flutter} ticks, and by the file it is {sharp.flutter}"
     if sharp.flutter <= MOST and (told.kind, told.precision) != (sharp.bounds.kind, sharp.bounds.precision):
         return "flexray-series tells another sharper precision than flexray bound"
-    if sharp.flutter <= MOST and told.sharp_synced is not None and told.lasts != sharp.bounds.lasts:
+    lasts = walks_of(cluster, sharp) if told.sharp_gap else sharp.bounds.lasts
+    if sharp.flutter <= MOST and told.sharp_synced is not None and told.lasts != lasts:
         return "flexray-series tells another number of double cycles for which sharp sync lasts than flexray bound"
     if sharp.flutter <= MOST and doubles and list(told.cycles.sharp[::2]) != sharp.rows:
         return "flexray-series says of a double cycle that it is in sharp sync, and the trace does not, or back"
@@ -126,6 +133,12 @@ def is_covered(run: Run) -> bool:
     return gap_of(run) == (True, None)
 
 
+def lasts_of(run: Run) -> int | None:
+    """For how many double cycles from the first in sharp sync on the bounds hold, None where on and on: of a run that is not known to
+    be covered for as many as the rate limit holds the walk."""
+    return run.sharp.bounds.lasts if is_covered(run) else walks_of(run.cluster, run.sharp)
+
+
 def first_of(run: Run) -> int | None:
     """The first double cycle in sharp sync in which no node follows, or None. Without flexray-series it is not told who follows:
     only nodes that join can, in the two double cycles behind that in which they listen."""
@@ -144,7 +157,7 @@ def lost_of(run: Run) -> int | None:
 def ends_of(run: Run) -> int | None:
     """The double cycle behind the last one of which the sharper precision is proved, from the first in sharp sync on; None
     where it is proved to the end of the run."""
-    first, lasts = first_of(run), run.sharp.bounds.lasts
+    first, lasts = first_of(run), lasts_of(run)
     return None if first is None or lasts is None or first + lasts >= run.report.doubles else first + lasts
 
 

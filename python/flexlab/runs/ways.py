@@ -13,7 +13,7 @@ from typing import TYPE_CHECKING, NamedTuple, Protocol
 from ..program import calls as programs
 from ..base.files import write_files
 from ..base.ranges import OF_CHANNELS, Parameters, compensation_name, version_of
-from .least import TICKS, Found, least_damping, least_sharp, least_sharp_damping, least_values
+from .least import TICKS, Found, can_be_held, held_damping, least_damping, least_sharp, least_sharp_damping, least_values
 from ..program.report import Bounds, SharpBounds, read_bounds, read_sharp_bounds
 from .sharp import Gap, first_of, gap_of, kind_of
 from ..toml.cluster import Cluster, Link
@@ -123,12 +123,14 @@ class SharpChecks:
         self.kind = kind_of(run.cluster, run.sharp.flutter)
         self.join = bool(run.cluster.joins)
         self.words = ["sharp", str(self.kind.flutter), *(["join"] if self.join else [])]
-        self.failing = {check.number for check in run.sharp.bounds.failing}
+        self.failing = run.sharp.bounds.missing
 
     def least(self, parameters: Parameters) -> Iterator[Found]:
-        """With the damping as it is, and with the least by which the walk does not end; where nothing else fails the damping
-        has to suffice."""
-        own, least = parameters["pClusterDriftDamping"], least_sharp_damping(parameters, self.kind)
+        """With the damping as it is, and with the least by which sync lasts on and on, where the walk can be held or else C1 holds;
+        where nothing else fails the damping has to suffice."""
+        own, least = parameters["pClusterDriftDamping"], held_damping(self.kind.flutter, TICKS - parameters["xRateBound"])
+        if not can_be_held({**parameters, "pClusterDriftDamping": least}, self.kind, self.join):
+            least = least_sharp_damping(parameters, self.kind)
         for damping in (max(own, least),) if self.failing == {1} else dict.fromkeys((own, least)):
             yield least_sharp(parameters, self.kind, damping, self.join)
 
@@ -359,10 +361,10 @@ def skew_words(way: Way, ways: Ways, unit: Fraction) -> str:
 
 def lasting_words(way: Way, cluster: Cluster) -> str:
     """Of sharper bounds for how long they hold, where that ends."""
-    lasts = getattr(way.bounds, "lasts", None)
-    if lasts is None:
+    bounds = way.bounds
+    if isinstance(bounds, Bounds) or bounds.lasts is None:
         return ""
-    return f" for {lasts} double cycles ({lasting(2 * lasts * cycle_ms(cluster))}), since C1 fails"
+    return f" for {bounds.lasts} double cycles ({lasting(2 * bounds.lasts * cycle_ms(cluster))}), since {bounds.ending}"
 
 
 def cycle_ms(cluster: Cluster) -> Fraction:
@@ -372,7 +374,8 @@ def cycle_ms(cluster: Cluster) -> Fraction:
 def way_words(way: Way, ways: Ways, cluster: Cluster) -> str:
     unit, (known, gap) = cluster.microtick_ns, ways.checks.gap(way.run)
     text = "; ".join(way.first) + ": " if way.first else ""
-    text += "all checks hold" if not getattr(way.bounds, "failing", None) else "all checks but C1 hold"
+    text += "all checks hold" if not way.bounds.failing else "all checks but C1 hold"
+    text += ", and the walk is held," if isinstance(way.bounds, SharpBounds) and way.bounds.is_held else ""
     text += f" with {values_words(way.changed, cluster)}. Precision {microseconds(way.bounds.precision, unit)}"
     text += lasting_words(way, cluster)
     if known:
