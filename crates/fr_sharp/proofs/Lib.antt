@@ -5,6 +5,8 @@ pub mod Computed
 pub mod SteadyLemmas
 pub mod Arriving
 pub mod AmongReceivers
+pub mod CrowdLemmas
+pub mod MeetingReceivers
 pub mod LengthLemmas
 pub mod Tails
 pub mod EndLemmas
@@ -12,6 +14,7 @@ pub mod NearLemmas
 pub mod HearingLemmas
 pub mod StepLemmas
 pub mod AmongSteps
+pub mod MeetingSteps
 pub mod AmongNumbers
 pub mod DigitTexts
 pub mod LossOrder
@@ -96,5 +99,4 @@ pub mod JudgedLaws
 pub mod JudgedWorked
 pub mod JudgedCarried
 pub mod LevelSums
-pub mod CrowdLemmas
 pub mod LevelLemmas
