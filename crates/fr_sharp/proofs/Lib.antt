@@ -18,6 +18,7 @@ pub mod MeetingSteps
 pub mod AmongNumbers
 pub mod DigitTexts
 pub mod LossOrder
+pub mod HeardNumbers
 pub mod LossLemmas
 pub mod LossNumbers
 pub mod LossRows
