@@ -1,5 +1,5 @@
 -- The step of a double cycle in which lists meet: two nodes that have enough senders in common come half as near.
-use Rattle.std.proofs.Common.{◌≡◌, ℕ, ◌+◌, ◌*◌, ◌≤◌, true, ℤ, pos, List, [], ◌∷◌, ◌++◌, length, All, arith}
+use Rattle.std.proofs.Common.{◌≡◌, ℕ, ◌+◌, ◌*◌, ◌≤◌, true, ℤ, pos, List, [], ◌∷◌, ◌++◌, length, map, All, refl, arith}
 use Rattle.std.specs.Prelude.{◌+ℤ◌, ◌-ℤ◌, ◌*ℤ◌, ◌≤ℤ◌, Contains}
 use Rattle.std.proofs.lemmas.Int.{ints}
 use Rattle.std.proofs.lemmas.List.{length-append}
@@ -11,7 +11,8 @@ use Rattle.fr_cluster.specs.declared.names.ParamName.TheVariants as name
 use Rattle.fr_midpoint.specs.Midpoint.{discarded}
 use Rattle.fr_midpoint.specs.Receivers.{place_at}
 use Rattle.fr_bound.specs.Bounds.{arrival_error, cycle_change, longest_micro}
-use Rattle.fr_bound.specs.SharpBounds.{odd_spread, steady_error, wide_change}
+use Rattle.fr_bound.specs.SharpBounds.{odd_spread, sharp_lambda, steady_error, wide_change}
+use Rattle.fr_bound.specs.SharpSpreads.{lost_lengths, lost_starts}
 use Rattle.fr_bound.specs.Sync.{cycle_length_of}
 use Rattle.fr_precision.specs.Rows.{corrected_end_of, Sender}
 use Rattle.fr_precision.specs.Instants.{LieNear}
@@ -22,13 +23,13 @@ use Rattle.fr_precision.proofs.OffsetLaws.{micro_lasts, offset_terms_are_uncut}
 use Rattle.fr_sharp.specs.Ends.{EndsCome, TakesOffsets}
 use Rattle.fr_sharp.specs.Lengths.{IsNextEven, IsSteadyRound, LengthsCome}
 use Rattle.fr_sharp.specs.Steady.{between_actions, placed_length, PlacesEven}
-use Rattle.fr_sharp.specs.SharpStep.{ActInReach, IsSharpLimit}
-use Rattle.fr_sharp.specs.Among.{HearInCommon, MeetingSpreadsDraw}
-use Rattle.fr_sharp.proofs.AmongSteps.{odds, sends, takes_of, two}
+use Rattle.fr_sharp.specs.SharpStep.{ActInReach, AreSharp, ComeSharply, DrawsTo, IsSharpLimit}
+use Rattle.fr_sharp.specs.Among.{ComputesOwn, HearInCommon, MeetingSpreadsDraw}
+use Rattle.fr_sharp.proofs.AmongSteps.{lost_spreads_grow, odds, sends, takes_of, two}
 use Rattle.fr_sharp.proofs.EndLemmas.{beside_ends, corrected, cross_value, ends_at, pair_of, same_value}
 use Rattle.fr_sharp.proofs.LengthLemmas.{beside_sum, cross_sum, damping_is, far_of, far_to, next_near, range_walks, rates_at, round_of, same_sum}
 use Rattle.fr_sharp.proofs.MeetingReceivers.{two_meeting, Meet}
-use Rattle.fr_sharp.proofs.StepLemmas.{ends_by, lengths_by, nodes_near, senders_about, Double}
+use Rattle.fr_sharp.proofs.StepLemmas.{ends_by, lengths_by, le_itself, nodes_near, senders_about, Double}
 
 -- ---- a list and its parts
 
@@ -210,3 +211,44 @@ meeting_spreads_draw p flutter nodes starts lengths next_starts next_lengths bey
           common.enough_rates common.by_rate common.other_by_rate even other_even after other_after
           );
     }
+
+-- ---- a node and itself
+
+-- two next even cycles of one node differ by what its damping and its changes leave
+itself_sum : (l b n e q cq j : ℕ) (c u v w : ℤ) → pos cq ≡ c → l + b ≤ 2 * n + 1 → b ≡ 4 * e + 2 * q + 4 * cq + 4 * j
+    → IsWithin (c +ℤ pos j) (u -ℤ v) → IsWithin (c +ℤ pos j) (u -ℤ w) → IsWithin (pos n) (v -ℤ w)
+itself_sum l b n e q cq j c u v w is le sum near also = record {
+  low = omega (arith, ints, is, le, sum, near.low, near.high, also.low, also.high);
+  high = omega (arith, ints, is, le, sum, near.low, near.high, also.low, also.high);
+}
+
+none_apart : (n : ℕ) (x : ℤ) → IsWithin (pos n) (x -ℤ x)
+none_apart n x = record { low = omega (arith, ints); high = omega (arith, ints) }
+
+pub comes_near_itself : (p : Values) (flutter : ℕ) (nodes : List Member) (starts lengths next_starts next_lengths : ℕ) (beyond walk next reach last : ℤ) (one : Member)
+    → IsSharpLimit p flutter beyond walk reach last → ActInReach p reach last nodes → pos 0 ≤ℤ next → (beyond +ℤ walk) ≤ℤ next
+    → DrawsTo true p flutter starts lengths next_starts next_lengths → AreSharp p starts lengths beyond (map (λ (node : Member). node.even) nodes)
+    → ((node : Member) → Contains nodes node → ComputesOwn p flutter nodes last node) → Contains nodes one → ComeSharply p next_starts next_lengths next one one
+comes_near_itself p flutter nodes starts lengths next_starts next_lengths beyond walk next reach last one is acting next_from to_next draws sharp computes here =
+    let own = computes one here in
+    let double : Double p starts lengths beyond nodes = record { sane = is.sane; sharp = sharp; regular = λ node at. (computes node at).regular } in
+    let grown =
+    lost_spreads_grow p flutter nodes starts lengths (lost_starts p starts lengths) (lost_lengths p flutter lengths) beyond walk next reach last one one is acting next_from to_next
+    (le_itself (lost_starts p starts lengths)) (le_itself (lost_lengths p flutter lengths)) sharp computes here here in
+    let round =
+    round_of p flutter own.rate_senders beyond walk (beyond +ℤ walk) one.odd one.rates one.rate_term is.sane is.walks (itself (beyond +ℤ walk)) own.some_rates
+    (senders_about p starts lengths beyond nodes own.rate_senders double own.rates_among) own.by_rate in
+    record {
+      uncut = grown.uncut;
+      range = grown.range;
+      ends = none_apart next_starts (corrected_end_of p one.odd);
+      lengths =
+          λ even other_even after other_after.
+          itself_sum lengths (sharp_lambda true p flutter) next_lengths (steady_error p flutter) (longest_micro p) (amount p name.pClusterDriftDamping * longest_micro p) (cycle_change p) (p.damping *ℤ pos (longest_micro p))
+          (place_at (rates_at p one.odd one.rates) round.mid) (cycle_length_of p even) (cycle_length_of p other_even) (damping_is p is.sane) draws.1 refl
+          (next_near p one.odd one.rates one.rate_term (beyond +ℤ walk) even is.sane own.by_rate.micro round after)
+          (next_near p one.odd one.rates one.rate_term (beyond +ℤ walk) other_even is.sane own.by_rate.micro round other_after);
+    }
+  where
+    itself : (a : ℤ) → a ≤ℤ a
+    itself a = omega (arith, ints)
