@@ -1,6 +1,6 @@
 -- Two receivers that have values of common senders, more of them than both discard together, and each of others besides: their
 -- midpoints lie half as far apart as these values do, those of one sender and any two.
-use Rattle.std.proofs.Common.{◌≡◌, ℕ, ◌+◌, ◌≤◌, ◌<◌, Bool, true, false, cond, ℤ, pos, List, [], ◌∷◌, ◌++◌, length, All, inl, inr, arith}
+use Rattle.std.proofs.Common.{◌≡◌, ◌+◌, ◌≤◌, ◌<◌, Bool, false, cond, ℤ, pos, List, [], ◌∷◌, ◌++◌, length, All, inl, inr, arith}
 use Rattle.std.specs.Prelude.{◌+ℤ◌, ◌-ℤ◌, ◌*ℤ◌, ◌≤ℤ◌, ◌<ℤ◌, int_lt}
 use Rattle.std.specs.List.{count_by, AllZip}
 use Rattle.std.proofs.lemmas.Bool.{cases_Bool}

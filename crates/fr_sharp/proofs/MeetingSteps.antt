@@ -20,11 +20,11 @@ use Rattle.fr_precision.specs.Offsets.{IsDeviation, IsOffsetRound}
 use Rattle.fr_precision.specs.Placement.{IsRegular}
 use Rattle.fr_precision.specs.Step.{IsAmong, Member}
 use Rattle.fr_precision.proofs.OffsetLaws.{micro_lasts, offset_terms_are_uncut}
-use Rattle.fr_sharp.specs.Ends.{EndsCome, TakesOffsets}
+use Rattle.fr_sharp.specs.Ends.{EndsCome}
 use Rattle.fr_sharp.specs.Lengths.{IsNextEven, IsSteadyRound, LengthsCome}
 use Rattle.fr_sharp.specs.Steady.{between_actions, placed_length, PlacesEven}
 use Rattle.fr_sharp.specs.SharpStep.{ActInReach, AreSharp, ComeSharply, DrawsTo, IsSharpLimit}
-use Rattle.fr_sharp.specs.Among.{ComputesOwn, HearInCommon, MeetingSpreadsDraw}
+use Rattle.fr_sharp.specs.Among.{ComputesOwn, MeetingSpreadsDraw}
 use Rattle.fr_sharp.proofs.AmongSteps.{lost_spreads_grow, odds, sends, takes_of, two}
 use Rattle.fr_sharp.proofs.EndLemmas.{beside_ends, corrected, cross_value, ends_at, pair_of, same_value}
 use Rattle.fr_sharp.proofs.LengthLemmas.{beside_sum, cross_sum, damping_is, far_of, far_to, next_near, range_walks, rates_at, round_of, same_sum}
