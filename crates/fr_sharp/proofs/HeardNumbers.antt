@@ -165,7 +165,7 @@ meeting_below_beside beside p flutter what never (suc k) =
     stays_at_most (what k) p flutter (spread_by beside p flutter what k) (never k) (meeting_below_beside beside p flutter what never k)
 
 pub meeting_stays : MeetingStays
-meeting_stays beside p flutter what never k = let below = meeting_below_beside beside p flutter what (λ m. (never m).0) k in (below.start, below.long)
+meeting_stays beside p flutter what never k = let below = meeting_below_beside beside p flutter what never k in (below.start, below.long)
 
 -- ---- where all is heard or nothing is asked
 
