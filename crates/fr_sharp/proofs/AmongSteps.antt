@@ -9,7 +9,7 @@ use Rattle.fr_bound.specs.Bounds.{arrival_error, cycle_change, longest_micro}
 use Rattle.fr_bound.specs.Sync.{cycle_length_of}
 use Rattle.fr_precision.specs.Rows.{corrected_end_of, Sender}
 use Rattle.fr_precision.specs.Instants.{gap_of, LieNear}
-use Rattle.fr_precision.specs.Offsets.{IsSending, NearAll}
+use Rattle.fr_precision.specs.Offsets.{IsOffsetRound, IsSending, NearAll}
 use Rattle.fr_precision.specs.Placement.{IsRegular}
 use Rattle.fr_precision.specs.Step.{IsAmong, Member}
 use Rattle.fr_precision.proofs.OffsetLaws.{micro_lasts, offset_terms_are_uncut}
@@ -34,14 +34,14 @@ lengths_sum l m n x le near = record { low = omega (arith, ints, near.low); high
 module _
     (p : Values) (flutter : ℕ) (nodes : List Member) (starts lengths : ℕ) (beyond walk reach last : ℤ)
     (is : IsSharpLimit p flutter beyond walk reach last) (acting : ActInReach p reach last nodes) (double : Double p starts lengths beyond nodes) where
-  odds : (node : Member) → Contains nodes node → (sender : Sender) → IsAmong nodes sender → IsWithin (pos (odd_spread p lengths)) (cycle_length_of p node.odd -ℤ cycle_length_of p sender.odd)
+  pub odds : (node : Member) → Contains nodes node → (sender : Sender) → IsAmong nodes sender → IsWithin (pos (odd_spread p lengths)) (cycle_length_of p node.odd -ℤ cycle_length_of p sender.odd)
   odds node here sender among = turned (pos (odd_spread p lengths)) (cycle_length_of p sender.odd) (cycle_length_of p node.odd) (sender_near p starts lengths beyond nodes double sender node among here).by_odd
 
-  near_all : (node : Member) → Contains nodes node → (senders : List Sender) → All (IsAmong nodes) senders → NearAll p (pos (odd_spread p lengths)) senders node.odd
+  pub near_all : (node : Member) → Contains nodes node → (senders : List Sender) → All (IsAmong nodes) senders → NearAll p (pos (odd_spread p lengths)) senders node.odd
   near_all node here senders among =
       All-along (IsAmong nodes) (λ (sender : Sender). IsWithin (pos (odd_spread p lengths)) (cycle_length_of p node.odd -ℤ cycle_length_of p sender.odd)) senders (λ sender is_among. odds node here sender is_among) among
 
-  sends : (sender : Sender) → IsAmong nodes sender → IsBetween (pos 0) last sender.action → IsSending p sender
+  pub sends : (sender : Sender) → IsAmong nodes sender → IsBetween (pos 0) last sender.action → IsSending p sender
   sends sender among acts =
       let regular = among_rows (IsRegular p) nodes sender among double.regular in
       let both = acts_in_cycle last p.correction sender.action is.early acts in
@@ -52,13 +52,17 @@ module _
       among_rows (λ even odd. IsWithin reach (gap_of p true sender.action odd node.odd)) nodes sender among
       (λ one there. acting true one node sender.action there here acts.low acts.high)
 
-  takes : (node : Member) → Contains nodes node → (own : ComputesOwn p flutter nodes last node) → TakesOffsets p own.offset_senders reach (pos (odd_spread p lengths)) node.odd node.offsets node.offset_term
-  takes node here own = record {
+  pub takes_of : (node : Member) → Contains nodes node → (senders : List Sender) → All (IsAmong nodes) senders → All (λ sender. IsBetween (pos 0) last sender.action) senders
+      → IsOffsetRound p senders node.odd node.offsets node.offset_term → TakesOffsets p senders reach (pos (odd_spread p lengths)) node.odd node.offsets node.offset_term
+  takes_of node here senders among acts round = record {
     suffices = is.suffices;
-    reached = λ i d short. reached node here _ (own.offsets_among i d short) (own.acts i d short);
-    near = near_all node here own.offset_senders own.offsets_among;
-    round = own.by_offset;
+    reached = λ i d short. reached node here _ (among i d short) (acts i d short);
+    near = near_all node here senders among;
+    round = round;
   }
+
+  takes : (node : Member) → Contains nodes node → (own : ComputesOwn p flutter nodes last node) → TakesOffsets p own.offset_senders reach (pos (odd_spread p lengths)) node.odd node.offsets node.offset_term
+  takes node here own = takes_of node here own.offset_senders own.offsets_among own.acts own.by_offset
 
   across : (number : Sender → ℤ) (bound : ℤ) (senders other_senders : List Sender) → All (IsAmong nodes) senders → All (IsAmong nodes) other_senders
       → ((one other : Sender) → IsAmong nodes one → IsAmong nodes other → IsWithin bound (number one -ℤ number other)) → LieAcross number bound senders other_senders
@@ -66,7 +70,7 @@ module _
       All-along (IsAmong nodes) (λ one. All (λ (other : Sender). IsWithin bound (number one -ℤ number other)) other_senders) senders
       (λ one is_among. All-along (IsAmong nodes) (λ other. IsWithin bound (number one -ℤ number other)) other_senders (λ other also_among. near one other is_among also_among) also) among
 
-  two : (one other : Sender) → IsAmong nodes one → IsAmong nodes other → LieNear p (pos starts) (pos lengths) (pos (odd_spread p lengths)) one.even one.odd other.even other.odd
+  pub two : (one other : Sender) → IsAmong nodes one → IsAmong nodes other → LieNear p (pos starts) (pos lengths) (pos (odd_spread p lengths)) one.even one.odd other.even other.odd
   two one other among also = senders_near p starts lengths beyond nodes double one other among also
 
 pub lost_spreads_grow : LostSpreadsGrow

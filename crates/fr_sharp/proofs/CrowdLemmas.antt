@@ -54,7 +54,7 @@ speaker_of P Says is_member fails (x ∷ xs) (v ∷ vs) all each more = elim (ca
 ]
 
 -- what passes among all values passes among what was said, but for the further values
-passed_of :
+pub passed_of :
     {X : Type 0} (Says : X → ℤ → Type 0) (test : ℤ → Bool) (senders : List X) (values : List ℤ) (hears : Hears X Says senders values)
     → (count_by test hears.said ≤ count_by test values) × (count_by test values ≤ count_by test hears.said + length hears.further)
 passed_of Says test senders values hears =

@@ -35,7 +35,7 @@ use Rattle.fr_sharp.proofs.Tails.{tail_near_end, tails_near}
 -- ---- one receiver
 
 -- the receiver of offset values that an odd row is
-abbrev ends_at : Values → NodeRow → List ℤ → Receiver
+abbrev pub ends_at : Values → NodeRow → List ℤ → Receiver
 ends_at p row values = record { base = end_of p row; unit = row.length; values = values }
 
 keeps_said : (p : Values) (senders : List Sender) (row : NodeRow) (values : List ℤ) (term : Term) → IsSane p → (round : IsOffsetRound p senders row values term)
@@ -57,10 +57,10 @@ limited_is : (limit mid : ℤ) → (term_of limit mid).outcome ≡ Within → li
 limited_is limit mid is = limited_by limit mid (int_lt limit mid) (int_lt mid (neg_ℤ limit)) is
 
 -- the midpoint of the offset values, and where the corrected end lies by it
-record Corrected (p : Values) (row : NodeRow) (values : List ℤ) : Type 0 where
-  mid : ℤ
-  middle : IsMidpoint values mid
-  is : corrected_end_of p row ≡ place_at (ends_at p row values) mid
+pub record Corrected (p : Values) (row : NodeRow) (values : List ℤ) : Type 0 where
+  pub mid : ℤ
+  pub middle : IsMidpoint values mid
+  pub is : corrected_end_of p row ≡ place_at (ends_at p row values) mid
 
 corrected_place : (p : Values) (row : NodeRow) (values : List ℤ) (mid : ℤ) → row.offset ≡ mid → corrected_end_of p row ≡ place_at (ends_at p row values) mid
 corrected_place p row values mid is =
@@ -70,7 +70,7 @@ corrected_place p row values mid is =
     sum : (s a b c : ℤ) → c ≡ a +ℤ b → s +ℤ c ≡ (s +ℤ a) +ℤ b
     sum s a b c e = omega (arith, ints)
 
-corrected : (p : Values) (senders : List Sender) (reach odds : ℤ) (row : NodeRow) (values : List ℤ) (term : Term) → IsSane p → 1 ≤ length senders
+pub corrected : (p : Values) (senders : List Sender) (reach odds : ℤ) (row : NodeRow) (values : List ℤ) (term : Term) → IsSane p → 1 ≤ length senders
     → TakesOffsets p senders reach odds row values term → Corrected p row values
 corrected p senders reach odds row values term sane some takes =
     by_term takes.round.is_term (offset_terms_are_uncut p senders reach row values term sane takes.suffices some takes.reached takes.round)
@@ -125,7 +125,7 @@ turned : (bound x y : ℤ) → IsWithin bound (x -ℤ y) → IsWithin bound (y -
 turned bound x y near = record { low = omega (arith, ints, near.high); high = omega (arith, ints, near.low) }
 
 -- two senders, and how near they are to each other and to both receivers
-record Senders (p : Values) (starts evens odds : ℤ) (row other_row : NodeRow) (one other : Sender) : Type 0 where
+pub record Senders (p : Values) (starts evens odds : ℤ) (row other_row : NodeRow) (one other : Sender) : Type 0 where
   sends : IsSending p one
   other_sends : IsSending p other
   start : IsWithin (starts +ℤ evens) (one.odd.start -ℤ other.odd.start)
@@ -133,31 +133,31 @@ record Senders (p : Values) (starts evens odds : ℤ) (row other_row : NodeRow) 
   from_row : IsWithin odds (cycle_length_of p row -ℤ cycle_length_of p other.odd)
   to_other : IsWithin odds (cycle_length_of p one.odd -ℤ cycle_length_of p other_row)
 
--- the values of one sender
-same_value : (p : Values) (senders : List Sender) (odds : ℤ) (row other_row : NodeRow) (values other_values : List ℤ) (term other_term : Term) (sender : Sender) (v u : ℤ)
-    → IsSane p → IsOffsetRound p senders row values term → IsOffsetRound p senders other_row other_values other_term
+-- the values of one sender, and of any two, of two receivers with senders of their own
+pub same_value : (p : Values) (senders other_senders : List Sender) (odds : ℤ) (row other_row : NodeRow) (values other_values : List ℤ) (term other_term : Term) (sender : Sender) (v u : ℤ)
+    → IsSane p → IsOffsetRound p senders row values term → IsOffsetRound p other_senders other_row other_values other_term
     → IsWithin odds (cycle_length_of p row -ℤ cycle_length_of p other_row) → IsSending p sender
     → IsDeviation p true sender.action row sender.odd v → IsDeviation p true sender.action other_row sender.odd u
     → IsWithin (odds +ℤ pos (2 * arrival_error p + 2 * longest_micro p)) (lies_after (ends_at p row values) (ends_at p other_row other_values) v u)
-same_value p senders odds row other_row values other_values term other_term sender v u sane round other_round near sends dev other_dev =
+same_value p senders other_senders odds row other_row values other_values term other_term sender v u sane round other_round near sends dev other_dev =
     let grid = is_grid_lem p sane in
     same_sum odds (end_of p row) (end_of p other_row) (instant_of (grid_for p) row true sender.action) (instant_of (grid_for p) other_row true sender.action) (instant_of (grid_for p) sender.odd true sender.action)
     (v *ℤ row.length) (u *ℤ other_row.length) row.length other_row.length (arrival_error p) (longest_micro p)
     (
     lines_end row.start other_row.start (cycle_length_of p row) (cycle_length_of p other_row) row.length other_row.length sender.action p.macros (pos (longest_micro p))
     (instant_of (grid_for p) row true sender.action) (instant_of (grid_for p) other_row true sender.action) odds
-    (line_of p senders row values term sender sane round sends) (line_of p senders other_row other_values other_term sender sane other_round sends)
+    (line_of p senders row values term sender sane round sends) (line_of p other_senders other_row other_values other_term sender sane other_round sends)
     (some_macros p.correction p.macros grid.correction_from grid.correction_to) (no_less (longest_micro p)) sends.acts_from (in_cycle sender.action p.correction p.macros sends.acts_to grid.correction_to) near
     )
     dev.low dev.high other_dev.low other_dev.high round.micro.most other_round.micro.most
 
 -- the values of any two
-cross_value : (p : Values) (senders : List Sender) (starts evens odds : ℤ) (row other_row : NodeRow) (values other_values : List ℤ) (term other_term : Term) (one other : Sender) (v u : ℤ)
-    → IsSane p → IsOffsetRound p senders row values term → IsOffsetRound p senders other_row other_values other_term
+pub cross_value : (p : Values) (senders other_senders : List Sender) (starts evens odds : ℤ) (row other_row : NodeRow) (values other_values : List ℤ) (term other_term : Term) (one other : Sender) (v u : ℤ)
+    → IsSane p → IsOffsetRound p senders row values term → IsOffsetRound p other_senders other_row other_values other_term
     → IsWithin odds (cycle_length_of p row -ℤ cycle_length_of p other_row) → Senders p starts evens odds row other_row one other
     → IsDeviation p true one.action row one.odd v → IsDeviation p true other.action other_row other.odd u
     → IsWithin (((starts +ℤ evens) +ℤ odds) +ℤ pos (2 * arrival_error p + 3 * longest_micro p)) (lies_after (ends_at p row values) (ends_at p other_row other_values) v u)
-cross_value p senders starts evens odds row other_row values other_values term other_term one other v u sane round other_round near both dev other_dev =
+cross_value p senders other_senders starts evens odds row other_row values other_values term other_term one other v u sane round other_round near both dev other_dev =
     let grid = is_grid_lem p sane in
     cross_sum starts evens odds (end_of p row) (end_of p other_row) (instant_of (grid_for p) row true one.action) (instant_of (grid_for p) other_row true other.action)
     (instant_of (grid_for p) one.odd true one.action) (instant_of (grid_for p) other.odd true other.action)
@@ -167,7 +167,7 @@ cross_value p senders starts evens odds row other_row values other_values term o
     other_row.start (cycle_length_of p other_row) other_row.length other.odd.start (cycle_length_of p other.odd) other.odd.length other.action (instant_of (grid_for p) other_row true other.action) (instant_of (grid_for p) other.odd true other.action)
     p.macros (pos (longest_micro p)) (starts +ℤ evens) odds
     (line_of p senders row values term one sane round both.sends) (early_on_line p one.odd one.action sane both.sends.lasts both.sends.acts_to)
-    (line_of p senders other_row other_values other_term other sane other_round both.other_sends) (early_on_line p other.odd other.action sane both.other_sends.lasts both.other_sends.acts_to)
+    (line_of p other_senders other_row other_values other_term other sane other_round both.other_sends) (early_on_line p other.odd other.action sane both.other_sends.lasts both.other_sends.acts_to)
     (some_macros p.correction p.macros grid.correction_from grid.correction_to) (no_less (longest_micro p))
     both.sends.acts_from (in_cycle one.action p.correction p.macros both.sends.acts_to grid.correction_to)
     both.other_sends.acts_from (in_cycle other.action p.correction p.macros both.other_sends.acts_to grid.correction_to)
@@ -178,7 +178,7 @@ cross_value p senders starts evens odds row other_row values other_values term o
 odd_starts : (s l x y x' y' e e' : ℤ) → y ≡ x +ℤ e → y' ≡ x' +ℤ e' → IsWithin s (x -ℤ x') → IsWithin l (e -ℤ e') → IsWithin (s +ℤ l) (y -ℤ y')
 odd_starts s l x y x' y' e e' a b c d = record { low = omega (arith, ints, c.low, d.low); high = omega (arith, ints, c.high, d.high) }
 
-pair_of : (p : Values) (starts evens odds : ℤ) (row other_row : NodeRow) (one other : Sender) → IsSending p one → IsSending p other
+pub pair_of : (p : Values) (starts evens odds : ℤ) (row other_row : NodeRow) (one other : Sender) → IsSending p one → IsSending p other
     → IsWithin starts (one.even.start -ℤ other.even.start) → IsWithin evens (cycle_length_of p one.even -ℤ cycle_length_of p other.even) → IsWithin odds (cycle_length_of p one.odd -ℤ cycle_length_of p other.odd)
     → IsWithin odds (cycle_length_of p row -ℤ cycle_length_of p other.odd) → IsWithin odds (cycle_length_of p other_row -ℤ cycle_length_of p one.odd)
     → Senders p starts evens odds row other_row one other
@@ -203,7 +203,7 @@ module _
   same_near =
       zip_both (IsSending p) (λ (sender : Sender) value. IsDeviation p true sender.action row sender.odd value) (λ (sender : Sender) value. IsDeviation p true sender.action other_row sender.odd value)
       (λ v u. IsWithin (odds +ℤ pos (2 * arrival_error p + 2 * longest_micro p)) (lies_after (ends_at p row values) (ends_at p other_row other_values) v u)) senders takes.round.hears.said also.round.hears.said
-      (λ sender v u sends dev other_dev. same_value p senders odds row other_row values other_values term other_term sender v u sane takes.round also.round near sends dev other_dev)
+      (λ sender v u sends dev other_dev. same_value p senders senders odds row other_row values other_values term other_term sender v u sane takes.round also.round near sends dev other_dev)
       send.sending takes.round.hears.each also.round.hears.each
 
   pairs : All (λ one. All (Senders p starts evens odds row other_row one) senders) senders
@@ -217,13 +217,13 @@ module _
       zip_all (Senders p starts evens odds row other_row) (λ (sender : Sender) value. IsDeviation p true sender.action row sender.odd value)
       (λ (sender : Sender) value. IsDeviation p true sender.action other_row sender.odd value)
       (λ v u. IsWithin (((starts +ℤ evens) +ℤ odds) +ℤ pos (2 * arrival_error p + 3 * longest_micro p)) (lies_after (ends_at p row values) (ends_at p other_row other_values) v u)) senders takes.round.hears.said also.round.hears.said
-      (λ one other v u both dev other_dev. cross_value p senders starts evens odds row other_row values other_values term other_term one other v u sane takes.round also.round near both dev other_dev)
+      (λ one other v u both dev other_dev. cross_value p senders senders starts evens odds row other_row values other_values term other_term one other v u sane takes.round also.round near both dev other_dev)
       pairs takes.round.hears.each also.round.hears.each
 
 alone_ends : (odds : ℤ) (e q : ℕ) (x x' y y' : ℤ) → x ≡ x' → y ≡ y' → IsWithin ((odds +ℤ pos (2 * e + 2 * q)) +ℤ pos q) (x' -ℤ y') → IsWithin (odds +ℤ pos (2 * e + 3 * q)) (x -ℤ y)
 alone_ends odds e q x x' y y' a b within = record { low = omega (arith, ints, within.low); high = omega (arith, ints, within.high) }
 
-beside_ends : (starts evens odds : ℤ) (e q : ℕ) (x x' y y' : ℤ) → x ≡ x' → y ≡ y'
+pub beside_ends : (starts evens odds : ℤ) (e q : ℕ) (x x' y y' : ℤ) → x ≡ x' → y ≡ y'
     → IsWithin ((odds +ℤ pos (2 * e + 2 * q)) +ℤ (((starts +ℤ evens) +ℤ odds) +ℤ pos (2 * e + 3 * q)) +ℤ (pos 2 *ℤ pos q)) (pos 2 *ℤ (x' -ℤ y'))
     → IsWithin (starts +ℤ evens +ℤ (pos 2 *ℤ odds) +ℤ pos (4 * e + 7 * q)) (pos 2 *ℤ (x -ℤ y))
 beside_ends starts evens odds e q x x' y y' a b within = record { low = omega (arith, ints, within.low); high = omega (arith, ints, within.high) }
@@ -335,30 +335,6 @@ corrected_end_is_near p senders starts evens odds reach row values term sane som
 
 -- ---- two receivers, whichever senders each of them has heard
 
--- the values of any two, of two receivers with senders of their own
-across_value : (p : Values) (senders other_senders : List Sender) (starts evens odds : ℤ) (row other_row : NodeRow) (values other_values : List ℤ) (term other_term : Term) (one other : Sender) (v u : ℤ)
-    → IsSane p → IsOffsetRound p senders row values term → IsOffsetRound p other_senders other_row other_values other_term
-    → IsWithin odds (cycle_length_of p row -ℤ cycle_length_of p other_row) → Senders p starts evens odds row other_row one other
-    → IsDeviation p true one.action row one.odd v → IsDeviation p true other.action other_row other.odd u
-    → IsWithin (((starts +ℤ evens) +ℤ odds) +ℤ pos (2 * arrival_error p + 3 * longest_micro p)) (lies_after (ends_at p row values) (ends_at p other_row other_values) v u)
-across_value p senders other_senders starts evens odds row other_row values other_values term other_term one other v u sane round other_round near both dev other_dev =
-    let grid = is_grid_lem p sane in
-    cross_sum starts evens odds (end_of p row) (end_of p other_row) (instant_of (grid_for p) row true one.action) (instant_of (grid_for p) other_row true other.action)
-    (instant_of (grid_for p) one.odd true one.action) (instant_of (grid_for p) other.odd true other.action)
-    (v *ℤ row.length) (u *ℤ other_row.length) row.length other_row.length (arrival_error p) (longest_micro p)
-    (
-    tails_near row.start (cycle_length_of p row) row.length one.odd.start (cycle_length_of p one.odd) one.odd.length one.action (instant_of (grid_for p) row true one.action) (instant_of (grid_for p) one.odd true one.action)
-    other_row.start (cycle_length_of p other_row) other_row.length other.odd.start (cycle_length_of p other.odd) other.odd.length other.action (instant_of (grid_for p) other_row true other.action) (instant_of (grid_for p) other.odd true other.action)
-    p.macros (pos (longest_micro p)) (starts +ℤ evens) odds
-    (line_of p senders row values term one sane round both.sends) (early_on_line p one.odd one.action sane both.sends.lasts both.sends.acts_to)
-    (line_of p other_senders other_row other_values other_term other sane other_round both.other_sends) (early_on_line p other.odd other.action sane both.other_sends.lasts both.other_sends.acts_to)
-    (some_macros p.correction p.macros grid.correction_from grid.correction_to) (no_less (longest_micro p))
-    both.sends.acts_from (in_cycle one.action p.correction p.macros both.sends.acts_to grid.correction_to)
-    both.other_sends.acts_from (in_cycle other.action p.correction p.macros both.other_sends.acts_to grid.correction_to)
-    both.start near both.to_other both.from_row both.odd
-    )
-    dev.low dev.high other_dev.low other_dev.high round.micro.most other_round.micro.most
-
 among_ends : (bound x x' y y' : ℤ) → x ≡ x' → y ≡ y' → IsWithin bound (x' -ℤ y') → IsWithin bound (x -ℤ y)
 among_ends bound x x' y y' a b within = record { low = omega (arith, ints, within.low); high = omega (arith, ints, within.high) }
 
@@ -380,7 +356,7 @@ ends_come_among_lem p senders other_senders starts evens odds reach other_reach 
     (λ x v all dev.
     zip_said (Senders p starts evens odds row other_row x) (λ (sender : Sender) value. IsDeviation p true sender.action other_row sender.odd value)
     (λ u. IsWithin bound (lies_after (ends_at p row values) (ends_at p other_row other_values) v u)) other_senders also.round.hears.said
-    (λ y u both other_dev. across_value p senders other_senders starts evens odds row other_row values other_values term other_term x y v u sane takes.round also.round near both dev other_dev)
+    (λ y u both other_dev. cross_value p senders other_senders starts evens odds row other_row values other_values term other_term x y v u sane takes.round also.round near both dev other_dev)
     all also.round.hears.each)
     pairs takes.round.hears.each
     )

@@ -1,5 +1,5 @@
 -- Many double cycles, by the step.
-use Rattle.std.proofs.Common.{◌≡◌, ℕ, zero, suc, ◌+◌, ◌*◌, ◌-◌, ◌<◌, ◌≤◌, Bool, true, false, ℤ, pos, Option, Some, None, IfSome, List, map, All, sym, subst, arith}
+use Rattle.std.proofs.Common.{◌≡◌, ℕ, zero, suc, ◌+◌, ◌*◌, ◌-◌, ◌<◌, ◌≤◌, Bool, true, false, ℤ, pos, Option, Some, None, IfSome, List, map, All, inl, inr, sym, subst, arith}
 use Rattle.std.specs.Prelude.{◌+ℤ◌, ◌*ℤ◌, ◌≤ℤ◌, ◌/◌, Contains}
 use Rattle.std.proofs.lemmas.Int.{ints}
 use Rattle.std.proofs.lemmas.List.Elements.{All-contains_itself, All-map}
@@ -22,15 +22,18 @@ use Rattle.fr_precision.specs.Step.{IsFollowed, Member}
 use Rattle.fr_precision.proofs.Senders.{All-along}
 use Rattle.fr_bound.specs.SharpBounds.{last_action, near_by, odd_spread, precision_by, rate_walk, sharp_lambda, sharp_near, sharp_pi, walk_lasts}
 use Rattle.fr_bound.specs.SharpChecks.{SharpChecksHold}
+use Rattle.fr_bound.specs.declared.judging.Heard.{Heard}
+use Rattle.fr_bound.specs.declared.judging.Heard.TheVariants.{Clean, Meeting, Poor}
 use Rattle.fr_sharp.specs.Lengths.{walked_after}
 use Rattle.fr_bound.specs.SharpSpreads.{sharply_apart_in}
 use Rattle.fr_bound.specs.SharpSpreads.{IsSharplySettled}
 use Rattle.fr_sharp.specs.SharpSettling.{sharp_spread_after}
-use Rattle.fr_sharp.specs.SharpStep.{ActInReach, AreSharp, ComeSharply, ComputesSharply, DrawsTo, IsInSharpSync, IsSharpDouble, IsSharpReach, StaySharp}
+use Rattle.fr_sharp.specs.SharpStep.{ActInReach, AreSharp, ComeSharply, ComputesSharply, DrawsTo, IsInSharpSync, IsSharpDouble, IsSharpLimit, IsSharpReach, StaySharp}
 use Rattle.fr_sharp.specs.SharpRun.{lengths_from, starts_from, AllUncut, AreSharpDoubles, BeginSharp, BeginWithin, DrawInReach, IsNextDouble, KeepsSharp, KeepsToSpreads, SharpDoublesDraw, SharpSpreadsKeep, SharpSyncIsReached, SharpSyncLasts, StaysInSharpSync, WalkLastsAfter, WalkLastsUpTo}
-use Rattle.fr_sharp.specs.Among.{AreLossyDoubles, GoesTo, GoInReach, HeardSo, LossyDoublesKeep, LossyDoublesStayApart}
+use Rattle.fr_sharp.specs.Among.{AreLossyDoubles, ComputesOwn, GoesTo, GoInReach, HeardSo, LossyDoublesKeep, LossyDoublesStayApart}
 use Rattle.fr_sharp.proofs.AmongSteps.{lost_spreads_grow}
 use Rattle.fr_sharp.proofs.BoundLemmas.{floor_is, key_slots_act_early, sharp_checks_suffice_lem, walk_is_held, walked_none}
+use Rattle.fr_sharp.proofs.MeetingSteps.{comes_near_itself, meeting_spreads_draw}
 use Rattle.fr_sharp.proofs.SettlingLemmas.{next_spread_draws, next_starts_fit, settled_stays}
 use Rattle.fr_sharp.proofs.StepLemmas.{act_in_reach, actions_lie_in_reach, macroticks_stay_sharp, next_is_near, sharp_is_wider, sharp_sync_draws, sharp_sync_is_kept_lem, spreads_shrink_in_reach}
 
@@ -310,36 +313,52 @@ sharp_sync_is_reached beside p flutter start rate reach doubles rest senders nod
     stays_at_rest beside p flutter start rate rest nodes k (active_later p flutter (starts_from beside p flutter start rate) (lengths_from beside p flutter start rate) nodes rest k from le) settled le
     (sharp_spreads_keep beside p flutter start rate reach doubles senders nodes begin k short)
 
--- ---- where anything may be lost
+-- ---- by what is heard
 
-own_regular : (whole : Bool) (p : Values) (flutter : ℕ) (senders : List Sender) (nodes : List Member) (last : ℤ) → HeardSo whole p flutter senders nodes last → All (λ (node : Member). IsRegular p node.even node.odd) nodes
-own_regular true p flutter senders nodes last heard = All-along (ComputesSharply p flutter senders) (λ (node : Member). IsRegular p node.even node.odd) nodes (λ node computes. computes.regular) heard.computes
-own_regular false p flutter senders nodes last heard =
-    All-along (Contains nodes) (λ (node : Member). IsRegular p node.even node.odd) nodes (λ node here. (heard node here).regular) (All-contains_itself nodes)
+own_regular : (p : Values) (flutter : ℕ) (nodes : List Member) (last : ℤ) → ((node : Member) → Contains nodes node → ComputesOwn p flutter nodes last node) → All (λ (node : Member). IsRegular p node.even node.odd) nodes
+own_regular p flutter nodes last computes =
+    All-along (Contains nodes) (λ (node : Member). IsRegular p node.even node.odd) nodes (λ node here. (computes node here).regular) (All-contains_itself nodes)
 
-come_so : (whole : Bool) (p : Values) (flutter : ℕ) (senders : List Sender) (nodes : List Member) (starts lengths next_starts next_lengths : ℕ) (beyond walk next reach last : ℤ) (one other : Member)
-    → IsSharpReach p flutter starts lengths beyond walk reach last → pos 0 ≤ℤ next → (beyond +ℤ walk) ≤ℤ next
-    → GoesTo whole p flutter starts lengths next_starts next_lengths → AreSharp p starts lengths beyond (map (λ (node : Member). node.even) nodes)
-    → HeardSo whole p flutter senders nodes last → Contains nodes one → Contains nodes other → ComeSharply p next_starts next_lengths next one other
-come_so true p flutter senders nodes starts lengths next_starts next_lengths beyond walk next reach last one other is next_from to_next goes sharp heard here there =
-    spreads_shrink_in_reach false p flutter senders nodes starts lengths next_starts next_lengths beyond walk next reach last one other
-    (record { sane = is.sane; walks = is.walks; suffices = is.suffices; early = is.early })
-    (act_in_reach false p flutter senders nodes starts lengths beyond walk reach last is sharp heard) next_from to_next goes sharp heard here there
-come_so false p flutter senders nodes starts lengths next_starts next_lengths beyond walk next reach last one other is next_from to_next goes sharp heard here there =
-    lost_spreads_grow p flutter nodes starts lengths next_starts next_lengths beyond walk next reach last one other
-    (record { sane = is.sane; walks = is.walks; suffices = is.suffices; early = is.early })
-    (λ is_odd x y action at also from to.
-    actions_lie_in_reach p flutter starts lengths beyond walk reach last action is_odd nodes x y is sharp (own_regular false p flutter senders nodes last heard) at also from to)
-    next_from to_next goes.0 goes.1 sharp heard here there
+regular_by : (what : Heard) (p : Values) (flutter : ℕ) (senders : List Sender) (nodes : List Member) (last : ℤ) → HeardSo what p flutter senders nodes last → All (λ (node : Member). IsRegular p node.even node.odd) nodes
+regular_by Clean p flutter senders nodes last heard = all_regular false p flutter senders nodes last heard
+regular_by Meeting p flutter senders nodes last heard = own_regular p flutter nodes last heard.0
+regular_by Poor p flutter senders nodes last heard = own_regular p flutter nodes last heard
 
-module _ (p : Values) (flutter doubles : ℕ) (whole : ℕ → Bool) (starts lengths : ℕ → ℕ) (senders : ℕ → List Sender) (nodes : ℕ → List Member) (reach last : ℤ)
-    (are : AreLossyDoubles p flutter doubles whole starts lengths senders nodes last) (go : GoInReach p flutter doubles whole starts lengths reach last) where
+module _
+    (p : Values) (flutter : ℕ) (senders : List Sender) (nodes : List Member) (starts lengths next_starts next_lengths : ℕ) (beyond walk next reach last : ℤ)
+    (is : IsSharpReach p flutter starts lengths beyond walk reach last) (next_from : pos 0 ≤ℤ next) (to_next : (beyond +ℤ walk) ≤ℤ next)
+    (sharp : AreSharp p starts lengths beyond (map (λ (node : Member). node.even) nodes)) where
+  limit : IsSharpLimit p flutter beyond walk reach last
+  limit = record { sane = is.sane; walks = is.walks; suffices = is.suffices; early = is.early }
+
+  acting_by : (what : Heard) → HeardSo what p flutter senders nodes last → ActInReach p reach last nodes
+  acting_by what heard is_odd x y action at also from to =
+      actions_lie_in_reach p flutter starts lengths beyond walk reach last action is_odd nodes x y is sharp (regular_by what p flutter senders nodes last heard) at also from to
+
+  come_so : (what : Heard) (one other : Member) → GoesTo what p flutter starts lengths next_starts next_lengths → HeardSo what p flutter senders nodes last
+      → Contains nodes one → Contains nodes other → ComeSharply p next_starts next_lengths next one other
+  come_so Clean one other goes heard here there =
+      spreads_shrink_in_reach false p flutter senders nodes starts lengths next_starts next_lengths beyond walk next reach last one other limit (acting_by Clean heard) next_from to_next goes sharp heard here there
+  come_so Meeting one other goes heard here there = elim (heard.1 one other here there) [
+    | inl same ↦
+        let With : Member → Type 0 = λ node. ComeSharply p next_starts next_lengths next one node in
+        subst With same
+        (comes_near_itself p flutter nodes starts lengths next_starts next_lengths beyond walk next reach last one limit (acting_by Meeting heard) next_from to_next goes sharp heard.0 here)
+    | inr common ↦
+        meeting_spreads_draw p flutter nodes starts lengths next_starts next_lengths beyond walk next reach last one other limit (acting_by Meeting heard) next_from to_next goes sharp
+        (own_regular p flutter nodes last heard.0) here there common
+  ]
+  come_so Poor one other goes heard here there =
+      lost_spreads_grow p flutter nodes starts lengths next_starts next_lengths beyond walk next reach last one other limit (acting_by Poor heard) next_from to_next goes.0 goes.1 sharp heard here there
+
+module _ (p : Values) (flutter doubles : ℕ) (what : ℕ → Heard) (starts lengths : ℕ → ℕ) (senders : ℕ → List Sender) (nodes : ℕ → List Member) (reach last : ℤ)
+    (are : AreLossyDoubles p flutter doubles what starts lengths senders nodes last) (go : GoInReach p flutter doubles what starts lengths reach last) where
   lossy_come : (k : ℕ) → k < doubles → WalkLastsAfter p flutter k → BeginSharp p flutter starts lengths nodes k → (one other : Member) → Contains (nodes k) one → Contains (nodes k) other
       → ComeSharply p (starts (suc k)) (lengths (suc k)) (walked_after p flutter (suc k)) one other
   lossy_come k short before begin one other here there =
       let held = walk_is_held p flutter k are.sane are.second before in
-      come_so (whole k) p flutter (senders k) (nodes k) (starts k) (lengths k) (starts (suc k)) (lengths (suc k)) (walked_after p flutter k) (rate_walk p flutter) (walked_after p flutter (suc k)) reach last one other
-      (record { sane = are.sane; walks = held.0; suffices = go.suffices; early = go.early; fits = go.fits k short }) held.1 held.2 (go.goes k) begin.sharp (are.heard k short before begin) here there
+      come_so p flutter (senders k) (nodes k) (starts k) (lengths k) (starts (suc k)) (lengths (suc k)) (walked_after p flutter k) (rate_walk p flutter) (walked_after p flutter (suc k)) reach last
+      (record { sane = are.sane; walks = held.0; suffices = go.suffices; early = go.early; fits = go.fits k short }) held.1 held.2 begin.sharp (what k) one other (go.goes k) (are.heard k short before begin) here there
 
   lossy_begins : AreSharp p (starts 0) (lengths 0) (pos 0) (map (λ (node : Member). node.even) (nodes 0)) → (k : ℕ) → k < doubles → WalkLastsUpTo p flutter k → BeginSharp p flutter starts lengths nodes k
   unfolding Active_in
@@ -361,16 +380,16 @@ module _ (p : Values) (flutter doubles : ℕ) (whole : ℕ → Bool) (starts len
       }
 
 pub lossy_doubles_keep : LossyDoublesKeep
-lossy_doubles_keep p flutter doubles whole starts lengths senders nodes reach last are go first k short =
-    let begins = lossy_begins p flutter doubles whole starts lengths senders nodes reach last are go first k short in
+lossy_doubles_keep p flutter doubles what starts lengths senders nodes reach last are go first k short =
+    let begins = lossy_begins p flutter doubles what starts lengths senders nodes reach last are go first k short in
     record {
       begins = begins;
-      come = λ before. lossy_come p flutter doubles whole starts lengths senders nodes reach last are go k short before (begins (up_to p flutter k before));
+      come = λ before. lossy_come p flutter doubles what starts lengths senders nodes reach last are go k short before (begins (up_to p flutter k before));
     }
 
 pub lossy_doubles_stay_apart : LossyDoublesStayApart
-lossy_doubles_stay_apart p flutter doubles whole starts lengths senders nodes reach last are go first k apart one other macrotick is_odd short before fits ends_fit here there from to =
-    let keeps = lossy_doubles_keep p flutter doubles whole starts lengths senders nodes reach last are go first k short in
+lossy_doubles_stay_apart p flutter doubles what starts lengths senders nodes reach last are go first k apart one other macrotick is_odd short before fits ends_fit here there from to =
+    let keeps = lossy_doubles_keep p flutter doubles what starts lengths senders nodes reach last are go first k short in
     let begin = keeps.begins (up_to p flutter k before) in
     macroticks_stay_sharp p (starts k) (lengths k) (starts (suc k)) (lengths (suc k)) (walked_after p flutter k) (walked_after p flutter (suc k)) (nodes k) one other apart macrotick is_odd are.sane begin.sharp
-    (own_regular (whole k) p flutter (senders k) (nodes k) last (are.heard k short before begin)) here there (keeps.come before one other here there) fits ends_fit from to
+    (regular_by (what k) p flutter (senders k) (nodes k) last (are.heard k short before begin)) here there (keeps.come before one other here there) fits ends_fit from to

@@ -34,11 +34,11 @@ use Rattle.fr_sharp.proofs.Signed.{room_of, signed_of}
 use Rattle.fr_sharp.proofs.Walks.{changed, damped_away, moved_on, walked, HasRoom, Walked}
 
 -- the receiver of rate values that an odd row is
-abbrev rates_at : Values → NodeRow → List ℤ → Receiver
+abbrev pub rates_at : Values → NodeRow → List ℤ → Receiver
 rates_at p row values = record { base = cycle_length_of p row; unit = row.length; values = values }
 
 -- how far a rate value may place a sender's even length from the true one, at this receiver
-abbrev far_of : Values → ℕ → NodeRow → ℤ
+abbrev pub far_of : Values → ℕ → NodeRow → ℤ
 far_of p flutter row = pos (flutter + wide_change p) +ℤ (row.length -ℤ pos 1)
 
 -- what its list has of the senders
@@ -54,12 +54,12 @@ keeps_said p flutter senders row values sane micro hears = record {
 -- ---- one receiver
 
 -- what a receiver makes of its rate values
-record Round (p : Values) (row : NodeRow) (values : List ℤ) (term : Term) (next : ℤ) : Type 0 where
-  mid : ℤ
-  middle : IsMidpoint values mid
-  is : term.value ≡ damped p.damping (row.rate +ℤ mid)
-  uncut : term.outcome ≡ Within
-  walks : Walked p.micros p.rate_limit (pos (shortest_micro p)) (pos (longest_micro p)) (pos (cycle_change p)) next row.length (damped p.damping (row.rate +ℤ mid))
+pub record Round (p : Values) (row : NodeRow) (values : List ℤ) (term : Term) (next : ℤ) : Type 0 where
+  pub mid : ℤ
+  pub middle : IsMidpoint values mid
+  pub is : term.value ≡ damped p.damping (row.rate +ℤ mid)
+  pub uncut : term.outcome ≡ Within
+  pub walks : Walked p.micros p.rate_limit (pos (shortest_micro p)) (pos (longest_micro p)) (pos (cycle_change p)) next row.length (damped p.damping (row.rate +ℤ mid))
 
 -- the length at the rate before damping is where the midpoint lies
 undamped : (n rate mid unit : ℤ) → (n +ℤ (rate +ℤ mid)) *ℤ unit ≡ measured_place ((n +ℤ rate) *ℤ unit) unit mid
@@ -116,7 +116,7 @@ round_at p flutter senders beyond walk next row values term mid sane can to_next
     moved : (a a' b b' far x y : ℤ) → a ≡ a' → b ≡ b' → y ≡ x → IsBetween (a -ℤ far) (b +ℤ far) x → IsBetween (a' -ℤ far) (b' +ℤ far) y
     moved a a' b b' far x y e g h between = record { low = omega (arith, ints, between.low); high = omega (arith, ints, between.high) }
 
-round_of : (p : Values) (flutter : ℕ) (senders : List Sender) (beyond walk next : ℤ) (row : NodeRow) (values : List ℤ) (term : Term)
+pub round_of : (p : Values) (flutter : ℕ) (senders : List Sender) (beyond walk next : ℤ) (row : NodeRow) (values : List ℤ) (term : Term)
     → IsSane p → CanWalk p flutter beyond walk → (beyond +ℤ walk) ≤ℤ next → 1 ≤ length senders → EvensAreAbout p beyond senders
     → IsSteadyRound p flutter senders row values term → Round p row values term next
 round_of p flutter senders beyond walk next row values term sane can to_next some about round = by_term round.is_term
@@ -158,7 +158,7 @@ range_walks p flutter senders beyond walk next row values term sane can some abo
 -- ---- two receivers
 
 -- the next even length lies near where the midpoint of the rate values lies
-next_near : (p : Values) (row : NodeRow) (values : List ℤ) (term : Term) (next : ℤ) (even : NodeRow) → IsSane p → HasProperMicro p row → (round : Round p row values term next) → IsNextEven p row term even
+pub next_near : (p : Values) (row : NodeRow) (values : List ℤ) (term : Term) (next : ℤ) (even : NodeRow) → IsSane p → HasProperMicro p row → (round : Round p row values term next) → IsNextEven p row term even
     → IsWithin ((p.damping *ℤ pos (longest_micro p)) +ℤ pos (cycle_change p)) (place_at (rates_at p row values) round.mid -ℤ cycle_length_of p even)
 next_near p row values term next even sane micro round is =
     let s = signed_of p sane in
@@ -177,13 +177,13 @@ next_near p row values term next even sane micro round is =
     sum : (c j u place v w long : ℤ) → u ≡ place → long ≡ w → IsWithin c (u -ℤ v) → IsWithin j (w -ℤ v) → IsWithin (c +ℤ j) (place -ℤ long)
     sum c j u place v w long e g taken change = record { low = omega (arith, ints, taken.low, change.high); high = omega (arith, ints, taken.high, change.low) }
 
-far_to : (f wide d : ℕ) (t : ℤ) → t ≤ℤ pos (1_000_000 + d) → (pos (f + wide) +ℤ (t -ℤ pos 1)) ≤ℤ pos (f + (1_000_000 + d - 1) + wide)
+pub far_to : (f wide d : ℕ) (t : ℤ) → t ≤ℤ pos (1_000_000 + d) → (pos (f + wide) +ℤ (t -ℤ pos 1)) ≤ℤ pos (f + (1_000_000 + d - 1) + wide)
 far_to f wide d t most = omega (arith, ints)
 
-same_sum : (e : ℕ) (x y m : ℤ) → IsWithin (pos e) (x -ℤ m) → IsWithin (pos e) (y -ℤ m) → IsWithin (pos (2 * e)) (x -ℤ y)
+pub same_sum : (e : ℕ) (x y m : ℤ) → IsWithin (pos e) (x -ℤ m) → IsWithin (pos e) (y -ℤ m) → IsWithin (pos (2 * e)) (x -ℤ y)
 same_sum e x y m a b = record { low = omega (arith, ints, a.low, b.high); high = omega (arith, ints, a.high, b.low) }
 
-cross_sum : (spread far other_far : ℤ) (e : ℕ) (x y l k : ℤ) → far ≤ℤ pos e → other_far ≤ℤ pos e → IsWithin spread (l -ℤ k) → IsWithin far (x -ℤ l) → IsWithin other_far (y -ℤ k) → IsWithin (spread +ℤ pos (2 * e)) (x -ℤ y)
+pub cross_sum : (spread far other_far : ℤ) (e : ℕ) (x y l k : ℤ) → far ≤ℤ pos e → other_far ≤ℤ pos e → IsWithin spread (l -ℤ k) → IsWithin far (x -ℤ l) → IsWithin other_far (y -ℤ k) → IsWithin (spread +ℤ pos (2 * e)) (x -ℤ y)
 cross_sum spread far other_far e x y l k le other_le near a b = record {
   low = omega (arith, ints, near.low, a.low, b.high);
   high = omega (arith, ints, near.high, a.high, b.low);
@@ -196,7 +196,7 @@ alone_sum e qp cqp j c u v w x is apart a b = record {
   high = omega (arith, ints, apart.high, a.low, b.high);
 }
 
-beside_sum : (spread : ℤ) (e qp cqp j : ℕ) (c u v w x : ℤ) → pos cqp ≡ c → IsWithin (pos (2 * e) +ℤ (spread +ℤ pos (2 * e)) +ℤ (pos 2 *ℤ pos qp)) (pos 2 *ℤ (u -ℤ w))
+pub beside_sum : (spread : ℤ) (e qp cqp j : ℕ) (c u v w x : ℤ) → pos cqp ≡ c → IsWithin (pos (2 * e) +ℤ (spread +ℤ pos (2 * e)) +ℤ (pos 2 *ℤ pos qp)) (pos 2 *ℤ (u -ℤ w))
     → IsWithin (c +ℤ pos j) (u -ℤ v) → IsWithin (c +ℤ pos j) (w -ℤ x)
     → IsWithin (spread +ℤ pos (4 * e + 2 * qp + 4 * cqp + 4 * j)) (pos 2 *ℤ (v -ℤ x))
 beside_sum spread e qp cqp j c u v w x is apart a b = record {
@@ -235,7 +235,7 @@ cross_near p flutter senders spread row other_row values other_values micro othe
 everywhere : (xs : List Sender) → All (λ (sender : Sender). Unit {0}) xs
 everywhere xs i d short = tt
 
-damping_is : (p : Values) → IsSane p → pos (amount p name.pClusterDriftDamping * longest_micro p) ≡ p.damping *ℤ pos (longest_micro p)
+pub damping_is : (p : Values) → IsSane p → pos (amount p name.pClusterDriftDamping * longest_micro p) ≡ p.damping *ℤ pos (longest_micro p)
 damping_is p sane = times_natural p.damping (longest_micro p) (signed_of p sane).c_from
 
 pub lengths_come_near_lem : LengthsComeNear

@@ -5,6 +5,8 @@ pub mod Computed
 pub mod SteadyLemmas
 pub mod Arriving
 pub mod AmongReceivers
+pub mod CrowdLemmas
+pub mod MeetingReceivers
 pub mod LengthLemmas
 pub mod Tails
 pub mod EndLemmas
@@ -12,9 +14,11 @@ pub mod NearLemmas
 pub mod HearingLemmas
 pub mod StepLemmas
 pub mod AmongSteps
+pub mod MeetingSteps
 pub mod AmongNumbers
 pub mod DigitTexts
 pub mod LossOrder
+pub mod HeardNumbers
 pub mod LossLemmas
 pub mod LossNumbers
 pub mod LossRows
@@ -96,5 +100,4 @@ pub mod JudgedLaws
 pub mod JudgedWorked
 pub mod JudgedCarried
 pub mod LevelSums
-pub mod CrowdLemmas
 pub mod LevelLemmas

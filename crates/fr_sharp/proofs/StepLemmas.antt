@@ -35,7 +35,7 @@ pub some_senders : (beside : Bool) (senders : List Sender) (one other : List ℤ
 some_senders false senders one other keep = keep.0
 some_senders true senders one other keep = omega (arith, keep)
 
-ends_by : (beside : Bool) (p : Values) (flutter starts lengths next_starts next_lengths : ℕ) (apart : ℤ) → DrawsTo beside p flutter starts lengths next_starts next_lengths
+pub ends_by : (beside : Bool) (p : Values) (flutter starts lengths next_starts next_lengths : ℕ) (apart : ℤ) → DrawsTo beside p flutter starts lengths next_starts next_lengths
     → EndsCome beside p (pos starts) (pos lengths) (pos (odd_spread p lengths)) apart → IsWithin (pos next_starts) apart
 ends_by false p flutter starts lengths next_starts next_lengths apart draws come = step (odd_spread p lengths) (arrival_error p) (longest_micro p) next_starts apart draws.0 come
   where
@@ -46,7 +46,7 @@ ends_by true p flutter starts lengths next_starts next_lengths apart draws come 
     step : (s l o e q n : ℕ) (x : ℤ) → s + l + 2 * o + 4 * e + 7 * q ≤ 2 * n + 1 → IsWithin (pos s +ℤ pos l +ℤ (pos 2 *ℤ pos o) +ℤ pos (4 * e + 7 * q)) (pos 2 *ℤ x) → IsWithin (pos n) x
     step s l o e q n x le near = record { low = omega (arith, ints, near.low); high = omega (arith, ints, near.high) }
 
-lengths_by : (beside : Bool) (p : Values) (flutter starts lengths next_starts next_lengths : ℕ) (apart : ℤ) → DrawsTo beside p flutter starts lengths next_starts next_lengths
+pub lengths_by : (beside : Bool) (p : Values) (flutter starts lengths next_starts next_lengths : ℕ) (apart : ℤ) → DrawsTo beside p flutter starts lengths next_starts next_lengths
     → LengthsCome beside p flutter (pos lengths) apart → IsWithin (pos next_lengths) apart
 lengths_by false p flutter starts lengths next_starts next_lengths apart draws come = step (sharp_lambda false p flutter) next_lengths apart draws.1 come
   where

@@ -229,7 +229,7 @@ CleanAgain =
 abbrev pub MeetingStays : Type 0
 MeetingStays =
     (beside : Bool) (p : Values) (flutter : ℕ) (what : ℕ → Heard)
-    → ((k : ℕ) → (what k ≡ heard.Poor → ⊥) × (beside ≡ true → what k ≡ heard.Clean → ⊥))
+    → ((k : ℕ) → what k ≡ heard.Poor → ⊥)
     → (k : ℕ) → ((spread_by beside p flutter what k).starts ≤ sharp_pi true p flutter) × ((spread_by beside p flutter what k).lengths ≤ sharp_lambda true p flutter)
 
 -- ---- the same where all is heard or nothing is asked, without arbitrary nodes

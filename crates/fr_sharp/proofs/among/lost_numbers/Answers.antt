@@ -1,5 +1,9 @@
 use Rattle.fr_sharp.proofs.AmongNumbers.{every_second_costs, heard_again, lost_spread_goes}
+use Rattle.fr_sharp.proofs.HeardNumbers.{lost_is_by}
 use Rattle.fr_sharp.proofs.among.lost_numbers.Goals as goal
+
+pub returns-clause-case : goal.returns-clause-case
+returns-clause-case c = lost_is_by
 
 pub returns-clause-goes : goal.returns-clause-goes
 returns-clause-goes c = lost_spread_goes
