@@ -19,6 +19,7 @@ pub mod LossLemmas
 pub mod LossNumbers
 pub mod LossRows
 pub mod RoundLemmas
+pub mod HeardCounts
 pub mod HeardInPart
 pub mod SettlingLemmas
 pub mod WayLemmas
