@@ -25,7 +25,8 @@ use Rattle.fr_precision.specs.Round.{offsets_of, rates_of, sender_at, sender_wit
 use Rattle.fr_precision.specs.Rows.{Sender}
 use Rattle.fr_precision.specs.Step.{IsAmong, Member}
 use Rattle.fr_precision.proofs.OffsetLaws.{micro_lasts, own_value_is_deviation}
-use Rattle.fr_precision.proofs.Parting.{parted, AreTold, IsParted}
+use Rattle.fr_precision.proofs.Counting.{count_le}
+use Rattle.fr_precision.proofs.Parting.{filter_map_counts, parted, AreTold, IsParted}
 use Rattle.fr_precision.proofs.RoundSenders.{sender_found, sender_is, IsFrom}
 use Rattle.fr_precision.proofs.Values.{acts_before, change_from, other_of, other_value, own_value}
 use Rattle.fr_sharp.specs.Among.{ComputesOwn}
@@ -63,11 +64,11 @@ each_mean P (Some a) (Some b) half one other v is =
     subst P same (half a b (one a refl) (other b refl))
 
 -- where there is a least or a mean, some channel has one
-least_there : (a b : Option ℤ) (v : ℤ) → least_of a b ≡ Some v → ((x : ℤ) × (a ≡ Some x)) ⊎ ((x : ℤ) × (b ≡ Some x))
+pub least_there : (a b : Option ℤ) (v : ℤ) → least_of a b ≡ Some v → ((x : ℤ) × (a ≡ Some x)) ⊎ ((x : ℤ) × (b ≡ Some x))
 least_there None b v is = inr (v, is)
 least_there (Some a) b v is = inl (a, refl)
 
-mean_there : (a b : Option ℤ) (v : ℤ) → mean_of a b ≡ Some v → ((x : ℤ) × (a ≡ Some x)) ⊎ ((x : ℤ) × (b ≡ Some x))
+pub mean_there : (a b : Option ℤ) (v : ℤ) → mean_of a b ≡ Some v → ((x : ℤ) × (a ≡ Some x)) ⊎ ((x : ℤ) × (b ≡ Some x))
 mean_there None b v is = inr (v, is)
 mean_there (Some a) b v is = inl (a, refl)
 
@@ -93,6 +94,19 @@ all_heard : (r : Round) (at : ℕ → Option ℤ) (P : Sender → Type 0) → ((
 all_heard r at P each =
     all_given (heard_at r at) P (range_with_len 0 15)
     (λ index sender some. each index sender (sender_is r index sender (heard_is r at index sender (at index) refl some).2))
+
+-- a list of values is not empty where some sender is heard
+pub heard_some : (r : Round) (at : ℕ → Option ℤ) → 1 ≤ length (heard_of r at) → 1 ≤ length (values_of at)
+unfolding values_of
+heard_some r at some =
+    let heard = filter_map_counts (heard_at r at) (range_with_len 0 15) in
+    let values = filter_map_counts at (range_with_len 0 15) in
+    let le = count_le (λ i. is_some (heard_at r at i)) (λ i. is_some (at i)) (range_with_len 0 15) (λ i is. from (at i) (sender_at r i) is) in
+    omega (arith, some, heard, values, le)
+  where
+    from : (o : Option ℤ) (sender : Option Sender) → is_some (if is_some o then sender else None) ≡ true → is_some o ≡ true
+    from None sender is = absurd (cc)
+    from (Some v) sender is = refl
 
 -- ---- one list of values
 

@@ -36,6 +36,7 @@ pub mod FramesCounted
 pub mod RateRange
 pub mod RowsSupplied
 pub mod RunDoubles
+pub mod HeardValues
 pub mod RowsInPart
 pub mod TimedRuns
 pub mod RunSync
