@@ -392,8 +392,8 @@ module _ (x : Setting) (flutter : ℕ) (h : Cycles) (even odd : Cycle) (double :
       omega (arith, sure, heard, le)
     where
       there : (b : Bool) (o : Option Sender) → b ≡ true → is_some o ≡ true → is_some (if b then o else None) ≡ true
-      there true o yes some = some
-      there false o yes some = absurd (cc)
+      there true o is also = also
+      there false o is also = absurd (cc)
 
   pub most_values : (rate : Bool) (node : NodeSpec) → Contains (row_nodes x h) node → length (values_of (value_by rate (row_hearer x even odd node.id))) ≤ most_count rate (traffic_of x) double node
   unfolding values_of
