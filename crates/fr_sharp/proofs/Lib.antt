@@ -38,6 +38,7 @@ pub mod RowsSupplied
 pub mod RunDoubles
 pub mod HeardValues
 pub mod RowsInPart
+pub mod HeardInCommon
 pub mod TimedRuns
 pub mod RunSync
 pub mod LostHistories
