@@ -98,13 +98,13 @@ own_of p node sane there = ap (λ o. index_in p (key_in o)) (node_there p node s
 
 -- ---- events and channels
 
-regular_of : (e : Event) → is_regular e ≡ true → e ≡ event.Regular
+pub regular_of : (e : Event) → is_regular e ≡ true → e ≡ event.Regular
 regular_of event.Regular is = refl
 regular_of event.Silent is = absurd (cc)
 regular_of (event.Flip bit) is = absurd (cc)
 regular_of (event.Say shift bytes) is = absurd (cc)
 
-share_of : (a b : NodeSpec) (channel : Channel) → shares a b channel ≡ true → Share a b channel
+pub share_of : (a b : NodeSpec) (channel : Channel) → shares a b channel ≡ true → Share a b channel
 share_of a b channel is =
     let both = and_parts (has_channel (Some a) channel) (has_channel (Some b) channel) is in
     record { by_sender = both.0; by_receiver = both.1 }

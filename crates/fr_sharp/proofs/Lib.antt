@@ -39,6 +39,7 @@ pub mod RunDoubles
 pub mod HeardValues
 pub mod RowsInPart
 pub mod HeardInCommon
+pub mod HeardKinds
 pub mod TimedRuns
 pub mod RunSync
 pub mod LostHistories
