@@ -1,7 +1,7 @@
 -- What two receivers have in common: the values of each are those of common senders and of others, and where lists meet the common ones
 -- are more than both discard.
 use Rattle.std.proofs.Common.{◌≡◌, ◌≢◌, ◌⊎◌, ℕ, ◌+◌, ◌≤◌, ◌<◌, ◌==◌, ◌&&◌, Bool, true, false, not, ℤ, pos, Option, Some, None, List, [], ◌∷◌, ◌++◌, All, map, length, refl, ap, sym, ◌∙◌, subst, inl, inr, arith, if◌then◌else◌}
-use Rattle.std.specs.Prelude.{Contains, IsPermutation, IsSome, count_by, is_some, nat_lt}
+use Rattle.std.specs.Prelude.{Contains, IsPermutation, is_some, nat_lt}
 use Rattle.std.specs.List.{AllZip, cons_option, filter_map, range_with_len}
 use Rattle.std.proofs.lemmas.Bool.{and_parts, eqb-true}
 use Rattle.std.proofs.lemmas.Bool.Decides.{nat_tests}
@@ -29,11 +29,11 @@ use Rattle.fr_runs.proofs.Courses.{is_correct_row}
 use Rattle.fr_runs.proofs.Nodes.{correct_node}
 use Rattle.fr_bound.specs.SharpBounds.{last_action}
 use Rattle.fr_sharp.specs.Among.{HearInCommon}
-use Rattle.fr_sharp.specs.Losses.{heard_at, heard_of, IsRoundInPart, RowsMeet}
+use Rattle.fr_sharp.specs.Losses.{heard_at, IsRoundInPart, RowsMeet}
 use Rattle.fr_sharp.specs.SharpRound.{as_member}
 use Rattle.fr_sharp.specs.Steady.{PlacesEven}
 use Rattle.fr_sharp.specs.SteadyRuns.{row_hearers, row_members, AreRowsInReach}
-use Rattle.fr_sharp.specs.Traffic.{all_trusted, costs_of, has_value, lists_meet, missed_or_discarded, most_count, sender_count, sends, traffic_of}
+use Rattle.fr_sharp.specs.Traffic.{all_trusted, costs_of, has_value, lists_meet, most_count, sender_count, sends, traffic_of}
 use Rattle.fr_sharp.proofs.HeardCounts.{count_three, discards_more, is_passed, passes_at, passes_is, two_cost, IsPassed}
 use Rattle.fr_sharp.proofs.HeardInPart.{offsets_heard, rates_heard}
 use Rattle.fr_sharp.proofs.HeardValues.{most_values, senders_counted, surely_heard, value_by}

@@ -1,5 +1,5 @@
 -- What a receiver makes of the frames that came, whatever was lost: each value is that of a sender.
-use Rattle.std.proofs.Common.{◌≡◌, ◌⊎◌, ℕ, ◌+◌, ◌≤◌, Bool, true, false, ◌&&◌, cond, ℤ, pos, Option, Some, None, List, [], ◌∷◌, ◌++◌, All, map, length, refl, ap, sym, ◌∙◌, subst, inl, inr, arith, if◌then◌else◌}
+use Rattle.std.proofs.Common.{◌≡◌, ◌⊎◌, ℕ, ◌+◌, ◌≤◌, Bool, true, false, ◌&&◌, cond, ℤ, pos, Option, Some, None, ◌++◌, All, map, length, refl, ap, sym, ◌∙◌, subst, inl, inr, arith, if◌then◌else◌}
 use Rattle.std.specs.Prelude.{◌-ℤ◌, Contains, is_some, int_lt, count_by}
 use Rattle.std.specs.Int.{int_min}
 use Rattle.std.specs.List.{range_with_len}

@@ -1,6 +1,6 @@
 -- What it says of a double cycle that all is heard in it, or that lists meet.
-use Rattle.std.proofs.Common.{◌≡◌, ◌≢◌, ℕ, suc, ◌+◌, ◌*◌, ◌==◌, ◌&&◌, ◌||◌, Bool, true, false, not, Some, List, refl, ap, sym, ◌∙◌, inl, inr, arith, if◌then◌else◌}
-use Rattle.std.specs.Prelude.{Contains, nat_eq}
+use Rattle.std.proofs.Common.{◌≡◌, ℕ, suc, ◌+◌, ◌*◌, ◌&&◌, ◌||◌, Bool, true, false, not, refl, ap, ◌∙◌, inl, inr, arith, if◌then◌else◌}
+use Rattle.std.specs.Prelude.{nat_eq}
 use Rattle.std.specs.List.{list_all}
 use Rattle.std.proofs.lemmas.Bool.{and_parts, ne_eqb, or_cases}
 use Rattle.std.proofs.lemmas.Bool.Decides.{nat_tests}
@@ -11,7 +11,7 @@ use Rattle.fr_cluster.specs.declared.nodes.NodeSpec.{NodeSpec}
 use Rattle.fr_bound.specs.declared.judging.Heard.{Heard}
 use Rattle.fr_bound.specs.declared.judging.Heard.TheVariants.{Clean, Meeting, Poor}
 use Rattle.fr_coverage.specs.Links.{is_regular, shares}
-use Rattle.fr_runs.specs.Links.{IsCarried, IsLinked}
+use Rattle.fr_runs.specs.Links.{IsCarried}
 use Rattle.fr_runs.proofs.Nodes.{correct_node}
 use Rattle.fr_sharp.specs.SteadyRuns.{IsWhole, MayHaveArbitrary}
 use Rattle.fr_sharp.specs.Traffic.{all_linked, arbitrary_count, heard_in, is_linked, lists_meet, rate_on, traffic_of}

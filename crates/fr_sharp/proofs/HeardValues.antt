@@ -1,8 +1,8 @@
 -- What a node with a row surely has of senders, by what becomes of their frames, and what it may have: counted, and trusted.
-use Rattle.std.proofs.Common.{◌≡◌, ◌≢◌, ◌⊎◌, ℕ, suc, ◌+◌, ◌*◌, ◌≤◌, ◌==◌, ◌&&◌, ◌||◌, Bool, true, false, not, ℤ, Option, Some, None, List, length, refl, ap, sym, ◌∙◌, inl, inr, arith, if◌then◌else◌}
+use Rattle.std.proofs.Common.{◌≡◌, ◌≢◌, ◌⊎◌, ℕ, suc, ◌+◌, ◌*◌, ◌≤◌, ◌==◌, ◌&&◌, ◌||◌, Bool, true, false, not, ℤ, Option, Some, None, length, refl, ap, sym, ◌∙◌, inl, inr, arith, if◌then◌else◌}
 use Rattle.std.specs.Prelude.{Contains, IsSome, count_by, is_some, nat_le}
 use Rattle.std.specs.List.{range_with_len}
-use Rattle.std.proofs.lemmas.Bool.{and_parts, eqb-true, ne_eqb, not-true, or_cases}
+use Rattle.std.proofs.lemmas.Bool.{and_parts, eqb-true, or_cases}
 use Rattle.std.proofs.lemmas.Bool.Decides.{nat_tests}
 use Rattle.fr_base.specs.Event.{Event}
 use Rattle.fr_base.specs.Event as event
@@ -10,14 +10,14 @@ use Rattle.fr_base.specs.declared.channel.Channel.{Channel}
 use Rattle.fr_base.specs.declared.channel.Channel.TheVariants.{A, B}
 use Rattle.fr_cluster.specs.Questions.{has_channel, index_in, key_in, key_slot_of, own_index}
 use Rattle.fr_cluster.specs.Sane.{IsSane}
-use Rattle.fr_cluster.specs.Setting.{Setting, correct_nodes, is_correct}
+use Rattle.fr_cluster.specs.Setting.{Setting, is_correct}
 use Rattle.fr_cluster.specs.Values.{Values}
 use Rattle.fr_cluster.specs.declared.nodes.NodeSpec.{NodeSpec}
 use Rattle.fr_time.specs.Senders.{key_node_of}
 use Rattle.fr_time.proofs.Keys.{key_node_has, key_node_is, key_slot_has, slot_of_index}
 use Rattle.fr_midpoint.specs.Midpoint.{discarded}
 use Rattle.fr_measure.specs.Values.{change_at, change_of, is_own, least_of, mean_of, offset_at, own_value_or, rate_at, values_of}
-use Rattle.fr_precision.specs.Round.{offsets_of, rates_of, sender_at, sender_with, Hearer, IsOther, IsSender, Round}
+use Rattle.fr_precision.specs.Round.{offsets_of, rates_of, sender_at, sender_with, Hearer, IsSender, Round}
 use Rattle.fr_precision.specs.Rows.{Sender}
 use Rattle.fr_precision.proofs.Counting.{count_le}
 use Rattle.fr_precision.proofs.Parting.{filter_map_counts}
@@ -35,7 +35,7 @@ use Rattle.fr_coverage.specs.Links.{is_regular, is_sync, shares}
 use Rattle.fr_sharp.specs.Losses.{heard_at, heard_of, IsTrustedOf}
 use Rattle.fr_sharp.specs.SteadyRuns.{AreRowsInReach}
 use Rattle.fr_sharp.specs.Traffic.{all_trusted, arbitrary_count, comes, has_value, is_silent, is_trusted, most_count, sends, sure_count, traffic_of, trusts, value_on, Traffic}
-use Rattle.fr_sharp.proofs.HeardCounts.{all_pass, count_two, discards_more, is_passed, nodes_counted, passes_at, passes_is, IsPassed}
+use Rattle.fr_sharp.proofs.HeardCounts.{all_pass, count_two, discards_more, is_passed, nodes_counted, passes_at, passes_is}
 use Rattle.fr_sharp.proofs.HeardInPart.{is_other, least_there, mean_there, others_counted}
 use Rattle.fr_sharp.proofs.RowsSupplied.{comes_in, counted_in, frames_stored, link_to, looked_up, rows_heard_in_part, LawfulRows}
 use Rattle.fr_sharp.proofs.RunDoubles.{all_among, AllHave}

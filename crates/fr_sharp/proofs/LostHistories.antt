@@ -17,7 +17,7 @@ use Rattle.fr_bound.specs.declared.judging.Heard.TheVariants.{Clean, Meeting, Po
 use Rattle.fr_sharp.specs.Among.{apart_by, lost_spread, spread_by, AreLossyDoubles, ComputesOwn, GoInReach, HearInCommon, HeardSo, LossyDoublesKeep, LossyDoublesStayApart, SpreadsGo}
 use Rattle.fr_sharp.specs.JudgedSteps.{IsLawfulStatedRun}
 use Rattle.fr_sharp.specs.Lengths.{walked_after}
-use Rattle.fr_sharp.specs.Losses.{lost_apart, HistoriesKeepThroughLosses, IsLossyRun, SharpAfterTwoWhole}
+use Rattle.fr_sharp.specs.Losses.{HistoriesKeepThroughLosses, IsLossyRun, SharpAfterTwoWhole}
 use Rattle.fr_bound.specs.SharpBounds.{last_action, odd_spread, precision_by, sharp_lambda, sharp_pi, sharp_precision}
 use Rattle.fr_bound.specs.SharpChecks.{SharpChecksHold}
 use Rattle.fr_sharp.specs.SharpHistories.{members_at, senders_at, BeginsActive, IsInSharpSyncAt, KeepsApart}

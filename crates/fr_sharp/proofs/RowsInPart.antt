@@ -1,25 +1,22 @@
 -- The nodes with rows of a double cycle in which frames may be lost: each computes its terms from the values that it has, and has at
 -- least one of each kind where it is not deaf.
-use Rattle.std.proofs.Common.{◌≡◌, ℕ, ◌≤◌, ◌<◌, Bool, true, false, ℤ, pos, Option, Some, None, List, [], ◌∷◌, length, refl, ap, ◌∙◌, subst, inl, inr, arith}
+use Rattle.std.proofs.Common.{◌≡◌, ℕ, ◌≤◌, ◌<◌, true, false, ℤ, pos, Option, Some, None, List, [], ◌∷◌, length, refl, ap, ◌∙◌, subst, inl, inr, arith}
 use Rattle.std.specs.Prelude.{Contains, IsSome, is_some}
 use Rattle.std.specs.List.{cons_option, filter_map, range_with_len}
-use Rattle.fr_base.specs.declared.channel.Channel.{Channel}
 use Rattle.fr_base.specs.declared.channel.Channel.TheVariants.{A, B}
-use Rattle.fr_cluster.specs.Questions.{index_in, key_in, key_slot_of, own_index}
+use Rattle.fr_cluster.specs.Questions.{index_in, key_slot_of, own_index}
 use Rattle.fr_cluster.specs.Sane.{IsSane}
 use Rattle.fr_cluster.specs.Setting.{Setting}
-use Rattle.fr_cluster.specs.Values.{Values}
 use Rattle.fr_cluster.specs.declared.nodes.NodeSpec.{NodeSpec}
 use Rattle.fr_cluster.proofs.Elements.{Contains-none}
 use Rattle.fr_cluster.proofs.KeyIndexes.{index-lt}
 use Rattle.fr_cluster.proofs.KeyNodes.{key_among, Contains-cons_cases}
 use Rattle.fr_time.proofs.Keys.{key_index_is, key_slot_has, rank_of, slot_of_index}
-use Rattle.fr_measure.specs.Values.{change_at, change_of, is_own, least_of, mean_of, offset_at, own_value_or, rate_at, values_of}
+use Rattle.fr_measure.specs.Values.{change_at, is_own, least_of, mean_of, offset_at, rate_at, values_of}
 use Rattle.fr_precision.specs.Round.{offsets_of, rates_of, Hearer, IsRound}
 use Rattle.fr_precision.specs.Step.{Member}
 use Rattle.fr_precision.proofs.Counting.{range_contains}
-use Rattle.fr_precision.proofs.Values.{other_value, own_value}
-use Rattle.fr_history.specs.Cycles.{Cycle, Cycles, some_joins}
+use Rattle.fr_history.specs.Cycles.{Cycle, Cycles}
 use Rattle.fr_history.specs.Standing.{row_nodes}
 use Rattle.fr_runs.specs.Gathered.{round_at, row_hearer}
 use Rattle.fr_runs.specs.Links.{IsCarried, IsLinked}
@@ -27,7 +24,7 @@ use Rattle.fr_runs.proofs.Courses.{is_correct_row, row_applied}
 use Rattle.fr_runs.proofs.Doubles.{odd_length}
 use Rattle.fr_runs.proofs.Fed.{row_itself}
 use Rattle.fr_runs.proofs.Going.{is_row_node}
-use Rattle.fr_runs.proofs.Nodes.{correct_node, node_there}
+use Rattle.fr_runs.proofs.Nodes.{correct_node}
 use Rattle.fr_runs.proofs.Rows.{contains_map, map_contains}
 use Rattle.fr_runs.proofs.RowsHeard.{RowLink}
 use Rattle.fr_sharp.specs.Losses.{HearsSome, IsRoundInPart, IsSuppliedInPart, IsTrustedOf, NoneIsDeaf, RowsComputeOwn}
