@@ -3,8 +3,6 @@ use Rattle.std.proofs.Common.{◌≡◌, ◌≢◌, ℕ, ◌<◌, ◌≤◌, ℤ
 use Rattle.std.specs.Prelude.{option_and_then}
 use Rattle.std.specs.Option.{option_map}
 use Rattle.std.proofs.lemmas.Bool.{and_parts, not-false, or_parts}
-use Rattle.fr_base.specs.Event.{Event}
-use Rattle.fr_base.specs.Event as event
 use Rattle.fr_base.specs.Rows.{dev_in}
 use Rattle.fr_base.specs.States.{is_active, is_halted}
 use Rattle.fr_base.specs.declared.channel.Channel.{Channel}
@@ -24,7 +22,7 @@ use Rattle.fr_reception.specs.Regular.{regular_frame}
 use Rattle.fr_reception.proofs.Early.{early}
 use Rattle.fr_precision.specs.Deviations.{counted_of}
 use Rattle.fr_history.specs.History.{row_for}
-use Rattle.fr_history.specs.Offers.{arrived_of, is_on, stored_in, value_of}
+use Rattle.fr_history.specs.Offers.{is_on, stored_in, value_of}
 use Rattle.fr_history.specs.Rows.{uncorrected}
 use Rattle.fr_runs.specs.Exchange.{Exchange, IsExchanged, IsNearExchange}
 use Rattle.fr_runs.specs.Links.{IsNearLink, Link, Share, stored_on}
@@ -33,6 +31,7 @@ use Rattle.fr_runs.proofs.Known.{IsStoredOf, coming, does_send, is_deaf, offer_i
 use Rattle.fr_runs.proofs.Nodes.{correct_node, key_slot_there, node_there}
 use Rattle.fr_runs.proofs.Reception.{recorded_in, uncorrected_row}
 use Rattle.fr_runs.proofs.Rows.{has_row}
+use Rattle.fr_sharp.proofs.HeardEvents.{arrived_comes}
 
 -- both have the channel, and a deviation is counted from an arrival
 pub record IsCounted (x : Setting) (l : Link) (is_odd : Bool) (channel : Channel) (value : ℤ) : Type 0 where
@@ -58,12 +57,6 @@ bytes_come true sends answer offer o value is = absurd (cc)
 bytes_come false false answer offer o value is = absurd (cc)
 bytes_come false true answer offer None value is = absurd (cc)
 bytes_come false true answer offer (Some bytes) value is = refl
-
-arrived_comes : (e : Event) (frame : List ℕ) → IsSome (arrived_of e frame) → is_silent e ≡ false
-arrived_comes event.Regular frame comes = refl
-arrived_comes event.Silent frame comes = absurd (cc)
-arrived_comes (event.Flip bit) frame comes = refl
-arrived_comes (event.Say shift bytes) frame comes = refl
 
 module _ (x : Setting) (l : Link) (is_odd : Bool) (reach : ℤ) (channel : Channel) (near : IsNearLink x l is_odd reach) where
   offered : (value : ℤ) → stored_on x l channel ≡ Some value

@@ -16,7 +16,8 @@ use Rattle.fr_runs.proofs.Nodes.{correct_node}
 use Rattle.fr_sharp.specs.SteadyRuns.{IsWhole, MayHaveArbitrary}
 use Rattle.fr_sharp.specs.Traffic.{all_linked, arbitrary_count, heard_in, is_linked, lists_meet, rate_on, traffic_of}
 use Rattle.fr_sharp.proofs.HeardCounts.{all_pass}
-use Rattle.fr_sharp.proofs.HeardValues.{regular_of, share_of}
+use Rattle.fr_sharp.proofs.HeardEvents.{regular_of}
+use Rattle.fr_sharp.proofs.HeardValues.{share_of}
 
 by_tests : Bool → Bool → Bool → Bool → Heard
 by_tests all none offsets rates = if all && none then Clean else (if offsets && rates then Meeting else Poor)

@@ -4,8 +4,6 @@ use Rattle.std.specs.Prelude.{Contains, IsSome, count_by, is_some, nat_le}
 use Rattle.std.specs.List.{range_with_len}
 use Rattle.std.proofs.lemmas.Bool.{and_parts, eqb-true, or_cases}
 use Rattle.std.proofs.lemmas.Bool.Decides.{nat_tests}
-use Rattle.fr_base.specs.Event.{Event}
-use Rattle.fr_base.specs.Event as event
 use Rattle.fr_base.specs.declared.channel.Channel.{Channel}
 use Rattle.fr_base.specs.declared.channel.Channel.TheVariants.{A, B}
 use Rattle.fr_cluster.specs.Questions.{has_channel, index_in, key_in, key_slot_of, own_index}
@@ -34,8 +32,9 @@ use Rattle.fr_runs.proofs.RowsHeard.{RowLink}
 use Rattle.fr_coverage.specs.Links.{is_regular, is_sync, shares}
 use Rattle.fr_sharp.specs.Losses.{heard_at, heard_of, IsTrustedOf}
 use Rattle.fr_sharp.specs.SteadyRuns.{AreRowsInReach}
-use Rattle.fr_sharp.specs.Traffic.{all_trusted, arbitrary_count, comes, has_value, is_silent, is_trusted, most_count, sends, sure_count, traffic_of, trusts, value_on, Traffic}
+use Rattle.fr_sharp.specs.Traffic.{all_trusted, arbitrary_count, comes, has_value, is_trusted, most_count, sends, sure_count, traffic_of, trusts, value_on, Traffic}
 use Rattle.fr_sharp.proofs.HeardCounts.{all_pass, count_two, discards_more, is_passed, nodes_counted, passes_at, passes_is}
+use Rattle.fr_sharp.proofs.HeardEvents.{may_come, regular_of}
 use Rattle.fr_sharp.proofs.HeardInPart.{is_other, least_there, mean_there, others_counted}
 use Rattle.fr_sharp.proofs.RowsSupplied.{comes_in, counted_in, frames_stored, link_to, looked_up, rows_heard_in_part, LawfulRows}
 use Rattle.fr_sharp.proofs.RunDoubles.{all_among, AllHave}
@@ -96,13 +95,7 @@ own_there own index value is = ap is_some (own_value own index value (itself own
 pub own_of : (p : Values) (node : NodeSpec) → IsSane p → Contains p.nodes node → own_index p node.id ≡ index_in p node.key
 own_of p node sane there = ap (λ o. index_in p (key_in o)) (node_there p node sane there)
 
--- ---- events and channels
-
-pub regular_of : (e : Event) → is_regular e ≡ true → e ≡ event.Regular
-regular_of event.Regular is = refl
-regular_of event.Silent is = absurd (cc)
-regular_of (event.Flip bit) is = absurd (cc)
-regular_of (event.Say shift bytes) is = absurd (cc)
+-- ---- channels
 
 pub share_of : (a b : NodeSpec) (channel : Channel) → shares a b channel ≡ true → Share a b channel
 share_of a b channel is =
@@ -111,9 +104,6 @@ share_of a b channel is =
 
 shared : (a b : NodeSpec) (channel : Channel) → Share a b channel → shares a b channel ≡ true
 shared a b channel share = rw (share.by_sender, share.by_receiver) refl
-
-may_come : (e : Event) → is_silent e ≡ false → comes false e ≡ true
-may_come e is = ap not is
 
 at_most : (a b : ℕ) → nat_le a b ≡ true → a ≤ b
 at_most a b is = grind (arith, nat_tests)

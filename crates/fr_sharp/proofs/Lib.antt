@@ -32,6 +32,7 @@ pub mod SharpWorked
 pub mod SharpSlow
 pub mod OlderWorked
 pub mod RunFlutter
+pub mod HeardEvents
 pub mod FramesCounted
 pub mod RateRange
 pub mod RowsSupplied
