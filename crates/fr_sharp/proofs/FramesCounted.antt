@@ -1,5 +1,5 @@
 -- A deviation that a receiver stores is counted from the arrival of the sender's frame.
-use Rattle.std.proofs.Common.{◌≡◌, ◌≢◌, ℕ, ◌<◌, ◌≤◌, ℤ, pos, ◌+ℤ◌, Bool, true, false, not, Option, Some, List, map, refl, ap, sym, ◌∙◌, arith}
+use Rattle.std.proofs.Common.{◌≡◌, ◌≢◌, ℕ, ◌<◌, ◌≤◌, ℤ, pos, ◌+ℤ◌, Bool, true, false, cond, not, Option, Some, None, IsSome, List, map, refl, ap, sym, ◌∙◌, arith}
 use Rattle.std.specs.Prelude.{option_and_then}
 use Rattle.std.specs.Option.{option_map}
 use Rattle.std.proofs.lemmas.Bool.{and_parts, not-false, or_parts}
@@ -13,10 +13,12 @@ use Rattle.fr_cluster.specs.declared.nodes.NodeSpec.{NodeSpec}
 use Rattle.fr_time.specs.Instant.{action_instant, instant_of}
 use Rattle.fr_time.specs.Position.{grid_for}
 use Rattle.fr_time.specs.Slots.{action_point_of, slot_end_of}
+use Rattle.fr_time.specs.Senders.{sync_sending}
 use Rattle.fr_time.proofs.Placing.{action_point_lt}
 use Rattle.fr_time.proofs.SoleSenders.{key_slot_sender}
 use Rattle.fr_reception.specs.Answers.{answer_of}
 use Rattle.fr_reception.specs.Offers.{Offer, deviation_of}
+use Rattle.fr_reception.specs.Regular.{regular_frame}
 use Rattle.fr_reception.proofs.Early.{early}
 use Rattle.fr_precision.specs.Deviations.{counted_of}
 use Rattle.fr_history.specs.History.{row_for}
@@ -24,10 +26,12 @@ use Rattle.fr_history.specs.Offers.{is_on, stored_in, value_of}
 use Rattle.fr_history.specs.Rows.{uncorrected}
 use Rattle.fr_runs.specs.Exchange.{Exchange, IsExchanged, IsNearExchange}
 use Rattle.fr_runs.specs.Links.{IsNearLink, Link, Share, stored_on}
+use Rattle.fr_sharp.specs.Traffic.{is_silent}
 use Rattle.fr_runs.proofs.Known.{IsStoredOf, coming, does_send, is_deaf, offer_is, offer_with, parts_of, stored_value}
 use Rattle.fr_runs.proofs.Nodes.{correct_node, key_slot_there, node_there}
 use Rattle.fr_runs.proofs.Reception.{recorded_in, uncorrected_row}
 use Rattle.fr_runs.proofs.Rows.{has_row}
+use Rattle.fr_sharp.proofs.HeardEvents.{arrived_comes}
 
 -- both have the channel, and a deviation is counted from an arrival
 pub record IsCounted (x : Setting) (l : Link) (is_odd : Bool) (channel : Channel) (value : ℤ) : Type 0 where
@@ -46,20 +50,48 @@ pub on_channel : (x : Setting) (node : ℕ) (spec : NodeSpec) (channel : Channel
 on_channel x node spec channel same found =
     ap (λ (id : ℕ). is_on x id channel) same ∙ ap (λ (o : Option NodeSpec). has_channel o channel) found
 
+-- what is stored of some bytes comes of a frame that is not lost
+bytes_come : (deaf sends : Bool) (answer : Offer → Option ℤ) (offer : List ℕ → Offer) (o : Option (List ℕ)) (value : ℤ)
+    → option_and_then answer (cond deaf None (cond sends (option_map offer o) None)) ≡ Some value → IsSome o
+bytes_come true sends answer offer o value is = absurd (cc)
+bytes_come false false answer offer o value is = absurd (cc)
+bytes_come false true answer offer None value is = absurd (cc)
+bytes_come false true answer offer (Some bytes) value is = refl
+
 module _ (x : Setting) (l : Link) (is_odd : Bool) (reach : ℤ) (channel : Channel) (near : IsNearLink x l is_odd reach) where
-  parts : (value : ℤ) → stored_on x l channel ≡ Some value
-      → IsStoredOf (is_deaf x (uncorrected l.at) channel) (does_send x l.sender.id (uncorrected l.from) channel)
-      (λ bytes. value_of (answer_of x.params l.cycle (uncorrected l.at) (offer_on x l channel bytes))) value
-  unfolding stored_in offer_on
-  parts value is =
+  offered : (value : ℤ) → stored_on x l channel ≡ Some value
+      → option_and_then (λ offer. value_of (answer_of x.params l.cycle (uncorrected l.at) offer))
+      (cond (is_deaf x (uncorrected l.at) channel) None
+      (cond (does_send x l.sender.id (uncorrected l.from) channel)
+      (option_map (offer_with x l.cycle (uncorrected l.from) (uncorrected l.at) l.slot channel) (coming x l.cycle l.sender (uncorrected l.from) (uncorrected l.at) l.slot channel)) None))
+      ≡ Some value
+  unfolding stored_in
+  offered value is =
       let p : Values = x.params in
       let answer : Offer → Option ℤ = λ offer. value_of (answer_of p l.cycle (uncorrected l.at) offer) in
       let other : l.sender.id ≢ (uncorrected l.at).node = λ (same : l.sender.id ≡ (uncorrected l.at).node). near.other (same ∙ near.at_node) in
-      let offered =
+      let found =
       offer_is x l.cycle l.rows l.sender (uncorrected l.from) (uncorrected l.at) l.slot channel (key_slot_sender p l.slot l.cycle l.sender near.sane near.sends near.key) other near.correct near.found in
+      sym (ap (λ (o : Option Offer). option_and_then answer o) found) ∙ is
+
+  stored_comes : (value : ℤ) → stored_on x l channel ≡ Some value → is_silent (x.event l.cycle l.sender.id l.receiver.id channel) ≡ false
+  stored_comes value is =
+      let p : Values = x.params in
+      let come =
+      bytes_come (is_deaf x (uncorrected l.at) channel) (does_send x l.sender.id (uncorrected l.from) channel) (λ offer. value_of (answer_of p l.cycle (uncorrected l.at) offer))
+      (offer_with x l.cycle (uncorrected l.from) (uncorrected l.at) l.slot channel) (coming x l.cycle l.sender (uncorrected l.from) (uncorrected l.at) l.slot channel) value (offered value is) in
+      let event : x.event l.cycle l.from.node l.at.node channel ≡ x.event l.cycle l.sender.id l.receiver.id channel =
+      ap (λ (node : ℕ). x.event l.cycle node l.at.node channel) near.from_node ∙ ap (λ (node : ℕ). x.event l.cycle l.sender.id node channel) near.at_node in
+      sym (ap is_silent event) ∙ arrived_comes (x.event l.cycle l.from.node l.at.node channel) (regular_frame p (sync_sending l.sender) l.slot l.cycle channel) come
+
+  parts : (value : ℤ) → stored_on x l channel ≡ Some value
+      → IsStoredOf (is_deaf x (uncorrected l.at) channel) (does_send x l.sender.id (uncorrected l.from) channel)
+      (λ bytes. value_of (answer_of x.params l.cycle (uncorrected l.at) (offer_on x l channel bytes))) value
+  unfolding offer_on
+  parts value is =
+      let answer : Offer → Option ℤ = λ offer. value_of (answer_of x.params l.cycle (uncorrected l.at) offer) in
       parts_of (is_deaf x (uncorrected l.at) channel) (does_send x l.sender.id (uncorrected l.from) channel) answer (offer_with x l.cycle (uncorrected l.from) (uncorrected l.at) l.slot channel)
-      (coming x l.cycle l.sender (uncorrected l.from) (uncorrected l.at) l.slot channel) value
-      (sym (ap (λ (o : Option Offer). option_and_then answer o) offered) ∙ is)
+      (coming x l.cycle l.sender (uncorrected l.from) (uncorrected l.at) l.slot channel) value (offered value is)
 
   -- when a frame of the sender arrives
   arrives_at : (bytes : List ℕ)
@@ -138,4 +170,11 @@ pub recorded_is_counted : (x : Setting) (e : Exchange) (is_odd : Bool) (reach : 
     → IsExchanged e sender receiver slot → dev_in e.devs receiver.id slot channel ≡ Some value → IsCounted x (link_in e sender receiver slot) is_odd channel value
 recorded_is_counted x e is_odd reach sender receiver slot channel value near link is =
     stored_is_counted x (link_in e sender receiver slot) is_odd reach channel (near_link x e is_odd reach sender receiver slot near link) value
+    (sym (recorded_in x e sender receiver slot channel near.sane near.is (near.is.correct_senders sender link.sends) link.key link.hears) ∙ is)
+
+-- nothing is recorded of a silent one
+pub recorded_comes : (x : Setting) (e : Exchange) (is_odd : Bool) (reach : ℤ) (sender receiver : NodeSpec) (slot : ℕ) (channel : Channel) (value : ℤ) → IsNearExchange x e is_odd reach
+    → IsExchanged e sender receiver slot → dev_in e.devs receiver.id slot channel ≡ Some value → is_silent (x.event e.cycle sender.id receiver.id channel) ≡ false
+recorded_comes x e is_odd reach sender receiver slot channel value near link is =
+    stored_comes x (link_in e sender receiver slot) is_odd reach channel (near_link x e is_odd reach sender receiver slot near link) value
     (sym (recorded_in x e sender receiver slot channel near.sane near.is (near.is.correct_senders sender link.sends) link.key link.hears) ∙ is)

@@ -1,5 +1,5 @@
 -- What a receiver makes of the frames that came, whatever was lost: each value is that of a sender.
-use Rattle.std.proofs.Common.{◌≡◌, ◌⊎◌, ℕ, ◌≤◌, Bool, true, false, ◌&&◌, cond, ℤ, pos, Option, Some, None, List, [], ◌∷◌, ◌++◌, All, map, length, refl, ap, sym, ◌∙◌, subst, inl, inr, arith, if◌then◌else◌}
+use Rattle.std.proofs.Common.{◌≡◌, ◌⊎◌, ℕ, ◌+◌, ◌≤◌, Bool, true, false, ◌&&◌, cond, ℤ, pos, Option, Some, None, ◌++◌, All, map, length, refl, ap, sym, ◌∙◌, subst, inl, inr, arith, if◌then◌else◌}
 use Rattle.std.specs.Prelude.{◌-ℤ◌, Contains, is_some, int_lt, count_by}
 use Rattle.std.specs.Int.{int_min}
 use Rattle.std.specs.List.{range_with_len}
@@ -12,12 +12,11 @@ use Rattle.fr_base.specs.declared.node_row.NodeRow.{NodeRow}
 use Rattle.fr_base.specs.Within.{IsBetween}
 use Rattle.fr_cluster.specs.Questions.{key_slot_of}
 use Rattle.fr_cluster.specs.declared.nodes.NodeSpec.{NodeSpec}
-use Rattle.fr_cluster.proofs.Elements.{Contains-none}
-use Rattle.fr_cluster.proofs.KeyNodes.{Contains-cons_cases}
+use Rattle.fr_cluster.specs.Sane.{IsSane}
 use Rattle.fr_time.specs.Senders.{key_node_of}
 use Rattle.fr_time.specs.Slots.{action_point_of}
 use Rattle.fr_time.proofs.Keys.{key_node_has, key_node_is}
-use Rattle.fr_midpoint.specs.Midpoint.{half_of_sum}
+use Rattle.fr_midpoint.specs.Midpoint.{discarded, half_of_sum}
 use Rattle.fr_midpoint.specs.Receivers.{Hears}
 use Rattle.fr_measure.specs.Values.{change_at, is_own, least_of, mean_of, offset_at, rate_at, values_of}
 use Rattle.fr_correct.proofs.There.{offset_term_is_there, rate_term_is_there}
@@ -25,17 +24,18 @@ use Rattle.fr_precision.specs.Offsets.{IsDeviation}
 use Rattle.fr_precision.specs.Round.{offsets_of, rates_of, sender_at, sender_with, sync_count, Hearer, IsRound, IsSender, Round}
 use Rattle.fr_precision.specs.Rows.{Sender}
 use Rattle.fr_precision.specs.Step.{IsAmong, Member}
-use Rattle.fr_precision.proofs.Counting.{count_cons, count_yes}
 use Rattle.fr_precision.proofs.OffsetLaws.{micro_lasts, own_value_is_deviation}
-use Rattle.fr_precision.proofs.Parting.{parted, AreTold, IsParted}
+use Rattle.fr_precision.proofs.Counting.{count_le}
+use Rattle.fr_precision.proofs.Parting.{filter_map_counts, parted, AreTold, IsParted}
 use Rattle.fr_precision.proofs.RoundSenders.{sender_found, sender_is, IsFrom}
 use Rattle.fr_precision.proofs.Values.{acts_before, change_from, other_of, other_value, own_value}
 use Rattle.fr_sharp.specs.Among.{ComputesOwn}
 use Rattle.fr_sharp.specs.Hearing.{IsHeardInPart}
-use Rattle.fr_sharp.specs.Losses.{heard_at, heard_of, IsSuppliedInPart, RoundsInPartComputeOwn}
+use Rattle.fr_sharp.specs.Losses.{heard_at, heard_of, IsSuppliedInPart, IsTrustedOf, RoundsInPartComputeOwn}
 use Rattle.fr_bound.specs.SharpBounds.{last_action}
 use Rattle.fr_sharp.specs.SharpRound.{as_member}
 use Rattle.fr_sharp.specs.Steady.{PlacesEven}
+use Rattle.fr_sharp.proofs.HeardCounts.{fewer_discarded, nodes_counted, passes_at, passes_is}
 use Rattle.fr_sharp.proofs.HearingLemmas.{acts_regularly, no_less}
 use Rattle.fr_sharp.proofs.RoundLemmas.{acts_early, all_given, map_contains, sender_among}
 use Rattle.fr_sharp.proofs.SteadyLemmas.{half_places_even, own_value_places_even, steady_values_place_lem}
@@ -64,25 +64,17 @@ each_mean P (Some a) (Some b) half one other v is =
     subst P same (half a b (one a refl) (other b refl))
 
 -- where there is a least or a mean, some channel has one
-least_there : (a b : Option ℤ) (v : ℤ) → least_of a b ≡ Some v → ((x : ℤ) × (a ≡ Some x)) ⊎ ((x : ℤ) × (b ≡ Some x))
+pub least_there : (a b : Option ℤ) (v : ℤ) → least_of a b ≡ Some v → ((x : ℤ) × (a ≡ Some x)) ⊎ ((x : ℤ) × (b ≡ Some x))
 least_there None b v is = inr (v, is)
 least_there (Some a) b v is = inl (a, refl)
 
-mean_there : (a b : Option ℤ) (v : ℤ) → mean_of a b ≡ Some v → ((x : ℤ) × (a ≡ Some x)) ⊎ ((x : ℤ) × (b ≡ Some x))
+pub mean_there : (a b : Option ℤ) (v : ℤ) → mean_of a b ≡ Some v → ((x : ℤ) × (a ≡ Some x)) ⊎ ((x : ℤ) × (b ≡ Some x))
 mean_there None b v is = inr (v, is)
 mean_there (Some a) b v is = inl (a, refl)
 
 own_is : (own : Option ℕ) (index : ℕ) → is_own own index ≡ true → own ≡ Some index
 own_is None index is = absurd (cc)
 own_is (Some own) index is = let e : own ≡ index = grind arith in ap Some e
-
--- what nothing passes none of a list passes
-none_counts : {X : Type 0} (test : X → Bool) (xs : List X) (x : X) → count_by test xs ≡ 0 → Contains xs x → test x ≡ true → ⊥
-none_counts test [] x none among passes = Contains-none x among
-none_counts test (y ∷ xs) x none among passes = elim (Contains-cons_cases y xs x among) [
-  | inl same ↦ let e = count_yes test y xs (ap test same ∙ passes) in omega (arith, e, none)
-  | inr more ↦ let e = count_cons test y xs in none_counts test xs x (omega (arith, e, none)) more passes
-]
 
 -- ---- the senders of whom there is a value
 
@@ -103,25 +95,48 @@ all_heard r at P each =
     all_given (heard_at r at) P (range_with_len 0 15)
     (λ index sender some. each index sender (sender_is r index sender (heard_is r at index sender (at index) refl some).2))
 
+-- a list of values is not empty where some sender is heard
+pub heard_some : (r : Round) (at : ℕ → Option ℤ) → 1 ≤ length (heard_of r at) → 1 ≤ length (values_of at)
+unfolding values_of
+heard_some r at some =
+    let heard = filter_map_counts (heard_at r at) (range_with_len 0 15) in
+    let values = filter_map_counts at (range_with_len 0 15) in
+    let le = count_le (λ i. is_some (heard_at r at i)) (λ i. is_some (at i)) (range_with_len 0 15) (λ i is. from (at i) (sender_at r i) is) in
+    omega (arith, some, heard, values, le)
+  where
+    from : (o : Option ℤ) (sender : Option Sender) → is_some (if is_some o then sender else None) ≡ true → is_some o ≡ true
+    from None sender is = absurd (cc)
+    from (Some v) sender is = refl
+
 -- ---- one list of values
 
-module _ (r : Round) (n : Hearer) (is : IsRound r) (none : sync_count r.params r.is_arbitrary ≡ 0) (hears : IsHeardInPart r n) where
+-- whether a key index is that of an arbitrary node
+abbrev pub is_other : Round → ℕ → Bool
+is_other r index = passes_at r.params (λ (node : NodeSpec). is_some node.key && r.is_arbitrary node.id) index
+
+-- there are as many of these as arbitrary sync nodes
+pub others_counted : (r : Round) → IsSane r.params → sync_count r.params r.is_arbitrary ≡ count_by (is_other r) (range_with_len 0 15)
+others_counted r sane =
+    nodes_counted r.params (λ (node : NodeSpec). is_some node.key && r.is_arbitrary node.id) sane
+    (λ node none. ap (λ (o : Option ℕ). is_some o && r.is_arbitrary node.id) none)
+
+module _ (r : Round) (n : Hearer) (is : IsRound r) (hears : IsHeardInPart r n) where
   -- each value is of a sender, or of an arbitrary node
-  of_sender : (index : ℕ) (is_odd : Bool) (channel : Channel) (value : ℤ) → n.look index is_odd channel ≡ Some value → sender_at r index ≡ None → ⊥
+  of_sender : (index : ℕ) (is_odd : Bool) (channel : Channel) (value : ℤ) → n.look index is_odd channel ≡ Some value → sender_at r index ≡ None → is_other r index ≡ true
   of_sender index is_odd channel value there no_sender =
       let only = hears.only index is_odd channel value there in
       by_kind only.0 only.1.0 only.1.1 only.1.2 only.1.3
     where
       by_kind : (slot : ℕ) (node : NodeSpec) → key_slot_of r.params index ≡ Some slot → key_node_of r.params slot ≡ Some node
-          → (r.has_rows node.id ≡ true) ⊎ (r.is_arbitrary node.id ≡ true) → ⊥
+          → (r.has_rows node.id ≡ true) ⊎ (r.is_arbitrary node.id ≡ true) → is_other r index ≡ true
       by_kind slot node slot_is node_is (inl rows) =
           let has = key_node_has r.params node slot node_is in
           let from : IsSender r node slot = record { there = has.0; rows = rows; key = has.1 } in
           let e : Some (sender_with r slot node.id) ≡ None = sym (sender_found r index slot node is.sane from slot_is) ∙ no_sender in
-          cc
+          absurd (cc)
       by_kind slot node slot_is node_is (inr arbitrary) =
           let has = key_node_has r.params node slot node_is in
-          none_counts (λ (one : NodeSpec). is_some one.key && r.is_arbitrary one.id) r.params.nodes node none has.0 (rw (has.1, arbitrary) refl)
+          passes_is r.params (λ (one : NodeSpec). is_some one.key && r.is_arbitrary one.id) index slot node slot_is node_is ∙ rw (has.1, arbitrary) refl
 
   own_sends : (index : ℕ) → is_own n.own index ≡ true → sender_at r index ≡ None → ⊥
   own_sends index own no_sender =
@@ -143,45 +158,55 @@ module _ (r : Round) (n : Hearer) (is : IsRound r) (none : sync_count r.params r
 
   module _ (Says : Sender → ℤ → Type 0) (at : ℕ → Option ℤ)
       (said : (index : ℕ) (sender : Sender) (v : ℤ) → IsFrom r index sender → at index ≡ Some v → Says sender v)
-      (other : (index : ℕ) (v : ℤ) → at index ≡ Some v → sender_at r index ≡ None → ⊥) where
-    told : AreTold Sender Says (heard_at r at) at (λ i. false)
+      (other : (index : ℕ) (v : ℤ) → at index ≡ Some v → sender_at r index ≡ None → is_other r index ≡ true) where
+    told : AreTold Sender Says (heard_at r at) at (is_other r)
     told = record {
       said = λ index sender some.
           let has = heard_is r at index sender (at index) refl some in
           (has.0, has.1, said index sender has.0 (sender_is r index sender has.2) has.1);
-      other = λ index v no_one some. absurd (other index v some (sym (heard_found r at index v some) ∙ no_one));
+      other = λ index v no_one some. other index v some (sym (heard_found r at index v some) ∙ no_one);
     }
 
-    parts : IsParted Sender Says (heard_of r at) (values_of at) (count_by (λ (i : ℕ). false) (range_with_len 0 15))
+    parts : IsParted Sender Says (heard_of r at) (values_of at) (count_by (is_other r) (range_with_len 0 15))
     unfolding values_of
-    parts = parted Sender Says (heard_at r at) at (λ i. false) (range_with_len 0 15) told
+    parts = parted Sender Says (heard_at r at) at (is_other r) (range_with_len 0 15) told
 
-    none_further : length (parts.further) ≡ 0
-    none_further =
+    few_further : length (parts.further) ≤ sync_count r.params r.is_arbitrary
+    few_further =
         let few = parts.few_further in
-        let most : count_by (λ (i : ℕ). false) (range_with_len 0 15) ≡ 0 = refl in
+        let most = others_counted r is.sane in
         omega (arith, few, most)
 
-    pub hears_heard : Hears Sender Says (heard_of r at) (values_of at)
-    hears_heard = record {
-      said = parts.said;
-      further = parts.further;
-      parts = parts.parts;
-      few = (let e = none_further in omega (arith, e));
-      each = parts.each;
-    }
-
-    pub as_many : length (heard_of r at) ≡ length (values_of at)
+    as_many : length (heard_of r at) + length (parts.further) ≡ length (values_of at)
     as_many =
-        let e = none_further in
         let long = AllZip-long Says (heard_of r at) parts.said parts.each in
         let size = length_permutation (parts.said ++ parts.further) (values_of at) parts.parts in
         let both = length-append parts.said parts.further in
-        omega (arith, e, long, size, both)
+        omega (arith, long, size, both)
+
+    pub hears_heard : IsTrustedOf r at (values_of at) → Hears Sender Says (heard_of r at) (values_of at)
+    hears_heard trusted =
+        let At : ℕ → Type 0 = λ m. length (parts.further) ≤ discarded m in
+        record {
+          said = parts.said;
+          further = parts.further;
+          parts = parts.parts;
+          few =
+              subst At as_many
+              (fewer_discarded (length (heard_of r at)) (length (parts.further)) (sync_count r.params r.is_arbitrary) few_further trusted.few);
+          each = parts.each;
+        }
+
+    -- without arbitrary sync nodes a list with a value is trusted
+    pub trusted_alone : sync_count r.params r.is_arbitrary ≡ 0 → 1 ≤ length (values_of at) → IsTrustedOf r at (values_of at)
+    trusted_alone none some = record {
+      few = omega (arith, none);
+      some = (let same = as_many in let few = few_further in omega (arith, none, some, same, few));
+    }
 
 -- ---- offsets and rates
 
-module _ (r : Round) (flutter : ℕ) (n : Hearer) (is : IsRound r) (none : sync_count r.params r.is_arbitrary ≡ 0) (s : IsSuppliedInPart r flutter n) where
+module _ (r : Round) (flutter : ℕ) (n : Hearer) (is : IsRound r) (s : IsSuppliedInPart r flutter n) where
   Offset : Sender → ℤ → Type 0
   Offset sender value = IsDeviation r.params true sender.action n.odd sender.odd value
 
@@ -197,7 +222,7 @@ module _ (r : Round) (flutter : ℕ) (n : Hearer) (is : IsRound r) (none : sync_
       let lasts = micro_lasts r.params n.odd is.sane s.regular.odd_micro in
       let At : NodeRow → Type 0 = λ row. IsDeviation r.params true sender.action n.odd row (pos 0) in
       let Of : ℤ → Type 0 = λ x. IsDeviation r.params true sender.action n.odd sender.odd x in
-      subst Of value (subst At (sym (own_row r n is none s.hears index sender from own)) (own_value_is_deviation r.params true sender.action n.odd lasts))
+      subst Of value (subst At (sym (own_row r n is s.hears index sender from own)) (own_value_is_deviation r.params true sender.action n.odd lasts))
   offset_by index sender v false from own some =
       let other = other_of r n index sender from own in
       let least : least_of (n.look index true A) (n.look index true B) ≡ Some v = sym (other_value n.own index (least_of (n.look index true A) (n.look index true B)) own) ∙ some in
@@ -208,15 +233,15 @@ module _ (r : Round) (flutter : ℕ) (n : Hearer) (is : IsRound r) (none : sync_
       ) in
       each_least (λ x. IsDeviation r.params true sender.action n.odd sender.odd x) (n.look index true A) (n.look index true B) (each A) (each B) v least
 
-  offset_other : (index : ℕ) (v : ℤ) (own : Bool) → is_own n.own index ≡ own → offset_at n.look n.own index ≡ Some v → sender_at r index ≡ None → ⊥
-  offset_other index v true own some no_sender = own_sends r n is none s.hears index own no_sender
+  offset_other : (index : ℕ) (v : ℤ) (own : Bool) → is_own n.own index ≡ own → offset_at n.look n.own index ≡ Some v → sender_at r index ≡ None → is_other r index ≡ true
+  offset_other index v true own some no_sender = absurd (own_sends r n is s.hears index own no_sender)
   offset_other index v false own some no_sender =
       let least : least_of (n.look index true A) (n.look index true B) ≡ Some v = sym (other_value n.own index (least_of (n.look index true A) (n.look index true B)) own) ∙ some in
       by_channel (least_there (n.look index true A) (n.look index true B) v least)
     where
-      by_channel : ((x : ℤ) × (n.look index true A ≡ Some x)) ⊎ ((x : ℤ) × (n.look index true B ≡ Some x)) → ⊥
-      by_channel (inl one) = of_sender r n is none s.hears index true A one.0 one.1 no_sender
-      by_channel (inr one) = of_sender r n is none s.hears index true B one.0 one.1 no_sender
+      by_channel : ((x : ℤ) × (n.look index true A ≡ Some x)) ⊎ ((x : ℤ) × (n.look index true B ≡ Some x)) → is_other r index ≡ true
+      by_channel (inl one) = of_sender r n is s.hears index true A one.0 one.1 no_sender
+      by_channel (inr one) = of_sender r n is s.hears index true B one.0 one.1 no_sender
 
   -- the change on one channel
   change_placed : (index : ℕ) (sender : Sender) (channel : Channel) (v : ℤ) (from : IsFrom r index sender) → is_own n.own index ≡ false → change_at n.look index channel ≡ Some v → Rate sender v
@@ -250,57 +275,57 @@ module _ (r : Round) (flutter : ℕ) (n : Hearer) (is : IsRound r) (none : sync_
       let value : pos 0 ≡ v = cc in
       let At : NodeRow → Type 0 = λ row. PlacesEven r.params flutter sender row (pos 0) in
       let Of : ℤ → Type 0 = λ x. PlacesEven r.params flutter sender n.odd x in
-      subst Of value (subst At (own_row r n is none s.hears index sender from own) (own_value_places_even r.params flutter sender is.sane (acts_regularly r index sender is from)))
+      subst Of value (subst At (own_row r n is s.hears index sender from own) (own_value_places_even r.params flutter sender is.sane (acts_regularly r index sender is from)))
   rate_by index sender v false from own some =
       let mean : mean_of (change_at n.look index A) (change_at n.look index B) ≡ Some v = sym (other_value n.own index (mean_of (change_at n.look index A) (change_at n.look index B)) own) ∙ some in
       each_mean (λ x. PlacesEven r.params flutter sender n.odd x) (change_at n.look index A) (change_at n.look index B)
       (λ x y one two. half_places_even r.params flutter sender n.odd x y is.sane s.regular.odd_micro one two)
       (λ x there. change_placed index sender A x from own there) (λ x there. change_placed index sender B x from own there) v mean
 
-  rate_other : (index : ℕ) (v : ℤ) (own : Bool) → is_own n.own index ≡ own → rate_at n.look n.own index ≡ Some v → sender_at r index ≡ None → ⊥
-  rate_other index v true own some no_sender = own_sends r n is none s.hears index own no_sender
+  rate_other : (index : ℕ) (v : ℤ) (own : Bool) → is_own n.own index ≡ own → rate_at n.look n.own index ≡ Some v → sender_at r index ≡ None → is_other r index ≡ true
+  rate_other index v true own some no_sender = absurd (own_sends r n is s.hears index own no_sender)
   rate_other index v false own some no_sender =
       let mean : mean_of (change_at n.look index A) (change_at n.look index B) ≡ Some v = sym (other_value n.own index (mean_of (change_at n.look index A) (change_at n.look index B)) own) ∙ some in
       by_channel (mean_there (change_at n.look index A) (change_at n.look index B) v mean)
     where
-      of_change : (channel : Channel) (x : ℤ) → change_at n.look index channel ≡ Some x → ⊥
+      of_change : (channel : Channel) (x : ℤ) → change_at n.look index channel ≡ Some x → is_other r index ≡ true
       of_change channel x there =
           let both = change_from (n.look index false channel) (n.look index true channel) x there in
-          of_sender r n is none s.hears index true channel both.1.0 both.1.2 no_sender
+          of_sender r n is s.hears index true channel both.1.0 both.1.2 no_sender
 
-      by_channel : ((x : ℤ) × (change_at n.look index A ≡ Some x)) ⊎ ((x : ℤ) × (change_at n.look index B ≡ Some x)) → ⊥
+      by_channel : ((x : ℤ) × (change_at n.look index A ≡ Some x)) ⊎ ((x : ℤ) × (change_at n.look index B ≡ Some x)) → is_other r index ≡ true
       by_channel (inl one) = of_change A one.0 one.1
       by_channel (inr one) = of_change B one.0 one.1
 
-  pub offsets_heard : Hears Sender (λ sender value. IsDeviation r.params true sender.action n.odd sender.odd value) (heard_of r (offset_at n.look n.own)) (offsets_of n)
+  -- what is trusted is heard
+  abbrev offsets : ℕ → Option ℤ
+  offsets = offset_at n.look n.own
+
+  abbrev rates : ℕ → Option ℤ
+  rates = rate_at n.look n.own
+
+  pub offsets_heard : IsTrustedOf r offsets (offsets_of n) → Hears Sender (λ sender value. IsDeviation r.params true sender.action n.odd sender.odd value) (heard_of r offsets) (offsets_of n)
   unfolding Offset
-  offsets_heard =
-      hears_heard r n is none s.hears (λ sender value. IsDeviation r.params true sender.action n.odd sender.odd value) (offset_at n.look n.own)
-      (λ index sender v from some. offset_by index sender v (is_own n.own index) from refl some) (λ index v some no_sender. offset_other index v (is_own n.own index) refl some no_sender)
+  offsets_heard trusted =
+      hears_heard r n is s.hears (λ sender value. IsDeviation r.params true sender.action n.odd sender.odd value) offsets
+      (λ index sender v from some. offset_by index sender v (is_own n.own index) from refl some) (λ index v some no_sender. offset_other index v (is_own n.own index) refl some no_sender) trusted
 
-  pub rates_heard : Hears Sender (λ sender value. PlacesEven r.params flutter sender n.odd value) (heard_of r (rate_at n.look n.own)) (rates_of n)
+  pub rates_heard : IsTrustedOf r rates (rates_of n) → Hears Sender (λ sender value. PlacesEven r.params flutter sender n.odd value) (heard_of r rates) (rates_of n)
   unfolding Rate
-  rates_heard =
-      hears_heard r n is none s.hears (λ sender value. PlacesEven r.params flutter sender n.odd value) (rate_at n.look n.own)
-      (λ index sender v from some. rate_by index sender v (is_own n.own index) from refl some) (λ index v some no_sender. rate_other index v (is_own n.own index) refl some no_sender)
+  rates_heard trusted =
+      hears_heard r n is s.hears (λ sender value. PlacesEven r.params flutter sender n.odd value) rates
+      (λ index sender v from some. rate_by index sender v (is_own n.own index) from refl some) (λ index v some no_sender. rate_other index v (is_own n.own index) refl some no_sender) trusted
 
-  pub some_offsets_heard : 1 ≤ length (heard_of r (offset_at n.look n.own))
-  unfolding Offset
-  some_offsets_heard =
-      let same =
-      as_many r n is none s.hears (λ sender value. IsDeviation r.params true sender.action n.odd sender.odd value) (offset_at n.look n.own)
-      (λ index sender v from some. offset_by index sender v (is_own n.own index) from refl some) (λ index v some no_sender. offset_other index v (is_own n.own index) refl some no_sender) in
-      let some = s.some_offsets in
-      omega (arith, same, some)
-
-  pub some_rates_heard : 1 ≤ length (heard_of r (rate_at n.look n.own))
-  unfolding Rate
-  some_rates_heard =
-      let same =
-      as_many r n is none s.hears (λ sender value. PlacesEven r.params flutter sender n.odd value) (rate_at n.look n.own)
-      (λ index sender v from some. rate_by index sender v (is_own n.own index) from refl some) (λ index v some no_sender. rate_other index v (is_own n.own index) refl some no_sender) in
-      let some = s.some_rates in
-      omega (arith, same, some)
+  -- without arbitrary sync nodes both lists are, where each has a value
+  pub both_trusted : sync_count r.params r.is_arbitrary ≡ 0 → IsTrustedOf r offsets (offsets_of n) × IsTrustedOf r rates (rates_of n)
+  both_trusted none = (
+    trusted_alone r n is s.hears Offset offsets
+        (λ index sender v from some. offset_by index sender v (is_own n.own index) from refl some) (λ index v some no_sender. offset_other index v (is_own n.own index) refl some no_sender)
+        none s.some_offsets,
+    trusted_alone r n is s.hears Rate rates
+        (λ index sender v from some. rate_by index sender v (is_own n.own index) from refl some) (λ index v some no_sender. rate_other index v (is_own n.own index) refl some no_sender)
+        none s.some_rates,
+  )
 
 -- ---- a round
 
@@ -319,24 +344,25 @@ rounds_in_part_compute_own r flutter rows node s here =
         let supplied = s.supplied n among in
         let offsets = offset_at n.look n.own in
         let rates = rate_at n.look n.own in
+        let trusted = s.trusted n among in
         record {
           regular = supplied.regular;
           offset_senders = heard_of r offsets;
           rate_senders = heard_of r rates;
-          some_offsets = some_offsets_heard r flutter n s.round s.none_arbitrary supplied;
-          some_rates = some_rates_heard r flutter n s.round s.none_arbitrary supplied;
+          some_offsets = trusted.0.some;
+          some_rates = trusted.1.some;
           offsets_among = all_heard r offsets (IsAmong nodes) (sender_among r rows s.among);
           rates_among = all_heard r rates (IsAmong nodes) (sender_among r rows s.among);
           acts = all_heard r offsets (λ (sender : Sender). IsBetween (pos 0) (pos (last_action p)) sender.action) (acts_early r s.round.sane);
           by_offset = record {
             micro = supplied.regular.odd_micro;
-            hears = offsets_heard r flutter n s.round s.none_arbitrary supplied;
+            hears = offsets_heard r flutter n s.round supplied trusted.0;
             is_term = offset_term_is_there p.offset_limit (offsets_of n);
             applied = supplied.applied;
           };
           by_rate = record {
             micro = supplied.regular.odd_micro;
-            hears = rates_heard r flutter n s.round s.none_arbitrary supplied;
+            hears = rates_heard r flutter n s.round supplied trusted.1;
             is_term = rate_term_is_there n.odd.rate p.damping p.rate_limit (rates_of n);
           };
         }

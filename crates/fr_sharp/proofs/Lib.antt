@@ -23,6 +23,7 @@ pub mod LossLemmas
 pub mod LossNumbers
 pub mod LossRows
 pub mod RoundLemmas
+pub mod HeardCounts
 pub mod HeardInPart
 pub mod SettlingLemmas
 pub mod WayLemmas
@@ -35,11 +36,15 @@ pub mod SharpWorked
 pub mod SharpSlow
 pub mod OlderWorked
 pub mod RunFlutter
+pub mod HeardEvents
 pub mod FramesCounted
 pub mod RateRange
 pub mod RowsSupplied
 pub mod RunDoubles
+pub mod HeardValues
 pub mod RowsInPart
+pub mod HeardInCommon
+pub mod HeardKinds
 pub mod TimedRuns
 pub mod RunSync
 pub mod LostHistories

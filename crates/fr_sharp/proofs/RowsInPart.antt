@@ -1,25 +1,22 @@
 -- The nodes with rows of a double cycle in which frames may be lost: each computes its terms from the values that it has, and has at
 -- least one of each kind where it is not deaf.
-use Rattle.std.proofs.Common.{◌≡◌, ℕ, ◌≤◌, ◌<◌, Bool, true, false, ℤ, pos, Option, Some, None, List, [], ◌∷◌, length, refl, ap, ◌∙◌, subst, inl, inr, arith}
+use Rattle.std.proofs.Common.{◌≡◌, ℕ, ◌≤◌, ◌<◌, true, false, ℤ, pos, Option, Some, None, List, [], ◌∷◌, length, refl, ap, ◌∙◌, subst, inl, inr, arith}
 use Rattle.std.specs.Prelude.{Contains, IsSome, is_some}
 use Rattle.std.specs.List.{cons_option, filter_map, range_with_len}
-use Rattle.fr_base.specs.declared.channel.Channel.{Channel}
 use Rattle.fr_base.specs.declared.channel.Channel.TheVariants.{A, B}
-use Rattle.fr_cluster.specs.Questions.{index_in, key_in, key_slot_of, own_index}
+use Rattle.fr_cluster.specs.Questions.{index_in, key_slot_of, own_index}
 use Rattle.fr_cluster.specs.Sane.{IsSane}
 use Rattle.fr_cluster.specs.Setting.{Setting}
-use Rattle.fr_cluster.specs.Values.{Values}
 use Rattle.fr_cluster.specs.declared.nodes.NodeSpec.{NodeSpec}
 use Rattle.fr_cluster.proofs.Elements.{Contains-none}
 use Rattle.fr_cluster.proofs.KeyIndexes.{index-lt}
 use Rattle.fr_cluster.proofs.KeyNodes.{key_among, Contains-cons_cases}
 use Rattle.fr_time.proofs.Keys.{key_index_is, key_slot_has, rank_of, slot_of_index}
-use Rattle.fr_measure.specs.Values.{change_at, change_of, is_own, least_of, mean_of, offset_at, own_value_or, rate_at, values_of}
-use Rattle.fr_precision.specs.Round.{offsets_of, rates_of, Hearer}
+use Rattle.fr_measure.specs.Values.{change_at, is_own, least_of, mean_of, offset_at, rate_at, values_of}
+use Rattle.fr_precision.specs.Round.{offsets_of, rates_of, Hearer, IsRound}
 use Rattle.fr_precision.specs.Step.{Member}
 use Rattle.fr_precision.proofs.Counting.{range_contains}
-use Rattle.fr_precision.proofs.Values.{other_value, own_value}
-use Rattle.fr_history.specs.Cycles.{Cycle, Cycles, some_joins}
+use Rattle.fr_history.specs.Cycles.{Cycle, Cycles}
 use Rattle.fr_history.specs.Standing.{row_nodes}
 use Rattle.fr_runs.specs.Gathered.{round_at, row_hearer}
 use Rattle.fr_runs.specs.Links.{IsCarried, IsLinked}
@@ -27,14 +24,16 @@ use Rattle.fr_runs.proofs.Courses.{is_correct_row, row_applied}
 use Rattle.fr_runs.proofs.Doubles.{odd_length}
 use Rattle.fr_runs.proofs.Fed.{row_itself}
 use Rattle.fr_runs.proofs.Going.{is_row_node}
-use Rattle.fr_runs.proofs.Nodes.{correct_node, node_there}
+use Rattle.fr_runs.proofs.Nodes.{correct_node}
 use Rattle.fr_runs.proofs.Rows.{contains_map, map_contains}
 use Rattle.fr_runs.proofs.RowsHeard.{RowLink}
-use Rattle.fr_sharp.specs.Losses.{HearsSome, IsRoundInPart, IsSuppliedInPart, NoneIsDeaf, RowsComputeOwn}
+use Rattle.fr_sharp.specs.Losses.{HearsSome, IsRoundInPart, IsSuppliedInPart, IsTrustedOf, NoneIsDeaf, RowsComputeOwn}
+use Rattle.fr_sharp.specs.Traffic.{all_trusted, traffic_of}
 use Rattle.fr_bound.specs.SharpBounds.{last_action}
 use Rattle.fr_sharp.specs.Among.{ComputesOwn}
 use Rattle.fr_sharp.specs.SteadyRuns.{row_hearers, row_members, AreRowsInReach, MayHaveArbitrary}
-use Rattle.fr_sharp.proofs.HeardInPart.{rounds_in_part_compute_own}
+use Rattle.fr_sharp.proofs.HeardInPart.{both_trusted, heard_some, rounds_in_part_compute_own}
+use Rattle.fr_sharp.proofs.HeardValues.{change_some, least_some, mean_some, own_of, own_or_other, own_there, rows_trusted}
 use Rattle.fr_sharp.proofs.RowsSupplied.{few_in, frames_stored, looked_up, odd_active, pairs_steady, row_regular, rows_heard_in_part, timed_rows, LawfulRows}
 use Rattle.fr_sharp.proofs.RunDoubles.{all_among, all_have, AllHave}
 
@@ -59,55 +58,6 @@ some_at at (first ∷ indexes) index among there = elim (Contains-cons_cases fir
 some_value : (at : ℕ → Option ℤ) (index : ℕ) → index < 15 → IsSome (at index) → 1 ≤ length (values_of at)
 unfolding values_of
 some_value at index below there = some_at at (range_with_len 0 15) index (range_contains 15 index below) there
-
--- of both channels one suffices
-least_some : (f : Channel → Option ℤ) (channel : Channel) → IsSome (f channel) → IsSome (least_of (f A) (f B))
-least_some f A there = by (f A) (f B) there
-  where
-    by : (a b : Option ℤ) → IsSome a → IsSome (least_of a b)
-    by None b is = absurd (cc)
-    by (Some a) None is = refl
-    by (Some a) (Some b) is = refl
-least_some f B there = by (f A) (f B) there
-  where
-    by : (a b : Option ℤ) → IsSome b → IsSome (least_of a b)
-    by a None is = absurd (cc)
-    by None (Some b) is = refl
-    by (Some a) (Some b) is = refl
-
-mean_some : (f : Channel → Option ℤ) (channel : Channel) → IsSome (f channel) → IsSome (mean_of (f A) (f B))
-mean_some f A there = by (f A) (f B) there
-  where
-    by : (a b : Option ℤ) → IsSome a → IsSome (mean_of a b)
-    by None b is = absurd (cc)
-    by (Some a) None is = refl
-    by (Some a) (Some b) is = refl
-mean_some f B there = by (f A) (f B) there
-  where
-    by : (a b : Option ℤ) → IsSome b → IsSome (mean_of a b)
-    by a None is = absurd (cc)
-    by None (Some b) is = refl
-    by (Some a) (Some b) is = refl
-
-change_some : (early late : Option ℤ) → IsSome early → IsSome late → IsSome (change_of early late)
-change_some None late is also = absurd (cc)
-change_some (Some early) None is also = absurd (cc)
-change_some (Some early) (Some late) is also = refl
-
--- whose own index it is makes no difference
-own_or_other : (own : Option ℕ) (index : ℕ) (value : Option ℤ) (is : Bool) → is_own own index ≡ is → IsSome value → IsSome (own_value_or own index value)
-own_or_other own index value true is there = ap is_some (own_value own index value is)
-own_or_other own index value false is there = ap is_some (other_value own index value is) ∙ there
-
-own_there : (own : Option ℕ) (index : ℕ) (value : Option ℤ) → own ≡ Some index → IsSome (own_value_or own index value)
-own_there own index value is = ap is_some (own_value own index value (itself own index is))
-  where
-    itself : (own : Option ℕ) (index : ℕ) → own ≡ Some index → is_own own index ≡ true
-    itself None index is = absurd (cc)
-    itself (Some own) index is = let e : own ≡ index = cc in grind (arith, e)
-
-own_of : (p : Values) (node : NodeSpec) → IsSane p → Contains p.nodes node → own_index p node.id ≡ index_in p node.key
-own_of p node sane there = ap (λ o. index_in p (key_in o)) (node_there p node sane there)
 
 -- ---- a node of a double cycle
 
@@ -161,34 +111,65 @@ module _ (x : Setting) (flutter : ℕ) (h : Cycles) (even odd : Cycle) (double :
           let indexed = key_index_is p slot (key_among p.nodes node slot correct.there is) in
           own_values node (rank_of p slot) among (own_of p node sane correct.there ∙ ap (index_in p) is ∙ indexed)
 
-  supplied_in_part : (node : NodeSpec) → Contains (row_nodes x h) node → HearsSome x node double → IsSuppliedInPart (round_at x h even odd) flutter (row_hearer x even odd node.id)
-  supplied_in_part node among hears =
-      let some = has_values node among hears in
-      record {
-        regular = row_regular x flutter h even odd double s r.rates node among;
-        applied = row_applied x h even odd node s.two (odd_length (length h) double s.counted) among (odd_active x flutter h even odd double reach s r node among);
-        hears = rows_heard_in_part x flutter h even odd double reach s r node among;
-        steady = pairs_steady x flutter h even odd double reach s r node among;
-        some_offsets = some.0;
-        some_rates = some.1;
-      }
+  -- a node that has values is supplied
+  supplied_with : (node : NodeSpec) → Contains (row_nodes x h) node → 1 ≤ length (offsets_of (row_hearer x even odd node.id)) → 1 ≤ length (rates_of (row_hearer x even odd node.id))
+      → IsSuppliedInPart (round_at x h even odd) flutter (row_hearer x even odd node.id)
+  supplied_with node among some_offsets some_rates = record {
+    regular = row_regular x flutter h even odd double s r.rates node among;
+    applied = row_applied x h even odd node s.two (odd_length (length h) double s.counted) among (odd_active x flutter h even odd double reach s r node among);
+    hears = rows_heard_in_part x flutter h even odd double reach s r node among;
+    steady = pairs_steady x flutter h even odd double reach s r node among;
+    some_offsets = some_offsets;
+    some_rates = some_rates;
+  }
 
-  pub round_in_part : MayHaveArbitrary false x → NoneIsDeaf x double → IsRoundInPart (round_at x h even odd) flutter (row_hearers x h even odd)
-  round_in_part none hears =
+  round_is : IsRound (round_at x h even odd)
+  round_is = record {
+    sane = sane;
+    few = few_in x flutter h s.covered;
+    regular = λ node there has. row_regular x flutter h even odd double s r.rates node (is_row_node x h node there has);
+  }
+
+  -- both its lists are trusted
+  abbrev Trusted : Hearer → Type 0
+  Trusted n = IsTrustedOf (round_at x h even odd) (offset_at n.look n.own) (offsets_of n) × IsTrustedOf (round_at x h even odd) (rate_at n.look n.own) (rates_of n)
+
+  round_with : ((node : NodeSpec) → Contains (row_nodes x h) node → IsSuppliedInPart (round_at x h even odd) flutter (row_hearer x even odd node.id))
+      → ((node : NodeSpec) → Contains (row_nodes x h) node → Trusted (row_hearer x even odd node.id)) → IsRoundInPart (round_at x h even odd) flutter (row_hearers x h even odd)
+  round_with supplied trusted =
       let at : NodeSpec → Hearer = λ n. row_hearer x even odd n.id in
       record {
-        round = record {
-          sane = sane;
-          few = few_in x flutter h s.covered;
-          regular = λ node there has. row_regular x flutter h even odd double s r.rates node (is_row_node x h node there has);
-        };
-        none_arbitrary = none;
+        round = round_is;
+        trusted = λ n here. let found = map_contains at (row_nodes x h) n here in subst Trusted found.2 (trusted found.0 found.1);
         supplied = λ n here.
             let found = map_contains at (row_nodes x h) n here in
-            subst (IsSuppliedInPart (round_at x h even odd) flutter) found.2 (supplied_in_part found.0 found.1 (hears found.0 (is_correct_row x h found.0 found.1)));
+            subst (IsSuppliedInPart (round_at x h even odd) flutter) found.2 (supplied found.0 found.1);
         among = λ node slot sender.
             (at node, contains_map at (row_nodes x h) node (is_row_node x h node sender.there sender.rows), refl, refl);
       }
+
+  -- where no node is deaf, without arbitrary sync nodes
+  pub round_in_part : MayHaveArbitrary false x → NoneIsDeaf x double → IsRoundInPart (round_at x h even odd) flutter (row_hearers x h even odd)
+  round_in_part none hears =
+      round_with supplied (λ node among. both_trusted (round_at x h even odd) flutter (row_hearer x even odd node.id) round_is (supplied node among) none)
+    where
+      supplied : (node : NodeSpec) → Contains (row_nodes x h) node → IsSuppliedInPart (round_at x h even odd) flutter (row_hearer x even odd node.id)
+      supplied node among =
+          let some = has_values node among (hears node (is_correct_row x h node among)) in
+          supplied_with node among some.0 some.1
+
+  -- where each correct node trusts its lists
+  pub round_trusted : all_trusted (traffic_of x) double ≡ true → IsRoundInPart (round_at x h even odd) flutter (row_hearers x h even odd)
+  round_trusted all_trust =
+      round_with
+      (λ node among.
+      let both = trusted node among in
+      let n = row_hearer x even odd node.id in
+      supplied_with node among (heard_some (round_at x h even odd) (offset_at n.look n.own) both.0.some) (heard_some (round_at x h even odd) (rate_at n.look n.own) both.1.some))
+      trusted
+    where
+      trusted : (node : NodeSpec) → Contains (row_nodes x h) node → Trusted (row_hearer x even odd node.id)
+      trusted node among = rows_trusted x flutter h even odd double reach s r all all_trust node among
 
 -- each of the nodes with rows computes its terms from some of theirs
 pub computes_own : (x : Setting) (flutter : ℕ) (earlier : Cycles) (even odd : Cycle) (double : ℕ) (reach : ℤ) (s : LawfulRows x flutter earlier even odd double) (r : AreRowsInReach x earlier even odd reach) (node : Member)
@@ -199,5 +180,6 @@ computes_own x flutter earlier even odd double reach s r node all none hears her
     (round_in_part x flutter earlier even odd double reach s r all none hears) here
 
 pub rows_compute_own : RowsComputeOwn
-rows_compute_own x flutter h earlier even odd double reach node none none_joins w d hears r here =
-    computes_own x flutter earlier even odd double reach (timed_rows x flutter h w double earlier even odd d) r node (all_have x earlier none_joins) none hears here
+rows_compute_own x flutter h earlier even odd double reach node none_joins w d trusted r here =
+    rounds_in_part_compute_own (round_at x earlier even odd) flutter (row_hearers x earlier even odd) node
+    (round_trusted x flutter earlier even odd double reach (timed_rows x flutter h w double earlier even odd d) r (all_have x earlier none_joins) trusted) here

@@ -68,9 +68,10 @@ use Rattle.fr_sharp.specs.SharpRound.{as_member, IsRoundInReach, IsSteadilySuppl
 use Rattle.fr_sharp.specs.SharpStep.{IsSharpDouble}
 use Rattle.fr_sharp.specs.Steady.{IsSteadyPair}
 use Rattle.fr_sharp.specs.SteadyRuns.{row_hearers, row_members, AreRowsInReach, CoveredRunsAreSteady, IsSteadyPart, IsTimedPart, IsTimedSetting, IsWhole, MayHaveArbitrary, RowsAreSharpDoubles, RowsHearSteadily}
+use Rattle.fr_sharp.specs.Traffic.{is_silent}
 use Rattle.fr_sharp.proofs.Arriving.{frames_are_steady}
 use Rattle.fr_sharp.proofs.BoundLemmas.{key_slots_act_early}
-use Rattle.fr_sharp.proofs.FramesCounted.{link_in, recorded_is_counted, IsCounted}
+use Rattle.fr_sharp.proofs.FramesCounted.{link_in, recorded_comes, recorded_is_counted, IsCounted}
 use Rattle.fr_sharp.proofs.RateRange.{rate_in_limit}
 use Rattle.fr_sharp.proofs.RoundLemmas.{rounds_in_reach_are_sharp}
 
@@ -364,6 +365,13 @@ module _ (x : Setting) (flutter : ℕ) (h : Cycles) (even odd : Cycle) (double :
   counted_in is_odd sender receiver slot channel value link is =
       recorded_is_counted x (rows_exchange is_odd) is_odd reach sender receiver slot channel value (near_exchange is_odd) (exchanged_by is_odd sender receiver slot link) is
 
+  -- of a frame that is not silent
+  pub comes_in : (is_odd : Bool) (sender receiver : NodeSpec) (slot : ℕ) (channel : Channel) (value : ℤ) → RowLink x h sender receiver slot
+      → dev_in (cycle_of is_odd even odd).told.devs receiver.id slot channel ≡ Some value → is_silent (x.event (cycle_in is_odd double) sender.id receiver.id channel) ≡ false
+  comes_in is_odd sender receiver slot channel value link is =
+      ap (λ (n : ℕ). is_silent (x.event n sender.id receiver.id channel)) (sym (cycle_is is_odd).counted)
+      ∙ recorded_comes x (rows_exchange is_odd) is_odd reach sender receiver slot channel value (near_exchange is_odd) (exchanged_by is_odd sender receiver slot link) is
+
   -- so two of one channel are a steady pair
   pair_steady : (sender receiver : NodeSpec) (slot : ℕ) (channel : Channel) (early late : ℤ) → RowLink x h sender receiver slot → dev_in even.told.devs receiver.id slot channel ≡ Some early
       → dev_in odd.told.devs receiver.id slot channel ≡ Some late
@@ -432,7 +440,7 @@ module _ (x : Setting) (flutter : ℕ) (h : Cycles) (even odd : Cycle) (double :
           let e : Some value ≡ None = sym some ∙ none in
           absurd (cc)
 
-  link_to : (node : NodeSpec) (index slot : ℕ) (sender : NodeSpec) → Contains (row_nodes x h) node → IsOther (round_at x h even odd) (row_hearer x even odd node.id) index slot sender → RowLink x h sender node slot
+  pub link_to : (node : NodeSpec) (index slot : ℕ) (sender : NodeSpec) → Contains (row_nodes x h) node → IsOther (round_at x h even odd) (row_hearer x even odd node.id) index slot sender → RowLink x h sender node slot
   link_to node index slot sender among other = record {
     sends = is_row_node x h sender other.sender.there other.sender.rows;
     hears = among;

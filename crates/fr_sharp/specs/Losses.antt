@@ -25,7 +25,7 @@ use Rattle.fr_sharp.specs.SharpHistories.{IsInSharpSyncAt, IsStatedRun, KeepsApa
 use Rattle.fr_sharp.specs.SharpRound.{as_member}
 use Rattle.fr_sharp.specs.SharpRun.{WalkLastsAfter}
 use Rattle.fr_bound.specs.SharpSpreads.{sharply_near_in}
-use Rattle.fr_sharp.specs.SteadyRuns.{row_members, AreRowsInReach, IsTimedPart, IsWhole, MayHaveArbitrary}
+use Rattle.fr_sharp.specs.SteadyRuns.{row_members, AreRowsInReach, IsTimedPart, MayHaveArbitrary}
 
 -- ---- a round
 

@@ -1,6 +1,6 @@
 -- What correct nodes have of the frames of correct sync nodes in a double cycle in which frames may be lost, and how that decides
 -- how near their clocks come, beside arbitrary sync nodes or without.
-use Rattle.std.specs.Prelude.{ℕ, ◌+◌, ◌*◌, ◌==◌, ◌&&◌, ◌||◌, nat_le, nat_lt, nat_eq, Bool, true, false, not, is_some, if◌then◌else◌, List, [], ◌∷◌, count_by}
+use Rattle.std.specs.Prelude.{ℕ, ◌+◌, ◌*◌, ◌==◌, ◌&&◌, ◌||◌, nat_le, nat_lt, nat_eq, Bool, true, false, not, if◌then◌else◌, List, [], ◌∷◌, count_by}
 use Rattle.std.specs.List.{list_all}
 use Rattle.fr_base.specs.Event.{Event}
 use Rattle.fr_base.specs.Event as event

@@ -1,5 +1,7 @@
 ghost use Rattle.fr_sharp.specs.Losses.{HistoriesKeepThroughLosses, RoundsInPartComputeOwn, RowsComputeOwn, RowsMeet, SharpAfterTwoWhole};
 
+use crate::among::{heard_numbers, losses_last};
+
 /// The law of hearing where frames are lost: each receiver of a round that trusts its lists computes its terms from the
 /// values of senders of its own, those of whom it has one (sections 8.5 and 8.6). So do the nodes with rows in a double
 /// cycle of a lawful run that no node joins, whatever frames are lost in it; where lists meet, any two have enough in common.
@@ -16,4 +18,7 @@ pub fn what_is_heard_suffices()
 pub fn histories_keep_through_losses()
     ensures keep { HistoriesKeepThroughLosses }
     ensures again { SharpAfterTwoWhole }
-{}
+{
+    losses_last();
+    heard_numbers();
+}

@@ -2,7 +2,7 @@ use Rattle.fr_sharp.proofs.LostHistories.{histories_keep_through_losses_lem, sha
 use Rattle.fr_sharp.proofs.losing.histories_keep_through_losses.Goals as goal
 
 pub returns-clause-keep : goal.returns-clause-keep
-returns-clause-keep c = histories_keep_through_losses_lem
+returns-clause-keep c = histories_keep_through_losses_lem c.losses_last.ensures.keep c.losses_last.ensures.apart c.heard_numbers.ensures.goes
 
 pub returns-clause-again : goal.returns-clause-again
 returns-clause-again c = sharp_after_two_whole

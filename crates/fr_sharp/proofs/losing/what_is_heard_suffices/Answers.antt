@@ -1,3 +1,4 @@
+use Rattle.fr_sharp.proofs.HeardInCommon.{rows_meet}
 use Rattle.fr_sharp.proofs.HeardInPart.{rounds_in_part_compute_own}
 use Rattle.fr_sharp.proofs.RowsInPart.{rows_compute_own}
 use Rattle.fr_sharp.proofs.losing.what_is_heard_suffices.Goals as goal
@@ -7,3 +8,6 @@ returns-clause-rounds c = rounds_in_part_compute_own
 
 pub returns-clause-rows : goal.returns-clause-rows
 returns-clause-rows c = rows_compute_own
+
+pub returns-clause-meet : goal.returns-clause-meet
+returns-clause-meet c = rows_meet

@@ -1,0 +1,340 @@
+-- What two receivers have in common: the values of each are those of common senders and of others, and where lists meet the common ones
+-- are more than both discard.
+use Rattle.std.proofs.Common.{◌≡◌, ◌≢◌, ◌⊎◌, ℕ, ◌+◌, ◌≤◌, ◌<◌, ◌==◌, ◌&&◌, Bool, true, false, not, ℤ, pos, Option, Some, None, List, [], ◌∷◌, ◌++◌, All, map, length, refl, ap, sym, ◌∙◌, subst, inl, inr, arith, if◌then◌else◌}
+use Rattle.std.specs.Prelude.{Contains, IsPermutation, is_some, nat_lt}
+use Rattle.std.specs.List.{AllZip, cons_option, filter_map, range_with_len}
+use Rattle.std.proofs.lemmas.Bool.{and_parts, eqb-true}
+use Rattle.std.proofs.lemmas.Bool.Decides.{nat_tests}
+use Rattle.std.proofs.lemmas.List.Elements.{All-append}
+use Rattle.std.proofs.lemmas.List.Sorted.{IsPermutation-append_left, IsPermutation-cons, IsPermutation-middle, IsPermutation-refl, IsPermutation-trans}
+use Rattle.fr_base.specs.Within.{IsBetween}
+use Rattle.fr_cluster.specs.Sane.{IsSane}
+use Rattle.fr_cluster.specs.Setting.{Setting}
+use Rattle.fr_cluster.specs.declared.nodes.NodeSpec.{NodeSpec}
+use Rattle.fr_time.proofs.Keys.{key_node_is}
+use Rattle.fr_midpoint.specs.Midpoint.{discarded}
+use Rattle.fr_midpoint.specs.Receivers.{Hears}
+use Rattle.fr_measure.specs.Values.{offset_at, rate_at, values_of}
+use Rattle.fr_correct.proofs.There.{offset_term_is_there, rate_term_is_there}
+use Rattle.fr_precision.specs.Offsets.{IsDeviation}
+use Rattle.fr_precision.specs.Round.{offsets_of, rates_of, sender_at, Hearer, Round}
+use Rattle.fr_precision.specs.Rows.{Sender}
+use Rattle.fr_precision.specs.Step.{IsAmong, Member}
+use Rattle.fr_precision.proofs.Parting.{filter_map_counts}
+use Rattle.fr_precision.proofs.RoundSenders.{sender_is, IsFrom}
+use Rattle.fr_history.specs.Cycles.{Cycle, Cycles}
+use Rattle.fr_history.specs.Standing.{row_nodes}
+use Rattle.fr_runs.specs.Gathered.{round_at, row_hearer}
+use Rattle.fr_runs.proofs.Courses.{is_correct_row}
+use Rattle.fr_runs.proofs.Nodes.{correct_node}
+use Rattle.fr_bound.specs.SharpBounds.{last_action}
+use Rattle.fr_sharp.specs.Among.{HearInCommon}
+use Rattle.fr_sharp.specs.Losses.{heard_at, IsRoundInPart, RowsMeet}
+use Rattle.fr_sharp.specs.SharpRound.{as_member}
+use Rattle.fr_sharp.specs.Steady.{PlacesEven}
+use Rattle.fr_sharp.specs.SteadyRuns.{row_hearers, row_members, AreRowsInReach}
+use Rattle.fr_sharp.specs.Traffic.{all_trusted, costs_of, has_value, lists_meet, most_count, sender_count, sends, traffic_of}
+use Rattle.fr_sharp.proofs.HeardCounts.{count_three, discards_more, is_passed, passes_at, passes_is, two_cost, IsPassed}
+use Rattle.fr_sharp.proofs.HeardInPart.{offsets_heard, rates_heard}
+use Rattle.fr_sharp.proofs.HeardValues.{most_values, senders_counted, surely_heard, value_by}
+use Rattle.fr_sharp.proofs.RoundLemmas.{acts_early, all_given, map_contains, sender_among}
+use Rattle.fr_sharp.proofs.RowsInPart.{round_trusted}
+use Rattle.fr_sharp.proofs.RowsSupplied.{timed_rows, LawfulRows}
+use Rattle.fr_sharp.proofs.RunDoubles.{all_have, AllHave}
+
+-- ---- the values of some senders, split in two
+
+zip_both : {X Y : Type 0} (R : X → Y → Type 0) (xs us : List X) (ys vs : List Y) → AllZip R xs ys → AllZip R us vs → AllZip R (xs ++ us) (ys ++ vs)
+zip_both R [] us [] vs one other = other
+zip_both R [] us (y ∷ ys) vs one other = absurd one
+zip_both R (x ∷ xs) us [] vs one other = absurd one
+zip_both R (x ∷ xs) us (y ∷ ys) vs one other = (one.0, zip_both R xs us ys vs one.1 other)
+
+record IsSplit (X : Type 0) (Says : X → ℤ → Type 0) (senders others : List X) (said : List ℤ) : Type 0 where
+  front : List ℤ
+  back : List ℤ
+  front_said : AllZip Says senders front
+  back_said : AllZip Says others back
+  moved : IsPermutation (front ++ back) said
+
+-- what is at an index is in one of both parts
+abbrev InOne : {X : Type 0} → Option X → Option X → Option X → Type 0
+InOne who one other = ((one ≡ who) × (other ≡ None)) ⊎ ((one ≡ None) × (other ≡ who))
+
+module _ (X : Type 0) (Says : X → ℤ → Type 0) (who one other : ℕ → Option X) (parts : (i : ℕ) → InOne (who i) (one i) (other i)) where
+  split_at : (is : List ℕ) (said : List ℤ) (o a b : Option X) → InOne o a b → ((rest : List ℤ) → AllZip Says (filter_map who is) rest → IsSplit X Says (filter_map one is) (filter_map other is) rest)
+      → AllZip Says (cons_option o (filter_map who is)) said → IsSplit X Says (cons_option a (filter_map one is)) (cons_option b (filter_map other is)) said
+  split_at is said None a b in_one split zip = elim in_one [
+    | inl first ↦ subst (λ (v : Option X × Option X). IsSplit X Says (cons_option v.0 (filter_map one is)) (cons_option v.1 (filter_map other is)) said) {x = (None, None)} {y = (a, b)}
+        (λ i. (sym first.0 i, sym first.1 i)) (split said zip)
+    | inr second ↦ subst (λ (v : Option X × Option X). IsSplit X Says (cons_option v.0 (filter_map one is)) (cons_option v.1 (filter_map other is)) said) {x = (None, None)} {y = (a, b)}
+        (λ i. (sym second.0 i, sym second.1 i)) (split said zip)
+  ]
+  split_at is [] (Some x) a b in_one split zip = absurd zip
+  split_at is (v ∷ said) (Some x) a b in_one split zip =
+      let rest = split said zip.1 in
+      elim in_one [
+        | inl first ↦ subst (λ (o : Option X × Option X). IsSplit X Says (cons_option o.0 (filter_map one is)) (cons_option o.1 (filter_map other is)) (v ∷ said)) {x = (Some x, None)} {y = (a, b)}
+            (λ i. (sym first.0 i, sym first.1 i))
+            (record {
+              front = v ∷ rest.front;
+              back = rest.back;
+              front_said = (zip.0, rest.front_said);
+              back_said = rest.back_said;
+              moved = IsPermutation-cons v (rest.front ++ rest.back) said rest.moved;
+            })
+        | inr second ↦ subst (λ (o : Option X × Option X). IsSplit X Says (cons_option o.0 (filter_map one is)) (cons_option o.1 (filter_map other is)) (v ∷ said)) {x = (None, Some x)} {y = (a, b)}
+            (λ i. (sym second.0 i, sym second.1 i))
+            (record {
+              front = rest.front;
+              back = v ∷ rest.back;
+              front_said = rest.front_said;
+              back_said = (zip.0, rest.back_said);
+              moved =
+                  IsPermutation-trans (rest.front ++ v ∷ rest.back) (v ∷ (rest.front ++ rest.back)) (v ∷ said) (IsPermutation-middle rest.front v rest.back)
+                  (IsPermutation-cons v (rest.front ++ rest.back) said rest.moved);
+            })
+      ]
+
+  split : (is : List ℕ) (said : List ℤ) → AllZip Says (filter_map who is) said → IsSplit X Says (filter_map one is) (filter_map other is) said
+  split [] [] zip = record { front = []; back = []; front_said = tt; back_said = tt; moved = IsPermutation-refl [] }
+  split [] (v ∷ said) zip = absurd zip
+  split (i ∷ is) said zip = split_at is said (who i) (one i) (other i) (parts i) (λ rest zipped. split is rest zipped) zip
+
+  hears_both : (is : List ℕ) (values : List ℤ) → Hears X Says (filter_map who is) values → Hears X Says (filter_map one is ++ filter_map other is) values
+  hears_both is values hears =
+      let two = split is hears.said hears.each in
+      record {
+        said = two.front ++ two.back;
+        further = hears.further;
+        parts =
+            IsPermutation-trans ((two.front ++ two.back) ++ hears.further) (hears.said ++ hears.further) values
+            (IsPermutation-append_left hears.further (two.front ++ two.back) hears.said two.moved) hears.parts;
+        few = hears.few;
+        each = zip_both Says (filter_map one is) (filter_map other is) two.front two.back two.front_said two.back_said;
+      }
+
+-- ---- two receivers of a round
+
+-- the senders of whom both have a value, and those of whom only the first has one
+both_at : Round → (ℕ → Option ℤ) → (ℕ → Option ℤ) → ℕ → Option Sender
+both_at r at other index = if is_some (at index) && is_some (other index) then sender_at r index else None
+
+alone_at : Round → (ℕ → Option ℤ) → (ℕ → Option ℤ) → ℕ → Option Sender
+alone_at r at other index = if is_some (at index) && not (is_some (other index)) then sender_at r index else None
+
+abbrev of : (ℕ → Option Sender) → List Sender
+of who = filter_map who (range_with_len 0 15)
+
+in_one : (r : Round) (at other : ℕ → Option ℤ) (index : ℕ) → InOne (heard_at r at index) (both_at r at other index) (alone_at r at other index)
+unfolding both_at alone_at
+in_one r at other index = by (is_some (at index)) (is_some (other index)) (sender_at r index)
+  where
+    by : (a b : Bool) (o : Option Sender) → InOne (if a then o else None) (if a && b then o else None) (if a && not b then o else None)
+    by true true o = inl (refl, refl)
+    by true false o = inr (refl, refl)
+    by false b o = inl (refl, refl)
+
+in_other : (r : Round) (at other : ℕ → Option ℤ) (index : ℕ) → InOne (heard_at r other index) (both_at r at other index) (alone_at r other at index)
+unfolding both_at alone_at
+in_other r at other index = by (is_some (at index)) (is_some (other index)) (sender_at r index)
+  where
+    by : (a b : Bool) (o : Option Sender) → InOne (if b then o else None) (if a && b then o else None) (if b && not a then o else None)
+    by true true o = inl (refl, refl)
+    by false true o = inr (refl, refl)
+    by true false o = inl (refl, refl)
+    by false false o = inl (refl, refl)
+
+kept : (b : Bool) (o : Option Sender) (sender : Sender) → (if b then o else None) ≡ Some sender → o ≡ Some sender
+kept true o sender is = is
+kept false o sender is = let e : None ≡ Some sender = is in absurd (cc)
+
+-- what holds of each sender holds of all of these
+all_three : (r : Round) (at other : ℕ → Option ℤ) (P : Sender → Type 0) → ((index : ℕ) (sender : Sender) → IsFrom r index sender → P sender)
+    → All P (of (both_at r at other) ++ (of (alone_at r at other) ++ of (alone_at r other at)))
+unfolding both_at alone_at
+all_three r at other P each =
+    All-append P (of (both_at r at other)) (of (alone_at r at other) ++ of (alone_at r other at))
+    (given (both_at r at other) (λ index sender some. kept (is_some (at index) && is_some (other index)) (sender_at r index) sender some))
+    (
+    All-append P (of (alone_at r at other)) (of (alone_at r other at))
+    (given (alone_at r at other) (λ index sender some. kept (is_some (at index) && not (is_some (other index))) (sender_at r index) sender some))
+    (given (alone_at r other at) (λ index sender some. kept (is_some (other index) && not (is_some (at index))) (sender_at r index) sender some))
+    )
+  where
+    given : (who : ℕ → Option Sender) → ((index : ℕ) (sender : Sender) → who index ≡ Some sender → sender_at r index ≡ Some sender) → All P (of who)
+    given who from = all_given who P (range_with_len 0 15) (λ index sender some. each index sender (sender_is r index sender (from index sender some)))
+
+-- the lists of two receivers have more senders in common than both discard
+abbrev Enough : Round → (ℕ → Option ℤ) → (ℕ → Option ℤ) → Type 0
+Enough r at other = discarded (length (values_of at)) + discarded (length (values_of other)) + 1 ≤ length (of (both_at r at other))
+
+hear_in_common : (r : Round) (flutter : ℕ) (rows : List Hearer) (n m : Hearer) → IsRoundInPart r flutter rows → Contains rows n → Contains rows m
+    → Enough r (offset_at n.look n.own) (offset_at m.look m.own) → Enough r (rate_at n.look n.own) (rate_at m.look m.own)
+    → HearInCommon r.params flutter (map (as_member r.params) rows) (pos (last_action r.params)) (as_member r.params n) (as_member r.params m)
+hear_in_common r flutter rows n m s here there enough also =
+    let p = r.params in
+    let nodes = map (as_member p) rows in
+    let offsets = offset_at n.look n.own in
+    let other_offsets = offset_at m.look m.own in
+    let rates = rate_at n.look n.own in
+    let other_rates = rate_at m.look m.own in
+    let range = range_with_len 0 15 in
+    let one = s.supplied n here in
+    let two = s.supplied m there in
+    let Deviates = λ (k : Hearer) (sender : Sender) (value : ℤ). IsDeviation p true sender.action k.odd sender.odd value in
+    let Places = λ (k : Hearer) (sender : Sender) (value : ℤ). PlacesEven p flutter sender k.odd value in
+    record {
+      offset_common = of (both_at r offsets other_offsets);
+      offset_own = of (alone_at r offsets other_offsets);
+      offset_other = of (alone_at r other_offsets offsets);
+      rate_common = of (both_at r rates other_rates);
+      rate_own = of (alone_at r rates other_rates);
+      rate_other = of (alone_at r other_rates rates);
+      offsets_among = all_three r offsets other_offsets (IsAmong nodes) (sender_among r rows s.among);
+      rates_among = all_three r rates other_rates (IsAmong nodes) (sender_among r rows s.among);
+      acts = all_three r offsets other_offsets (λ (sender : Sender). IsBetween (pos 0) (pos (last_action p)) sender.action) (acts_early r s.round.sane);
+      enough_offsets = enough;
+      enough_rates = also;
+      by_offset = record {
+        micro = one.regular.odd_micro;
+        hears =
+            hears_both Sender (Deviates n) (heard_at r offsets) (both_at r offsets other_offsets) (alone_at r offsets other_offsets) (in_one r offsets other_offsets) range (offsets_of n)
+            (offsets_heard r flutter n s.round one (s.trusted n here).0);
+        is_term = offset_term_is_there p.offset_limit (offsets_of n);
+        applied = one.applied;
+      };
+      other_by_offset = record {
+        micro = two.regular.odd_micro;
+        hears =
+            hears_both Sender (Deviates m) (heard_at r other_offsets) (both_at r offsets other_offsets) (alone_at r other_offsets offsets) (in_other r offsets other_offsets) range (offsets_of m)
+            (offsets_heard r flutter m s.round two (s.trusted m there).0);
+        is_term = offset_term_is_there p.offset_limit (offsets_of m);
+        applied = two.applied;
+      };
+      by_rate = record {
+        micro = one.regular.odd_micro;
+        hears =
+            hears_both Sender (Places n) (heard_at r rates) (both_at r rates other_rates) (alone_at r rates other_rates) (in_one r rates other_rates) range (rates_of n)
+            (rates_heard r flutter n s.round one (s.trusted n here).1);
+        is_term = rate_term_is_there n.odd.rate p.damping p.rate_limit (rates_of n);
+      };
+      other_by_rate = record {
+        micro = two.regular.odd_micro;
+        hears =
+            hears_both Sender (Places m) (heard_at r other_rates) (both_at r rates other_rates) (alone_at r other_rates rates) (in_other r rates other_rates) range (rates_of m)
+            (rates_heard r flutter m s.round two (s.trusted m there).1);
+        is_term = rate_term_is_there m.odd.rate p.damping p.rate_limit (rates_of m);
+      };
+    }
+
+-- ---- two nodes with rows, where lists meet
+
+module _ (x : Setting) (flutter : ℕ) (h : Cycles) (even odd : Cycle) (double : ℕ) (reach : ℤ) (s : LawfulRows x flutter h even odd double) (r : AreRowsInReach x h even odd reach) (all : AllHave x h) where
+  abbrev at : Bool → NodeSpec → (ℕ → Option ℤ)
+  at rate node = value_by rate (row_hearer x even odd node.id)
+
+  abbrev has : Bool → NodeSpec → NodeSpec → Bool
+  has rate node sender = has_value rate true (traffic_of x) double node sender
+
+  abbrev misses : Bool → NodeSpec → NodeSpec → Bool
+  misses rate node sender = sends (traffic_of x) sender && not (has rate node sender)
+
+  sane : IsSane x.params
+  sane = s.covered.sane
+
+  -- of each sender both have a value, or one of them misses it
+  heard_or_missed : (rate : Bool) (b c : NodeSpec) (index : ℕ) → Contains (row_nodes x h) b → Contains (row_nodes x h) c → passes_at x.params (λ (a : NodeSpec). sends (traffic_of x) a && true) index ≡ true
+      → (is_some (both_at (round_at x h even odd) (at rate b) (at rate c) index) ≡ true)
+      ⊎ ((passes_at x.params (misses rate b) index ≡ true) ⊎ (passes_at x.params (misses rate c) index ≡ true))
+  unfolding both_at
+  heard_or_missed rate b c index here there is = by (has rate b from.node) (has rate c from.node) refl refl
+    where
+      from : IsPassed x.params (λ (a : NodeSpec). sends (traffic_of x) a && true) index
+      from = is_passed x.params (λ (a : NodeSpec). sends (traffic_of x) a && true) index sane is
+
+      correct : sends (traffic_of x) from.node ≡ true
+      correct = (and_parts (sends (traffic_of x) from.node) true from.passes).0
+
+      passes : (test : NodeSpec → Bool) → test from.node ≡ true → passes_at x.params (λ (a : NodeSpec). sends (traffic_of x) a && test a) index ≡ true
+      passes test is =
+          passes_is x.params (λ (a : NodeSpec). sends (traffic_of x) a && test a) index from.slot from.node from.slot_is (key_node_is x.params from.node from.slot sane from.there from.key)
+          ∙ rw (correct, is) refl
+
+      found : (a b : Bool) (o : Option Sender) → a ≡ true → b ≡ true → is_some o ≡ true → is_some (if a && b then o else None) ≡ true
+      found true true o one two is = is
+      found false b o one two is = absurd (cc)
+      found true false o one two is = absurd (cc)
+
+      by : (one two : Bool) → has rate b from.node ≡ one → has rate c from.node ≡ two
+          → (is_some (both_at (round_at x h even odd) (at rate b) (at rate c) index) ≡ true)
+          ⊎ ((passes_at x.params (misses rate b) index ≡ true) ⊎ (passes_at x.params (misses rate c) index ≡ true))
+      by true true first second =
+          let one = surely_heard x flutter h even odd double reach s r all rate b index here (passes (has rate b) first) in
+          let two = surely_heard x flutter h even odd double reach s r all rate c index there (passes (has rate c) second) in
+          inl (found (is_some (at rate b index)) (is_some (at rate c index)) (sender_at (round_at x h even odd) index) one.0 two.0 one.1)
+      by false two first second = inr (inl (passes (λ (a : NodeSpec). not (has rate b a)) (ap not first)))
+      by true false first second = inr (inr (passes (λ (a : NodeSpec). not (has rate c a)) (ap not second)))
+
+  less : (a b : ℕ) → nat_lt a b ≡ true → a < b
+  less a b is = grind (arith, nat_tests)
+
+  enough : (rate : Bool) (b c : NodeSpec) → lists_meet rate (traffic_of x) double ≡ true → Contains (row_nodes x h) b → Contains (row_nodes x h) c → b.id ≢ c.id
+      → Enough (round_at x h even odd) (at rate b) (at rate c)
+  enough rate b c meet here there other =
+      let t = traffic_of x in
+      let costs = costs_of rate t double x.params.nodes in
+      let one = correct_node x b (is_correct_row x h b here) in
+      let two = correct_node x c (is_correct_row x h c there) in
+      let cost = two_cost rate t double b c one.there two.there one.correct two.correct other in
+      let within = less (costs.most + costs.second) (sender_count t (λ a. true)) meet in
+      let values = most_values x flutter h even odd double reach s r all rate b here in
+      let other_values = most_values x flutter h even odd double reach s r all rate c there in
+      let discards = discards_more (length (values_of (at rate b))) (most_count rate t double b) values in
+      let also_discards = discards_more (length (values_of (at rate c))) (most_count rate t double c) other_values in
+      let senders = senders_counted x flutter h even odd double reach s r all (λ a. true) in
+      let missed = senders_counted x flutter h even odd double reach s r all (λ a. not (has rate b a)) in
+      let also_missed = senders_counted x flutter h even odd double reach s r all (λ a. not (has rate c a)) in
+      let common = filter_map_counts (both_at (round_at x h even odd) (at rate b) (at rate c)) (range_with_len 0 15) in
+      let three =
+      count_three (passes_at x.params (λ (a : NodeSpec). sends t a && true)) (λ i. is_some (both_at (round_at x h even odd) (at rate b) (at rate c) i)) (passes_at x.params (misses rate b))
+      (passes_at x.params (misses rate c)) (range_with_len 0 15) (λ index is. heard_or_missed rate b c index here there is) in
+      omega (arith, cost, within, discards, also_discards, senders, missed, also_missed, common, three)
+
+  members_meet : (one other : Member) → all_trusted (traffic_of x) double ≡ true → lists_meet false (traffic_of x) double ≡ true → lists_meet true (traffic_of x) double ≡ true
+      → Contains (row_members x h even odd) one → Contains (row_members x h even odd) other
+      → (one ≡ other) ⊎ HearInCommon x.params flutter (row_members x h even odd) (pos (last_action x.params)) one other
+  members_meet one other trusted offsets_meet rates_meet here there =
+      let first = map_contains member (row_hearers x h even odd) one here in
+      let second = map_contains member (row_hearers x h even odd) other there in
+      let b = map_contains hearer (row_nodes x h) first.0 first.1 in
+      let c = map_contains hearer (row_nodes x h) second.0 second.1 in
+      let Meet : Hearer → Hearer → Type 0 = λ n m. Contains (row_hearers x h even odd) n → Contains (row_hearers x h even odd) m → Met (member n) (member m) in
+      let met = subst (λ (n : Hearer). Meet n second.0) b.2 (subst (Meet (hearer b.0)) c.2 (by b.0 c.0 b.1 c.1 (b.0.id == c.0.id) refl)) first.1 second.1 in
+      subst (λ (n : Member). Met n other) first.2 (subst (Met (member first.0)) second.2 met)
+    where
+      member : Hearer → Member
+      member n = as_member x.params n
+
+      hearer : NodeSpec → Hearer
+      hearer node = row_hearer x even odd node.id
+
+      Met : Member → Member → Type 0
+      Met one other = (one ≡ other) ⊎ HearInCommon x.params flutter (row_members x h even odd) (pos (last_action x.params)) one other
+
+      unequal : (a b : ℕ) → (a == b) ≡ false → a ≢ b
+      unequal a b is = grind arith
+
+      by : (b c : NodeSpec) → Contains (row_nodes x h) b → Contains (row_nodes x h) c → (same : Bool) → (b.id == c.id) ≡ same
+          → Contains (row_hearers x h even odd) (hearer b) → Contains (row_hearers x h even odd) (hearer c) → Met (member (hearer b)) (member (hearer c))
+      by b c b_there c_there true is one two = inl (ap (λ (id : ℕ). as_member x.params (row_hearer x even odd id)) (eqb-true b.id c.id is))
+      by b c b_there c_there false is one two =
+          let differ = unequal b.id c.id is in
+          inr (
+          hear_in_common (round_at x h even odd) flutter (row_hearers x h even odd) (hearer b) (hearer c) (round_trusted x flutter h even odd double reach s r all trusted) one two
+          (enough false b c offsets_meet b_there c_there differ) (enough true b c rates_meet b_there c_there differ)
+          )
+
+pub rows_meet : RowsMeet
+rows_meet x flutter h earlier even odd double reach one other none_joins w d trusted offsets_meet rates_meet r here there =
+    members_meet x flutter earlier even odd double reach (timed_rows x flutter h w double earlier even odd d) r (all_have x earlier none_joins) one other trusted offsets_meet rates_meet here there

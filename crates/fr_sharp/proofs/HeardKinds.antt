@@ -1,0 +1,94 @@
+-- What it says of a double cycle that all is heard in it, or that lists meet.
+use Rattle.std.proofs.Common.{◌≡◌, ℕ, suc, ◌+◌, ◌*◌, ◌&&◌, ◌||◌, Bool, true, false, not, refl, ap, ◌∙◌, inl, inr, arith, if◌then◌else◌}
+use Rattle.std.specs.Prelude.{nat_eq}
+use Rattle.std.specs.List.{list_all}
+use Rattle.std.proofs.lemmas.Bool.{and_parts, ne_eqb, or_cases}
+use Rattle.std.proofs.lemmas.Bool.Decides.{nat_tests}
+use Rattle.fr_base.specs.declared.channel.Channel.{Channel}
+use Rattle.fr_base.specs.declared.channel.Channel.TheVariants.{A, B}
+use Rattle.fr_cluster.specs.Setting.{Setting}
+use Rattle.fr_cluster.specs.declared.nodes.NodeSpec.{NodeSpec}
+use Rattle.fr_bound.specs.declared.judging.Heard.{Heard}
+use Rattle.fr_bound.specs.declared.judging.Heard.TheVariants.{Clean, Meeting, Poor}
+use Rattle.fr_coverage.specs.Links.{is_regular, shares}
+use Rattle.fr_runs.specs.Links.{IsCarried}
+use Rattle.fr_runs.proofs.Nodes.{correct_node}
+use Rattle.fr_sharp.specs.SteadyRuns.{IsWhole, MayHaveArbitrary}
+use Rattle.fr_sharp.specs.Traffic.{all_linked, arbitrary_count, heard_in, is_linked, lists_meet, rate_on, traffic_of}
+use Rattle.fr_sharp.proofs.HeardCounts.{all_pass}
+use Rattle.fr_sharp.proofs.HeardEvents.{regular_of}
+use Rattle.fr_sharp.proofs.HeardValues.{share_of}
+
+by_tests : Bool → Bool → Bool → Bool → Heard
+by_tests all none offsets rates = if all && none then Clean else (if offsets && rates then Meeting else Poor)
+
+tests_clean : (a b c d : Bool) → by_tests a b c d ≡ Clean → (a ≡ true) × (b ≡ true)
+unfolding by_tests
+tests_clean true true c d is = (refl, refl)
+tests_clean true false true true is = absurd (cc)
+tests_clean true false true false is = absurd (cc)
+tests_clean true false false d is = absurd (cc)
+tests_clean false b true true is = absurd (cc)
+tests_clean false b true false is = absurd (cc)
+tests_clean false b false d is = absurd (cc)
+
+tests_meeting : (a b c d : Bool) → by_tests a b c d ≡ Meeting → (c ≡ true) × (d ≡ true)
+unfolding by_tests
+tests_meeting true true c d is = absurd (cc)
+tests_meeting true false true true is = (refl, refl)
+tests_meeting true false true false is = absurd (cc)
+tests_meeting true false false d is = absurd (cc)
+tests_meeting false b true true is = (refl, refl)
+tests_meeting false b true false is = absurd (cc)
+tests_meeting false b false d is = absurd (cc)
+
+-- where all is heard one channel carries the frames of both cycles of any two nodes, and no sync node is arbitrary
+module _ (x : Setting) (double : ℕ) where
+  carried_on : (sender receiver : NodeSpec) (channel : Channel) → rate_on true (traffic_of x) sender receiver double channel ≡ true → IsCarried x sender receiver double
+  carried_on sender receiver channel is =
+      let even = is_regular (x.event (2 * double) sender.id receiver.id channel) in
+      let odd = is_regular (x.event (2 * double + 1) sender.id receiver.id channel) in
+      let both = and_parts (shares sender receiver channel && even) odd is in
+      let two = and_parts (shares sender receiver channel) even both.0 in
+      let number : suc (2 * double) ≡ 2 * double + 1 = omega arith in
+      record {
+        channel = channel;
+        share = share_of sender receiver channel two.0;
+        even = regular_of (x.event (2 * double) sender.id receiver.id channel) two.1;
+        odd = ap (λ (c : ℕ). x.event c sender.id receiver.id channel) number ∙ regular_of (x.event (2 * double + 1) sender.id receiver.id channel) both.1;
+      }
+
+  all_carried : all_linked (traffic_of x) double ≡ true → IsWhole x double
+  all_carried all sender receiver slot link =
+      let t = traffic_of x in
+      let from = correct_node x sender link.sends in
+      let to = correct_node x receiver link.hears in
+      let carries = λ (b : NodeSpec). rate_on true t sender b double A || rate_on true t sender b double B in
+      let of_sender = all_pass (λ (a : NodeSpec). list_all (λ (b : NodeSpec). not (is_linked t a b) || (rate_on true t a b double A || rate_on true t a b double B)) t.nodes) t.nodes sender all from.there in
+      let either = all_pass (λ (b : NodeSpec). not (is_linked t sender b) || carries b) t.nodes receiver of_sender to.there in
+      let linked : is_linked t sender receiver ≡ true = rw (link.key, from.correct, to.correct, ne_eqb sender.id receiver.id link.other) refl in
+      elim (or_cases (rate_on true t sender receiver double A) (rate_on true t sender receiver double B) (right (is_linked t sender receiver) (carries receiver) linked either)) [
+        | inl a ↦ carried_on sender receiver A a
+        | inr b ↦ carried_on sender receiver B b
+      ]
+    where
+      right : (a b : Bool) → a ≡ true → (not a || b) ≡ true → b ≡ true
+      right true b is either = either
+      right false b is either = absurd (cc)
+
+  pub clean_is : heard_in (traffic_of x) double ≡ Clean → IsWhole x double × MayHaveArbitrary false x
+  unfolding by_tests
+  clean_is is =
+      let t = traffic_of x in
+      let both = tests_clean (all_linked t double) (nat_eq (arbitrary_count t) 0) (lists_meet false t double) (lists_meet true t double) is in
+      (all_carried both.0, zero_of (arbitrary_count t) both.1)
+    where
+      zero_of : (n : ℕ) → nat_eq n 0 ≡ true → n ≡ 0
+      zero_of n is = grind (arith, nat_tests)
+
+  -- and lists meet where it says so
+  pub meeting_is : heard_in (traffic_of x) double ≡ Meeting → (lists_meet false (traffic_of x) double ≡ true) × (lists_meet true (traffic_of x) double ≡ true)
+  unfolding by_tests
+  meeting_is is =
+      let t = traffic_of x in
+      tests_meeting (all_linked t double) (nat_eq (arbitrary_count t) 0) (lists_meet false t double) (lists_meet true t double) is

@@ -1,0 +1,430 @@
+-- What a node with a row surely has of senders, by what becomes of their frames, and what it may have: counted, and trusted.
+use Rattle.std.proofs.Common.{◌≡◌, ◌≢◌, ◌⊎◌, ℕ, suc, ◌+◌, ◌*◌, ◌≤◌, ◌==◌, ◌&&◌, ◌||◌, Bool, true, false, not, ℤ, Option, Some, None, length, refl, ap, sym, ◌∙◌, inl, inr, arith, if◌then◌else◌}
+use Rattle.std.specs.Prelude.{Contains, IsSome, count_by, is_some, nat_le}
+use Rattle.std.specs.List.{range_with_len}
+use Rattle.std.proofs.lemmas.Bool.{and_parts, eqb-true, or_cases}
+use Rattle.std.proofs.lemmas.Bool.Decides.{nat_tests}
+use Rattle.fr_base.specs.declared.channel.Channel.{Channel}
+use Rattle.fr_base.specs.declared.channel.Channel.TheVariants.{A, B}
+use Rattle.fr_cluster.specs.Questions.{has_channel, index_in, key_in, key_slot_of, own_index}
+use Rattle.fr_cluster.specs.Sane.{IsSane}
+use Rattle.fr_cluster.specs.Setting.{Setting, is_correct}
+use Rattle.fr_cluster.specs.Values.{Values}
+use Rattle.fr_cluster.specs.declared.nodes.NodeSpec.{NodeSpec}
+use Rattle.fr_time.specs.Senders.{key_node_of}
+use Rattle.fr_time.proofs.Keys.{key_node_has, key_node_is, key_slot_has, slot_of_index}
+use Rattle.fr_midpoint.specs.Midpoint.{discarded}
+use Rattle.fr_measure.specs.Values.{change_at, change_of, is_own, least_of, mean_of, offset_at, own_value_or, rate_at, values_of}
+use Rattle.fr_precision.specs.Round.{offsets_of, rates_of, sender_at, sender_with, Hearer, IsSender, Round}
+use Rattle.fr_precision.specs.Rows.{Sender}
+use Rattle.fr_precision.proofs.Counting.{count_le}
+use Rattle.fr_precision.proofs.Parting.{filter_map_counts}
+use Rattle.fr_precision.proofs.RoundSenders.{sender_found}
+use Rattle.fr_precision.proofs.Values.{change_from, other_value, own_value}
+use Rattle.fr_history.specs.Cycles.{Cycle, Cycles}
+use Rattle.fr_history.specs.Standing.{has_row, row_nodes}
+use Rattle.fr_runs.specs.Gathered.{round_at, row_hearer}
+use Rattle.fr_runs.specs.Links.{Share, cycle_in}
+use Rattle.fr_runs.proofs.Courses.{is_correct_row}
+use Rattle.fr_runs.proofs.Nodes.{correct_node, node_there}
+use Rattle.fr_runs.proofs.Receivers.{is_correct_node}
+use Rattle.fr_runs.proofs.RowsHeard.{RowLink}
+use Rattle.fr_coverage.specs.Links.{is_regular, is_sync, shares}
+use Rattle.fr_sharp.specs.Losses.{heard_at, heard_of, IsTrustedOf}
+use Rattle.fr_sharp.specs.SteadyRuns.{AreRowsInReach}
+use Rattle.fr_sharp.specs.Traffic.{all_trusted, arbitrary_count, comes, has_value, is_trusted, most_count, sends, sure_count, traffic_of, trusts, value_on, Traffic}
+use Rattle.fr_sharp.proofs.HeardCounts.{all_pass, count_two, discards_more, is_passed, nodes_counted, passes_at, passes_is}
+use Rattle.fr_sharp.proofs.HeardEvents.{may_come, regular_of}
+use Rattle.fr_sharp.proofs.HeardInPart.{is_other, least_there, mean_there, others_counted}
+use Rattle.fr_sharp.proofs.RowsSupplied.{comes_in, counted_in, frames_stored, link_to, looked_up, rows_heard_in_part, LawfulRows}
+use Rattle.fr_sharp.proofs.RunDoubles.{all_among, AllHave}
+
+-- the values of one of both kinds, by key index
+abbrev pub value_by : Bool → Hearer → (ℕ → Option ℤ)
+value_by false n = offset_at n.look n.own
+value_by true n = rate_at n.look n.own
+
+-- ---- values of both channels, and of both cycles
+
+-- of both channels one suffices
+pub least_some : (f : Channel → Option ℤ) (channel : Channel) → IsSome (f channel) → IsSome (least_of (f A) (f B))
+least_some f A there = by (f A) (f B) there
+  where
+    by : (a b : Option ℤ) → IsSome a → IsSome (least_of a b)
+    by None b is = absurd (cc)
+    by (Some a) None is = refl
+    by (Some a) (Some b) is = refl
+least_some f B there = by (f A) (f B) there
+  where
+    by : (a b : Option ℤ) → IsSome b → IsSome (least_of a b)
+    by a None is = absurd (cc)
+    by None (Some b) is = refl
+    by (Some a) (Some b) is = refl
+
+pub mean_some : (f : Channel → Option ℤ) (channel : Channel) → IsSome (f channel) → IsSome (mean_of (f A) (f B))
+mean_some f A there = by (f A) (f B) there
+  where
+    by : (a b : Option ℤ) → IsSome a → IsSome (mean_of a b)
+    by None b is = absurd (cc)
+    by (Some a) None is = refl
+    by (Some a) (Some b) is = refl
+mean_some f B there = by (f A) (f B) there
+  where
+    by : (a b : Option ℤ) → IsSome b → IsSome (mean_of a b)
+    by a None is = absurd (cc)
+    by None (Some b) is = refl
+    by (Some a) (Some b) is = refl
+
+pub change_some : (early late : Option ℤ) → IsSome early → IsSome late → IsSome (change_of early late)
+change_some None late is also = absurd (cc)
+change_some (Some early) None is also = absurd (cc)
+change_some (Some early) (Some late) is also = refl
+
+-- whose own index it is makes no difference
+pub own_or_other : (own : Option ℕ) (index : ℕ) (value : Option ℤ) (is : Bool) → is_own own index ≡ is → IsSome value → IsSome (own_value_or own index value)
+own_or_other own index value true is there = ap is_some (own_value own index value is)
+own_or_other own index value false is there = ap is_some (other_value own index value is) ∙ there
+
+pub own_there : (own : Option ℕ) (index : ℕ) (value : Option ℤ) → own ≡ Some index → IsSome (own_value_or own index value)
+own_there own index value is = ap is_some (own_value own index value (itself own index is))
+  where
+    itself : (own : Option ℕ) (index : ℕ) → own ≡ Some index → is_own own index ≡ true
+    itself None index is = absurd (cc)
+    itself (Some own) index is = let e : own ≡ index = cc in grind (arith, e)
+
+pub own_of : (p : Values) (node : NodeSpec) → IsSane p → Contains p.nodes node → own_index p node.id ≡ index_in p node.key
+own_of p node sane there = ap (λ o. index_in p (key_in o)) (node_there p node sane there)
+
+-- ---- channels
+
+pub share_of : (a b : NodeSpec) (channel : Channel) → shares a b channel ≡ true → Share a b channel
+share_of a b channel is =
+    let both = and_parts (has_channel (Some a) channel) (has_channel (Some b) channel) is in
+    record { by_sender = both.0; by_receiver = both.1 }
+
+shared : (a b : NodeSpec) (channel : Channel) → Share a b channel → shares a b channel ≡ true
+shared a b channel share = rw (share.by_sender, share.by_receiver) refl
+
+at_most : (a b : ℕ) → nat_le a b ≡ true → a ≤ b
+at_most a b is = grind (arith, nat_tests)
+
+-- ---- a node with a row
+
+module _ (x : Setting) (flutter : ℕ) (h : Cycles) (even odd : Cycle) (double : ℕ) (reach : ℤ) (s : LawfulRows x flutter h even odd double) (r : AreRowsInReach x h even odd reach) (all : AllHave x h) where
+  abbrev p : Values
+  p = x.params
+
+  abbrev t : Traffic
+  t = traffic_of x
+
+  abbrev round : Round
+  round = round_at x h even odd
+
+  abbrev hearer : NodeSpec → Hearer
+  hearer node = row_hearer x even odd node.id
+
+  sane : IsSane x.params
+  sane = s.covered.sane
+
+  -- a sender of the cluster has a row, and is one of the round
+  record IsCorrectAt (index : ℕ) (sender : NodeSpec) : Type 0 where
+    slot : ℕ
+    slot_is : key_slot_of x.params index ≡ Some slot
+    key : sender.key ≡ Some slot
+    among : Contains (row_nodes x h) sender
+    from : sender_at (round_at x h even odd) index ≡ Some (sender_with (round_at x h even odd) slot sender.id)
+
+  correct_at : (index slot : ℕ) (sender : NodeSpec) → key_slot_of x.params index ≡ Some slot → Contains x.params.nodes sender → sender.key ≡ Some slot → sends (traffic_of x) sender ≡ true
+      → IsCorrectAt index sender
+  correct_at index slot sender slot_is there key is =
+      let both = and_parts (is_sync sender) (not (x.is_arbitrary sender.id)) is in
+      let correct = is_correct_node x sender there both.1 in
+      let rows : (is_correct x sender.id && has_row x h sender.id) ≡ true = rw (both.1, all sender correct) refl in
+      record {
+        slot = slot;
+        slot_is = slot_is;
+        key = key;
+        among = all_among x h sender all correct;
+        from = sender_found (round_at x h even odd) index slot sender sane (record { there = there; rows = rows; key = key }) slot_is;
+      }
+
+  -- ---- what it surely has
+
+  own_index_is : (node sender : NodeSpec) (index slot : ℕ) → sender.id ≡ node.id → Contains x.params.nodes sender → sender.key ≡ Some slot → key_slot_of x.params index ≡ Some slot
+      → own_index x.params node.id ≡ Some index
+  own_index_is node sender index slot same there key slot_is =
+      ap (own_index x.params) (sym same) ∙ own_of x.params sender sane there ∙ ap (index_in x.params) key ∙ (key_slot_has x.params index slot slot_is).0
+
+  own_value_there : (rate : Bool) (node : NodeSpec) (index : ℕ) → own_index x.params node.id ≡ Some index → IsSome (value_by rate (row_hearer x even odd node.id) index)
+  own_value_there false node index own =
+      let n = row_hearer x even odd node.id in
+      own_there n.own index (least_of (n.look index true A) (n.look index true B)) own
+  own_value_there true node index own =
+      let n = row_hearer x even odd node.id in
+      own_there n.own index (mean_of (change_at n.look index A) (change_at n.look index B)) own
+
+  stored_there : (node sender : NodeSpec) (index slot : ℕ) (is_odd : Bool) (channel : Channel) → RowLink x h sender node slot → key_slot_of x.params index ≡ Some slot → Share sender node channel
+      → is_regular (x.event (cycle_in is_odd double) sender.id node.id channel) ≡ true → IsSome ((row_hearer x even odd node.id).look index is_odd channel)
+  stored_there node sender index slot is_odd channel link slot_is share regular =
+      ap is_some (looked_up x flutter h even odd double reach s r node.id index slot is_odd channel slot_is)
+      ∙ frames_stored x flutter h even odd double reach s r is_odd sender node slot channel link share (regular_of (x.event (cycle_in is_odd double) sender.id node.id channel) regular)
+
+  odd_number : 2 * double + 1 ≡ suc (2 * double)
+  odd_number = omega arith
+
+  value_there : (rate : Bool) (node sender : NodeSpec) (index slot : ℕ) (channel : Channel) → RowLink x h sender node slot → key_slot_of x.params index ≡ Some slot
+      → value_on rate true (traffic_of x) sender node double channel ≡ true → IsSome (value_by rate (row_hearer x even odd node.id) index)
+  value_there false node sender index slot channel link slot_is is =
+      let n = row_hearer x even odd node.id in
+      let both = and_parts (shares sender node channel) (is_regular (x.event (2 * double + 1) sender.id node.id channel)) is in
+      let regular = ap (λ (c : ℕ). is_regular (x.event c sender.id node.id channel)) (sym odd_number) ∙ both.1 in
+      own_or_other n.own index (least_of (n.look index true A) (n.look index true B)) (is_own n.own index) refl
+      (least_some (n.look index true) channel (stored_there node sender index slot true channel link slot_is (share_of sender node channel both.0) regular))
+  value_there true node sender index slot channel link slot_is is =
+      let n = row_hearer x even odd node.id in
+      let both = and_parts (shares sender node channel && is_regular (x.event (2 * double) sender.id node.id channel)) (is_regular (x.event (2 * double + 1) sender.id node.id channel)) is in
+      let two = and_parts (shares sender node channel) (is_regular (x.event (2 * double) sender.id node.id channel)) both.0 in
+      let regular = ap (λ (c : ℕ). is_regular (x.event c sender.id node.id channel)) (sym odd_number) ∙ both.1 in
+      let share = share_of sender node channel two.0 in
+      own_or_other n.own index (mean_of (change_at n.look index A) (change_at n.look index B)) (is_own n.own index) refl
+      (
+      mean_some (change_at n.look index) channel
+      (
+      change_some (n.look index false channel) (n.look index true channel) (stored_there node sender index slot false channel link slot_is share two.1)
+      (stored_there node sender index slot true channel link slot_is share regular)
+      )
+      )
+
+  sure_value : (rate : Bool) (node sender : NodeSpec) (index slot : ℕ) → Contains (row_nodes x h) node → key_slot_of x.params index ≡ Some slot → Contains x.params.nodes sender → sender.key ≡ Some slot
+      → sends (traffic_of x) sender ≡ true → has_value rate true (traffic_of x) double node sender ≡ true → IsSome (value_by rate (row_hearer x even odd node.id) index)
+  sure_value rate node sender index slot among slot_is there key correct has = by (sender.id == node.id) refl has
+    where
+      unequal : (a b : ℕ) → (a == b) ≡ false → a ≢ b
+      unequal a b is = grind arith
+
+      by : (b : Bool) → (sender.id == node.id) ≡ b
+          → (b || (value_on rate true (traffic_of x) sender node double A || value_on rate true (traffic_of x) sender node double B)) ≡ true → IsSome (value_by rate (row_hearer x even odd node.id) index)
+      by true same is = own_value_there rate node index (own_index_is node sender index slot (eqb-true sender.id node.id same) there key slot_is)
+      by false differs is =
+          let at = correct_at index slot sender slot_is there key correct in
+          let link : RowLink x h sender node slot = record { sends = at.among; hears = among; key = key; other = unequal sender.id node.id differs } in
+          elim (or_cases (value_on rate true (traffic_of x) sender node double A) (value_on rate true (traffic_of x) sender node double B) is) [
+            | inl a ↦ value_there rate node sender index slot A link slot_is a
+            | inr b ↦ value_there rate node sender index slot B link slot_is b
+          ]
+
+  -- ---- what it may have
+
+  key_of : (key : Option ℕ) (index : ℕ) → index_in x.params key ≡ Some index → (slot : ℕ) × (key ≡ Some slot) × (key_slot_of x.params index ≡ Some slot)
+  key_of None index is = absurd (cc)
+  key_of (Some slot) index is = (slot, refl, slot_of_index x.params index slot is)
+
+  -- a test of a sender and a receiver, as it is counted
+  abbrev may : Bool → NodeSpec → NodeSpec → Bool
+  may rate node sender = sends (traffic_of x) sender && has_value rate false (traffic_of x) double node sender
+
+  own_passes : (rate : Bool) (node : NodeSpec) (index : ℕ) → Contains (row_nodes x h) node → is_own (own_index x.params node.id) index ≡ true → passes_at x.params (may rate node) index ≡ true
+  own_passes rate node index among own =
+      let correct = correct_node x node (is_correct_row x h node among) in
+      let is : own_index x.params node.id ≡ Some index = own_number (own_index x.params node.id) index own in
+      let key = key_of node.key index (sym (own_of x.params node sane correct.there) ∙ is) in
+      passes_is x.params (may rate node) index key.0 node key.2 (key_node_is x.params node key.0 sane correct.there key.1) ∙ rw (key.1, correct.correct, itself node.id) refl
+    where
+      itself : (a : ℕ) → (a == a) ≡ true
+      itself a = grind arith
+
+      own_number : (own : Option ℕ) (index : ℕ) → is_own own index ≡ true → own ≡ Some index
+      own_number None index is = absurd (cc)
+      own_number (Some own) index is = let e : own ≡ index = grind arith in ap Some e
+
+  -- what is stored of a sender, or else it is an arbitrary node's
+  record IsLinkedAt (node : NodeSpec) (index : ℕ) : Type 0 where
+    slot : ℕ
+    sender : NodeSpec
+    slot_is : key_slot_of x.params index ≡ Some slot
+    node_is : key_node_of x.params slot ≡ Some sender
+    correct : sends (traffic_of x) sender ≡ true
+    link : RowLink x h sender node slot
+
+  linked_at : (node : NodeSpec) (index : ℕ) (is_odd : Bool) (channel : Channel) (value : ℤ) → Contains (row_nodes x h) node → is_own (own_index x.params node.id) index ≡ false
+      → (row_hearer x even odd node.id).look index is_odd channel ≡ Some value → IsLinkedAt node index ⊎ (is_other (round_at x h even odd) index ≡ true)
+  linked_at node index is_odd channel value among other is =
+      let only = (rows_heard_in_part x flutter h even odd double reach s r node among).only index is_odd channel value is in
+      by only.0 only.1.0 only.1.1 only.1.2 only.1.3
+    where
+      by : (slot : ℕ) (sender : NodeSpec) → key_slot_of x.params index ≡ Some slot → key_node_of x.params slot ≡ Some sender
+          → ((is_correct x sender.id && has_row x h sender.id) ≡ true) ⊎ (x.is_arbitrary sender.id ≡ true) → IsLinkedAt node index ⊎ (is_other (round_at x h even odd) index ≡ true)
+      by slot sender slot_is node_is (inl rows) =
+          let has = key_node_has x.params sender slot node_is in
+          let both = and_parts (is_correct x sender.id) (has_row x h sender.id) rows in
+          let from : IsSender (round_at x h even odd) sender slot = record { there = has.0; rows = rows; key = has.1 } in
+          inl (record {
+            slot = slot;
+            sender = sender;
+            slot_is = slot_is;
+            node_is = node_is;
+            correct = rw (has.1, both.0) refl;
+            link = link_to x flutter h even odd double reach s r node index slot sender among (record { sender = from; slot_is = slot_is; other = other });
+          })
+      by slot sender slot_is node_is (inr arbitrary) =
+          let has = key_node_has x.params sender slot node_is in
+          inr (passes_is x.params (λ (one : NodeSpec). is_some one.key && x.is_arbitrary one.id) index slot sender slot_is node_is ∙ rw (has.1, arbitrary) refl)
+
+  -- of a deviation both nodes have the channel, and the frame was not silent
+  may_store : (node : NodeSpec) (index : ℕ) (is_odd : Bool) (channel : Channel) (value : ℤ) (at : IsLinkedAt node index) → (row_hearer x even odd node.id).look index is_odd channel ≡ Some value
+      → (shares at.sender node channel ≡ true) × (comes false (x.event (cycle_in is_odd double) at.sender.id node.id channel) ≡ true)
+  may_store node index is_odd channel value at is =
+      let stored = sym (looked_up x flutter h even odd double reach s r node.id index at.slot is_odd channel at.slot_is) ∙ is in (
+        shared at.sender node channel (counted_in x flutter h even odd double reach s r is_odd at.sender node at.slot channel value at.link stored).share,
+        may_come (x.event (cycle_in is_odd double) at.sender.id node.id channel) (comes_in x flutter h even odd double reach s r is_odd at.sender node at.slot channel value at.link stored),
+      )
+
+  may_pass : (rate : Bool) (node : NodeSpec) (index : ℕ) (channel : Channel) (at : IsLinkedAt node index) → value_on rate false (traffic_of x) at.sender node double channel ≡ true
+      → passes_at x.params (may rate node) index ≡ true
+  may_pass rate node index channel at is =
+      passes_is x.params (may rate node) index at.slot at.sender at.slot_is at.node_is
+      ∙ whole (sends (traffic_of x) at.sender) (at.sender.id == node.id) (value_on rate false (traffic_of x) at.sender node double) channel at.correct is
+    where
+      whole : (a b : Bool) (on : Channel → Bool) (channel : Channel) → a ≡ true → on channel ≡ true → (a && (b || (on A || on B))) ≡ true
+      whole true true on channel one two = refl
+      whole true false on A one two = rw two refl
+      whole true false on B one two = by (on A) two
+        where
+          by : (c : Bool) → on B ≡ true → (c || on B) ≡ true
+          by true is = refl
+          by false is = is
+      whole false b on channel one two = absurd (cc)
+
+  offset_may : (node : NodeSpec) (index : ℕ) (channel : Channel) (value : ℤ) (at : IsLinkedAt node index) → (row_hearer x even odd node.id).look index true channel ≡ Some value
+      → passes_at x.params (may false node) index ≡ true
+  offset_may node index channel value at is =
+      let both = may_store node index true channel value at is in
+      let late : comes false (x.event (2 * double + 1) at.sender.id node.id channel) ≡ true = ap (λ (c : ℕ). comes false (x.event c at.sender.id node.id channel)) odd_number ∙ both.1 in
+      may_pass false node index channel at (rw (both.0, late) refl)
+
+  rate_may : (node : NodeSpec) (index : ℕ) (channel : Channel) (early late : ℤ) (at : IsLinkedAt node index) → (row_hearer x even odd node.id).look index false channel ≡ Some early
+      → (row_hearer x even odd node.id).look index true channel ≡ Some late → passes_at x.params (may true node) index ≡ true
+  rate_may node index channel early late at is also =
+      let one = may_store node index false channel early at is in
+      let two = may_store node index true channel late at also in
+      let odd : comes false (x.event (2 * double + 1) at.sender.id node.id channel) ≡ true = ap (λ (c : ℕ). comes false (x.event c at.sender.id node.id channel)) odd_number ∙ two.1 in
+      may_pass true node index channel at (rw (one.0, one.1, odd) refl)
+
+  maybe_value : (rate : Bool) (node : NodeSpec) (index : ℕ) (value : ℤ) (own : Bool) → Contains (row_nodes x h) node → is_own (own_index x.params node.id) index ≡ own
+      → value_by rate (row_hearer x even odd node.id) index ≡ Some value → (passes_at x.params (may rate node) index ≡ true) ⊎ (is_other (round_at x h even odd) index ≡ true)
+  maybe_value rate node index value true among own is = inl (own_passes rate node index among own)
+  maybe_value false node index value false among other is =
+      let n = row_hearer x even odd node.id in
+      let least : least_of (n.look index true A) (n.look index true B) ≡ Some value = sym (other_value n.own index (least_of (n.look index true A) (n.look index true B)) other) ∙ is in
+      by (least_there (n.look index true A) (n.look index true B) value least)
+    where
+      on : (channel : Channel) (v : ℤ) → (row_hearer x even odd node.id).look index true channel ≡ Some v → (passes_at x.params (may false node) index ≡ true) ⊎ (is_other (round_at x h even odd) index ≡ true)
+      on channel v there = elim (linked_at node index true channel v among other there) [
+        | inl at ↦ inl (offset_may node index channel v at there)
+        | inr arbitrary ↦ inr arbitrary
+      ]
+
+      by : ((v : ℤ) × ((row_hearer x even odd node.id).look index true A ≡ Some v)) ⊎ ((v : ℤ) × ((row_hearer x even odd node.id).look index true B ≡ Some v))
+          → (passes_at x.params (may false node) index ≡ true) ⊎ (is_other (round_at x h even odd) index ≡ true)
+      by (inl one) = on A one.0 one.1
+      by (inr one) = on B one.0 one.1
+  maybe_value true node index value false among other is =
+      let n = row_hearer x even odd node.id in
+      let mean : mean_of (change_at n.look index A) (change_at n.look index B) ≡ Some value = sym (other_value n.own index (mean_of (change_at n.look index A) (change_at n.look index B)) other) ∙ is in
+      by (mean_there (change_at n.look index A) (change_at n.look index B) value mean)
+    where
+      on : (channel : Channel) (v : ℤ) → change_at (row_hearer x even odd node.id).look index channel ≡ Some v → (passes_at x.params (may true node) index ≡ true) ⊎ (is_other (round_at x h even odd) index ≡ true)
+      on channel v there =
+          let n = row_hearer x even odd node.id in
+          let both = change_from (n.look index false channel) (n.look index true channel) v there in
+          elim (linked_at node index true channel both.1.0 among other both.1.2) [
+            | inl at ↦ inl (rate_may node index channel both.0 both.1.0 at both.1.1 both.1.2)
+            | inr arbitrary ↦ inr arbitrary
+          ]
+
+      by : ((v : ℤ) × (change_at (row_hearer x even odd node.id).look index A ≡ Some v)) ⊎ ((v : ℤ) × (change_at (row_hearer x even odd node.id).look index B ≡ Some v))
+          → (passes_at x.params (may true node) index ≡ true) ⊎ (is_other (round_at x h even odd) index ≡ true)
+      by (inl one) = on A one.0 one.1
+      by (inr one) = on B one.0 one.1
+
+  -- ---- counted
+
+  tested_by_key : (test : NodeSpec → Bool) (node : NodeSpec) → node.key ≡ None → (sends (traffic_of x) node && test node) ≡ false
+  tested_by_key test node none = ap (λ (o : Option ℕ). (is_some o && not (x.is_arbitrary node.id)) && test node) none
+
+  pub senders_counted : (test : NodeSpec → Bool)
+      → count_by (λ (a : NodeSpec). sends (traffic_of x) a && test a) x.params.nodes ≡ count_by (passes_at x.params (λ (a : NodeSpec). sends (traffic_of x) a && test a)) (range_with_len 0 15)
+  senders_counted test = nodes_counted x.params (λ (a : NodeSpec). sends (traffic_of x) a && test a) sane (tested_by_key test)
+
+  -- of a sender of whom it surely has a value it has heard
+  pub surely_heard : (rate : Bool) (node : NodeSpec) (index : ℕ) → Contains (row_nodes x h) node
+      → passes_at x.params (λ (a : NodeSpec). sends (traffic_of x) a && has_value rate true (traffic_of x) double node a) index ≡ true
+      → IsSome (value_by rate (row_hearer x even odd node.id) index) × (is_some (sender_at (round_at x h even odd) index) ≡ true)
+  surely_heard rate node index among is =
+      let of = is_passed x.params (λ (a : NodeSpec). sends (traffic_of x) a && has_value rate true (traffic_of x) double node a) index sane is in
+      let both = and_parts (sends (traffic_of x) of.node) (has_value rate true (traffic_of x) double node of.node) of.passes in (
+        sure_value rate node of.node index of.slot among of.slot_is of.there of.key both.0 both.1,
+        ap is_some (correct_at index of.slot of.node of.slot_is of.there of.key both.0).from,
+      )
+
+  heard_enough : (rate : Bool) (node : NodeSpec) → Contains (row_nodes x h) node
+      → sure_count rate (traffic_of x) double node ≤ length (heard_of (round_at x h even odd) (value_by rate (row_hearer x even odd node.id)))
+  heard_enough rate node among =
+      let at = value_by rate (row_hearer x even odd node.id) in
+      let test = λ (a : NodeSpec). sends (traffic_of x) a && has_value rate true (traffic_of x) double node a in
+      let sure = senders_counted (has_value rate true (traffic_of x) double node) in
+      let heard = filter_map_counts (heard_at (round_at x h even odd) at) (range_with_len 0 15) in
+      let le =
+      count_le (passes_at x.params test) (λ i. is_some (heard_at (round_at x h even odd) at i)) (range_with_len 0 15)
+      (λ index is.
+      let has = surely_heard rate node index among is in
+      there (is_some (at index)) (sender_at (round_at x h even odd) index) has.0 has.1) in
+      omega (arith, sure, heard, le)
+    where
+      there : (b : Bool) (o : Option Sender) → b ≡ true → is_some o ≡ true → is_some (if b then o else None) ≡ true
+      there true o is also = also
+      there false o is also = absurd (cc)
+
+  pub most_values : (rate : Bool) (node : NodeSpec) → Contains (row_nodes x h) node → length (values_of (value_by rate (row_hearer x even odd node.id))) ≤ most_count rate (traffic_of x) double node
+  unfolding values_of
+  most_values rate node among =
+      let at = value_by rate (row_hearer x even odd node.id) in
+      let senders = senders_counted (has_value rate false (traffic_of x) double node) in
+      let others = others_counted (round_at x h even odd) sane in
+      let values = filter_map_counts at (range_with_len 0 15) in
+      let le =
+      count_two (λ i. is_some (at i)) (passes_at x.params (may rate node)) (is_other (round_at x h even odd)) (range_with_len 0 15)
+      (λ index some. let v = value_of (at index) some in maybe_value rate node index v.0 (is_own (own_index x.params node.id) index) among refl v.1) in
+      omega (arith, senders, others, values, le)
+    where
+      value_of : (o : Option ℤ) → is_some o ≡ true → (v : ℤ) × (o ≡ Some v)
+      value_of None is = absurd (cc)
+      value_of (Some v) is = (v, refl)
+
+  -- ---- trusted
+
+  trusted_of : (rate : Bool) (node : NodeSpec) → Contains (row_nodes x h) node → is_trusted rate (traffic_of x) double node ≡ true
+      → IsTrustedOf (round_at x h even odd) (value_by rate (row_hearer x even odd node.id)) (values_of (value_by rate (row_hearer x even odd node.id)))
+  trusted_of rate node among is =
+      let sure = sure_count rate (traffic_of x) double node in
+      let others = arbitrary_count (traffic_of x) in
+      let both = and_parts (nat_le 1 sure) (nat_le others (discarded (sure + others))) is in
+      let some = at_most 1 sure both.0 in
+      let few = at_most others (discarded (sure + others)) both.1 in
+      let heard = length (heard_of (round_at x h even odd) (value_by rate (row_hearer x even odd node.id))) in
+      let enough : sure ≤ heard = heard_enough rate node among in
+      let more = discards_more (sure + others) (heard + others) (omega (arith, enough)) in
+      record { few = omega (arith, few, more); some = omega (arith, some, enough) }
+
+  pub rows_trusted : all_trusted (traffic_of x) double ≡ true → (node : NodeSpec) → Contains (row_nodes x h) node
+      → IsTrustedOf (round_at x h even odd) (offset_at (row_hearer x even odd node.id).look (row_hearer x even odd node.id).own) (offsets_of (row_hearer x even odd node.id))
+      × IsTrustedOf (round_at x h even odd) (rate_at (row_hearer x even odd node.id).look (row_hearer x even odd node.id).own) (rates_of (row_hearer x even odd node.id))
+  rows_trusted trusted node among =
+      let correct = correct_node x node (is_correct_row x h node among) in
+      let own = all_pass (trusts (traffic_of x) double) x.params.nodes node trusted correct.there in
+      let both = and_parts (is_trusted false (traffic_of x) double node) (is_trusted true (traffic_of x) double node) (right (x.is_arbitrary node.id) (is_trusted false (traffic_of x) double node && is_trusted true (traffic_of x) double node) correct.correct own) in
+      (trusted_of false node among both.0, trusted_of true node among both.1)
+    where
+      right : (a b : Bool) → a ≡ false → (a || b) ≡ true → b ≡ true
+      right false b is either = either
+      right true b is either = absurd (cc)
