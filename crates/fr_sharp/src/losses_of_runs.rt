@@ -41,7 +41,7 @@ pub fn run_losses(params: &Params, drift: &Drift, script: &Script, flutter: u64)
     for double in 0..drift.doubles() {
         let whole = is_whole(params, script, double);
         let trusted = all_trusted(params, script, double);
-        let what = heard_in(params, script, double);
+        let what = heard_in(params, script, double, whole);
         let apart = spread.apart(params, flutter, what);
         losses = losses.followed(double, whole, trusted, apart, spread.near(params));
         spread.step(params, flutter, what);
