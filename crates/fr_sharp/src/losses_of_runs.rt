@@ -4,9 +4,11 @@ ghost use Rattle.fr_sharp.specs.LossStatement.{whole_in};
 ghost use Rattle.fr_sharp.specs.LossSteps.{most_lost};
 ghost use Rattle.fr_bound.specs.SharpBounds.{most_flutter};
 
+use crate::among::heard_numbers;
 use crate::arbitrary::has_arbitrary;
 use crate::heard::all_reach;
 use crate::loss_steps::LossSpread;
+use crate::losing::histories_keep_through_losses;
 use crate::traffic::{all_trusted, heard_in};
 use fr_cluster::Params;
 use fr_coverage::found_gap_of_run_is_first;
@@ -122,4 +124,6 @@ pub fn losses_are_told()
     ensures keeps { RunsKeepTheirBounds }
 {
     found_gap_of_run_is_first();
+    histories_keep_through_losses();
+    heard_numbers();
 }
