@@ -5,7 +5,8 @@ use Rattle.std.specs.List.{list_all}
 use Rattle.std.proofs.lemmas.Bool.{and_parts, cases_Bool, cases_eq, not-true, or_cases}
 use Rattle.fr_base.specs.declared.channel.Channel.{Channel}
 use Rattle.fr_base.specs.declared.channel.Channel.TheVariants as channel
-use Rattle.fr_cluster.proofs.Elements.{Contains-here, Contains-there}
+use Rattle.fr_cluster.proofs.Elements.{Contains-here, Contains-none, Contains-there}
+use Rattle.fr_cluster.proofs.KeyNodes.{Contains-cons_cases}
 use Rattle.fr_cluster.specs.Values.{Values}
 use Rattle.fr_cluster.specs.declared.nodes.NodeSpec.{NodeSpec}
 use Rattle.fr_drift.specs.Questions.{doubles_of}
@@ -235,6 +236,15 @@ losses_are_told_lem p d s flutter some =
 each_passes : {X : Type 0} (test : X → Bool) (xs : List X) → ((x : X) → Contains xs x → test x ≡ true) → list_all test xs ≡ true
 each_passes test [] all = refl
 each_passes test (y ∷ xs) all = both_true (test y) (list_all test xs) (all y (Contains-here y xs)) (each_passes test xs (λ x among. all x (Contains-there y xs x among)))
+
+all_pass : {X : Type 0} (test : X → Bool) (xs : List X) (x : X) → list_all test xs ≡ true → Contains xs x → test x ≡ true
+all_pass test [] x all among = absurd (Contains-none x among)
+all_pass test (y ∷ xs) x all among =
+    let parts = and_parts (test y) (list_all test xs) all in
+    elim (Contains-cons_cases y xs x among) [
+      | inl same ↦ sym (ap test same) ∙ parts.0
+      | inr more ↦ all_pass test xs x parts.1 more
+    ]
 
 neither : (a b : Bool) → (a || b) ≡ false → (a ≡ false) × (b ≡ false)
 neither false false is = (refl, refl)
