@@ -8,9 +8,10 @@ use Rattle.fr_cluster.specs.Values.{Values, amount}
 use Rattle.fr_cluster.specs.declared.names.ParamName.TheVariants as name
 use Rattle.fr_bound.specs.Bounds.{arrival_error, cycle_change, longest_micro}
 use Rattle.fr_bound.specs.declared.judging.Heard.TheVariants as heard
+use Rattle.fr_bound.specs.Judged.{heard_spread}
 use Rattle.fr_bound.specs.declared.settling.Spread.{Spread}
 use Rattle.fr_bound.specs.SharpSpreads.{next_lost_spread}
-use Rattle.fr_sharp.specs.Among.{every_second, lost_spread}
+use Rattle.fr_sharp.specs.Among.{all_or_any, every_second, lost_spread}
 use Rattle.fr_sharp.specs.LossCosts.{apart_in_a_row, heard_behind, near_in_a_row, HearsEverySecond, IsBack, IsGreatest, IsGreatestEverySecond}
 use Rattle.fr_sharp.specs.LossSteps.{heard_apart}
 use Rattle.fr_sharp.specs.Losses.{lost_apart}
@@ -54,6 +55,16 @@ greater_of a b c one two = grind arith
 
 pub apart_is : (p : Values) (flutter : ℕ) (whole : ℕ → Bool) (k : ℕ) → whole k ≡ true → lost_apart p flutter whole k ≡ heard_apart heard.Clean p flutter (lost_spread p flutter whole k)
 apart_is p flutter whole k is = ap (λ (s : Spread). max (Far p (lost_spread p flutter whole k)) (s.starts + longest_micro p)) (next_is p flutter whole k true is)
+
+-- the same steps by what is heard
+pub next_by : (all : Bool) (p : Values) (flutter : ℕ) (s : Spread) → heard_spread (all_or_any all) p flutter s ≡ next_lost_spread all p flutter s
+next_by true p flutter s = refl
+next_by false p flutter s = refl
+
+pub apart_by_all : (p : Values) (flutter : ℕ) (whole : ℕ → Bool) (k : ℕ) → lost_apart p flutter whole k ≡ heard_apart (all_or_any (whole k)) p flutter (lost_spread p flutter whole k)
+apart_by_all p flutter whole k =
+    ap (λ (s : Spread). max (Far p (lost_spread p flutter whole k)) (s.starts + longest_micro p))
+    (next_is p flutter whole k (whole k) refl ∙ sym (next_by (whole k) p flutter (lost_spread p flutter whole k)))
 
 -- macroticks lie no further apart than a spread says that this one and the next one lie below
 pub apart_under : (p : Values) (flutter : ℕ) (whole : ℕ → Bool) (k : ℕ) (t : Spread) → IsBelow (lost_spread p flutter whole k) t → IsBelow (lost_spread p flutter whole (suc k)) t

@@ -114,9 +114,9 @@ module _ (p : Values) (flutter : ℕ) where
   unfolding spread_by
   first_by s is = is
 
-  pub first_of : (s : Spread) → s ≡ spread_by false p flutter never_heard 0 → s ≡ lost_spread p flutter never 0
+  pub first_of : (whole : ℕ → Bool) (s : Spread) → s ≡ spread_by false p flutter never_heard 0 → s ≡ lost_spread p flutter whole 0
   unfolding lost_spread
-  first_of s is = first_by s is
+  first_of whole s is = first_by s is
 
   never_next : (n : ℕ) → IsBelow (lost_spread p flutter never n) (lost_spread p flutter never (suc n))
   unfolding lost_spread

@@ -91,13 +91,7 @@ fn all_trust(nodes: &NodeList, script: &Script, double: u32, arbitrary: u64) -> 
     true
 }
 
-fn trusts(
-    nodes: &NodeList,
-    script: &Script,
-    double: u32,
-    arbitrary: u64,
-    node: &NodeSpec,
-) -> bool
+fn trusts(nodes: &NodeList, script: &Script, double: u32, arbitrary: u64, node: &NodeSpec) -> bool
     requires double { double ≤ 100_000 }
     requires few { length nodes.now ≤ 64 }
     requires arbitrary { arbitrary ≡ arbitrary_count (traffic_with nodes.now script.now) }
@@ -402,7 +396,10 @@ fn comes_even(
     ensures { result ≡
         comes asked.surely (event_of script.now (2 * asked.double) sender.now.id receiver.now.id channel) }
 {
-    comes(asked.surely, script.at(2 * asked.double, sender.id, receiver.id, channel))
+    comes(
+        asked.surely,
+        script.at(2 * asked.double, sender.id, receiver.id, channel),
+    )
 }
 
 fn comes_odd(
@@ -416,7 +413,10 @@ fn comes_odd(
     ensures { result ≡
         comes asked.surely (event_of script.now (2 * asked.double + 1) sender.now.id receiver.now.id channel) }
 {
-    comes(asked.surely, script.at(2 * asked.double + 1, sender.id, receiver.id, channel))
+    comes(
+        asked.surely,
+        script.at(2 * asked.double + 1, sender.id, receiver.id, channel),
+    )
 }
 
 fn comes(surely: bool, event: Event<'_>) -> bool

@@ -6,7 +6,7 @@ use Rattle.fr_sharp.proofs.loss_costs.behind.Goals as goal
 
 pub loop-double-init : goal.loop-double-init
 loop-double-init c = record {
-  spread = first_of c.args.params.now c.args.flutter c.first-spread.result.spread (c.first-spread.ensures.spread never_heard);
+  spread = first_of c.args.params.now c.args.flutter never c.first-spread.result.spread (c.first-spread.ensures.spread never_heard);
   passed = c.first-spread.ensures.passed;
 }
 

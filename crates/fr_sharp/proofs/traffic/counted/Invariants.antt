@@ -6,7 +6,7 @@ use Rattle.fr_sharp.proofs.traffic.counted.Given as goal
 abbrev pub invariant-loop-place : goal.invariant-loop-place
 invariant-loop-place l = record {
   value : l.count ≡ count_by
-  (λ a. sends (traffic_with l.nodes l.script) a && has_value l.asked.rate l.asked.surely (traffic_with l.nodes l.script) l.asked.double l.receiver a)
-  (take l.place l.nodes);
+      (λ a. sends (traffic_with l.nodes l.script) a && has_value l.asked.rate l.asked.surely (traffic_with l.nodes l.script) l.asked.double l.receiver a)
+      (take l.place l.nodes);
   few : l.count ≤ l.place;
 }
