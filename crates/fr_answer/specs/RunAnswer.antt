@@ -1,5 +1,5 @@
 -- What a request for the report of a run reads, and writes: what is kept of the run, in the older sense and in the sharper one.
-use Rattle.std.specs.Prelude.{ℕ, pos, false, List}
+use Rattle.std.specs.Prelude.{ℕ, pos, List}
 use Rattle.fr_cluster.specs.Values.{Values}
 use Rattle.fr_coverage.specs.Decided.{setting_of}
 use Rattle.fr_drift.specs.View.{DriftView}
@@ -30,7 +30,7 @@ pub record IsKeptRunText (params : Values) (drift : DriftView) (script : ScriptV
       → KeepsSharplyJoined (has_arbitrary params script) (setting_of params drift script) flutter report.cycles double
   pub through_losses :
       (flutter reach double : ℕ) → IsCoveredThroughLosses params drift script flutter reach
-      → IsInSharpSyncAt false params flutter (pos 0) report.cycles double
+      → IsInSharpSyncAt (has_arbitrary params script) params flutter (pos 0) report.cycles double
       → KeepsThroughLosses params drift script flutter report.cycles double
 
 abbrev pub kept_run_command : RunNames → Command

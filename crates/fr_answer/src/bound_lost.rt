@@ -21,8 +21,8 @@ use fr_cluster::Params;
 use fr_params::ParamsFile;
 use fr_program::Failure;
 use fr_sharp::{
-    Digits, LossCost, LossSides, LossSpread, SecondCost, every_second_cost, limits_hold,
-    longest_loss, loss_cost, loss_side,
+    Digits, LossCost, LossSides, LossSpread, SecondCost, every_second_cost, heard_behind,
+    limits_hold, longest_loss, loss_cost, loss_side,
 };
 use fr_text::Piece::{Natural, Word};
 use fr_text::{Line, accepted, line_of, put_line, put_lines};
@@ -144,14 +144,14 @@ fn put_aparts<O: Sink>(
     ensures { Puts result (O.state out.old) (O.state out.new)
         (loss_apart_lines params.now flutter count 0 doubles) }
 {
-    let mut spread = LossSpread::first(params, flutter);
+    let mut spread = LossSpread::first(params, false, flutter);
     for double in 0..doubles {
-        let whole = count <= double;
+        let heard = heard_behind(count, double);
         put_line(
-            &apart_line(double, spread.apart(params, flutter, whole)),
+            &apart_line(double, spread.apart(params, flutter, heard)),
             out,
         )?;
-        spread.step(params, flutter, whole);
+        spread.step(params, flutter, heard);
     }
     Ok(())
 }

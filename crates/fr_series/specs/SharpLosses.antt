@@ -9,11 +9,15 @@ use Rattle.fr_drift.specs.Questions.{doubles_of}
 use Rattle.fr_drift.specs.View.{DriftView}
 use Rattle.fr_script.specs.View.{ScriptView}
 use Rattle.fr_history.specs.Cycles.{Cycles}
-use Rattle.fr_sharp.specs.Losses.{lost_apart}
-use Rattle.fr_sharp.specs.LossRuns.{all_hear, is_through_losses, losses_of, AreLosses}
-use Rattle.fr_sharp.specs.LossStatement.{whole_in, IsCoveredThroughLosses}
+use Rattle.fr_bound.specs.declared.judging.Heard.{Heard}
+use Rattle.fr_bound.specs.declared.judging.Heard.TheVariants as heard
+use Rattle.fr_sharp.specs.Among.{apart_by}
+use Rattle.fr_sharp.specs.LossRuns.{is_through_losses, losses_of, AreLosses}
+use Rattle.fr_sharp.specs.LossStatement.{apart_in, whole_in, IsCoveredThroughLosses}
 use Rattle.fr_sharp.specs.SharpHistories.{IsInSharpSyncAt, KeepsApart}
 use Rattle.fr_sharp.specs.SharpRun.{WalkLastsAfter}
+use Rattle.fr_sharp.specs.SharpStatement.{has_arbitrary}
+use Rattle.fr_sharp.specs.Traffic.{all_trusted, heard_in, traffic_in}
 use Rattle.fr_series.specs.declared.basis.Basis.{Basis}
 use Rattle.fr_series.specs.declared.kept.Kept.{Kept}
 
@@ -23,19 +27,25 @@ use Rattle.fr_series.specs.declared.kept.Kept.{Kept}
 abbrev pub bound_of : Bool → ℕ → Option ℕ
 bound_of through apart = if through then Some apart else None
 
--- whether all is heard in a double cycle, and its number by what was heard since the first
+-- whether all is heard in a double cycle, what is heard in it, and its number by what was heard since the first
 abbrev pub kept_by : Values → ScriptView → Basis → ℕ → Kept
 kept_by p s basis double = record {
-  heard = whole_in p s double;
-  bound = bound_of basis.through (lost_apart p basis.flutter (whole_in p s) double);
+  whole = whole_in p s double;
+  heard = heard_in (traffic_in p s) double;
+  bound = bound_of basis.through (apart_by (has_arbitrary p s) p basis.flutter (heard_in (traffic_in p s)) double);
 }
 
 -- ---- the texts
 
--- whether all is heard in a double cycle
-abbrev pub all_or_any : Bool → List ℕ
-all_or_any true = codes "all"
-all_or_any false = codes "any"
+-- whether of any two nodes enough is heard in common, or whatever there is
+abbrev pub most_or_any : Heard → List ℕ
+most_or_any heard.Clean = codes "all"
+most_or_any heard.Meeting = codes "most"
+most_or_any heard.Poor = codes "any"
+
+-- whether all is heard in a double cycle, and else whether of any two nodes enough in common
+abbrev pub heard_text : Kept → List ℕ
+heard_text kept = if kept.whole then codes "all" else most_or_any kept.heard
 
 -- its number, in ticks; none where the run is not covered through losses
 abbrev pub bound_or_none : Option ℕ → List ℕ
@@ -64,13 +74,15 @@ lost_text basis =
 -- then, from each double cycle in sharp sync on and as long as the walk lasts, no macroticks lie further apart than by the number of
 -- their double cycle, nor than the greatest of these, no term is cut or missing, and every correct node is active
 pub record TellsLosses (p : Values) (d : DriftView) (s : ScriptView) (h : Cycles) : Type 0 where
-  pub lost : AreLosses p (flutter_of p d s) (whole_in p s) (all_hear p.nodes s) (doubles_of d) (losses_of p d s (flutter_of p d s))
+  pub lost :
+      AreLosses (has_arbitrary p s) p (flutter_of p d s) (whole_in p s) (heard_in (traffic_in p s)) (all_trusted (traffic_in p s)) (doubles_of d)
+      (losses_of p d s (flutter_of p d s))
   pub through :
       is_through_losses p s (flutter_of p d s) (gap_of_run p d s) (losses_of p d s (flutter_of p d s)) ≡ true
       ↔ IsCoveredThroughLosses p d s (flutter_of p d s) (losses_of p d s (flutter_of p d s)).reach
   pub keeps :
       IsCoveredThroughLosses p d s (flutter_of p d s) (losses_of p d s (flutter_of p d s)).reach → (double passed : ℕ)
-      → IsInSharpSyncAt false p (flutter_of p d s) (pos 0) h double → double + passed < doubles_of d
+      → IsInSharpSyncAt (has_arbitrary p s) p (flutter_of p d s) (pos 0) h double → double + passed < doubles_of d
       → WalkLastsAfter p (flutter_of p d s) passed
-      → KeepsApart (setting_of p d s) h (double + passed) (lost_apart p (flutter_of p d s) (whole_in p s) (double + passed))
+      → KeepsApart (setting_of p d s) h (double + passed) (apart_in p s (flutter_of p d s) (double + passed))
       × KeepsApart (setting_of p d s) h (double + passed) (losses_of p d s (flutter_of p d s)).peak

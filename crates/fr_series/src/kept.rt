@@ -1,19 +1,24 @@
 ghost use Rattle.std.specs.Prelude.{◌≡◌, ◌≤◌, ◌<◌, ◌+◌};
-ghost use Rattle.fr_sharp.specs.Among.{lost_spread};
+ghost use Rattle.fr_sharp.specs.Among.{spread_by};
 ghost use Rattle.fr_sharp.specs.LossStatement.{whole_in};
+ghost use Rattle.fr_sharp.specs.SharpStatement.{has_arbitrary};
+ghost use Rattle.fr_sharp.specs.Traffic.{heard_in, traffic_in};
 ghost use Rattle.fr_bound.specs.SharpBounds.{most_flutter};
 ghost use Rattle.fr_series.specs.SharpLosses.{bound_of, kept_by};
 
 use crate::basis::Basis;
+use fr_bound::Heard;
 use fr_cluster::Params;
 use fr_script::Script;
-use fr_sharp::{LossSpread, all_reach};
+use fr_sharp::{LossSpread, all_reach, heard_in};
 
 /// What the nodes hear in a double cycle, and how far macroticks may lie apart in it.
 #[derive(Clone, Copy, Debug, PartialEq, Eq)]
 pub struct Kept {
     /// Whether all is heard in it: between any two nodes one channel carries the frames of both its cycles.
-    pub heard: bool,
+    pub whole: bool,
+    /// What is heard in it: all of all, without arbitrary sync nodes; of any two nodes enough in common; or what there is.
+    pub heard: Heard,
     /// How far macroticks may lie apart in it, in ticks, where the run is covered through losses.
     pub bound: Option<u128>,
 }
@@ -30,16 +35,20 @@ pub(crate) fn next_kept(
     requires double { double < 100_000 }
     requires passed { spread.old.passed ≡ double }
     requires spread { spread.old.spread ≡
-        lost_spread params.now basis.now.flutter (whole_in params.now script.now) double }
+        spread_by (has_arbitrary params.now script.now) params.now basis.now.flutter
+        (heard_in (traffic_in params.now script.now)) double }
     ensures kept { result ≡ kept_by params.now script.now basis.now double }
     ensures passed { spread.new.passed ≡ double + 1 }
     ensures spread { spread.new.spread ≡
-        lost_spread params.now basis.now.flutter (whole_in params.now script.now) (double + 1) }
+        spread_by (has_arbitrary params.now script.now) params.now basis.now.flutter
+        (heard_in (traffic_in params.now script.now)) (double + 1) }
 {
-    let heard = is_whole(params, script, double);
+    let whole = is_whole(params, script, double);
+    let heard = heard_in(params, script, double, whole);
     let apart = spread.apart(params, basis.flutter, heard);
     spread.step(params, basis.flutter, heard);
     Kept {
+        whole,
         heard,
         bound: bound_of(basis.through, apart),
     }

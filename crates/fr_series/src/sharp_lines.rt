@@ -1,6 +1,6 @@
 ghost use Rattle.std.specs.Prelude.{◌≡◌, ◌++◌, ◌≤◌, codes, length, IfSome};
 ghost use Rattle.std.specs.Fmt.{decimal};
-ghost use Rattle.fr_series.specs.SharpLosses.{bound_or_none, all_or_any, last_lost_text, lost_text};
+ghost use Rattle.fr_series.specs.SharpLosses.{bound_or_none, heard_text, last_lost_text, lost_text, most_or_any};
 ghost use Rattle.fr_series.specs.SeriesText.{above_text, greatest_text, synced_text, within_text};
 ghost use Rattle.fr_series.specs.SharpText.{beside_or_alone, doubles_or_on, flutter_text, older_end, sharp_covered_text, sharp_end};
 ghost use Rattle.fr_series.specs.SharpText.{sharp_head, sharp_precision_text, sharp_row, sharp_synced_text};
@@ -11,6 +11,7 @@ use crate::basis::Basis;
 use crate::kept::Kept;
 use crate::lines::yes_or_no;
 use crate::tally::Tally;
+use fr_bound::Heard;
 use fr_coverage::{Gap, gap_line};
 use fr_sharp::Digits;
 use fr_skew::Peak;
@@ -34,7 +35,7 @@ pub(crate) fn sharp_cycle_line(
 {
     let digits = digits_of(kept.bound);
     let bound = bound_piece(kept.bound, &digits);
-    let heard = heard_piece(kept.heard);
+    let heard = heard_piece(kept);
     match peak {
         None => line_of(&[
             Natural(u64::from(cycle)),
@@ -65,10 +66,24 @@ pub(crate) fn sharp_cycle_line(
     }
 }
 
-fn heard_piece<'a>(heard: bool) -> Piece<'a>
-    ensures { Spells result (all_or_any heard) 3 }
+fn heard_piece<'a>(kept: Kept) -> Piece<'a>
+    ensures { Spells result (heard_text kept) 4 }
 {
-    if heard { Word(b"all") } else { Word(b"any") }
+    if kept.whole {
+        Word(b"all")
+    } else {
+        most_piece(kept.heard)
+    }
+}
+
+fn most_piece<'a>(heard: Heard) -> Piece<'a>
+    ensures { Spells result (most_or_any heard) 4 }
+{
+    match heard {
+        Heard::Clean => Word(b"all"),
+        Heard::Meeting => Word(b"most"),
+        Heard::Poor => Word(b"any"),
+    }
 }
 
 fn digits_of(bound: Option<u128>) -> Digits

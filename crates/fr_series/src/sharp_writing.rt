@@ -22,7 +22,7 @@ use crate::sharp_lines::{older_lines, sharp_cycle_line, sharp_head_line, sharp_l
 use crate::tally::Tally;
 use crate::writing::{are_in_sync, next_rows};
 use fr_base::{NodeRow, PutFault, RowList, Sink};
-use fr_sharp::LossSpread;
+use fr_sharp::{LossSpread, has_arbitrary};
 use fr_skew::in_sync_by_even;
 use fr_text::{put_line, put_lines};
 use fr_world::World;
@@ -69,7 +69,8 @@ fn write_sharp_rows<O: Sink>(
 {
     let scales = basis.scales;
     let doubles = world.drift().doubles();
-    let mut spread = LossSpread::first(world.params(), basis.flutter);
+    let beside = has_arbitrary(world.params(), world.script());
+    let mut spread = LossSpread::first(world.params(), beside, basis.flutter);
     for double in 0..doubles {
         let kept = next_kept(world.params(), world.script(), basis, double, &mut spread);
         write_sharp_double(world, &scales, kept, double, tally, out)?;

@@ -9,7 +9,7 @@ use fr_cluster::Params;
 use fr_coverage::{Gap, some_join};
 use fr_drift::Drift;
 use fr_script::Script;
-use fr_sharp::{RunLosses, all_reach, has_arbitrary, limits_hold, loss_side};
+use fr_sharp::{RunLosses, all_reach, limits_hold, loss_side};
 
 // Whether a run is covered through what it loses, by its first gap whatever the checks say.
 pub(crate) fn is_through(
@@ -24,7 +24,7 @@ pub(crate) fn is_through(
     ensures { result ≡ is_through_losses params.now script.now flutter
         (gap_of_run params.now drift.now script.now) losses.now }
 {
-    losses.hears
+    losses.trusted
         && through_checks(params, flutter, losses.reach)
         && through_nodes(params, script, gap_of_run(params, drift, script))
 }
@@ -40,8 +40,7 @@ fn through_checks(params: &Params, flutter: u64, reach: u128) -> bool
 fn through_nodes(params: &Params, script: &Script, gap: Option<Gap>) -> bool
     ensures { result ≡ through_nodes params.now script.now gap }
 {
-    !has_arbitrary(params, script)
-        && !some_join(&params.nodes, script)
+    !some_join(&params.nodes, script)
         && is_link_at_most(gap)
         && all_reach(&params.nodes, script, None)
 }

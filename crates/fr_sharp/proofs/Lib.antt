@@ -1,4 +1,5 @@
 pub mod Signed
+mod TrafficCounts
 pub mod Walks
 pub mod BoundLemmas
 pub mod Computed

@@ -10,15 +10,19 @@ use Rattle.fr_bound.specs.declared.settling.Spread.{Spread}
 use Rattle.fr_coverage.specs.Decided.{setting_of}
 use Rattle.fr_history.specs.Cycles.{Cycles}
 use Rattle.fr_bound.specs.SharpSpreads.{next_lost_spread}
-use Rattle.fr_sharp.specs.Among.{lost_spread}
+use Rattle.fr_bound.specs.declared.judging.Heard.{Heard}
+use Rattle.fr_bound.specs.declared.judging.Heard.TheVariants as heard
+use Rattle.fr_sharp.specs.Among.{apart_by, lost_spread, spread_by, LaterSpreadsAreLess, SpreadsAreBelowLost}
 use Rattle.fr_sharp.specs.LossBursts.{BurstsCostNoMore, BurstsKeepThePeak, IsInBurst, LosesInBursts}
 use Rattle.fr_sharp.specs.LossCosts.{heard_behind}
-use Rattle.fr_sharp.specs.Losses.{lost_apart}
+use Rattle.fr_sharp.specs.Losses.{lost_apart, HistoriesKeepThroughLosses}
 use Rattle.fr_sharp.specs.LossStatement.{whole_in}
-use Rattle.fr_sharp.specs.SharpHistories.{KeepsApart}
+use Rattle.fr_sharp.specs.SharpHistories.{IsInSharpSyncAt, KeepsApart}
+use Rattle.fr_sharp.specs.SharpStatement.{has_arbitrary}
+use Rattle.fr_sharp.specs.Traffic.{heard_in, traffic_in}
 use Rattle.fr_bound.specs.SharpSpreads.{sharply_near_in}
 use Rattle.fr_sharp.proofs.AmongNumbers.{heard_again, next_is}
-use Rattle.fr_sharp.proofs.FromLossyFiles.{covered_files_keep_through_losses}
+use Rattle.fr_sharp.proofs.FromLossyFiles.{covered_files_keep_through_losses, none_is_clean, whole_is_clean}
 use Rattle.fr_sharp.proofs.JoinBounds.{near_grows}
 use Rattle.fr_sharp.proofs.LossLemmas.{apart_under, far_grows, far_within, Far}
 use Rattle.fr_sharp.proofs.LossNumbers.{never, never_rises, same_yet}
@@ -120,22 +124,45 @@ keeps_wider x h double apart wide le keeps = record { skew = λ macrotick is_odd
     further : (z : ℤ) → z ≤ℤ pos apart → z ≤ℤ pos wide
     further z below = omega (arith, ints, below, le)
 
--- the number from a later double cycle on is no greater than that from the first one on
-pub later_apart : (p : Values) (flutter : ℕ) (whole : ℕ → Bool) (double k : ℕ) → lost_apart p flutter (λ m. whole (double + m)) k ≤ lost_apart p flutter whole (double + k)
-later_apart p flutter whole double k =
-    let one = later_below p flutter whole double k in
-    let other = later_below p flutter whole double (suc k) in
-    let next : double + suc k ≡ suc (double + k) = omega arith in
-    let At : ℕ → Type 0 = λ m. (lost_spread p flutter (λ m. whole (double + m)) (suc k)).starts ≤ (lost_spread p flutter whole m).starts in
-    both (Far p (lost_spread p flutter (λ m. whole (double + m)) k)) (Far p (lost_spread p flutter whole (double + k))) (lost_spread p flutter (λ m. whole (double + m)) (suc k)).starts
-    (lost_spread p flutter whole (suc (double + k))).starts (longest_micro p) (far_grows p (lost_spread p flutter (λ m. whole (double + m)) k) (lost_spread p flutter whole (double + k)) one) (subst At next other.start)
+-- macroticks lie no further apart by lesser spreads
+apart_below : (p : Values) (s t next other : Spread) → IsBelow s t → next.starts ≤ other.starts → max (Far p s) (next.starts + longest_micro p) ≤ max (Far p t) (other.starts + longest_micro p)
+apart_below p s t next other below le = both (Far p s) (Far p t) next.starts other.starts (longest_micro p) (far_grows p s t below) le
   where
     both : (a b s t q : ℕ) → a ≤ b → s ≤ t → max a (s + q) ≤ max b (t + q)
     both a b s t q h k = grind arith
 
-pub bursts_keep_the_peak : BurstsKeepThePeak
-bursts_keep_the_peak p d s flutter count cost h double passed sane bursts is covered run sync within lasts =
-    let keeps = covered_files_keep_through_losses p d s flutter cost.reach h double sane covered run sync passed within lasts in
-    let later = later_apart p flutter (whole_in p s) double passed in
+-- the number from a later double cycle on is no greater than that from the first one on
+pub later_apart : LaterSpreadsAreLess → (beside : Bool) (p : Values) (flutter : ℕ) (what : ℕ → Heard) (double k : ℕ) → (beside ≡ true → (m : ℕ) → what m ≡ heard.Clean → ⊥)
+    → apart_by beside p flutter (λ m. what (double + m)) k ≤ apart_by beside p flutter what (double + k)
+later_apart later beside p flutter what double k none =
+    let one = later beside p flutter what double k none in
+    let two = later beside p flutter what double (suc k) none in
+    let next : double + suc k ≡ suc (double + k) = omega arith in
+    let At : ℕ → Type 0 = λ m. (spread_by beside p flutter (λ m. what (double + m)) (suc k)).starts ≤ (spread_by beside p flutter what m).starts in
+    apart_below p (spread_by beside p flutter (λ m. what (double + m)) k) (spread_by beside p flutter what (double + k)) (spread_by beside p flutter (λ m. what (double + m)) (suc k))
+    (spread_by beside p flutter what (suc (double + k))) (record { start = one.0; long = one.1 }) (subst At next two.0)
+
+-- nor than where nothing is asked of double cycles in which not all is heard
+below_lost : SpreadsAreBelowLost → (p : Values) (flutter : ℕ) (what : ℕ → Heard) (whole : ℕ → Bool) (k : ℕ) → ((m : ℕ) → whole m ≡ true → what m ≡ heard.Clean)
+    → apart_by false p flutter what k ≤ lost_apart p flutter whole k
+below_lost below p flutter what whole k clean =
+    let one = below p flutter what whole k clean in
+    let two = below p flutter what whole (suc k) clean in
+    apart_below p (spread_by false p flutter what k) (lost_spread p flutter whole k) (spread_by false p flutter what (suc k)) (lost_spread p flutter whole (suc k)) (record { start = one.0; long = one.1 }) two.0
+
+pub bursts_keep_the_peak : HistoriesKeepThroughLosses → LaterSpreadsAreLess → SpreadsAreBelowLost → BurstsKeepThePeak
+bursts_keep_the_peak keep later below p d s flutter count cost h double passed sane bursts is covered alone run sync within lasts =
+    let what : ℕ → Heard = λ m. heard_in (traffic_in p s) m in
+    let synced : IsInSharpSyncAt (has_arbitrary p s) p flutter (pos 0) h double = subst (λ (b : Bool). IsInSharpSyncAt b p flutter (pos 0) h double) (sym alone) sync in
+    let keeps = covered_files_keep_through_losses keep later p d s flutter cost.reach h double sane covered run synced passed within lasts in
+    let one = later_apart later (has_arbitrary p s) p flutter what double passed (none_is_clean p s) in
+    let other = below_lost below p flutter what (whole_in p s) (double + passed) (whole_is_clean p s alone) in
+    let same : apart_by (has_arbitrary p s) p flutter what (double + passed) ≡ apart_by false p flutter what (double + passed) = ap (λ (b : Bool). apart_by b p flutter what (double + passed)) alone in
     let cost_is = (bursts_cost_no_more p flutter count (whole_in p s) cost (double + passed) sane bursts is).0 in
-    keeps_wider (setting_of p d s) h (double + passed) (lost_apart p flutter (λ m. whole_in p s (double + m)) passed) cost.peak (omega (arith, later, cost_is)) keeps
+    keeps_wider (setting_of p d s) h (double + passed) (apart_by (has_arbitrary p s) p flutter (λ m. heard_in (traffic_in p s) (double + m)) passed) cost.peak
+    (up (apart_by (has_arbitrary p s) p flutter (λ m. heard_in (traffic_in p s) (double + m)) passed) (apart_by (has_arbitrary p s) p flutter what (double + passed)) (apart_by false p flutter what (double + passed))
+    (lost_apart p flutter (whole_in p s) (double + passed)) cost.peak one same other cost_is)
+    keeps
+  where
+    up : (a b c d e : ℕ) → a ≤ b → b ≡ c → c ≤ d → d ≤ e → a ≤ e
+    up a b c d e h is k m = omega (arith, h, is, k, m)

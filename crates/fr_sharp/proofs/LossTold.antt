@@ -5,7 +5,8 @@ use Rattle.std.specs.List.{list_all}
 use Rattle.std.proofs.lemmas.Bool.{and_parts, cases_Bool, cases_eq, not-true, or_cases}
 use Rattle.fr_base.specs.declared.channel.Channel.{Channel}
 use Rattle.fr_base.specs.declared.channel.Channel.TheVariants as channel
-use Rattle.fr_cluster.proofs.Elements.{Contains-here, Contains-there}
+use Rattle.fr_cluster.proofs.Elements.{Contains-here, Contains-none, Contains-there}
+use Rattle.fr_cluster.proofs.KeyNodes.{Contains-cons_cases}
 use Rattle.fr_cluster.specs.Values.{Values}
 use Rattle.fr_cluster.specs.declared.nodes.NodeSpec.{NodeSpec}
 use Rattle.fr_drift.specs.Questions.{doubles_of}
@@ -21,21 +22,21 @@ use Rattle.fr_coverage.specs.Order.{FindsGapOfRun, HasNoGapOfRun, IsChangeGap, I
 use Rattle.fr_coverage.specs.declared.gap.Gap.{Gap}
 use Rattle.fr_coverage.specs.declared.gap.Gap.TheVariants as gap
 use Rattle.fr_bound.specs.declared.settling.Spread.{Spread}
-use Rattle.fr_bound.specs.SharpSpreads.{next_lost_spread}
-use Rattle.fr_sharp.specs.Among.{lost_spread}
+use Rattle.fr_bound.specs.Judged.{heard_spread}
+use Rattle.fr_bound.specs.declared.judging.Heard.{Heard}
+use Rattle.fr_sharp.specs.Among.{apart_by, spread_by, LaterSpreadsAreLess}
 use Rattle.fr_sharp.specs.LossCosts.{limits_hold}
-use Rattle.fr_sharp.specs.Losses.{lost_apart}
-use Rattle.fr_sharp.specs.LossRuns.{all_hear, all_reach, is_link_at_most, is_through_losses, losses_by, losses_of, lost_before, next_losses, reaches, reaches_each, through_checks, through_nodes, AreLosses, IsLastLost, LossesAreTold, RunsKeepTheirBounds}
+use Rattle.fr_sharp.specs.Losses.{HistoriesKeepThroughLosses}
+use Rattle.fr_sharp.specs.LossRuns.{all_reach, is_link_at_most, is_through_losses, losses_by, losses_of, lost_before, next_losses, reaches, reaches_each, through_checks, through_nodes, AreLosses, IsLastLost, LossesAreTold, RunsKeepTheirBounds}
 use Rattle.fr_sharp.specs.LossSteps.{heard_apart}
 use Rattle.fr_sharp.specs.LossStatement.{whole_in, without_losses, IsCoveredThroughLosses}
 use Rattle.fr_bound.specs.SharpChecks.{sharp_holds_of, SharpChecksHold}
 use Rattle.fr_bound.specs.SharpSpreads.{sharply_near_in}
 use Rattle.fr_sharp.specs.SharpStatement.{has_arbitrary}
+use Rattle.fr_sharp.specs.Traffic.{all_trusted, heard_in, traffic_in}
 use Rattle.fr_sharp.specs.declared.losses_of_runs.RunLosses.{RunLosses}
-use Rattle.fr_sharp.proofs.AmongNumbers.{next_is}
-use Rattle.fr_sharp.proofs.FromLossyFiles.{all_pass, covered_files_keep_through_losses}
+use Rattle.fr_sharp.proofs.FromLossyFiles.{covered_files_keep_through_losses, none_is_clean}
 use Rattle.fr_sharp.proofs.LossBurstLaws.{keeps_wider, later_apart}
-use Rattle.fr_sharp.proofs.LossLemmas.{apart_is}
 
 -- ---- the figures of the first so many double cycles
 
@@ -98,15 +99,15 @@ last_next whole n true is (Some last) before =
     by k later (inr earlier) = before.2 k later earlier
 last_next whole n false is o before = (omega arith, is, λ k later less. absurd (omega (arith, later, less)))
 
-module _ (p : Values) (flutter : ℕ) (whole hears : ℕ → Bool) where
+module _ (beside : Bool) (p : Values) (flutter : ℕ) (whole : ℕ → Bool) (what : ℕ → Heard) (trusted : ℕ → Bool) where
   abbrev at : ℕ → RunLosses
-  at n = losses_by p flutter whole hears n
+  at n = losses_by beside p flutter whole what trusted n
 
   abbrev apart : ℕ → ℕ
-  apart n = lost_apart p flutter whole n
+  apart n = apart_by beside p flutter what n
 
   abbrev near : ℕ → ℕ
-  near n = sharply_near_in p (lost_spread p flutter whole n)
+  near n = sharply_near_in p (spread_by beside p flutter what n)
 
   counted : (n : ℕ) → (at n).doubles ≡ lost_before whole n
   unfolding losses_by lost_before
@@ -150,23 +151,23 @@ module _ (p : Values) (flutter : ℕ) (whole hears : ℕ → Bool) where
   least (suc n) reach most =
       widest (at n).reach (near n) reach (least n reach (λ k less. most k (omega (arith, less)))) (most n (omega arith))
 
-  all_heard : (n : ℕ) → (at n).hears ≡ true → (k : ℕ) → k < n → hears k ≡ true
+  all_trust : (n : ℕ) → (at n).trusted ≡ true → (k : ℕ) → k < n → trusted k ≡ true
   unfolding losses_by
-  all_heard zero is k less = absurd (omega (arith, less))
-  all_heard (suc n) is k less =
-      let parts = and_parts (at n).hears (hears n) is in
-      by parts.1 (below_next k n less) (all_heard n parts.0 k)
+  all_trust zero is k less = absurd (omega (arith, less))
+  all_trust (suc n) is k less =
+      let parts = and_parts (at n).trusted (trusted n) is in
+      by parts.1 (below_next k n less) (all_trust n parts.0 k)
     where
-      by : hears n ≡ true → (k ≡ n) ⊎ (k < n) → (k < n → hears k ≡ true) → hears k ≡ true
-      by here (inl same) before = ap hears same ∙ here
+      by : trusted n ≡ true → (k ≡ n) ⊎ (k < n) → (k < n → trusted k ≡ true) → trusted k ≡ true
+      by here (inl same) before = ap trusted same ∙ here
       by here (inr earlier) before = before earlier
 
-  heard : (n : ℕ) → ((k : ℕ) → k < n → hears k ≡ true) → (at n).hears ≡ true
+  trust : (n : ℕ) → ((k : ℕ) → k < n → trusted k ≡ true) → (at n).trusted ≡ true
   unfolding losses_by
-  heard zero each = refl
-  heard (suc n) each = both_true (at n).hears (hears n) (heard n (λ k less. each k (omega (arith, less)))) (each n (omega arith))
+  trust zero each = refl
+  trust (suc n) each = both_true (at n).trusted (trusted n) (trust n (λ k less. each k (omega (arith, less)))) (each n (omega arith))
 
-  pub are_losses : (n : ℕ) → 1 ≤ n → AreLosses p flutter whole hears n (at n)
+  pub are_losses : (n : ℕ) → 1 ≤ n → AreLosses beside p flutter whole what trusted n (at n)
   are_losses zero some = absurd (omega (arith, some))
   are_losses (suc n) some = record {
     count = counted (suc n);
@@ -177,8 +178,8 @@ module _ (p : Values) (flutter : ℕ) (whole hears : ℕ → Bool) where
     first = (placed (suc n)).2;
     near = nearest (suc n);
     least = least (suc n);
-    never_deaf = all_heard (suc n);
-    none_deaf = heard (suc n);
+    always_trusted = all_trust (suc n);
+    all_are_trusted = trust (suc n);
   }
 
 -- ---- one double cycle more
@@ -187,38 +188,63 @@ pub no_more_than_one : (heard : Bool) (count n : ℕ) → count ≤ n → (if he
 no_more_than_one true count n few = omega (arith, few)
 no_more_than_one false count n few = omega (arith, few)
 
-pub spread_on : (p : Values) (flutter : ℕ) (whole : ℕ → Bool) (n : ℕ) (heard : Bool) (now next : Spread) → whole n ≡ heard → now ≡ lost_spread p flutter whole n
-    → next ≡ next_lost_spread heard p flutter now → next ≡ lost_spread p flutter whole (n + 1)
-spread_on p flutter whole n heard now next is now_is goes =
-    goes ∙ ap (next_lost_spread heard p flutter) now_is ∙ sym (next_is p flutter whole n heard is) ∙ ap (lost_spread p flutter whole) (sym (add-one n))
+next_spread : (beside : Bool) (p : Values) (flutter : ℕ) (what : ℕ → Heard) (n : ℕ) → heard_spread (what n) p flutter (spread_by beside p flutter what n) ≡ spread_by beside p flutter what (suc n)
+unfolding spread_by
+next_spread beside p flutter what n = refl
 
-next_by : (p : Values) (flutter : ℕ) (whole hears : ℕ → Bool) (k : ℕ)
-    → next_losses (whole k) (hears k) k (lost_apart p flutter whole k) (sharply_near_in p (lost_spread p flutter whole k)) (losses_by p flutter whole hears k)
-    ≡ losses_by p flutter whole hears (suc k)
+here_apart : (beside : Bool) (p : Values) (flutter : ℕ) (what : ℕ → Heard) (n : ℕ) → heard_apart (what n) p flutter (spread_by beside p flutter what n) ≡ apart_by beside p flutter what n
+unfolding spread_by
+here_apart beside p flutter what n = refl
+
+pub spread_on : (beside : Bool) (p : Values) (flutter : ℕ) (what : ℕ → Heard) (n : ℕ) (hears : Heard) (now next : Spread) → hears ≡ what n → now ≡ spread_by beside p flutter what n
+    → next ≡ heard_spread hears p flutter now → next ≡ spread_by beside p flutter what (n + 1)
+spread_on beside p flutter what n hears now next is now_is goes =
+    goes ∙ ap (λ (h : Heard). heard_spread h p flutter now) is ∙ ap (heard_spread (what n) p flutter) now_is ∙ next_spread beside p flutter what n
+    ∙ ap (spread_by beside p flutter what) (sym (add-one n))
+
+pub apart_on : (beside : Bool) (p : Values) (flutter : ℕ) (what : ℕ → Heard) (n : ℕ) (hears : Heard) (now : Spread) (apart : ℕ) → hears ≡ what n → now ≡ spread_by beside p flutter what n
+    → apart ≡ heard_apart hears p flutter now → apart ≡ apart_by beside p flutter what n
+apart_on beside p flutter what n hears now apart is now_is far =
+    far ∙ ap (λ (h : Heard). heard_apart h p flutter now) is ∙ ap (heard_apart (what n) p flutter) now_is ∙ here_apart beside p flutter what n
+
+next_by : (beside : Bool) (p : Values) (flutter : ℕ) (whole : ℕ → Bool) (what : ℕ → Heard) (trusted : ℕ → Bool) (k : ℕ)
+    → next_losses (whole k) (trusted k) k (apart_by beside p flutter what k) (sharply_near_in p (spread_by beside p flutter what k)) (losses_by beside p flutter whole what trusted k)
+    ≡ losses_by beside p flutter whole what trusted (suc k)
 unfolding losses_by
-next_by p flutter whole hears k = refl
+next_by beside p flutter whole what trusted k = refl
 
-pub losses_on : (p : Values) (flutter : ℕ) (whole hears : ℕ → Bool) (n : ℕ) (heard some : Bool) (apart near : ℕ) (now : Spread) (was : RunLosses) → heard ≡ whole n → some ≡ hears n
-    → now ≡ lost_spread p flutter whole n → apart ≡ heard_apart heard p flutter now → near ≡ sharply_near_in p now → was ≡ losses_by p flutter whole hears n
-    → next_losses heard some n apart near was ≡ losses_by p flutter whole hears (n + 1)
-losses_on p flutter whole hears n heard some apart near now was is hears_is now_is apart_by near_by was_is =
-    let far : apart ≡ lost_apart p flutter whole n = apart_by ∙ ap (heard_apart heard p flutter) now_is ∙ sym (apart_is p flutter whole n heard (sym is)) in
-    let close : near ≡ sharply_near_in p (lost_spread p flutter whole n) = near_by ∙ ap (sharply_near_in p) now_is in
-    ap (λ (b : Bool). next_losses b some n apart near was) is ∙ ap (λ (b : Bool). next_losses (whole n) b n apart near was) hears_is
-    ∙ ap (λ (a : ℕ). next_losses (whole n) (hears n) n a near was) far
-    ∙ ap (λ (a : ℕ). next_losses (whole n) (hears n) n (lost_apart p flutter whole n) a was) close
-    ∙ ap (next_losses (whole n) (hears n) n (lost_apart p flutter whole n) (sharply_near_in p (lost_spread p flutter whole n))) was_is
-    ∙ next_by p flutter whole hears n
-    ∙ ap (losses_by p flutter whole hears) (sym (add-one n))
+module _ (beside : Bool) (p : Values) (flutter : ℕ) (whole : ℕ → Bool) (what : ℕ → Heard) (trusted : ℕ → Bool) where
+  pub losses_on : (n : ℕ) (all trust : Bool) (hears : Heard) (apart near : ℕ) (now : Spread) (was : RunLosses) → all ≡ whole n → trust ≡ trusted n → hears ≡ what n
+      → now ≡ spread_by beside p flutter what n → apart ≡ heard_apart hears p flutter now → near ≡ sharply_near_in p now → was ≡ losses_by beside p flutter whole what trusted n
+      → next_losses all trust n apart near was ≡ losses_by beside p flutter whole what trusted (n + 1)
+  losses_on n all trust hears apart near now was all_is trust_is is now_is apart_is near_is was_is =
+      let far : apart ≡ apart_by beside p flutter what n = apart_on beside p flutter what n hears now apart is now_is apart_is in
+      let close : near ≡ sharply_near_in p (spread_by beside p flutter what n) = near_is ∙ ap (sharply_near_in p) now_is in
+      ap (λ (b : Bool). next_losses b trust n apart near was) all_is ∙ ap (λ (b : Bool). next_losses (whole n) b n apart near was) trust_is
+      ∙ ap (λ (a : ℕ). next_losses (whole n) (trusted n) n a near was) far
+      ∙ ap (λ (a : ℕ). next_losses (whole n) (trusted n) n (apart_by beside p flutter what n) a was) close
+      ∙ ap (next_losses (whole n) (trusted n) n (apart_by beside p flutter what n) (sharply_near_in p (spread_by beside p flutter what n))) was_is
+      ∙ next_by beside p flutter whole what trusted n
+      ∙ ap (losses_by beside p flutter whole what trusted) (sym (add-one n))
 
 pub losses_are_told_lem : LossesAreTold
-losses_are_told_lem p d s flutter some = are_losses p flutter (whole_in p s) (all_hear p.nodes s) (doubles_of d) some
+losses_are_told_lem p d s flutter some =
+    are_losses (has_arbitrary p s) p flutter (whole_in p s) (heard_in (traffic_in p s)) (all_trusted (traffic_in p s)) (doubles_of d) some
 
 -- ---- the run without what it loses
 
 each_passes : {X : Type 0} (test : X → Bool) (xs : List X) → ((x : X) → Contains xs x → test x ≡ true) → list_all test xs ≡ true
 each_passes test [] all = refl
 each_passes test (y ∷ xs) all = both_true (test y) (list_all test xs) (all y (Contains-here y xs)) (each_passes test xs (λ x among. all x (Contains-there y xs x among)))
+
+all_pass : {X : Type 0} (test : X → Bool) (xs : List X) (x : X) → list_all test xs ≡ true → Contains xs x → test x ≡ true
+all_pass test [] x all among = absurd (Contains-none x among)
+all_pass test (y ∷ xs) x all among =
+    let parts = and_parts (test y) (list_all test xs) all in
+    elim (Contains-cons_cases y xs x among) [
+      | inl same ↦ sym (ap test same) ∙ parts.0
+      | inr more ↦ all_pass test xs x parts.1 more
+    ]
 
 neither : (a b : Bool) → (a || b) ≡ false → (a ≡ false) × (b ≡ false)
 neither false false is = (refl, refl)
@@ -442,43 +468,41 @@ module _ (p : Values) (d : DriftView) (s : ScriptView) (flutter : ℕ) (finds : 
   abbrev losses : RunLosses
   losses = losses_of p d s flutter
 
-  told : AreLosses p flutter (whole_in p s) (all_hear p.nodes s) (doubles_of d) losses
+  told : AreLosses (has_arbitrary p s) p flutter (whole_in p s) (heard_in (traffic_in p s)) (all_trusted (traffic_in p s)) (doubles_of d) losses
   told = losses_are_told_lem p d s flutter some
 
   pub through_is_covered : flutter_of p d s ≤ flutter → is_through_losses p s flutter (gap_of_run p d s) losses ≡ true → IsCoveredThroughLosses p d s flutter losses.reach
   through_is_covered flutters is =
-      let first = and_parts losses.hears (through_checks p flutter losses.reach && through_nodes p s (gap_of_run p d s)) is in
+      let first = and_parts losses.trusted (through_checks p flutter losses.reach && through_nodes p s (gap_of_run p d s)) is in
       let second = and_parts (through_checks p flutter losses.reach) (through_nodes p s (gap_of_run p d s)) first.1 in
-      let third = and_parts (not (has_arbitrary p s)) (not (some_join p s) && (is_link_at_most (gap_of_run p d s) && all_reach p.nodes s None)) second.1 in
-      let fourth = and_parts (not (some_join p s)) (is_link_at_most (gap_of_run p d s) && all_reach p.nodes s None) third.1 in
+      let fourth = and_parts (not (some_join p s)) (is_link_at_most (gap_of_run p d s) && all_reach p.nodes s None) second.1 in
       let fifth = and_parts (is_link_at_most (gap_of_run p d s)) (all_reach p.nodes s None) fourth.1 in
       record {
         checks = checks_hold p flutter losses.reach second.0;
         near = told.near;
-        none_arbitrary = not-true (has_arbitrary p s) third.0;
         none_joins = not-true (some_join p s) fourth.0;
         none = bare p d s finds fifth.0 fifth.1;
         flutters = flutters;
-        hears = told.never_deaf first.0;
+        trusted = told.always_trusted first.0;
       }
 
   pub covered_is_through : IsCoveredThroughLosses p d s flutter losses.reach → is_through_losses p s flutter (gap_of_run p d s) losses ≡ true
   covered_is_through covered =
-      both_true losses.hears (through_checks p flutter losses.reach && through_nodes p s (gap_of_run p d s)) (told.none_deaf covered.hears)
+      both_true losses.trusted (through_checks p flutter losses.reach && through_nodes p s (gap_of_run p d s)) (told.all_are_trusted covered.trusted)
       (both_true (through_checks p flutter losses.reach) (through_nodes p s (gap_of_run p d s)) (hold_checks p flutter losses.reach covered.checks)
-      (both_true (not (has_arbitrary p s)) (not (some_join p s) && (is_link_at_most (gap_of_run p d s) && all_reach p.nodes s None)) (not_false (has_arbitrary p s) covered.none_arbitrary)
       (both_true (not (some_join p s)) (is_link_at_most (gap_of_run p d s) && all_reach p.nodes s None) (not_false (some_join p s) covered.none_joins)
-      (both_true (is_link_at_most (gap_of_run p d s)) (all_reach p.nodes s None) (at_most_link p d s finds covered.none (gap_of_run p d s) refl) (all_share p d s some covered.none)))))
+      (both_true (is_link_at_most (gap_of_run p d s)) (all_reach p.nodes s None) (at_most_link p d s finds covered.none (gap_of_run p d s) refl) (all_share p d s some covered.none))))
 
 -- ---- what such a run keeps
 
-pub runs_keep_their_bounds : RunsKeepTheirBounds
-runs_keep_their_bounds p d s flutter h double passed sane covered run sync within lasts =
+pub runs_keep_their_bounds : HistoriesKeepThroughLosses → LaterSpreadsAreLess → RunsKeepTheirBounds
+runs_keep_their_bounds keep later p d s flutter h double passed sane covered run sync within lasts =
     let reach = (losses_of p d s flutter).reach in
-    let whole = whole_in p s in
-    let now = lost_apart p flutter (λ m. whole (double + m)) passed in
-    let all = lost_apart p flutter whole (double + passed) in
-    let keeps = covered_files_keep_through_losses p d s flutter reach h double sane covered run sync passed within lasts in
-    let bound = keeps_wider (setting_of p d s) h (double + passed) now all (later_apart p flutter whole double passed) keeps in
-    let most = greatest p flutter whole (all_hear p.nodes s) (doubles_of d) (double + passed) within in
+    let beside = has_arbitrary p s in
+    let what : ℕ → Heard = λ m. heard_in (traffic_in p s) m in
+    let now = apart_by beside p flutter (λ m. heard_in (traffic_in p s) (double + m)) passed in
+    let all = apart_by beside p flutter what (double + passed) in
+    let keeps = covered_files_keep_through_losses keep later p d s flutter reach h double sane covered run sync passed within lasts in
+    let bound = keeps_wider (setting_of p d s) h (double + passed) now all (later_apart later beside p flutter what double passed (none_is_clean p s)) keeps in
+    let most = greatest beside p flutter (whole_in p s) what (all_trusted (traffic_in p s)) (doubles_of d) (double + passed) within in
     (bound, keeps_wider (setting_of p d s) h (double + passed) all (losses_of p d s flutter).peak most bound)

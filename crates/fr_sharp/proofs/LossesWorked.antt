@@ -1,6 +1,6 @@
 -- The files of the worked run that loses every frame of one cycle are covered through losses.
-use Rattle.std.proofs.Common.{◌≡◌, ℕ, zero, suc, ◌+◌, ◌<◌, ◌≤◌, true, false, pos, None, refl, subst, lit≤, lit<, arith}
-use Rattle.std.specs.List.{list_all}
+use Rattle.std.proofs.Common.{◌≡◌, ℕ, zero, suc, ◌+◌, ◌<◌, ◌≤◌, Bool, true, false, pos, None, refl, subst, sym, lit≤, lit<, arith}
+use Rattle.fr_bound.specs.declared.judging.Heard.{Heard}
 use Rattle.fr_cluster.specs.Setting.{Setting}
 use Rattle.fr_coverage.specs.Coverage.{gap_of_run, some_join}
 use Rattle.fr_coverage.specs.Decided.{setting_of}
@@ -12,9 +12,9 @@ use Rattle.fr_drift.specs.Questions.{delay_of, doubles_of, length_of}
 use Rattle.fr_script.specs.Deeds.{deed_in}
 use Rattle.fr_script.specs.Events.{event_of}
 use Rattle.fr_script.specs.View.{deed_of, is_arbitrary, join_of}
-use Rattle.fr_sharp.specs.Among.{lost_spread}
-use Rattle.fr_sharp.specs.Losses.{lost_apart}
-use Rattle.fr_sharp.specs.LossStatement.{hears_in, whole_in, without_losses, IsCoveredThroughLosses}
+use Rattle.fr_sharp.specs.Among.{apart_by, spread_by, LaterSpreadsAreLess}
+use Rattle.fr_sharp.specs.Losses.{HistoriesKeepThroughLosses}
+use Rattle.fr_sharp.specs.LossStatement.{whole_in, without_losses, IsCoveredThroughLosses}
 use Rattle.fr_sharp.specs.SettlingHistories.{AreStatedNear}
 use Rattle.fr_bound.specs.SharpBounds.{last_of, sharp_lambda, sharp_pi}
 use Rattle.fr_bound.specs.SharpChecks.{SharpChecksHold}
@@ -22,6 +22,7 @@ use Rattle.fr_sharp.specs.SharpHistories.{IsInSharpSyncAt, KeepsApart}
 use Rattle.fr_sharp.specs.SharpRun.{WalkLastsAfter}
 use Rattle.fr_bound.specs.SharpSpreads.{sharply_near_in}
 use Rattle.fr_sharp.specs.SharpStatement.{has_arbitrary}
+use Rattle.fr_sharp.specs.Traffic.{all_trusted, costs_of, heard_in, traffic_in}
 use Rattle.fr_sharp.specs.WorkedFiles.{fluttering_drift}
 use Rattle.fr_sharp.specs.WorkedLosses.{losing_script, LosingFilesAreCovered, LosingFilesKeep}
 use Rattle.fr_sharp.specs.WorkedRun.{steady_cluster}
@@ -73,38 +74,46 @@ checks_hold (suc (suc (suc (suc (suc zero))))) from to = refl
 checks_hold (suc (suc (suc (suc (suc (suc k)))))) from to = absurd (omega (arith, to))
 
 -- the numbers of each double cycle
-near_0 : sharply_near_in steady_cluster (lost_spread steady_cluster 250 (whole_in steady_cluster losing_script) 0) ≤ 61_281_165
-unfolding lost_spread last_of
+abbrev what : ℕ → Heard
+what double = heard_in (traffic_in steady_cluster losing_script) double
+
+abbrev near_at : ℕ → ℕ
+near_at double = sharply_near_in steady_cluster (spread_by (has_arbitrary steady_cluster losing_script) steady_cluster 250 what double)
+
+near_0 : near_at 0 ≤ 61_281_165
+unfolding spread_by last_of is_arbitrary
 near_0 = lit≤ tt
 
-near_1 : sharply_near_in steady_cluster (lost_spread steady_cluster 250 (whole_in steady_cluster losing_script) 1) ≤ 61_281_165
-unfolding lost_spread last_of is_arbitrary deed_of deed_in event_of
+near_1 : near_at 1 ≤ 61_281_165
+unfolding spread_by costs_of last_of is_arbitrary deed_of deed_in event_of
 near_1 = lit≤ tt
 
-near_2 : sharply_near_in steady_cluster (lost_spread steady_cluster 250 (whole_in steady_cluster losing_script) 2) ≤ 61_281_165
-unfolding lost_spread last_of is_arbitrary deed_of deed_in event_of
+near_2 : near_at 2 ≤ 61_281_165
+unfolding spread_by costs_of last_of is_arbitrary deed_of deed_in event_of
 near_2 = lit≤ tt
 
-near_in : (double : ℕ) → double < doubles_of fluttering_drift → sharply_near_in steady_cluster (lost_spread steady_cluster 250 (whole_in steady_cluster losing_script) double) ≤ 61_281_165
+near_in : (double : ℕ) → double < doubles_of fluttering_drift → near_at double ≤ 61_281_165
 unfolding doubles_of
 near_in zero less = near_0
 near_in (suc zero) less = near_1
 near_in (suc (suc zero)) less = near_2
 near_in (suc (suc (suc k))) less = absurd (omega (arith, less))
 
-all_hear : (double : ℕ) → list_all (hears_in steady_cluster losing_script double) steady_cluster.nodes ≡ true
-unfolding is_arbitrary
-all_hear double = refl
+trusted : (double : ℕ) → double < doubles_of fluttering_drift → all_trusted (traffic_in steady_cluster losing_script) double ≡ true
+unfolding doubles_of is_arbitrary deed_of deed_in event_of
+trusted zero less = refl
+trusted (suc zero) less = refl
+trusted (suc (suc zero)) less = refl
+trusted (suc (suc (suc k))) less = absurd (omega (arith, less))
 
 covered : IsCoveredThroughLosses steady_cluster fluttering_drift losing_script 250 61_281_165
 covered = record {
   checks = checks_hold;
   near = near_in;
-  none_arbitrary = none_arbitrary;
   none_joins = none_joins;
   none = (found-of-run steady_cluster fluttering_drift (without_losses losing_script) is_sane).0 no_gap;
   flutters = omega (arith, flutter_is);
-  hears = λ double within. all_hear double;
+  trusted = trusted;
 }
 
 pub losing_files_are_covered : LosingFilesAreCovered
@@ -123,29 +132,33 @@ near = let n = stated_near false in record { starts = n.starts; lengths = n.leng
 lasts : (passed : ℕ) → WalkLastsAfter steady_cluster 250 passed
 lasts passed = tt
 
-apart_0 : lost_apart steady_cluster 250 (λ m. whole_in steady_cluster losing_script (0 + m)) 0 ≡ 36_005_494
-unfolding lost_spread is_arbitrary deed_of deed_in event_of
+abbrev apart_at : ℕ → ℕ
+apart_at passed = apart_by (has_arbitrary steady_cluster losing_script) steady_cluster 250 (λ m. heard_in (traffic_in steady_cluster losing_script) (0 + m)) passed
+
+apart_0 : apart_at 0 ≡ 36_005_494
+unfolding spread_by costs_of is_arbitrary deed_of deed_in event_of
 apart_0 = refl
 
-apart_1 : lost_apart steady_cluster 250 (λ m. whole_in steady_cluster losing_script (0 + m)) 1 ≡ 48_007_094
-unfolding lost_spread is_arbitrary deed_of deed_in event_of
+apart_1 : apart_at 1 ≡ 48_007_094
+unfolding spread_by costs_of is_arbitrary deed_of deed_in event_of
 apart_1 = refl
 
-apart_2 : lost_apart steady_cluster 250 (λ m. whole_in steady_cluster losing_script (0 + m)) 2 ≡ 75_011_786
-unfolding lost_spread is_arbitrary deed_of deed_in event_of
+apart_2 : apart_at 2 ≡ 75_011_786
+unfolding spread_by costs_of is_arbitrary deed_of deed_in event_of
 apart_2 = refl
 
 three : doubles_of fluttering_drift ≡ 3
 unfolding doubles_of
 three = refl
 
-pub losing_files_keep : LosingFilesKeep
-losing_files_keep h run =
+pub losing_files_keep : HistoriesKeepThroughLosses → LaterSpreadsAreLess → LosingFilesKeep
+losing_files_keep keep later h run =
     let w = lossy_files_give_runs steady_cluster fluttering_drift losing_script 250 61_281_165 h is_sane covered run in
     let some : 1 ≤ losing.doubles = let e = three in omega (arith, e) in
     let sync : IsInSharpSyncAt false steady_cluster 250 (pos 0) h 0 = timed_runs_begin_in_sharp_sync false losing 250 h w.run near some in
+    let synced : IsInSharpSyncAt (has_arbitrary steady_cluster losing_script) steady_cluster 250 (pos 0) h 0 = subst (λ (b : Bool). IsInSharpSyncAt b steady_cluster 250 (pos 0) h 0) (sym none_arbitrary) sync in
     let keeps = λ (passed : ℕ) (less : 0 + passed < doubles_of fluttering_drift).
-    covered_files_keep_through_losses steady_cluster fluttering_drift losing_script 250 61_281_165 h 0 is_sane covered run sync passed less (lasts passed) in
+    covered_files_keep_through_losses keep later steady_cluster fluttering_drift losing_script 250 61_281_165 h 0 is_sane covered run synced passed less (lasts passed) in
     let Keeps : ℕ → ℕ → Type 0 = λ double apart. KeepsApart losing h double apart in
     let less = λ (n : ℕ) (is : n < 3). (let e = three in let below : n < doubles_of fluttering_drift = omega (arith, e, is) in below) in
     (sync, subst (Keeps 0) apart_0 (keeps 0 (less 0 (lit< tt))), subst (Keeps 1) apart_1 (keeps 1 (less 1 (lit< tt))), subst (Keeps 2) apart_2 (keeps 2 (less 2 (lit< tt))))

@@ -23,12 +23,15 @@ pub record Traffic : Type 0 where
   pub is_arbitrary : ℕ → Bool
   pub event : ℕ → ℕ → ℕ → Channel → Event
 
--- that of a run, and that of the run of some parameters and a script
+-- that of a run; that of some nodes and a script; and that of the run of some parameters and a script
 abbrev pub traffic_of : Setting → Traffic
 traffic_of x = record { nodes = x.params.nodes; is_arbitrary = x.is_arbitrary; event = x.event }
 
+abbrev pub traffic_with : List NodeSpec → ScriptView → Traffic
+traffic_with nodes s = record { nodes = nodes; is_arbitrary = is_arbitrary s; event = event_of s }
+
 abbrev pub traffic_in : Values → ScriptView → Traffic
-traffic_in p s = record { nodes = p.nodes; is_arbitrary = is_arbitrary s; event = event_of s }
+traffic_in p s = traffic_with p.nodes s
 
 -- ---- one sender at one receiver
 

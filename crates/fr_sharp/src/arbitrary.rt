@@ -32,7 +32,7 @@ fn some_arbitrary(nodes: &NodeList, script: &Script) -> bool
     found
 }
 
-fn is_arbitrary_sync(node: &NodeSpec, script: &Script) -> bool
+pub(crate) fn is_arbitrary_sync(node: &NodeSpec, script: &Script) -> bool
     ensures { result ≡ (is_sync node.now && is_arbitrary script.now node.now.id) }
 {
     node.key.is_some() && script.arbitrary(node.id)

@@ -51,7 +51,9 @@ mod traffic;
 mod way;
 mod worked_run;
 
-pub use among::{heard_numbers, losses_cost, losses_last, lost_numbers, meeting_lists_draw, nodes_come_among};
+pub use among::{
+    heard_numbers, losses_cost, losses_last, lost_numbers, meeting_lists_draw, nodes_come_among,
+};
 pub use arbitrary::has_arbitrary;
 pub use bounds::{sharp_bounds_are_below, sharp_checks_suffice, walks_are_bounded};
 pub use digits::Digits;
@@ -84,7 +86,9 @@ pub use long_run::a_long_walk;
 pub use losing::{histories_keep_through_losses, what_is_heard_suffices};
 pub use loss_checks::{LossSides, limits_hold, loss_side};
 pub use loss_cost_laws::{bursts_keep_the_peak, costs_are_one, costs_are_there};
-pub use loss_costs::{LossCost, SecondCost, every_second_cost, longest_loss, loss_cost};
+pub use loss_costs::{
+    LossCost, SecondCost, every_second_cost, heard_behind, longest_loss, loss_cost,
+};
 pub use loss_steps::LossSpread;
 pub use losses_of_runs::{RunLosses, losses_are_told, run_losses};
 pub use lossy_files::{files_keep_through_losses, files_that_lose_frames, lossy_files_give_runs};
@@ -96,7 +100,7 @@ pub use steady::{pairs_are_steady, steady_values_place};
 pub use steady_runs::runs_hear_steadily;
 pub use step::{sharp_spreads_shrink, sharp_sync_is_kept};
 pub use tested::{one_first_sharp_sync, sharp_sync_is_tested};
-pub use traffic::{Costs, all_trusted, heard_in};
 pub use traces::{a_steady_trace, traces_keep_sharp_sync, traces_settle_sharply};
+pub use traffic::{Costs, all_trusted, heard_in};
 pub use way::{SharpWay, sharp_settle};
 pub use worked_run::{a_steady_run, files_that_flutter};

@@ -1,6 +1,9 @@
 ghost use Rattle.fr_sharp.specs.LossBursts.{BurstsCostNoMore, BurstsKeepThePeak};
 ghost use Rattle.fr_sharp.specs.LossCosts.{EverySecondIsReached, OneLongest, OneLossCost, OneSecondCost, SomeLongest, SomeLossCost, SomeSecondCost};
 
+use crate::among::heard_numbers;
+use crate::losing::histories_keep_through_losses;
+
 /// A law: what losses cost, in ticks, is one answer, and so is how many double cycles in a row the limits bear.
 pub fn costs_are_one()
     ensures row { OneLossCost }
@@ -24,4 +27,7 @@ pub fn costs_are_there()
 pub fn bursts_keep_the_peak()
     ensures cost { BurstsCostNoMore }
     ensures keep { BurstsKeepThePeak }
-{}
+{
+    histories_keep_through_losses();
+    heard_numbers();
+}

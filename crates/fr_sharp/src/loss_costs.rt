@@ -1,5 +1,5 @@
 ghost use Rattle.std.specs.Prelude.{◌≡◌, ◌≤◌, ◌<◌, ◌+◌, ◌-◌, None, Some};
-ghost use Rattle.fr_sharp.specs.Among.{lost_spread};
+ghost use Rattle.fr_sharp.specs.Among.{all_or_any, lost_spread};
 ghost use Rattle.fr_sharp.specs.LossCosts.{IsLongest, IsLossCost, IsSecondCost, heard_behind};
 ghost use Rattle.fr_sharp.specs.LossSteps.{most_lost};
 ghost use Rattle.fr_bound.specs.SharpBounds.{most_flutter};
@@ -47,6 +47,17 @@ pub fn loss_cost(params: &Params, flutter: u64, count: u32) -> LossCost
         peak: spread.apart(params, flutter, Heard::Clean),
         reach: spread.near(params),
         back: count + 2,
+    }
+}
+
+/// What is heard in a double cycle, where any frames may be lost in the first so many, and in each later one all is heard.
+pub fn heard_behind(count: u32, double: u32) -> Heard
+    ensures { result ≡ all_or_any (heard_behind count double) }
+{
+    if count <= double {
+        Heard::Clean
+    } else {
+        Heard::Poor
     }
 }
 

@@ -4,8 +4,10 @@ ghost use Rattle.fr_sharp.specs.LossStatement.{whole_in};
 ghost use Rattle.fr_sharp.specs.LossSteps.{most_lost};
 ghost use Rattle.fr_bound.specs.SharpBounds.{most_flutter};
 
+use crate::among::heard_numbers;
 use crate::arbitrary::has_arbitrary;
 use crate::heard::all_reach;
+use crate::losing::histories_keep_through_losses;
 use crate::loss_steps::LossSpread;
 use crate::traffic::{all_trusted, heard_in};
 use fr_cluster::Params;
@@ -41,7 +43,7 @@ pub fn run_losses(params: &Params, drift: &Drift, script: &Script, flutter: u64)
     for double in 0..drift.doubles() {
         let whole = is_whole(params, script, double);
         let trusted = all_trusted(params, script, double);
-        let what = heard_in(params, script, double);
+        let what = heard_in(params, script, double, whole);
         let apart = spread.apart(params, flutter, what);
         losses = losses.followed(double, whole, trusted, apart, spread.near(params));
         spread.step(params, flutter, what);
@@ -122,4 +124,6 @@ pub fn losses_are_told()
     ensures keeps { RunsKeepTheirBounds }
 {
     found_gap_of_run_is_first();
+    histories_keep_through_losses();
+    heard_numbers();
 }

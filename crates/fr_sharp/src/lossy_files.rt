@@ -1,18 +1,27 @@
 ghost use Rattle.fr_sharp.specs.WorkedLosses.{LosingFilesAreCovered, LosingFilesKeep};
 ghost use Rattle.fr_sharp.specs.LossStatement.{CoveredFilesKeepThroughLosses, FilesKeepThroughLosses, LossyFilesGiveRuns};
 
+use crate::among::heard_numbers;
+use crate::losing::histories_keep_through_losses;
+
 /// The promise where frames are lost: the run that three accepted files decide, where they are covered through losses,
 /// keeps from each double cycle in sharp sync on to the numbers by what was heard since, in ticks, whatever frames are
 /// lost wherever and however many: no term is cut or missing, and every correct node is active.
 pub fn files_keep_through_losses()
     ensures { FilesKeepThroughLosses }
-{}
+{
+    histories_keep_through_losses();
+    heard_numbers();
+}
 
 /// A law: so it is of any sane parameters, drift and script; they give a run as the law of losses asks for.
 pub fn lossy_files_give_runs()
     ensures keep { CoveredFilesKeepThroughLosses }
     ensures runs { LossyFilesGiveRuns }
-{}
+{
+    histories_keep_through_losses();
+    heard_numbers();
+}
 
 /// A law: a script by which every frame of a cycle is lost, with a drift whose delays flutter by 250 ticks, is covered
 /// through losses; the run is in sharp sync from the start on and keeps to the numbers, in ticks, in the double cycle that
@@ -20,4 +29,7 @@ pub fn lossy_files_give_runs()
 pub fn files_that_lose_frames()
     ensures covered { LosingFilesAreCovered }
     ensures keeps { LosingFilesKeep }
-{}
+{
+    histories_keep_through_losses();
+    heard_numbers();
+}

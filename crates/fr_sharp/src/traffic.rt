@@ -1,11 +1,18 @@
-ghost use Rattle.std.specs.Prelude.{◌≡◌, ◌≤◌, ◌+◌, ℕ};
-ghost use Rattle.fr_cluster.specs.Values.{Values};
-ghost use Rattle.fr_sharp.specs.Traffic.{all_trusted, arbitrary_count, comes, costs_of, has_value, heard_in, is_trusted, lists_meet, missed_or_discarded, most_count, sends, sure_count, traffic_in, trusts, value_on, with_cost};
+ghost use Rattle.std.specs.Prelude.{ℕ, ◌≡◌, ◌≤◌, ◌+◌, ◌*◌, ◌||◌, ◌&&◌, true, not, if◌then◌else◌, nat_le, length, List, count_by};
+ghost use Rattle.std.specs.List.{list_any};
+ghost use Rattle.fr_base.specs.declared.channel.Channel.TheVariants as channel;
+ghost use Rattle.fr_cluster.specs.declared.nodes.NodeSpec.{NodeSpec};
+ghost use Rattle.fr_script.specs.Events.{event_of, event_seen};
+ghost use Rattle.fr_script.specs.View.{is_arbitrary};
+ghost use Rattle.fr_coverage.specs.Links.{is_sync};
+ghost use Rattle.fr_midpoint.specs.Midpoint.{discarded};
+ghost use Rattle.fr_sharp.specs.LossStatement.{whole_in};
+ghost use Rattle.fr_sharp.specs.Traffic.{all_linked, all_trusted, arbitrary_count, comes, costs_of, has_value, heard_in, is_trusted, lists_meet, missed_or_discarded, sender_count, sends, traffic_in, traffic_with, trusts, value_on, with_cost};
 
-use crate::heard::all_reach;
+use crate::arbitrary::is_arbitrary_sync;
 use fr_base::Channel;
 use fr_bound::Heard;
-use fr_cluster::{NodeSpec, Params};
+use fr_cluster::{NodeList, NodeSpec, ParamName, Params};
 use fr_coverage::shares;
 use fr_script::{Event, Script};
 
@@ -27,15 +34,26 @@ struct Asked {
 }
 
 /// What the correct nodes of a run hear in a double cycle, 0 to 100,000, by its files: all of all, without arbitrary sync
-/// nodes; of any two nodes enough in common; or what there is.
-pub fn heard_in(params: &Params, script: &Script, double: u32) -> Heard
-    requires { double ≤ 100_000 }
+/// nodes; of any two nodes enough in common; or what there is. It is known whether all is heard in it.
+pub fn heard_in(params: &Params, script: &Script, double: u32, whole: bool) -> Heard
+    requires double { double ≤ 100_000 }
+    requires whole { whole ≡ whole_in params.now script.now double }
     ensures { result ≡ heard_in (traffic_in params.now script.now) double }
 {
     let nodes = &params.nodes;
-    if all_reach(nodes, script, Some(double)) && arbitrary_count(params, script) == 0 {
+    let _few = params.value(ParamName::gMacroPerCycle);
+    heard_by(nodes, script, double, whole)
+}
+
+fn heard_by(nodes: &NodeList, script: &Script, double: u32, whole: bool) -> Heard
+    requires double { double ≤ 100_000 }
+    requires few { length nodes.now ≤ 64 }
+    requires whole { whole ≡ all_linked (traffic_with nodes.now script.now) double }
+    ensures { result ≡ heard_in (traffic_with nodes.now script.now) double }
+{
+    if whole && arbitrary_count(nodes, script) == 0 {
         Heard::Clean
-    } else if lists_meet(params, script, false, double) && lists_meet(params, script, true, double) {
+    } else if lists_meet(nodes, script, false, double) && lists_meet(nodes, script, true, double) {
         Heard::Meeting
     } else {
         Heard::Poor
@@ -49,59 +67,127 @@ pub fn all_trusted(params: &Params, script: &Script, double: u32) -> bool
     ensures { result ≡ all_trusted (traffic_in params.now script.now) double }
 {
     let nodes = &params.nodes;
-    let mut all = true;
+    let _few = params.value(ParamName::gMacroPerCycle);
+    let arbitrary = arbitrary_count(nodes, script);
+    all_trust(nodes, script, double, arbitrary)
+}
+
+fn all_trust(nodes: &NodeList, script: &Script, double: u32, arbitrary: u64) -> bool
+    requires double { double ≤ 100_000 }
+    requires few { length nodes.now ≤ 64 }
+    requires arbitrary { arbitrary ≡ arbitrary_count (traffic_with nodes.now script.now) }
+    ensures { result ≡ all_trusted (traffic_with nodes.now script.now) double }
+{
     for place in 0..nodes.len() {
         match nodes.get(place) {
-            Some(node) => all = all && trusts(params, script, double, node),
+            Some(node) => {
+                if !trusts(nodes, script, double, arbitrary, node) {
+                    return false;
+                }
+            }
             None => {}
         }
     }
-    all
+    true
 }
 
-fn trusts(params: &Params, script: &Script, double: u32, node: &NodeSpec) -> bool
-    requires { double ≤ 100_000 }
-    ensures { result ≡ trusts (traffic_in params.now script.now) double node.now }
+fn trusts(nodes: &NodeList, script: &Script, double: u32, arbitrary: u64, node: &NodeSpec) -> bool
+    requires double { double ≤ 100_000 }
+    requires few { length nodes.now ≤ 64 }
+    requires arbitrary { arbitrary ≡ arbitrary_count (traffic_with nodes.now script.now) }
+    ensures { result ≡ trusts (traffic_with nodes.now script.now) double node.now }
 {
+    let offset = Asked {
+        rate: false,
+        surely: true,
+        double,
+    };
+    let rate = Asked {
+        rate: true,
+        surely: true,
+        double,
+    };
     script.arbitrary(node.id)
-        || is_trusted(params, script, false, double, node)
-            && is_trusted(params, script, true, double, node)
+        || (is_trusted(nodes, script, offset, arbitrary, node)
+            && is_trusted(nodes, script, rate, arbitrary, node))
 }
 
-fn is_trusted(params: &Params, script: &Script, rate: bool, double: u32, node: &NodeSpec) -> bool
-    requires { double ≤ 100_000 }
-    ensures { result ≡ is_trusted rate (traffic_in params.now script.now) double node.now }
+fn is_trusted(
+    nodes: &NodeList,
+    script: &Script,
+    asked: Asked,
+    arbitrary: u64,
+    node: &NodeSpec,
+) -> bool
+    requires double { asked.double ≤ 100_000 }
+    requires surely { asked.surely ≡ true }
+    requires few { length nodes.now ≤ 64 }
+    requires arbitrary { arbitrary ≡ arbitrary_count (traffic_with nodes.now script.now) }
+    ensures { result ≡ is_trusted asked.rate (traffic_with nodes.now script.now) asked.double node.now }
+{
+    if arbitrary == 0 {
+        hears_some(nodes, script, asked, node)
+    } else {
+        is_enough(counted(nodes, script, asked, node), arbitrary)
+    }
+}
+
+// So many values of correct nodes beside those of so many arbitrary ones.
+fn is_enough(sure: u64, arbitrary: u64) -> bool
+    requires sure { sure ≤ 64 }
+    requires arbitrary { arbitrary ≤ 64 }
+    ensures { result ≡ (nat_le 1 sure && nat_le arbitrary (discarded (sure + arbitrary))) }
+{
+    1 <= sure && arbitrary <= discarded_of(sure + arbitrary)
+}
+
+// Whether a receiver has such a value of some correct node with a key slot.
+fn hears_some(nodes: &NodeList, script: &Script, asked: Asked, receiver: &NodeSpec) -> bool
+    requires { asked.double ≤ 100_000 }
+    ensures { result ≡ list_any
+        (λ a. sends (traffic_with nodes.now script.now) a
+        && has_value asked.rate asked.surely (traffic_with nodes.now script.now) asked.double receiver.now a)
+        nodes.now }
+{
+    for place in 0..nodes.len() {
+        match nodes.get(place) {
+            Some(node) => {
+                if is_heard(script, asked, receiver, node) {
+                    return true;
+                }
+            }
+            None => {}
+        }
+    }
+    false
+}
+
+// Whether the lists of any two correct nodes have a sender in common that neither misses nor discards.
+fn lists_meet(nodes: &NodeList, script: &Script, rate: bool, double: u32) -> bool
+    requires double { double ≤ 100_000 }
+    requires few { length nodes.now ≤ 64 }
+    ensures { result ≡ lists_meet rate (traffic_with nodes.now script.now) double }
+{
+    let costs = costs_of(nodes, script, rate, double);
+    costs.most + costs.second < senders(nodes, script)
+}
+
+fn costs_of(nodes: &NodeList, script: &Script, rate: bool, double: u32) -> Costs
+    requires double { double ≤ 100_000 }
+    requires few { length nodes.now ≤ 64 }
+    ensures value { result ≡ costs_of rate (traffic_with nodes.now script.now) double nodes.now }
+    ensures most { result.most ≤ 100 }
+    ensures second { result.second ≤ 100 }
 {
     let asked = Asked {
         rate,
         surely: true,
         double,
     };
-    let sure = counted(params, script, asked, node, true);
-    let arbitrary = arbitrary_count(params, script);
-    1 <= sure && arbitrary <= discarded_of(sure + arbitrary)
-}
-
-// Whether the lists of any two correct nodes have a sender in common that neither misses nor discards.
-fn lists_meet(params: &Params, script: &Script, rate: bool, double: u32) -> bool
-    requires { double ≤ 100_000 }
-    ensures { result ≡ lists_meet rate (traffic_in params.now script.now) double }
-{
-    let costs = costs_of(params, script, rate, double);
-    costs.most + costs.second < senders(params, script)
-}
-
-fn costs_of(params: &Params, script: &Script, rate: bool, double: u32) -> Costs
-    requires { double ≤ 100_000 }
-    ensures value { result ≡ costs_of rate (traffic_in params.now script.now) double params.now.nodes }
-    ensures most { result.most ≤ 100 }
-    ensures second { result.second ≤ 100 }
-{
-    let nodes = &params.nodes;
     let mut costs = Costs { most: 0, second: 0 };
     for place in (0..nodes.len()).rev() {
         match nodes.get(place) {
-            Some(node) => costs = costs_with(params, script, rate, double, node, costs),
+            Some(node) => costs = costs_with(nodes, script, asked, node, costs),
             None => {}
         }
     }
@@ -109,24 +195,33 @@ fn costs_of(params: &Params, script: &Script, rate: bool, double: u32) -> Costs
 }
 
 fn costs_with(
-    params: &Params,
+    nodes: &NodeList,
     script: &Script,
-    rate: bool,
-    double: u32,
+    asked: Asked,
     node: &NodeSpec,
     costs: Costs,
 ) -> Costs
-    requires { double ≤ 100_000 }
+    requires double { asked.double ≤ 100_000 }
+    requires few { length nodes.now ≤ 64 }
+    requires most { costs.most ≤ 100 }
+    requires second { costs.second ≤ 100 }
+    ensures value { result ≡
+        (if is_arbitrary script.now node.now.id then costs
+        else with_cost (missed_or_discarded asked.rate (traffic_with nodes.now script.now) asked.double node.now) costs) }
+    ensures most { result.most ≤ 100 }
+    ensures second { result.second ≤ 100 }
 {
     if script.arbitrary(node.id) {
         costs
     } else {
-        with_cost(cost_of(params, script, rate, double, node), costs)
+        with_cost(cost_of(nodes, script, asked, node), costs)
     }
 }
 
 fn with_cost(cost: u64, was: Costs) -> Costs
-    ensures { result ≡ with_cost cost was }
+    ensures value { result ≡ with_cost cost was }
+    ensures most { (bound : ℕ) → cost ≤ bound → was.most ≤ bound → result.most ≤ bound }
+    ensures second { (bound : ℕ) → cost ≤ bound → was.most ≤ bound → was.second ≤ bound → result.second ≤ bound }
 {
     if was.most < cost {
         Costs {
@@ -144,35 +239,51 @@ fn with_cost(cost: u64, was: Costs) -> Costs
 }
 
 // How many senders a node may miss or discard at one end.
-fn cost_of(params: &Params, script: &Script, rate: bool, double: u32, node: &NodeSpec) -> u64
-    requires { double ≤ 100_000 }
-    ensures { result ≡ missed_or_discarded rate (traffic_in params.now script.now) double node.now }
+fn cost_of(nodes: &NodeList, script: &Script, asked: Asked, node: &NodeSpec) -> u64
+    requires double { asked.double ≤ 100_000 }
+    requires few { length nodes.now ≤ 64 }
+    ensures value { result ≡
+        missed_or_discarded asked.rate (traffic_with nodes.now script.now) asked.double node.now }
+    ensures most { result ≤ 100 }
 {
     let surely = Asked {
-        rate,
+        rate: asked.rate,
         surely: true,
-        double,
+        double: asked.double,
     };
     let maybe = Asked {
-        rate,
+        rate: asked.rate,
         surely: false,
-        double,
+        double: asked.double,
     };
-    let most = counted(params, script, maybe, node, true) + arbitrary_count(params, script);
-    counted(params, script, surely, node, false) + discarded_of(most)
+    let sure = counted(nodes, script, surely, node);
+    let most = counted(nodes, script, maybe, node) + arbitrary_count(nodes, script);
+    missed(nodes, script, sure) + discarded_of(most)
 }
 
-// Of how many correct nodes with a key slot a receiver has such a value, or has none.
-fn counted(params: &Params, script: &Script, asked: Asked, receiver: &NodeSpec, has: bool) -> u64
-    requires { asked.double ≤ 100_000 }
+// Of how many correct nodes with a key slot a receiver has no value, by that of those of whom it has one.
+fn missed(nodes: &NodeList, script: &Script, heard: u64) -> u64
+    requires few { length nodes.now ≤ 64 }
+    requires heard { heard ≤ count_by (sends (traffic_with nodes.now script.now)) nodes.now }
+    ensures value { result + heard ≡ count_by (sends (traffic_with nodes.now script.now)) nodes.now }
     ensures most { result ≤ 64 }
 {
-    let nodes = &params.nodes;
+    senders(nodes, script) - heard
+}
+
+// Of how many a receiver has such a value.
+fn counted(nodes: &NodeList, script: &Script, asked: Asked, receiver: &NodeSpec) -> u64
+    requires double { asked.double ≤ 100_000 }
+    requires few { length nodes.now ≤ 64 }
+    ensures value { result ≡ sender_count (traffic_with nodes.now script.now)
+        (has_value asked.rate asked.surely (traffic_with nodes.now script.now) asked.double receiver.now) }
+    ensures most { result ≤ 64 }
+{
     let mut count = 0;
     for place in 0..nodes.len() {
         match nodes.get(place) {
             Some(node) => {
-                if sends(script, node) && has_value(script, asked, receiver, node) == has {
+                if is_heard(script, asked, receiver, node) {
                     count += 1;
                 }
             }
@@ -182,10 +293,11 @@ fn counted(params: &Params, script: &Script, asked: Asked, receiver: &NodeSpec, 
     count
 }
 
-fn senders(params: &Params, script: &Script) -> u64
+fn senders(nodes: &NodeList, script: &Script) -> u64
+    requires { length nodes.now ≤ 64 }
+    ensures value { result ≡ count_by (sends (traffic_with nodes.now script.now)) nodes.now }
     ensures most { result ≤ 64 }
 {
-    let nodes = &params.nodes;
     let mut count = 0;
     for place in 0..nodes.len() {
         match nodes.get(place) {
@@ -200,16 +312,16 @@ fn senders(params: &Params, script: &Script) -> u64
     count
 }
 
-fn arbitrary_count(params: &Params, script: &Script) -> u64
-    ensures value { result ≡ arbitrary_count (traffic_in params.now script.now) }
+fn arbitrary_count(nodes: &NodeList, script: &Script) -> u64
+    requires { length nodes.now ≤ 64 }
+    ensures value { result ≡ arbitrary_count (traffic_with nodes.now script.now) }
     ensures most { result ≤ 64 }
 {
-    let nodes = &params.nodes;
     let mut count = 0;
     for place in 0..nodes.len() {
         match nodes.get(place) {
             Some(node) => {
-                if node.key.is_some() && script.arbitrary(node.id) {
+                if is_arbitrary_sync(node, script) {
                     count += 1;
                 }
             }
@@ -220,18 +332,36 @@ fn arbitrary_count(params: &Params, script: &Script) -> u64
 }
 
 fn sends(script: &Script, node: &NodeSpec) -> bool
-    ensures { (p : Values) → result ≡ sends (traffic_in p script.now) node.now }
+    ensures { result ≡ (is_sync node.now && not (is_arbitrary script.now node.now.id)) }
 {
     node.key.is_some() && !script.arbitrary(node.id)
 }
 
+// A sender of whom a receiver has such a value.
+fn is_heard(script: &Script, asked: Asked, receiver: &NodeSpec, sender: &NodeSpec) -> bool
+    requires { asked.double ≤ 100_000 }
+    ensures { (nodes : List NodeSpec) → result ≡ (sends (traffic_with nodes script.now) sender.now
+        && has_value asked.rate asked.surely (traffic_with nodes script.now) asked.double receiver.now sender.now) }
+{
+    sends(script, sender) && has_value(script, asked, receiver, sender)
+}
+
 fn has_value(script: &Script, asked: Asked, receiver: &NodeSpec, sender: &NodeSpec) -> bool
     requires { asked.double ≤ 100_000 }
-    ensures { (p : Values) → result ≡
-        has_value asked.rate asked.surely (traffic_in p script.now) asked.double receiver.now sender.now }
+    ensures { (nodes : List NodeSpec) → result ≡
+        has_value asked.rate asked.surely (traffic_with nodes script.now) asked.double receiver.now sender.now }
 {
-    sender.id == receiver.id
-        || value_on(script, asked, sender, receiver, Channel::A)
+    sender.id == receiver.id || comes_over(script, asked, receiver, sender)
+}
+
+// Over one channel or the other.
+fn comes_over(script: &Script, asked: Asked, receiver: &NodeSpec, sender: &NodeSpec) -> bool
+    requires { asked.double ≤ 100_000 }
+    ensures { (nodes : List NodeSpec) → result ≡
+        (value_on asked.rate asked.surely (traffic_with nodes script.now) sender.now receiver.now asked.double channel.A
+        || value_on asked.rate asked.surely (traffic_with nodes script.now) sender.now receiver.now asked.double channel.B) }
+{
+    value_on(script, asked, sender, receiver, Channel::A)
         || value_on(script, asked, sender, receiver, Channel::B)
 }
 
@@ -243,26 +373,66 @@ fn value_on(
     channel: Channel,
 ) -> bool
     requires { asked.double ≤ 100_000 }
-    ensures { (p : Values) → result ≡
-        value_on asked.rate asked.surely (traffic_in p script.now) sender.now receiver.now asked.double channel }
+    ensures { (nodes : List NodeSpec) → result ≡
+        value_on asked.rate asked.surely (traffic_with nodes script.now) sender.now receiver.now asked.double channel }
 {
-    let even = script.at(2 * asked.double, sender.id, receiver.id, channel);
-    let odd = script.at(2 * asked.double + 1, sender.id, receiver.id, channel);
-    shares(sender, receiver, channel)
-        && (!asked.rate || comes(asked.surely, even))
-        && comes(asked.surely, odd)
-}
-
-fn comes(surely: bool, event: Event<'_>) -> bool {
-    match event {
-        Event::Regular => true,
-        Event::Silent => false,
-        Event::Flip(_) => !surely,
-        Event::Say { .. } => !surely,
+    if asked.rate {
+        shares(sender, receiver, channel)
+            && comes_even(script, asked, sender, receiver, channel)
+            && comes_odd(script, asked, sender, receiver, channel)
+    } else {
+        shares(sender, receiver, channel) && comes_odd(script, asked, sender, receiver, channel)
     }
 }
 
-fn discarded_of(count: u64) -> u64 {
+fn comes_even(
+    script: &Script,
+    asked: Asked,
+    sender: &NodeSpec,
+    receiver: &NodeSpec,
+    channel: Channel,
+) -> bool
+    requires { asked.double ≤ 100_000 }
+    ensures { result ≡
+        comes asked.surely (event_of script.now (2 * asked.double) sender.now.id receiver.now.id channel) }
+{
+    comes(
+        asked.surely,
+        script.at(2 * asked.double, sender.id, receiver.id, channel),
+    )
+}
+
+fn comes_odd(
+    script: &Script,
+    asked: Asked,
+    sender: &NodeSpec,
+    receiver: &NodeSpec,
+    channel: Channel,
+) -> bool
+    requires { asked.double ≤ 100_000 }
+    ensures { result ≡
+        comes asked.surely (event_of script.now (2 * asked.double + 1) sender.now.id receiver.now.id channel) }
+{
+    comes(
+        asked.surely,
+        script.at(2 * asked.double + 1, sender.id, receiver.id, channel),
+    )
+}
+
+fn comes(surely: bool, event: Event<'_>) -> bool
+    ensures { result ≡ comes surely (event_seen event.entry) }
+{
+    if surely {
+        matches!(event, Event::Regular)
+    } else {
+        !matches!(event, Event::Silent)
+    }
+}
+
+fn discarded_of(count: u64) -> u64
+    ensures value { result ≡ discarded count }
+    ensures most { result ≤ 2 }
+{
     if count < 3 {
         0
     } else if count < 8 {

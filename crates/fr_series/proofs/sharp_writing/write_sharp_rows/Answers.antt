@@ -1,4 +1,4 @@
-use Rattle.std.proofs.Common.{◌≡◌, suc, ◌+◌, ◌*◌, ◌<◌, ◌≤◌, ℕ, List, ◌++◌, Ok, ap, ap₂, sym, ◌∙◌, subst, arith}
+use Rattle.std.proofs.Common.{Bool, ◌≡◌, suc, ◌+◌, ◌*◌, ◌<◌, ◌≤◌, ℕ, List, ◌++◌, Ok, ap, ap₂, sym, ◌∙◌, subst, arith}
 use Rattle.fr_base.specs.Device.{Puts}
 use Rattle.fr_base.proofs.Putting.{cut, then, puts_none}
 use Rattle.fr_drift.specs.Questions.{doubles_of}
@@ -7,8 +7,10 @@ use Rattle.fr_time.specs.Position.{grid_for}
 use Rattle.fr_world.specs.World.{WorldView, setting_after}
 use Rattle.fr_cluster.specs.Values.{Values}
 use Rattle.fr_script.specs.View.{ScriptView}
-use Rattle.fr_sharp.specs.Among.{lost_spread}
-use Rattle.fr_sharp.specs.LossStatement.{whole_in}
+use Rattle.fr_sharp.specs.Among.{spread_by}
+use Rattle.fr_bound.specs.declared.settling.Spread.{Spread}
+use Rattle.fr_sharp.specs.SharpStatement.{has_arbitrary}
+use Rattle.fr_sharp.specs.Traffic.{heard_in, traffic_in}
 use Rattle.fr_series.specs.Basis.{tally_of, AreScales}
 use Rattle.fr_series.specs.SharpLosses.{kept_by}
 use Rattle.fr_series.specs.SharpText.{sharp_rows}
@@ -20,6 +22,9 @@ use Rattle.fr_series.proofs.SharpWorlds.{sharp-text-more, sharp_upto, tally-firs
 use Rattle.fr_series.proofs.Stops.{stops_rows}
 use Rattle.fr_series.proofs.Worlds.{two-more}
 use Rattle.fr_series.proofs.sharp_writing.write_sharp_rows.Goals as goal
+
+abbrev spread_at : ℕ → ℕ → Values → ScriptView → Spread
+spread_at flutter n p s = spread_by (has_arbitrary p s) p flutter (heard_in (traffic_in p s)) n
 
 pub loop-double-init : goal.loop-double-init
 loop-double-init g c =
@@ -33,7 +38,10 @@ loop-double-init g c =
       ran = ap (λ (n : ℕ). record w { cycles = n }) c.requires.fresh;
       tally = tally-first beside flutter w c.args.tally.now c.requires.none;
       text = subst P (sym (told-none (sharp_rows keeps beside w.params flutter) (sharp_double keeps beside w.params flutter) (sharp_grows keeps beside w.params flutter) (setting_after w))) (puts_none a);
-      spread = c.first-spread.ensures.spread (whole_in w.params w.script) ∙ ap (λ (p : Values). lost_spread p flutter (whole_in w.params w.script) 0) c.params.ensures.value;
+      spread =
+          c.first-spread.ensures.spread (heard_in (traffic_in w.params w.script))
+          ∙ ap₂ (λ (b : Bool) (p : Values). spread_by b p flutter (heard_in (traffic_in w.params w.script)) 0)
+          (c.has_arbitrary-beside.ensures ∙ ap₂ has_arbitrary c.params.ensures.value c.script.ensures.value) c.params-2.ensures.value;
       passed = c.first-spread.ensures.passed;
     }
 
@@ -51,7 +59,7 @@ loop-double-preserved g c =
       ran = two-more w c.loop-double.world c.write_sharp_double.new.world n inv.ran c.in_ok-write_sharp_double.ensures.ran;
       tally = tally-more b.beside b.flutter w c.loop-double.world n b.scales c.loop-double.tally c.write_sharp_double.new.tally inv.ran c.requires.scales inv.tally c.in_ok-write_sharp_double.ensures.tally;
       text = subst P (sharp-text-more (kept_by w.params w.script b) b.beside b.flutter w c.loop-double.world n b.scales c.next_kept-kept.result inv.ran c.requires.scales kept) (then {rest = _} (Ok tt) inv.text c.in_ok-write_sharp_double.ensures.text);
-      spread = c.next_kept-kept.ensures.spread ∙ ap₂ (λ (p : Values) (s : ScriptView). lost_spread p b.flutter (whole_in p s) (n + 1)) here there;
+      spread = c.next_kept-kept.ensures.spread ∙ ap₂ (spread_at b.flutter (n + 1)) here there;
       passed = c.next_kept-kept.ensures.passed;
     }
 
@@ -152,4 +160,4 @@ next_kept-kept-requires-clause-spread g c =
     let n = c.loop-double.double in
     let here : c.params-in-loop-double.result.now ≡ w.params = c.params-in-loop-double.ensures.value ∙ ap (λ (v : WorldView). v.params) inv.ran in
     let there : c.script.result.now ≡ w.script = c.script.ensures.value ∙ ap (λ (v : WorldView). v.script) inv.ran in
-    inv.spread ∙ sym (ap₂ (λ (p : Values) (s : ScriptView). lost_spread p b.flutter (whole_in p s) n) here there)
+    inv.spread ∙ sym (ap₂ (spread_at b.flutter n) here there)

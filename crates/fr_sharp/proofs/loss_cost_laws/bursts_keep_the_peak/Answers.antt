@@ -5,4 +5,4 @@ pub returns-clause-cost : goal.returns-clause-cost
 returns-clause-cost c = bursts_cost_no_more
 
 pub returns-clause-keep : goal.returns-clause-keep
-returns-clause-keep c = bursts_keep_the_peak
+returns-clause-keep c = bursts_keep_the_peak c.histories_keep_through_losses.ensures.keep c.heard_numbers.ensures.later c.heard_numbers.ensures.below

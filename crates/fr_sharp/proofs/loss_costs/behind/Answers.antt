@@ -1,8 +1,14 @@
 use Rattle.std.proofs.Common.{◌≡◌, ◌∙◌, ℕ, false, ap, sym, arith}
 use Rattle.fr_bound.specs.SharpSpreads.{next_lost_spread}
 use Rattle.fr_sharp.specs.Among.{lost_spread}
-use Rattle.fr_sharp.proofs.LossNumbers.{never, never_more, same_yet}
+use Rattle.fr_sharp.proofs.LossNumbers.{first_of, never, never_heard, never_more, same_yet}
 use Rattle.fr_sharp.proofs.loss_costs.behind.Goals as goal
+
+pub loop-double-init : goal.loop-double-init
+loop-double-init c = record {
+  spread = first_of c.args.params.now c.args.flutter never c.first-spread.result.spread (c.first-spread.ensures.spread never_heard);
+  passed = c.first-spread.ensures.passed;
+}
 
 pub loop-double-preserved : goal.loop-double-preserved
 loop-double-preserved c =

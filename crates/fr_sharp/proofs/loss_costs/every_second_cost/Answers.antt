@@ -1,9 +1,10 @@
 use Rattle.std.proofs.Common.{◌≡◌, ◌∙◌, true, false, ap}
+use Rattle.fr_bound.specs.declared.judging.Heard.TheVariants as heard
 use Rattle.fr_bound.specs.SharpSpreads.{next_lost_spread}
 use Rattle.fr_sharp.specs.LossSteps.{heard_apart}
 use Rattle.fr_bound.specs.SharpSpreads.{sharply_near_in}
-use Rattle.fr_sharp.proofs.LossLemmas.{every_other, widest}
-use Rattle.fr_sharp.proofs.LossNumbers.{cost_of_widest, first_is}
+use Rattle.fr_sharp.proofs.LossLemmas.{widest}
+use Rattle.fr_sharp.proofs.LossNumbers.{cost_of_widest, first_by, never_heard}
 use Rattle.fr_sharp.proofs.loss_costs.every_second_cost.Goals as goal
 
 pub returns-clause-is : goal.returns-clause-is
@@ -12,5 +13,5 @@ returns-clause-is c =
     let t = c.args.flutter in
     let is : c.step-3.new.self.spread ≡ widest p t =
     c.step-3.ensures.spread
-    ∙ ap (next_lost_spread false p t) (c.step-2.ensures.spread ∙ ap (next_lost_spread true p t) (c.step.ensures.spread ∙ ap (next_lost_spread false p t) (c.first-spread.ensures.spread every_other ∙ first_is p t every_other))) in
-    cost_of_widest p t (record { peak = c.apart.result; reach = c.near.result }) c.value-macros.ensures.sane (c.apart.ensures.value ∙ ap (heard_apart true p t) is) (c.near.ensures.value ∙ ap (sharply_near_in p) is)
+    ∙ ap (next_lost_spread false p t) (c.step-2.ensures.spread ∙ ap (next_lost_spread true p t) (c.step.ensures.spread ∙ ap (next_lost_spread false p t) (first_by p t c.first-spread.result.spread (c.first-spread.ensures.spread never_heard)))) in
+    cost_of_widest p t (record { peak = c.apart.result; reach = c.near.result }) c.value-macros.ensures.sane (c.apart.ensures.value ∙ ap (heard_apart heard.Clean p t) is) (c.near.ensures.value ∙ ap (sharply_near_in p) is)

@@ -2,8 +2,15 @@ use Rattle.std.proofs.Common.{◌≡◌, ◌∙◌, ℕ, true, false, ap, sym, a
 use Rattle.fr_bound.specs.SharpSpreads.{next_lost_spread}
 use Rattle.fr_sharp.specs.LossCosts.{limits_hold}
 use Rattle.fr_bound.specs.SharpSpreads.{sharply_near_in}
-use Rattle.fr_sharp.proofs.LossNumbers.{bears_further, bears_no_hundred, longest_by, never_more, reach_of_row}
+use Rattle.fr_sharp.proofs.LossNumbers.{bears_further, bears_no_hundred, first_of, longest_by, never, never_heard, never_more, reach_of_row}
 use Rattle.fr_sharp.proofs.loss_costs.longest_loss.Goals as goal
+
+pub loop-count-init : goal.loop-count-init
+loop-count-init c = record {
+  spread = first_of c.args.params.now c.args.flutter never c.first-spread.result.spread (c.first-spread.ensures.spread never_heard);
+  passed = c.first-spread.ensures.passed;
+  all = λ k less. absurd (omega (arith, less));
+}
 
 pub returns-then-not-limits_hold : goal.returns-then-not-limits_hold
 returns-then-not-limits_hold c =

@@ -1,4 +1,5 @@
-use Rattle.std.proofs.Common.{◌∙◌, true, ap}
+use Rattle.std.proofs.Common.{◌∙◌, ap}
+use Rattle.fr_bound.specs.declared.judging.Heard.TheVariants as heard
 use Rattle.fr_sharp.specs.LossSteps.{heard_apart}
 use Rattle.fr_bound.specs.SharpSpreads.{sharply_near_in}
 use Rattle.fr_sharp.proofs.LossNumbers.{cost_of_row}
@@ -8,4 +9,4 @@ pub returns-clause-is : goal.returns-clause-is
 returns-clause-is c =
     let p = c.args.params.now in
     let t = c.args.flutter in
-    cost_of_row p t c.args.count c.apart.result c.near.result c.value-macros.ensures.sane c.requires.from (c.apart.ensures.value ∙ ap (heard_apart true p t) c.behind-spread.ensures) (c.near.ensures.value ∙ ap (sharply_near_in p) c.behind-spread.ensures)
+    cost_of_row p t c.args.count c.apart.result c.near.result c.value-macros.ensures.sane c.requires.from (c.apart.ensures.value ∙ ap (heard_apart heard.Clean p t) c.behind-spread.ensures) (c.near.ensures.value ∙ ap (sharply_near_in p) c.behind-spread.ensures)

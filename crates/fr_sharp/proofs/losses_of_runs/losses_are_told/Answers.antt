@@ -10,4 +10,4 @@ returns-clause-covered c = λ p d s flutter sane some flutters.
     (through_is_covered p d s flutter finds some flutters, covered_is_through p d s flutter finds some)
 
 pub returns-clause-keeps : goal.returns-clause-keeps
-returns-clause-keeps c = runs_keep_their_bounds
+returns-clause-keeps c = runs_keep_their_bounds c.histories_keep_through_losses.ensures.keep c.heard_numbers.ensures.later

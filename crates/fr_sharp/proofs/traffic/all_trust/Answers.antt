@@ -1,0 +1,30 @@
+use Rattle.std.proofs.Common.{◌≡◌, ◌∙◌, ◌+◌, ◌<◌, ◌&&◌, ℕ, Bool, true, false, List, length, get_or, sym, ap, ap₂, arith, rules}
+use Rattle.std.proofs.lemmas.List.Folds.{list_all_at, list_all_more}
+use Rattle.fr_cluster.specs.declared.nodes.NodeSpec.{NodeSpec}
+use borrow.Author.Tests.{ltb-false, ltb-true}
+use Rattle.fr_sharp.specs.Traffic.{traffic_with, trusts}
+use Rattle.fr_sharp.proofs.traffic.all_trust.Goals.{in-Some+else-not-trusts, in-None}
+use Rattle.fr_sharp.proofs.traffic.all_trust.Goals as goal
+
+pub returns-then-not-trusts : goal.returns-then-not-trusts
+returns-then-not-trusts c =
+    let t = traffic_with c.args.nodes.now c.args.script.now in
+    let node : NodeSpec = c.in-Some.node.now in
+    let less : c.loop-place.place < length c.args.nodes.now = ltb-true _ _ (sym c.in-Some.ensures.0) in
+    let not_one : c.trusts.result ≡ false = search rules in
+    let here : trusts t c.args.double (get_or c.args.nodes.now c.loop-place.place node) ≡ false = ap (trusts t c.args.double) (sym c.in-Some.ensures.1) ∙ sym c.trusts.ensures ∙ not_one in
+    sym (list_all_at (trusts t c.args.double) c.args.nodes.now c.loop-place.place node less here)
+
+pub loop-place-preserved : goal.loop-place-preserved
+loop-place-preserved c = elim c.match-get.branch [
+  | in-Some+else-not-trusts w ↦
+      let t = traffic_with c.args.nodes.now c.args.script.now in
+      let node : NodeSpec = w.in-Some.node.now in
+      let one : w.trusts.result ≡ true = search rules in
+      let here : trusts t c.args.double (get_or c.args.nodes.now c.loop-place.place node) ≡ true = ap (trusts t c.args.double) (sym w.in-Some.ensures.1) ∙ sym w.trusts.ensures ∙ one in
+      let less : c.loop-place.place < length c.args.nodes.now = ltb-true _ _ (sym w.in-Some.ensures.0) in
+      list_all_more (trusts t c.args.double) c.args.nodes.now c.loop-place.place node less ∙ ap₂ (λ (a b : Bool). a && b) c.loop-place.invariant here
+  | in-None w ↦
+      let high = ltb-false c.loop-place.place (length c.args.nodes.now) (sym w.in-None.ensures.0) in
+      absurd (omega (arith, c.len-place-end.ensures))
+]
