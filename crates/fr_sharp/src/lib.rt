@@ -91,7 +91,10 @@ pub use loss_costs::{
 };
 pub use loss_steps::LossSpread;
 pub use losses_of_runs::{RunLosses, losses_are_told, run_losses};
-pub use lossy_files::{files_keep_through_losses, files_that_lose_frames, lossy_files_give_runs};
+pub use lossy_files::{
+    files_keep_through_losses, files_that_lose_frames, files_whose_lists_meet,
+    lossy_files_give_runs,
+};
 pub use nearness::nodes_lie_near;
 pub use reached_run::the_sharper_precision_is_reached;
 pub use runs_flutter::stated_delays_flutter;
