@@ -13,7 +13,7 @@ use Rattle.fr_drift.specs.Questions.{delay_of, doubles_of, length_of}
 use Rattle.fr_script.specs.Deeds.{deed_in}
 use Rattle.fr_script.specs.Events.{event_of}
 use Rattle.fr_script.specs.View.{ScriptView, deed_of, is_arbitrary, join_of}
-use Rattle.fr_sharp.specs.Among.{apart_by, spread_by, LaterSpreadsAreLess}
+use Rattle.fr_sharp.specs.Among.{apart_through_losses, spread_through_losses, LaterSpreadsAreLess}
 use Rattle.fr_sharp.specs.Losses.{HistoriesKeepThroughLosses}
 use Rattle.fr_sharp.specs.LossStatement.{without_losses, IsCoveredThroughLosses}
 use Rattle.fr_sharp.specs.SettlingHistories.{AreStatedNear}
@@ -73,10 +73,10 @@ missing_checks (suc (suc (suc (suc (suc zero))))) from to = refl
 missing_checks (suc (suc (suc (suc (suc (suc k)))))) from to = absurd (omega (arith, to))
 
 abbrev near_at : ScriptView → ℕ → ℕ
-near_at s double = sharply_near_in steady_cluster (spread_by (has_arbitrary steady_cluster s) steady_cluster 250 (heard_in (traffic_in steady_cluster s)) double)
+near_at s double = sharply_near_in steady_cluster (spread_through_losses (has_arbitrary steady_cluster s) steady_cluster 250 (heard_in (traffic_in steady_cluster s)) double)
 
 missing_near : (double : ℕ) → double < doubles_of fluttering_drift → near_at missing_script double ≤ 45_726_402
-unfolding doubles_of spread_by costs_of last_of is_arbitrary deed_of deed_in event_of
+unfolding doubles_of spread_through_losses costs_of last_of is_arbitrary deed_of deed_in event_of
 missing_near zero less = lit≤ tt
 missing_near (suc zero) less = lit≤ tt
 missing_near (suc (suc zero)) less = lit≤ tt
@@ -113,18 +113,18 @@ lasts : (passed : ℕ) → WalkLastsAfter steady_cluster 250 passed
 lasts passed = tt
 
 abbrev apart_at : ScriptView → ℕ → ℕ
-apart_at s passed = apart_by (has_arbitrary steady_cluster s) steady_cluster 250 (λ m. heard_in (traffic_in steady_cluster s) (0 + m)) passed
+apart_at s passed = apart_through_losses (has_arbitrary steady_cluster s) steady_cluster 250 (λ m. heard_in (traffic_in steady_cluster s) (0 + m)) passed
 
 apart_0 : apart_at missing_script 0 ≡ 36_005_494
-unfolding spread_by costs_of is_arbitrary deed_of deed_in event_of
+unfolding spread_through_losses costs_of is_arbitrary deed_of deed_in event_of
 apart_0 = refl
 
 apart_1 : apart_at missing_script 1 ≡ 36_005_494
-unfolding spread_by costs_of is_arbitrary deed_of deed_in event_of
+unfolding spread_through_losses costs_of is_arbitrary deed_of deed_in event_of
 apart_1 = refl
 
 apart_2 : apart_at missing_script 2 ≡ 57_008_790
-unfolding spread_by costs_of is_arbitrary deed_of deed_in event_of
+unfolding spread_through_losses costs_of is_arbitrary deed_of deed_in event_of
 apart_2 = refl
 
 three : doubles_of fluttering_drift ≡ 3
@@ -172,7 +172,7 @@ beside_checks (suc (suc (suc (suc (suc zero))))) from to = refl
 beside_checks (suc (suc (suc (suc (suc (suc k)))))) from to = absurd (omega (arith, to))
 
 beside_near : (double : ℕ) → double < doubles_of fluttering_drift → near_at (marking_script true) double ≤ 84_305_863
-unfolding doubles_of spread_by costs_of last_of is_arbitrary deed_of deed_in event_of
+unfolding doubles_of spread_through_losses costs_of last_of is_arbitrary deed_of deed_in event_of
 beside_near zero less = lit≤ tt
 beside_near (suc zero) less = lit≤ tt
 beside_near (suc (suc zero)) less = lit≤ tt
@@ -201,7 +201,7 @@ pub beside_files_are_covered : BesideFilesAreCovered
 beside_files_are_covered = (meeting, beside_covered)
 
 beside_apart : (double : ℕ) → double < 3 → apart_at (marking_script true) double ≡ 99_015_680
-unfolding spread_by costs_of is_arbitrary deed_of deed_in event_of
+unfolding spread_through_losses costs_of is_arbitrary deed_of deed_in event_of
 beside_apart zero less = refl
 beside_apart (suc zero) less = refl
 beside_apart (suc (suc zero)) less = refl

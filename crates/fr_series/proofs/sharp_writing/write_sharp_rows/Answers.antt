@@ -7,7 +7,7 @@ use Rattle.fr_time.specs.Position.{grid_for}
 use Rattle.fr_world.specs.World.{WorldView, setting_after}
 use Rattle.fr_cluster.specs.Values.{Values}
 use Rattle.fr_script.specs.View.{ScriptView}
-use Rattle.fr_sharp.specs.Among.{spread_by}
+use Rattle.fr_sharp.specs.Among.{spread_through_losses}
 use Rattle.fr_bound.specs.declared.settling.Spread.{Spread}
 use Rattle.fr_sharp.specs.SharpStatement.{has_arbitrary}
 use Rattle.fr_sharp.specs.Traffic.{heard_in, traffic_in}
@@ -24,7 +24,7 @@ use Rattle.fr_series.proofs.Worlds.{two-more}
 use Rattle.fr_series.proofs.sharp_writing.write_sharp_rows.Goals as goal
 
 abbrev spread_at : ℕ → ℕ → Values → ScriptView → Spread
-spread_at flutter n p s = spread_by (has_arbitrary p s) p flutter (heard_in (traffic_in p s)) n
+spread_at flutter n p s = spread_through_losses (has_arbitrary p s) p flutter (heard_in (traffic_in p s)) n
 
 pub loop-double-init : goal.loop-double-init
 loop-double-init g c =
@@ -40,7 +40,7 @@ loop-double-init g c =
       text = subst P (sym (told-none (sharp_rows keeps beside w.params flutter) (sharp_double keeps beside w.params flutter) (sharp_grows keeps beside w.params flutter) (setting_after w))) (puts_none a);
       spread =
           c.first-spread.ensures.spread (heard_in (traffic_in w.params w.script))
-          ∙ ap₂ (λ (b : Bool) (p : Values). spread_by b p flutter (heard_in (traffic_in w.params w.script)) 0)
+          ∙ ap₂ (λ (b : Bool) (p : Values). spread_through_losses b p flutter (heard_in (traffic_in w.params w.script)) 0)
           (c.has_arbitrary-beside.ensures ∙ ap₂ has_arbitrary c.params.ensures.value c.script.ensures.value) c.params-2.ensures.value;
       passed = c.first-spread.ensures.passed;
     }
