@@ -1,5 +1,5 @@
 -- What is promised of a run in which frames are lost, by its files. The words of it, from the top: `IsLawful` (what a run is),
--- `IsCoveredThroughLosses` (what is asked of the files), `apart_by` (by what is heard, `heard_in`), `IsInSharpSyncAt`, `walk_lasts`,
+-- `IsCoveredThroughLosses` (what is asked of the files), `apart_through_losses` (by what is heard, `heard_in`), `IsInSharpSyncAt`, `walk_lasts`,
 -- `KeepsApart`.
 use Rattle.std.specs.Prelude.{◌≡◌, ◌+◌, ◌<◌, ◌≤◌, ℕ, pos, Bool, true, false, not, ◌||◌, List, []}
 use Rattle.std.specs.List.{list_all}

@@ -37,10 +37,8 @@ traffic_in p s = traffic_with p.nodes s
 
 -- certainly nothing comes of a frame
 abbrev pub is_silent : Event → Bool
-is_silent event.Regular = false
 is_silent event.Silent = true
-is_silent (event.Flip bit) = false
-is_silent (event.Say shift bytes) = false
+is_silent other = false
 
 -- the frame of a cycle comes; or something may come of it
 abbrev pub comes : Bool → Event → Bool

@@ -207,7 +207,8 @@ fn costs_with(
     requires second { costs.second ≤ 100 }
     ensures value { result ≡
         (if is_arbitrary script.now node.now.id then costs
-        else with_cost (missed_or_discarded asked.rate (traffic_with nodes.now script.now) asked.double node.now) costs) }
+        else with_cost
+        (missed_or_discarded asked.rate (traffic_with nodes.now script.now) asked.double node.now) costs) }
     ensures most { result.most ≤ 100 }
     ensures second { result.second ≤ 100 }
 {
@@ -358,8 +359,10 @@ fn has_value(script: &Script, asked: Asked, receiver: &NodeSpec, sender: &NodeSp
 fn comes_over(script: &Script, asked: Asked, receiver: &NodeSpec, sender: &NodeSpec) -> bool
     requires { asked.double ≤ 100_000 }
     ensures { (nodes : List NodeSpec) → result ≡
-        (value_on asked.rate asked.surely (traffic_with nodes script.now) sender.now receiver.now asked.double channel.A
-        || value_on asked.rate asked.surely (traffic_with nodes script.now) sender.now receiver.now asked.double channel.B) }
+        (value_on asked.rate asked.surely (traffic_with nodes script.now) sender.now receiver.now asked.double
+        channel.A
+        || value_on asked.rate asked.surely (traffic_with nodes script.now) sender.now receiver.now asked.double
+        channel.B) }
 {
     value_on(script, asked, sender, receiver, Channel::A)
         || value_on(script, asked, sender, receiver, Channel::B)
