@@ -404,7 +404,7 @@ module _ (x : Setting) (flutter : ℕ) (h : Cycles) (even odd : Cycle) (double :
   -- ---- trusted
 
   trusted_of : (rate : Bool) (node : NodeSpec) → Contains (row_nodes x h) node → is_trusted rate (traffic_of x) double node ≡ true
-      → IsTrustedOf (round_at x h even odd) (value_by rate (row_hearer x even odd node.id)) (values_of (value_by rate (row_hearer x even odd node.id)))
+      → IsTrustedOf (round_at x h even odd) (value_by rate (row_hearer x even odd node.id))
   trusted_of rate node among is =
       let sure = sure_count rate (traffic_of x) double node in
       let others = arbitrary_count (traffic_of x) in
@@ -417,8 +417,8 @@ module _ (x : Setting) (flutter : ℕ) (h : Cycles) (even odd : Cycle) (double :
       record { few = omega (arith, few, more); some = omega (arith, some, enough) }
 
   pub rows_trusted : all_trusted (traffic_of x) double ≡ true → (node : NodeSpec) → Contains (row_nodes x h) node
-      → IsTrustedOf (round_at x h even odd) (offset_at (row_hearer x even odd node.id).look (row_hearer x even odd node.id).own) (offsets_of (row_hearer x even odd node.id))
-      × IsTrustedOf (round_at x h even odd) (rate_at (row_hearer x even odd node.id).look (row_hearer x even odd node.id).own) (rates_of (row_hearer x even odd node.id))
+      → IsTrustedOf (round_at x h even odd) (offset_at (row_hearer x even odd node.id).look (row_hearer x even odd node.id).own)
+      × IsTrustedOf (round_at x h even odd) (rate_at (row_hearer x even odd node.id).look (row_hearer x even odd node.id).own)
   rows_trusted trusted node among =
       let correct = correct_node x node (is_correct_row x h node among) in
       let own = all_pass (trusts (traffic_of x) double) x.params.nodes node trusted correct.there in

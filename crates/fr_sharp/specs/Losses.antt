@@ -45,8 +45,8 @@ pub record IsSuppliedInPart (r : Round) (flutter : ℕ) (n : Hearer) : Type 0 wh
   pub some_offsets : 1 ≤ length (offsets_of n)
   pub some_rates : 1 ≤ length (rates_of n)
 
--- a list has values of so many arbitrary nodes alone as it discards at each end
-pub record IsTrustedOf (r : Round) (at : ℕ → Option ℤ) (values : List ℤ) : Type 0 where
+-- of a list by key index: a value is of a sender, and at each end as many are discarded as there may be of arbitrary nodes
+pub record IsTrustedOf (r : Round) (at : ℕ → Option ℤ) : Type 0 where
   pub few : sync_count r.params r.is_arbitrary ≤ discarded (length (heard_of r at) + sync_count r.params r.is_arbitrary)
   pub some : 1 ≤ length (heard_of r at)
 
@@ -55,7 +55,7 @@ pub record IsRoundInPart (r : Round) (flutter : ℕ) (rows : List Hearer) : Type
   pub round : IsRound r
   pub trusted :
       (n : Hearer) → Contains rows n
-      → IsTrustedOf r (offset_at n.look n.own) (offsets_of n) × IsTrustedOf r (rate_at n.look n.own) (rates_of n)
+      → IsTrustedOf r (offset_at n.look n.own) × IsTrustedOf r (rate_at n.look n.own)
   pub supplied : (n : Hearer) → Contains rows n → IsSuppliedInPart r flutter n
   pub among :
       (node : NodeSpec) (slot : ℕ) → IsSender r node slot

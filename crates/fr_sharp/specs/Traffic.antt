@@ -66,7 +66,7 @@ has_value rate surely t double b a =
 -- ---- one receiver
 
 -- a correct node with a key slot
-abbrev pub sends : Traffic → NodeSpec → Bool
+abbrev pub is_correct_sender : Traffic → NodeSpec → Bool
 is_correct_sender t a = is_sync a && not (t.is_arbitrary a.id)
 
 -- how many of them pass a test, and how many arbitrary sync nodes there are
@@ -120,13 +120,13 @@ lists_meet rate t double =
     nat_lt ((costs_of rate t double t.nodes).most + (costs_of rate t double t.nodes).second) (sender_count t (λ a. true))
 
 -- all is heard: of any two nodes one channel carries the frames of both cycles
-abbrev pub counts_on : Traffic → NodeSpec → NodeSpec → Bool
-counts_on t a b = is_sync a && not (t.is_arbitrary a.id) && not (t.is_arbitrary b.id) && not (a.id == b.id)
+abbrev pub bears_on : Traffic → NodeSpec → NodeSpec → Bool
+bears_on t a b = is_sync a && not (t.is_arbitrary a.id) && not (t.is_arbitrary b.id) && not (a.id == b.id)
 
 abbrev pub all_linked : Traffic → ℕ → Bool
 all_linked t double =
     list_all
-    (λ a. list_all (λ b. not (counts_on t a b) || (rate_on true t a b double channel.A || rate_on true t a b double channel.B)) t.nodes)
+    (λ a. list_all (λ b. not (bears_on t a b) || (rate_on true t a b double channel.A || rate_on true t a b double channel.B)) t.nodes)
     t.nodes
 
 -- what is heard in a double cycle: all of all, without arbitrary sync nodes; of any two nodes enough in common; or what there is
