@@ -1,4 +1,4 @@
-ghost use Rattle.fr_sharp.specs.WorkedLosses.{BesideFilesAreCovered, BesideFilesKeep, LosingFilesAreCovered, LosingFilesKeep, MissingFilesAreCovered, MissingFilesKeep};
+ghost use Rattle.fr_sharp.specs.WorkedLosses.{LosingFilesAreCovered, LosingFilesKeep};
 ghost use Rattle.fr_sharp.specs.LossStatement.{CoveredFilesKeepThroughLosses, FilesKeepThroughLosses, LossyFilesGiveRuns};
 
 use crate::among::heard_numbers;
@@ -29,19 +29,6 @@ pub fn lossy_files_give_runs()
 pub fn files_that_lose_frames()
     ensures covered { LosingFilesAreCovered }
     ensures keeps { LosingFilesKeep }
-{
-    histories_keep_through_losses();
-    heard_numbers();
-}
-
-/// A law: so it is of a script by which one frame is lost at one node, where lists meet: the double cycle behind it costs
-/// less; and of one by which a node is arbitrary, where each double cycle keeps to the numbers beside arbitrary nodes, in
-/// ticks.
-pub fn files_whose_lists_meet()
-    ensures missing_covered { MissingFilesAreCovered }
-    ensures missing_keeps { MissingFilesKeep }
-    ensures beside_covered { BesideFilesAreCovered }
-    ensures beside_keeps { BesideFilesKeep }
 {
     histories_keep_through_losses();
     heard_numbers();

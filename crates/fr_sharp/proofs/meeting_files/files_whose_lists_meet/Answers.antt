@@ -1,5 +1,5 @@
 use Rattle.fr_sharp.proofs.MeetingWorked.{beside_files_are_covered, beside_files_keep, missing_files_are_covered, missing_files_keep}
-use Rattle.fr_sharp.proofs.lossy_files.files_whose_lists_meet.Goals as goal
+use Rattle.fr_sharp.proofs.meeting_files.files_whose_lists_meet.Goals as goal
 
 pub returns-clause-missing_covered : goal.returns-clause-missing_covered
 returns-clause-missing_covered c = missing_files_are_covered
