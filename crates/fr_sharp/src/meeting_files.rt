@@ -3,9 +3,9 @@ ghost use Rattle.fr_sharp.specs.WorkedLosses.{BesideFilesAreCovered, BesideFiles
 use crate::among::heard_numbers;
 use crate::losing::histories_keep_through_losses;
 
-/// A law: a run is covered through losses, and keeps to the numbers, of a script by which one frame is lost at one node, where lists meet: the double cycle behind it costs
-/// less; and of one by which a node is arbitrary, where each double cycle keeps to the numbers beside arbitrary nodes, in
-/// ticks.
+/// A law: by a script by which one frame is lost at one node a run is covered through losses, and lists meet: the double
+/// cycle behind the loss costs less than behind a poor one, in ticks. So it is of one by which a node is arbitrary, and one
+/// frame is lost beside it: each double cycle keeps to the numbers beside arbitrary nodes.
 pub fn files_whose_lists_meet()
     ensures missing_covered { MissingFilesAreCovered }
     ensures missing_keeps { MissingFilesKeep }
