@@ -7,11 +7,11 @@ use Rattle.fr_bound.specs.Settling.{IsPeakTo, IsSettleVerdict}
 use Rattle.fr_bound.specs.declared.settling.Settling.{Settling}
 use Rattle.fr_bound.proofs.Settled.{one_double, one_peak, one_verdict}
 use Rattle.fr_params.specs.Files.{params_file}
-use Rattle.fr_sharp.specs.declared.way.SharpWay.{SharpWay}
+use Rattle.fr_promise.specs.declared.way.SharpWay.{SharpWay}
 use Rattle.fr_sharp.specs.LossCosts.{OneLongest, OneLossCost, OneSecondCost}
 use Rattle.fr_sharp.specs.declared.loss_costs.LossCost.{LossCost}
 use Rattle.fr_sharp.specs.declared.loss_costs.SecondCost.{SecondCost}
-use Rattle.fr_sharp.specs.SharpWay.{OneSharpWay}
+use Rattle.fr_promise.specs.SharpWay.{OneSharpWay}
 use Rattle.fr_text.specs.Kind.{HasOneAnswer}
 use Rattle.fr_text.specs.Files.{IsDecided}
 use Rattle.fr_text.proofs.Commands.{decided}

@@ -6,11 +6,11 @@ use Rattle.fr_bound.specs.Judged.{heard_spread}
 use Rattle.fr_bound.specs.declared.settling.Spread.{Spread}
 use Rattle.fr_cluster.specs.Values.{Values}
 use Rattle.fr_bound.specs.SharpSpreads.{next_lost_spread}
-use Rattle.fr_sharp.specs.Among.{all_or_any, lost_spread}
+use Rattle.fr_precision.specs.Among.{all_or_any, lost_spread}
 use Rattle.fr_sharp.specs.LossCosts.{heard_behind}
 use Rattle.fr_sharp.specs.LossSteps.{heard_apart}
 use Rattle.fr_sharp.specs.Losses.{lost_apart}
-use Rattle.fr_sharp.proofs.AmongNumbers.{next_is}
+use Rattle.fr_promise.proofs.AmongNumbers.{next_is}
 use Rattle.fr_sharp.proofs.LossLemmas.{apart_by_all, next_by}
 use Rattle.fr_text.specs.Pieces.{line}
 use Rattle.fr_answer.specs.LossText.{loss_apart_line, loss_apart_lines}

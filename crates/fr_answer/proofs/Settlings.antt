@@ -13,10 +13,10 @@ use Rattle.fr_bound.proofs.Settled.{peak_first, peak_next, settled_soon}
 use Rattle.fr_bound.specs.SharpBounds.{sharp_lambda, sharp_pi}
 use Rattle.fr_bound.specs.SharpChecks.{sharp_left_of, sharp_right_of}
 use Rattle.fr_bound.specs.SharpSpreads.{IsSharplySettled}
-use Rattle.fr_sharp.specs.SharpSettling.{sharp_spread_after}
-use Rattle.fr_sharp.specs.SharpWay.{IsGreatestTo, IsSharpWay, IsWayVerdict, SettlesSharplyAt, apart_after, near_after, way_holds_of}
-use Rattle.fr_sharp.specs.declared.way.SharpWay.{SharpWay}
-use Rattle.fr_sharp.proofs.WayLemmas.{greatest_first, greatest_next, settled_at_last, settles_soon}
+use Rattle.fr_precision.specs.SharpSettling.{sharp_spread_after}
+use Rattle.fr_promise.specs.SharpWay.{IsGreatestTo, IsSharpWay, IsWayVerdict, SettlesSharplyAt, apart_after, near_after, way_holds_of}
+use Rattle.fr_promise.specs.declared.way.SharpWay.{SharpWay}
+use Rattle.fr_promise.proofs.WayLemmas.{greatest_first, greatest_next, settled_at_last, settles_soon}
 use Rattle.fr_answer.specs.SettleAnswer.{AreSharpWays, IsSettlingFor}
 
 -- ---- the least number of which something holds that can be tested

@@ -10,9 +10,9 @@ use Rattle.fr_report.specs.RunText.{IsRunText}
 use Rattle.fr_script.specs.View.{ScriptView}
 use Rattle.fr_sharp.specs.JoinedFiles.{IsSharplyCoveredToJoin, KeepsSharplyJoined}
 use Rattle.fr_sharp.specs.LossStatement.{IsCoveredThroughLosses, KeepsThroughLosses}
-use Rattle.fr_sharp.specs.SharpHistories.{IsInSharpSyncAt}
+use Rattle.fr_runs.specs.SharpHistories.{IsInSharpSyncAt}
 use Rattle.fr_sharp.specs.SharpStatement.{has_arbitrary, IsSharplyCovered, KeepsSharply}
-use Rattle.fr_sharp.specs.SharpTested.{IsUnfollowedSharpSyncAt}
+use Rattle.fr_promise.specs.SharpTested.{IsUnfollowedSharpSyncAt}
 
 -- a text is the report of the run that the files decide, with the promise of it; and where they are sharply covered, with any
 -- flutter in ticks, the same run keeps the sharper precision from each double cycle in sharp sync on; so it does where they are

@@ -3,8 +3,8 @@ use Rattle.std.specs.Prelude.{◌≡◌, ℕ, true, false, List, [], ◌∷◌, 
 use Rattle.fr_bound.specs.Settling.{IsPeakTo, IsSettleVerdict, SettlesAt}
 use Rattle.fr_bound.specs.declared.settling.Settling.{Settling}
 use Rattle.fr_cluster.specs.Values.{Values}
-use Rattle.fr_sharp.specs.declared.way.SharpWay.{SharpWay}
-use Rattle.fr_sharp.specs.SharpWay.{IsSharpWay}
+use Rattle.fr_promise.specs.declared.way.SharpWay.{SharpWay}
+use Rattle.fr_promise.specs.SharpWay.{IsSharpWay}
 use Rattle.fr_params.specs.Files.{params_file}
 use Rattle.fr_params.specs.Told.{params_says}
 use Rattle.fr_program.specs.Command.{Command}

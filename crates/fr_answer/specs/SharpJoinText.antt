@@ -4,8 +4,8 @@ use Rattle.std.specs.Prelude.{ℕ, Bool, true, false, List, ◌++◌, codes, Opt
 use Rattle.std.specs.Fmt.{decimal}
 use Rattle.fr_cluster.specs.Values.{Values}
 use Rattle.fr_bound.specs.Checks.{left_of}
-use Rattle.fr_sharp.specs.JoinedHistories.{first_rates_last}
-use Rattle.fr_sharp.specs.SharpJoining.{sharp_join_holds_of, sharp_join_right_of, sharp_reach}
+use Rattle.fr_promise.specs.JoinedHistories.{first_rates_last}
+use Rattle.fr_promise.specs.SharpJoining.{sharp_join_holds_of, sharp_join_right_of, sharp_reach}
 use Rattle.fr_text.specs.Pieces.{line}
 use Rattle.fr_answer.specs.BoundText.{holds_text}
 use Rattle.fr_answer.specs.SharpText.{kind_text, sharp_text}

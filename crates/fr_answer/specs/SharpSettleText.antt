@@ -1,7 +1,7 @@
 -- The five lines of how long until in sharp sync, without arbitrary sync nodes and beside them.
 use Rattle.std.specs.Prelude.{ℕ, ℤ, Bool, true, false, List, ◌++◌, codes, Option, Some, None}
 use Rattle.std.specs.Fmt.{decimal, signed_decimal}
-use Rattle.fr_sharp.specs.declared.way.SharpWay.{SharpWay}
+use Rattle.fr_promise.specs.declared.way.SharpWay.{SharpWay}
 use Rattle.fr_text.specs.Pieces.{line}
 use Rattle.fr_answer.specs.SharpText.{kind_text}
 

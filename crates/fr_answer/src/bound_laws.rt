@@ -5,7 +5,8 @@ ghost use Rattle.fr_answer.specs.LossAnswer.{loss_files};
 ghost use Rattle.fr_answer.specs.SettleAnswer.{settle_files, sharp_settle_files};
 
 use fr_bound::one_settling;
-use fr_sharp::{costs_are_one, one_sharp_way};
+use fr_promise::one_sharp_way;
+use fr_sharp::costs_are_one;
 
 /// A law: the bytes of the file decide what is written. Two texts that the answer's clause allows for files of
 /// the same bytes are the same.

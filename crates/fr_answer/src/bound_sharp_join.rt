@@ -1,6 +1,6 @@
 ghost use Rattle.std.specs.Prelude.{◌≡◌, ◌≤◌, length};
 ghost use Rattle.fr_base.specs.Device.{Puts};
-ghost use Rattle.fr_sharp.specs.JoinedHistories.{first_rates_last};
+ghost use Rattle.fr_promise.specs.JoinedHistories.{first_rates_last};
 ghost use Rattle.fr_bound.specs.SharpBounds.{most_flutter};
 ghost use Rattle.fr_text.specs.Lines.{joined_lines};
 ghost use Rattle.fr_program.specs.Around.{around_of};
@@ -16,7 +16,7 @@ use fr_bound::CheckSides;
 use fr_cluster::Params;
 use fr_params::ParamsFile;
 use fr_program::Failure;
-use fr_sharp::{first_rates_last, sharp_join_side, sharp_reach};
+use fr_promise::{first_rates_last, sharp_join_side, sharp_reach};
 use fr_text::Piece::{Natural, Word};
 use fr_text::{Line, accepted, line_of, put_lines};
 use std::alloc::Global;

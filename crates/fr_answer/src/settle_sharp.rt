@@ -14,7 +14,7 @@ use fr_base::{PutFault, Shelf, Sink};
 use fr_cluster::Params;
 use fr_params::ParamsFile;
 use fr_program::Failure;
-use fr_sharp::{SharpWay, sharp_settle};
+use fr_promise::{SharpWay, sharp_settle};
 use fr_text::Piece::{Natural, Signed, Word};
 use fr_text::{Line, accepted, line_of, put_lines};
 use std::alloc::Global;

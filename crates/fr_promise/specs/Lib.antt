@@ -2,3 +2,12 @@
 pub mod Statement
 pub mod Files
 pub mod Way
+-- of the sharper precision
+pub mod JoinedHistories
+pub mod SharpFollowing
+pub mod SharpGroup
+pub mod SharpJoined
+pub mod SharpJoining
+pub mod SharpListening
+pub mod SharpTested
+pub mod SharpWay

@@ -1,13 +1,38 @@
 //! What the files of a run promise: a run without a gap is covered, and keeps its precision from its first double
-//! cycle in sync on in which no node follows. And how soon clocks that begin apart come into sync. Laws; nothing
-//! here runs.
+//! cycle in sync on in which no node follows. And how soon clocks that begin apart come into sync. And why the nodes
+//! of a run that others join keep the sharper precision. Laws; only the way to sharp sync and the bounds and checks of
+//! nodes that join are computed here.
 #![tactic(auto)]
 
+mod among;
+mod following;
+mod grouping;
+mod join_checking;
+mod joined;
+mod joined_histories;
+mod joining;
 mod laws;
+mod listening;
 mod settles;
+mod sharp_settling;
+mod tested;
+mod way;
 
+pub use among::{
+    heard_numbers, losses_cost, losses_last, lost_numbers, meeting_lists_draw, nodes_come_among,
+};
+pub use following::followers_hear_steadily;
+pub use grouping::sharp_groups_are_kept;
+pub use join_checking::{first_rates_last, sharp_join_checks, sharp_join_side, sharp_reach};
+pub use joined::joined_doubles_go_on;
+pub use joined_histories::joined_histories_keep_sharp_sync;
+pub use joining::{followers_come_nearer, sharp_join_checks_suffice};
 pub use laws::{
     covered_files_are_stated, drift_of_a_file_fits, files_keep_precision, greatest_skew_is_within,
     rates_are_within, the_headline,
 };
+pub use listening::listeners_come_near;
 pub use settles::{files_settle, runs_settle};
+pub use sharp_settling::{one_sharp_way, sharp_spreads_settle};
+pub use tested::{one_first_sharp_sync, sharp_sync_is_tested};
+pub use way::{SharpWay, sharp_settle};

@@ -51,3 +51,6 @@ pub mod Fed
 pub mod Beginning
 pub mod Starts
 pub mod Covers
+pub mod RunFlutter
+pub mod FramesCounted
+pub mod RowsSupplied

@@ -19,3 +19,7 @@ pub mod Following
 pub mod Group
 pub mod Spread
 pub mod Supplied
+-- of the sharper precision
+pub mod Flutter
+pub mod SharpHistories
+pub mod SteadyRuns

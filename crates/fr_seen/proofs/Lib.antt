@@ -16,3 +16,17 @@ pub mod OwnSlotLaws
 pub mod SenderLaws
 pub mod RowLaws
 pub mod WordLaws
+pub mod SendersApart
+pub mod SenderRows
+pub mod SeenDoubles
+pub mod SeenCourses
+pub mod SeenNodes
+pub mod CompletenessWidths
+pub mod CompletenessSenders
+pub mod CompletenessTicks
+pub mod CompletenessOver
+pub mod CompletenessWithin
+pub mod CompletenessMacroticks
+pub mod CompletenessNext
+pub mod CompletenessOddWithin
+pub mod CompletenessLate

@@ -8,3 +8,6 @@ pub mod Observed
 pub mod LogSeen
 pub mod OwnSlots
 pub mod WorkedStamps
+pub mod Contradictions
+pub mod Completeness
+pub mod LogDoubles

@@ -36,16 +36,16 @@ use Rattle.fr_seen.specs.LogSeen.{GoesOnBy, SenderGoesOn, TermHolds, log_senders
 use Rattle.fr_seen.proofs.RowLaws.{observed_next_rows_hold}
 use Rattle.fr_seen.proofs.SenderLaws.{all_given, mapped_some, senders_go_on}
 use Rattle.fr_seen.proofs.TermLaws.{rate_steps_are_seen}
-use Rattle.fr_seen_runs.specs.Contradictions.{IsObservedRun, MissesFew}
+use Rattle.fr_seen.specs.Contradictions.{IsObservedRun, MissesFew}
 use Rattle.fr_observe.specs.Faults.{offset_due, offset_fault, rate_due, rate_fault, stated_flutter, unlike_fault, unlike_with}
 use Rattle.fr_judging.specs.Missing.{unlike_term}
 use Rattle.fr_observe.specs.declared.term.Term.{Term}
 use Rattle.fr_observe.specs.declared.term.Term.TheVariants.{Offset, Rate}
 use Rattle.fr_seen_runs.specs.ComputedTerms.{IsNamedLog, OffsetIsComputed, RateIsComputed}
 use Rattle.fr_seen_runs.specs.JudgedTerms.{IsJudgedRun, MissedIsSo, OffsetsAreComputed, RatesAreComputed}
-use Rattle.fr_seen_runs.specs.LogDoubles.{IsDoubleThere}
+use Rattle.fr_seen.specs.LogDoubles.{IsDoubleThere}
 use Rattle.fr_seen_runs.proofs.ComputedSenders.{there_some}
-use Rattle.fr_seen_runs.proofs.SeenDoubles.{doubles_to, sighting_within}
+use Rattle.fr_seen.proofs.SeenDoubles.{doubles_to, sighting_within}
 
 -- ---- what was seen and what was computed have a number in common
 

@@ -15,7 +15,7 @@ use Rattle.fr_bound.specs.Sync.{cycle_length_of}
 use Rattle.fr_precision.specs.Instants.{gap_of}
 use Rattle.fr_precision.specs.Offsets.{IsDeviation}
 use Rattle.fr_precision.specs.Rows.{HasProperMicro, Sender}
-use Rattle.fr_sharp.specs.Steady.{between_actions, PlacesEven}
+use Rattle.fr_precision.specs.Steady.{between_actions, PlacesEven}
 use Rattle.fr_course.specs.declared.intervals.Interval.{Interval}
 use Rattle.fr_course.specs.declared.scales.Scale.{Scale}
 use Rattle.fr_course.specs.Readings.{reading_scale}

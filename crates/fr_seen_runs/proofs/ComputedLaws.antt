@@ -31,7 +31,7 @@ use Rattle.fr_runs.specs.Numbers.{HasDouble, HasRowIn}
 use Rattle.fr_runs.proofs.Nodes.{correct_node, node_there}
 use Rattle.fr_runs.proofs.Receivers.{is_correct_node}
 use Rattle.fr_runs.proofs.Rows.{map_contains}
-use Rattle.fr_sharp.specs.Steady.{PlacesEven}
+use Rattle.fr_precision.specs.Steady.{PlacesEven}
 use Rattle.fr_log.specs.View.{LogView}
 use Rattle.fr_course.specs.Computed.{ValuesAreCounted, ValuesArePlaced, deviation_seen, further_by, measuring_of, own_value, rate_value_seen}
 use Rattle.fr_course.specs.Middles.{MiddlesHold, middle}
@@ -47,7 +47,7 @@ use Rattle.fr_seen.specs.LogSeen.{IsSenderOn, log_senders, run_double, seen_in}
 use Rattle.fr_seen.proofs.SenderLaws.{senders_are_on_course}
 use Rattle.fr_seen_runs.specs.ComputedTerms.{IsNamedLog, OffsetIsComputed, RateIsComputed}
 use Rattle.fr_seen_runs.specs.ComputedValues.{AreKeyed, ComputesOffset, ComputesRate, IsHeardOf, IsKeyedAt, told_offsets, told_rates, told_sender}
-use Rattle.fr_seen_runs.specs.Contradictions.{MissesFew}
+use Rattle.fr_seen.specs.Contradictions.{MissesFew}
 use Rattle.fr_seen_runs.proofs.ComputedGaps.{deviation_lies, rate_value_lies}
 use Rattle.fr_seen_runs.proofs.ComputedKnown.{indexes_of, middle_lies, LiesIn}
 use Rattle.fr_seen_runs.proofs.ComputedLists.{AllPairs-mapped}

@@ -32,13 +32,13 @@ use Rattle.fr_runs.proofs.Nodes.{correct_node, node_there}
 use Rattle.fr_runs.proofs.Parts.{cycle_within, double_at, even_is, odd_is}
 use Rattle.fr_runs.proofs.RowsHeard.{RowLink}
 use Rattle.fr_runs.proofs.Whole.{prior_of}
-use Rattle.fr_sharp.specs.Hearing.{IsHeardInPart}
-use Rattle.fr_sharp.specs.Steady.{PlacesEven}
-use Rattle.fr_sharp.specs.SteadyRuns.{AreRowsInReach}
-use Rattle.fr_sharp.proofs.HearingLemmas.{no_less}
+use Rattle.fr_precision.specs.Hearing.{IsHeardInPart}
+use Rattle.fr_precision.specs.Steady.{PlacesEven}
+use Rattle.fr_runs.specs.SteadyRuns.{AreRowsInReach}
+use Rattle.fr_precision.proofs.HearingLemmas.{no_less}
 use Rattle.fr_sharp.proofs.JudgedLaws.{Grows}
-use Rattle.fr_sharp.proofs.RowsSupplied.{few_in, frames_stored, looked_up, pairs_steady, row_regular, rows_heard_in_part, LawfulRows}
-use Rattle.fr_sharp.proofs.SteadyLemmas.{half_places_even, steady_values_place_lem}
+use Rattle.fr_runs.proofs.RowsSupplied.{few_in, frames_stored, looked_up, pairs_steady, row_regular, rows_heard_in_part, LawfulRows}
+use Rattle.fr_precision.proofs.SteadyLemmas.{half_places_even, steady_values_place_lem}
 use Rattle.fr_seen_runs.specs.ComputedValues.{AreKeyed, ComputesOffset, ComputesRate, IsHeardOf, IsKeyedAt, told_offsets, told_rates, told_sender}
 
 -- ---- the values of both channels

@@ -17,7 +17,7 @@ use Rattle.fr_sightings.specs.Sightings.{sightings_of}
 use Rattle.fr_sightings.specs.declared.sighting.Sighting.{Sighting}
 use Rattle.fr_seen.specs.Clocks.{StraightClock}
 use Rattle.fr_seen.specs.OwnSlots.{SlotsAreOwn}
-use Rattle.fr_seen_runs.specs.Contradictions.{IsAsLogStates, IsObservedRun}
+use Rattle.fr_seen.specs.Contradictions.{IsAsLogStates, IsObservedRun}
 use Rattle.fr_seen_runs.specs.Standings.{IsKnownOfLog, SpreadIsSo, Spreading, SpreadsAreSo, StandingsAreSo, StandsSo, log_spreads, log_standing, spread_row_of, spreads_from}
 use Rattle.fr_seen_runs.specs.ToldFaults.{NoFaultIsTold, ToldFaultsAskEither, ToldFaultsAskJudged, ToldFaultsAskOwnSlots, VerdictTellsFirst, faults_from, log_faults}
 use Rattle.fr_seen_runs.specs.NotContradicted.{NoRunHasOwnFaults, NoRunIsContradicted}

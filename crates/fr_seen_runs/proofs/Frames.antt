@@ -28,10 +28,10 @@ use Rattle.fr_seen.proofs.ObservedLaws.{is_action}
 use Rattle.fr_seen.proofs.RunLaws.{cut_at, nodes_have_both_rows, row_at, two_at}
 use Rattle.fr_seen.proofs.SenderLaws.{some_row}
 use Rattle.fr_seen_runs.specs.InTime.{IsNearFrom, arrives_at}
-use Rattle.fr_seen_runs.specs.LogDoubles.{IsDoubleThere}
+use Rattle.fr_seen.specs.LogDoubles.{IsDoubleThere}
 use Rattle.fr_seen_runs.proofs.Places.{IsPlaced, macrotick_near, placed_even, placed_odd, two_near}
 use Rattle.fr_seen_runs.proofs.Schedule.{ahead}
-use Rattle.fr_seen_runs.proofs.SeenDoubles.{double_of_cycle}
+use Rattle.fr_seen.proofs.SeenDoubles.{double_of_cycle}
 use Rattle.fr_seen_runs.proofs.Starts.{IsNodeAt, double_off, later, length_off, longest, rows_kept, same_cycle, starts_near, starts_off}
 
 -- how far a frame is off its place behind the start of its double cycle at most

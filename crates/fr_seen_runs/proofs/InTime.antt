@@ -42,11 +42,11 @@ use Rattle.fr_seen.proofs.Doubles.{numbers_of}
 use Rattle.fr_seen.proofs.ObservedLaws.{is_action}
 use Rattle.fr_seen.proofs.SenderLaws.{all_given}
 use Rattle.fr_seen.proofs.TermLaws.{product_some}
-use Rattle.fr_seen_runs.specs.Contradictions.{IsObservedRun}
+use Rattle.fr_seen.specs.Contradictions.{IsObservedRun}
 use Rattle.fr_seen_runs.specs.InTime.{IsReadNear, JudgedIsNear, NearIsTimely, arrives_at}
 use Rattle.fr_seen_runs.proofs.Frames.{frames_near, rest_off}
 use Rattle.fr_seen_runs.proofs.Schedule.{AreSure, IsFineReading, comes_in_time, read_near}
-use Rattle.fr_seen_runs.proofs.SendersApart.{all_within, two_within}
+use Rattle.fr_seen.proofs.SendersApart.{all_within, two_within}
 use Rattle.fr_seen_runs.proofs.Starts.{double_off, same_cycle}
 
 -- ---- the limits of the delays of what is judged

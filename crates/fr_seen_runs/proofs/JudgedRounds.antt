@@ -28,13 +28,13 @@ use Rattle.fr_runs.proofs.Rows.{has_row as row_there}
 use Rattle.fr_runs.proofs.Standing.{told_has}
 use Rattle.fr_runs.proofs.Whole.{prior_of}
 use Rattle.fr_sharp.specs.JudgedSteps.{AppliesMidpoints, GoesOnJudged}
-use Rattle.fr_sharp.specs.SharpHistories.{EndsWell}
-use Rattle.fr_sharp.specs.SharpRound.{as_member}
-use Rattle.fr_sharp.specs.SharpRun.{AllUncut}
-use Rattle.fr_sharp.specs.SteadyRuns.{row_hearers, row_members, AreRowsInReach}
+use Rattle.fr_runs.specs.SharpHistories.{EndsWell}
+use Rattle.fr_precision.specs.SharpRound.{as_member}
+use Rattle.fr_precision.specs.SharpRun.{AllUncut}
+use Rattle.fr_runs.specs.SteadyRuns.{row_hearers, row_members, AreRowsInReach}
 use Rattle.fr_sharp.proofs.JudgedLaws.{unfollowed_goes_on_lem}
-use Rattle.fr_sharp.proofs.RowsSupplied.{LawfulRows}
-use Rattle.fr_sharp.proofs.RunDoubles.{goes_on, member_among, members_found}
+use Rattle.fr_runs.proofs.RowsSupplied.{LawfulRows}
+use Rattle.fr_promise.proofs.RunDoubles.{goes_on, member_among, members_found}
 use Rattle.fr_sharp.proofs.TimedRuns.{have_rows, rows_of}
 use Rattle.fr_seen_runs.specs.ComputedValues.{ComputesOffset, ComputesRate, OffsetsAreMidpoints, RatesGrowByMidpoints}
 use Rattle.fr_seen_runs.specs.JudgedTerms.{IsJudgedRun}

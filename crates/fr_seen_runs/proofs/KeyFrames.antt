@@ -34,7 +34,7 @@ use Rattle.fr_seen.specs.Clocks.{StraightClock}
 use Rattle.fr_seen.specs.LogSeen.{HasBoth, run_double}
 use Rattle.fr_seen.specs.RunRows.{IsTimedRun}
 use Rattle.fr_seen.proofs.SenderLaws.{some_row}
-use Rattle.fr_seen_runs.specs.Contradictions.{IsInside, IsObservedRun, MissesNone, NamesArbitrary}
+use Rattle.fr_seen.specs.Contradictions.{IsInside, IsObservedRun, MissesNone, NamesArbitrary}
 
 -- ---- lists
 

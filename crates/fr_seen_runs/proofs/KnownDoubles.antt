@@ -33,12 +33,12 @@ use Rattle.fr_observe.specs.declared.fault.Fault.{Fault}
 use Rattle.fr_judging.specs.declared.obstacle.Obstacle.{Obstacle}
 use Rattle.fr_judging.specs.declared.obstacle.ObstacleKind.TheVariants as obstacle
 use Rattle.fr_seen.specs.LogSeen.{log_senders, run_double}
-use Rattle.fr_sharp.specs.JudgedSteps.{EachHasRow, IsKnownAt}
-use Rattle.fr_sharp.specs.Lengths.{IsAboutCycle}
-use Rattle.fr_seen_runs.specs.LogDoubles.{IsDoubleThere}
+use Rattle.fr_precision.specs.Lengths.{IsAboutCycle}
+use Rattle.fr_seen.specs.LogDoubles.{IsDoubleThere}
 use Rattle.fr_seen_runs.specs.KnownDoubles.{SeenIsKnown}
-use Rattle.fr_seen_runs.proofs.SeenDoubles.{seen_double_there}
-use Rattle.fr_seen_runs.proofs.SeenNodes.{AreRowsSeen, even_long, lengths_near, rows_seen, starts_near}
+use Rattle.fr_seen.proofs.SeenDoubles.{seen_double_there}
+use Rattle.fr_seen.proofs.SeenNodes.{AreRowsSeen, even_long, lengths_near, rows_seen, starts_near}
+use Rattle.fr_runs.specs.SharpHistories.{EachHasRow, IsKnownAt}
 
 -- ---- numbers
 

@@ -39,17 +39,16 @@ use Rattle.fr_seen.specs.LogSeen.{HasBoth, RowsHold, log_senders, run_double, se
 use Rattle.fr_seen.proofs.RowLaws.{observed_rows_hold}
 use Rattle.fr_seen.proofs.RunLaws.{cut_at, nodes_have_both_rows}
 use Rattle.fr_seen.proofs.SenderLaws.{senders_are_on_course}
-use Rattle.fr_sharp.specs.JudgedSteps.{EachHasRow, IsKnownAt}
-use Rattle.fr_sharp.specs.Lengths.{IsAboutCycle}
-use Rattle.fr_sharp.specs.SharpHistories.{KeepsApart}
-use Rattle.fr_seen_runs.specs.Contradictions.{IsObservedRun, MissesNone, NamesArbitrary}
-use Rattle.fr_seen_runs.specs.LogDoubles.{IsAsLong, LieAsSeen}
+use Rattle.fr_precision.specs.Lengths.{IsAboutCycle}
+use Rattle.fr_runs.specs.SharpHistories.{EachHasRow, IsKnownAt, KeepsApart}
+use Rattle.fr_seen.specs.Contradictions.{IsObservedRun, MissesNone, NamesArbitrary}
+use Rattle.fr_seen.specs.LogDoubles.{IsAsLong, LieAsSeen}
 use Rattle.fr_seen_runs.specs.KnownDoubles.{HasNoFaultBeyond, HasNoSkewAbove, NoFaultBeyond, NoKnownFault, NoKnownFrameMissing, NoSkewFaultWithin}
 use Rattle.fr_seen_runs.proofs.ComputedLists.{none_given}
 use Rattle.fr_seen_runs.proofs.MissingFrames.{none_missing, none_of, not_less}
 use Rattle.fr_seen_runs.proofs.KeyFrames.{correct_by, frames_by, is_sync}
-use Rattle.fr_seen_runs.proofs.SendersApart.{lie_as_seen}
-use Rattle.fr_seen_runs.proofs.SenderRows.{natural, run_among, sender_row, senders_among, skew_by, some_within, trans}
+use Rattle.fr_seen.proofs.SendersApart.{lie_as_seen}
+use Rattle.fr_seen.proofs.SenderRows.{natural, run_among, sender_row, senders_among, skew_by, some_within, trans}
 
 -- what is told of a cycle at a macrotick is the skew there
 told_skew : (p : Values) (h : Cycles) (cycle macrotick : ℕ) (c : Cycle) (bound : ℤ) → cycle_at h cycle ≡ Some c → skew_at p (told_of h) cycle macrotick ≤ℤ bound

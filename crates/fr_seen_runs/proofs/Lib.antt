@@ -1,5 +1,3 @@
-pub mod SendersApart
-pub mod SenderRows
 pub mod KeyFrames
 pub mod MissingFrames
 pub mod ComputedLists
@@ -13,12 +11,9 @@ pub mod ComputedFaults
 pub mod ComputedMissed
 pub mod JudgedRounds
 pub mod JudgedComputed
-pub mod SeenDoubles
 pub mod OwnOffsets
-pub mod SeenCourses
 pub mod OwnClocks
 pub mod OwnSightings
-pub mod SeenNodes
 pub mod OwnFaults
 pub mod KnownDoubles
 pub mod KnownFaults
@@ -43,15 +38,6 @@ pub mod WorkedJudged
 pub mod WorkedJudgedRun
 pub mod WorkedStrangers
 pub mod WorkedFiles
-pub mod CompletenessWidths
-pub mod CompletenessSenders
-pub mod CompletenessTicks
-pub mod CompletenessOver
-pub mod CompletenessWithin
-pub mod CompletenessMacroticks
-pub mod CompletenessNext
-pub mod CompletenessOddWithin
-pub mod CompletenessLate
 pub mod Schedule
 pub mod Places
 pub mod Starts

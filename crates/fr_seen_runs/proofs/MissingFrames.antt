@@ -19,7 +19,7 @@ use Rattle.fr_findings.specs.Verdict.{log_span, number_or_none}
 use Rattle.fr_observe.specs.declared.fault.Fault.{Fault}
 use Rattle.fr_observe.specs.declared.fault.LogSpan.{LogSpan}
 use Rattle.fr_sightings.proofs.Proper.{both}
-use Rattle.fr_seen_runs.specs.Contradictions.{IsInside}
+use Rattle.fr_seen.specs.Contradictions.{IsInside}
 use Rattle.fr_seen_runs.proofs.KeyFrames.{IsCycleOf}
 
 pub not_less : (a b : ℤ) → b ≤ℤ a → int_lt a b ≡ false

@@ -32,7 +32,7 @@ use Rattle.fr_sharp.specs.JudgedSteps.{IsHeardIn}
 use Rattle.fr_seen.specs.Clocks.{StraightClock}
 use Rattle.fr_seen.specs.LogSeen.{log_senders, run_double}
 use Rattle.fr_seen.proofs.SenderLaws.{all_given}
-use Rattle.fr_seen_runs.specs.Contradictions.{IsAsLogStatesBefore, IsObservedRun}
+use Rattle.fr_seen.specs.Contradictions.{IsAsLogStatesBefore, IsObservedRun}
 use Rattle.fr_seen_runs.specs.Standings.{IsKnownOfLog, IsNoLess, Missing, MissingIsSo, MissingsAreSo, log_missing, log_standing, missed_rows_from, missed_rows_of}
 use Rattle.fr_seen_runs.proofs.ComputedMissed.{fewer_others, least_no_less, same_term}
 use Rattle.fr_seen_runs.proofs.Contradicted.{AreStanding, known_step}

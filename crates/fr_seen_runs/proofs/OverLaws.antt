@@ -30,10 +30,10 @@ use Rattle.fr_seen.specs.Clocks.{StraightClock}
 use Rattle.fr_seen.specs.LogSeen.{log_senders, run_double, sender_rows}
 use Rattle.fr_seen.specs.Skews.{HasSkew}
 use Rattle.fr_seen.proofs.RowLaws.{observed_rows_hold}
-use Rattle.fr_seen_runs.specs.Contradictions.{IsObservedRun}
-use Rattle.fr_seen_runs.specs.LogDoubles.{IsDoubleThere}
+use Rattle.fr_seen.specs.Contradictions.{IsObservedRun}
+use Rattle.fr_seen.specs.LogDoubles.{IsDoubleThere}
 use Rattle.fr_seen_runs.specs.OverRows.{RowIsOver, OverIsCounted, OverIsSo, over_at, over_in, over_rows}
-use Rattle.fr_seen_runs.proofs.SeenDoubles.{doubles_are_there}
+use Rattle.fr_seen.proofs.SeenDoubles.{doubles_are_there}
 use Rattle.fr_seen_runs.proofs.ToldVerdicts.{over_told_by}
 
 -- ---- which they are

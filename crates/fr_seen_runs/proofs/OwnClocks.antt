@@ -25,9 +25,9 @@ use Rattle.fr_seen.specs.Clocks.{StraightClock}
 use Rattle.fr_seen.specs.Courses.{IsCourseThere}
 use Rattle.fr_seen.proofs.Pairs.{max_left}
 use Rattle.fr_seen.proofs.SenderLaws.{keyed_by}
-use Rattle.fr_seen_runs.specs.Contradictions.{IsObservedRun}
+use Rattle.fr_seen.specs.Contradictions.{IsObservedRun}
 use Rattle.fr_observe.specs.Faults.{box_fault, clock_faults, limit_fault, node_faults}
-use Rattle.fr_seen_runs.proofs.SeenCourses.{course_there}
+use Rattle.fr_seen.proofs.SeenCourses.{course_there}
 
 -- ---- intervals
 

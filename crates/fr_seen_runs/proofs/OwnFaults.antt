@@ -14,11 +14,11 @@ use Rattle.fr_seen.specs.Clocks.{StraightClock}
 use Rattle.fr_seen.specs.LogSeen.{log_senders}
 use Rattle.fr_seen.proofs.OwnSlotLaws.{no_frame_is_irregular}
 use Rattle.fr_seen.proofs.SightingLaws.{no_frame_is_untimely}
-use Rattle.fr_seen_runs.specs.Contradictions.{IsObservedRun}
+use Rattle.fr_seen.specs.Contradictions.{IsObservedRun}
 use Rattle.fr_observe.specs.Faults.{correction_fault, cycle_fault, irregular_fault, node_faults, own_faults, slot_faults, twice_fault}
 use Rattle.fr_sightings.specs.Sightings.{untimely_of}
 use Rattle.fr_seen_runs.specs.NotContradicted.{OwnFaultsAreNone, SlotFaultsAreNone}
-use Rattle.fr_seen_runs.proofs.SeenDoubles.{seen_double_there}
+use Rattle.fr_seen.proofs.SeenDoubles.{seen_double_there}
 use Rattle.fr_seen_runs.proofs.OwnClocks.{nodes_none}
 use Rattle.fr_seen_runs.proofs.OwnSightings.{corrections_none, twices_none}
 

@@ -32,10 +32,10 @@ use Rattle.fr_seen.specs.Clocks.{StraightClock}
 use Rattle.fr_seen.specs.LogSeen.{HasBoth, RowsHold, TermHolds, log_senders, run_double}
 use Rattle.fr_seen.proofs.RowLaws.{observed_next_rows_hold, observed_rows_hold}
 use Rattle.fr_seen.proofs.SenderLaws.{all_given, all_proper, next_run, sender_found, sent_by, some_row, there_some}
-use Rattle.fr_seen_runs.specs.Contradictions.{IsObservedRun}
-use Rattle.fr_seen_runs.specs.LogDoubles.{IsDoubleThere}
+use Rattle.fr_seen.specs.Contradictions.{IsObservedRun}
+use Rattle.fr_seen.specs.LogDoubles.{IsDoubleThere}
 use Rattle.fr_observe.specs.Faults.{correction_fault, term_fault, twice_by, twice_fault}
-use Rattle.fr_seen_runs.proofs.SeenCourses.{course_run}
+use Rattle.fr_seen.proofs.SeenCourses.{course_run}
 use Rattle.fr_seen_runs.proofs.OwnOffsets.{offset_within}
 
 -- ---- lists

@@ -16,7 +16,7 @@ use Rattle.fr_sightings.specs.Senders.{double_of, sightings_in}
 use Rattle.fr_sightings.specs.Sightings.{sightings_of}
 use Rattle.fr_sightings.specs.declared.sighting.Sighting.{Sighting}
 use Rattle.fr_seen.specs.Clocks.{StraightClock}
-use Rattle.fr_seen_runs.specs.Contradictions.{IsObservedRun}
+use Rattle.fr_seen.specs.Contradictions.{IsObservedRun}
 use Rattle.fr_observe.specs.declared.fault.Fault.{Fault}
 use Rattle.fr_observe.specs.Faults.{first_of_faults, slot_faults}
 use Rattle.fr_findings.specs.Verdict.{Basis, DoubleCycle, double_at, double_faults, faults_told, known_told, log_basis, own_told, progress_behind, progress_of, progress_told}

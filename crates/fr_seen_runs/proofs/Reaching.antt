@@ -21,8 +21,8 @@ use Rattle.fr_sightings.specs.declared.sighting.Sighting.{Sighting}
 use Rattle.fr_seen.specs.Clocks.{StraightClock}
 use Rattle.fr_seen.specs.LogSeen.{SaysSo, log_senders, run_double, sender_rows}
 use Rattle.fr_seen.proofs.WordLaws.{even_words_hold, odd_words_hold}
-use Rattle.fr_seen_runs.specs.Contradictions.{IsObservedRun}
-use Rattle.fr_seen_runs.specs.LogDoubles.{IsDoubleThere}
+use Rattle.fr_seen.specs.Contradictions.{IsObservedRun}
+use Rattle.fr_seen.specs.LogDoubles.{IsDoubleThere}
 use Rattle.fr_seen_runs.specs.NotContradicted.{WithinIsSo, WithinIsThere}
 use Rattle.fr_findings.specs.Verdict.{Basis, DoubleCycle, double_at, even_says, further_within, judged_by, log_basis, log_progress, no_progress, odd_says, progress_behind, progress_told, reach_behind, reach_by, reach_where, standing_told, verdict_of}
 use Rattle.fr_judging.specs.Hearing.{log_precision}

@@ -34,22 +34,23 @@ use Rattle.fr_observe.specs.Observing.{even_high, even_low, odd_high, odd_low, s
 use Rattle.fr_observe.specs.declared.fault.Fault.{Fault}
 use Rattle.fr_judging.specs.Hearing.{are_enough, log_heard, synced_with}
 use Rattle.fr_findings.specs.Verdict.{log_span, sightings_before}
-use Rattle.fr_sharp.specs.JudgedSteps.{EachHasRow, GoesOnJudged, IsHeardIn, IsKnownAt, IsLawfulStatedRun}
-use Rattle.fr_sharp.specs.SteadyRuns.{IsWhole}
+use Rattle.fr_sharp.specs.JudgedSteps.{GoesOnJudged, IsHeardIn, IsLawfulStatedRun}
+use Rattle.fr_runs.specs.SteadyRuns.{IsWhole}
 use Rattle.fr_runs.proofs.Parts.{cycle_within}
 use Rattle.fr_sharp.proofs.JudgedLaws.{known_is_met_lem, unfollowed_goes_on_lem}
 use Rattle.fr_seen.specs.Clocks.{StraightClock}
 use Rattle.fr_seen.specs.LogSeen.{log_senders, run_double}
-use Rattle.fr_seen_runs.specs.Contradictions.{IsAsLogStatesBefore, IsObservedRun, IsSyncedAsStated, MissesFew, NamesArbitrary}
+use Rattle.fr_seen.specs.Contradictions.{IsAsLogStatesBefore, IsObservedRun, IsSyncedAsStated, MissesFew, NamesArbitrary}
 use Rattle.fr_seen_runs.specs.ComputedTerms.{IsNamedLog}
 use Rattle.fr_seen_runs.specs.JudgedTerms.{MissedIsSo}
-use Rattle.fr_seen_runs.specs.LogDoubles.{IsDoubleThere}
+use Rattle.fr_seen.specs.LogDoubles.{IsDoubleThere}
 use Rattle.fr_seen_runs.specs.KnownDoubles.{HasNoSkewAbove, NoKnownFault, NoSkewFaultWithin, SeenIsKnown}
 use Rattle.fr_seen_runs.specs.Standings.{IsKnownOfLog, SpreadIsSo, StandingsAreSo, StandsSo, log_standing, log_standing_faults}
 use Rattle.fr_seen_runs.proofs.ComputedLists.{none_given}
 use Rattle.fr_seen_runs.proofs.ComputedSenders.{IsLogSender, are_log_senders}
 use Rattle.fr_seen_runs.proofs.KeyFrames.{correct_by}
-use Rattle.fr_seen_runs.proofs.SeenDoubles.{seen_double_there}
+use Rattle.fr_seen.proofs.SeenDoubles.{seen_double_there}
+use Rattle.fr_runs.specs.SharpHistories.{EachHasRow, IsKnownAt}
 
 -- ---- what its nodes hear
 

@@ -30,8 +30,8 @@ use Rattle.fr_seen_runs.specs.InTime.{IsNearFrom}
 use Rattle.fr_seen_runs.proofs.KeyFrames.{row_goes_on}
 use Rattle.fr_seen_runs.proofs.OwnOffsets.{limit_from, offset_within}
 use Rattle.fr_seen_runs.proofs.Places.{AreNear, double_near, none_near, one_more_near}
-use Rattle.fr_seen_runs.proofs.SeenDoubles.{double_there}
-use Rattle.fr_seen_runs.proofs.SendersApart.{two_within}
+use Rattle.fr_seen.proofs.SeenDoubles.{double_there}
+use Rattle.fr_seen.proofs.SendersApart.{two_within}
 
 -- ---- numbers
 

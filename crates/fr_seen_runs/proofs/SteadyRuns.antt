@@ -1,6 +1,6 @@
 -- Of a run all of whose frames are carried no sender is missed.
 use Rattle.std.proofs.Common.{ℕ, ◌≤◌, [], arith}
-use Rattle.fr_seen_runs.specs.Contradictions.{SteadyRunsMissNone}
+use Rattle.fr_seen.specs.Contradictions.{SteadyRunsMissNone}
 
 pub steady_runs_miss_none : SteadyRunsMissNone
 steady_runs_miss_none x flutter double lost node steady short correct = record {

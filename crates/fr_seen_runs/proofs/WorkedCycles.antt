@@ -20,13 +20,14 @@ use Rattle.fr_history.specs.History.{row_of}
 use Rattle.fr_history.proofs.Computing.{on_cycles, on_told}
 use Rattle.fr_runs.proofs.Parts.{even_is}
 use Rattle.fr_runs.specs.Links.{IsCarried, IsLinked}
-use Rattle.fr_sharp.specs.JudgedSteps.{EachHasRow, IsKnownAt, synced_as}
-use Rattle.fr_sharp.specs.SharpTested.{first_free_of, first_sharp_sync_of}
-use Rattle.fr_sharp.specs.SteadyRuns.{IsSteadySetting}
-use Rattle.fr_sharp.proofs.FreeLemmas.{first_sharp_sync_is}
+use Rattle.fr_sharp.specs.JudgedSteps.{synced_as}
+use Rattle.fr_promise.specs.SharpTested.{first_free_of, first_sharp_sync_of}
+use Rattle.fr_runs.specs.SteadyRuns.{IsSteadySetting}
+use Rattle.fr_promise.proofs.FreeLemmas.{first_sharp_sync_is}
 use Rattle.fr_sharp.proofs.JudgedLaws.{sharp_sync_is_known_lem}
 use Rattle.fr_seen.specs.RunRows.{IsTimedRun}
 use Rattle.fr_seen_runs.specs.WorkedLog.{seen_cluster, seen_cycle, seen_cycles, seen_run}
+use Rattle.fr_runs.specs.SharpHistories.{EachHasRow, IsKnownAt}
 
 -- ---- its cycles
 

@@ -23,7 +23,7 @@ use Rattle.fr_judging.specs.Hearing.{log_heard}
 use Rattle.fr_findings.specs.declared.verdict.Verdict.TheVariants as verdict
 use Rattle.fr_seen.specs.Clocks.{StraightClock}
 use Rattle.fr_seen.specs.OwnSlots.{SlotsAreOwn}
-use Rattle.fr_seen_runs.specs.Contradictions.{IsAsLogStates, IsObservedRun}
+use Rattle.fr_seen.specs.Contradictions.{IsAsLogStates, IsObservedRun}
 use Rattle.fr_seen_runs.specs.NotContradicted.{NoRunHasOwnFaults, NoRunIsContradicted}
 use Rattle.fr_seen_runs.specs.WorkedFaults.{IsSeenOfNone, IsSeenOfNoneWithOwnSlots, TellsFault, correction_told, form_entry, form_told, last_entry, last_log, late_entry, late_log, offset_told, stranger_entry, stranger_told}
 use Rattle.fr_seen_runs.specs.WorkedLog.{by_double, entry_sighting, of_each, of_node, seen_cluster}

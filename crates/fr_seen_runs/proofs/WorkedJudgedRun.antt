@@ -17,7 +17,7 @@ use Rattle.fr_history.specs.Next.{cycles_of, next_cycle}
 use Rattle.fr_history.proofs.Computing.{on_cycles, on_frames}
 use Rattle.fr_runs.specs.Links.{IsCarried, IsLinked}
 use Rattle.fr_log.specs.View.{is_arbitrary_in}
-use Rattle.fr_sharp.specs.SteadyRuns.{IsSteadySetting}
+use Rattle.fr_runs.specs.SteadyRuns.{IsSteadySetting}
 use Rattle.fr_sightings.specs.Judging.{judgement_of}
 use Rattle.fr_sightings.specs.Senders.{observer_of}
 use Rattle.fr_sightings.specs.Sightings.{fate_of}
@@ -26,7 +26,7 @@ use Rattle.fr_observe.specs.Faults.{stated_flutter}
 use Rattle.fr_seen.specs.LogSeen.{IsLogSeen, IsToldOf, judged_of}
 use Rattle.fr_seen.specs.Observed.{IsSeenOf, IsSentIn, SentFrame}
 use Rattle.fr_seen.specs.RunRows.{IsTimedRun}
-use Rattle.fr_seen_runs.specs.Contradictions.{IsAsLogStates}
+use Rattle.fr_seen.specs.Contradictions.{IsAsLogStates}
 use Rattle.fr_seen_runs.specs.WorkedJudged.{JudgedRun, judged_cluster, judged_log, judged_run}
 use Rattle.fr_seen_runs.specs.WorkedLog.{no_delays, seen_cycle, seen_cycles, seen_run, seen_sent, seen_sightings, true_clock}
 use Rattle.fr_seen_runs.proofs.SteadyRuns.{steady_runs_miss_none}

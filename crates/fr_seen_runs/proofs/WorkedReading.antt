@@ -24,7 +24,7 @@ use Rattle.fr_seen.specs.Observed.{IsSentIn, SentFrame, stamped_apart}
 use Rattle.fr_seen_runs.specs.InTime.{KeepsDrift, StartsLieNear, arrives_at}
 use Rattle.fr_seen_runs.specs.WorkedLog.{no_delays, seen_cluster, seen_cycle, seen_cycles, seen_log, seen_row, seen_run, true_clock}
 use Rattle.fr_seen_runs.specs.WorkedReading.{WorkedReading}
-use Rattle.fr_seen_runs.proofs.SendersApart.{all_within}
+use Rattle.fr_seen.proofs.SendersApart.{all_within}
 use Rattle.fr_seen_runs.proofs.Starts.{same_cycle}
 use Rattle.fr_seen_runs.proofs.WorkedCycles.{cycles_are, run_is_setting, run_is_timed}
 use Rattle.fr_seen_runs.proofs.WorkedSeen.{log_is, log_is_seen}

@@ -24,7 +24,7 @@ use Rattle.fr_judging.specs.Knowing.{judged_skews, judged_terms, known_apart, kn
 use Rattle.fr_judging.specs.Obstacles.{first_unseen}
 use Rattle.fr_findings.specs.declared.verdict.Verdict.{Verdict}
 use Rattle.fr_findings.specs.declared.verdict.Verdict.TheVariants as verdict
-use Rattle.fr_seen_runs.specs.Contradictions.{IsAsLogStates, IsInside, IsObservedRun, IsSyncedAsStated, MissesNone}
+use Rattle.fr_seen.specs.Contradictions.{IsAsLogStates, IsInside, IsObservedRun, IsSyncedAsStated, MissesNone}
 use Rattle.fr_base.specs.declared.channel.Channel.{Channel}
 use Rattle.fr_base.specs.declared.channel.Channel.TheVariants.{A, B}
 use Rattle.fr_cluster.specs.declared.nodes.NodeSpec.{NodeSpec}

@@ -14,7 +14,7 @@ use Rattle.fr_observe.specs.Faults.{offset_due, rate_due}
 use Rattle.fr_seen.specs.Clocks.{StraightClock}
 use Rattle.fr_seen.specs.LogSeen.{IsLogSeen}
 use Rattle.fr_seen.specs.RunRows.{IsTimedRun}
-use Rattle.fr_seen_runs.specs.Contradictions.{NamesArbitrary}
+use Rattle.fr_seen.specs.Contradictions.{NamesArbitrary}
 
 -- the offset term of a sender is one that the courses of the others allow, and so is what its rate term grows by
 abbrev pub OffsetIsComputed : Setting → LogView → Cycle → List Sender → ℕ → Sender → Type 0

@@ -18,7 +18,7 @@ use Rattle.fr_history.specs.Cycles.{Cycle, Cycles}
 use Rattle.fr_history.specs.History.{row_for}
 use Rattle.fr_runs.specs.Links.{IsCarried}
 use Rattle.fr_runs.specs.Numbers.{HasDouble, HasRowIn}
-use Rattle.fr_sharp.specs.Steady.{PlacesEven}
+use Rattle.fr_precision.specs.Steady.{PlacesEven}
 use Rattle.fr_seen_runs.specs.JudgedTerms.{IsJudgedRun}
 
 -- the offset and the rate values of a node at the end of a double cycle, by key index

@@ -31,8 +31,8 @@ use Rattle.fr_seen.specs.LogSeen.{BeginsAsCounted, IsToldOf, judged_of}
 use Rattle.fr_seen.specs.Observed.{IsInWindow, IsSentIn, SentFrame, stamped_apart}
 use Rattle.fr_seen.specs.OwnSlots.{SlotsAreOwn}
 use Rattle.fr_seen.specs.RunRows.{IsTimedRun}
-use Rattle.fr_sharp.specs.JudgedSteps.{IsKnownAt}
-use Rattle.fr_seen_runs.specs.Contradictions.{IsAsLogStates, IsObservedRun}
+use Rattle.fr_seen.specs.Contradictions.{IsAsLogStates, IsObservedRun}
+use Rattle.fr_runs.specs.SharpHistories.{IsKnownAt}
 
 -- ---- a log that is read
 

@@ -9,7 +9,7 @@ use Rattle.fr_bound.specs.declared.judging.Heard.{Heard}
 use Rattle.fr_bound.specs.declared.judging.Known.{Known}
 use Rattle.fr_history.specs.Cycles.{Cycle, Cycles}
 use Rattle.fr_runs.specs.Numbers.{HasDouble}
-use Rattle.fr_sharp.specs.JudgedSteps.{EachHasRow, IsHeardIn, IsKnownAt, IsLawfulStatedRun}
+use Rattle.fr_sharp.specs.JudgedSteps.{IsHeardIn, IsLawfulStatedRun}
 use Rattle.fr_log.specs.View.{LogView}
 use Rattle.fr_course.specs.Readings.{reading_scale}
 use Rattle.fr_course.specs.declared.stamps.Delays.{Delays}
@@ -21,7 +21,8 @@ use Rattle.fr_sightings.specs.declared.sender.Sender.{Sender}
 use Rattle.fr_seen.specs.Clocks.{StraightClock}
 use Rattle.fr_seen.specs.LogSeen.{log_senders, run_double}
 use Rattle.fr_seen_runs.specs.ComputedTerms.{IsNamedLog, OffsetIsComputed, RateIsComputed}
-use Rattle.fr_seen_runs.specs.Contradictions.{MissesFew}
+use Rattle.fr_seen.specs.Contradictions.{MissesFew}
+use Rattle.fr_runs.specs.SharpHistories.{EachHasRow, IsKnownAt}
 
 -- a double cycle of a lawful run, whoever joins it, that is judged by what is known of it: each correct node has a row
 pub record IsJudgedRun (what : Heard) (x : Setting) (flutter : ℕ) (h : Cycles) (double : ℕ) (known : Known) : Type 0 where

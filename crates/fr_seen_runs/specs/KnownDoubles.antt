@@ -20,9 +20,8 @@ use Rattle.fr_observe.specs.declared.apart_faults.Apart.TheVariants.{Lengths, St
 use Rattle.fr_findings.specs.Verdict.{log_span}
 use Rattle.fr_seen.specs.Clocks.{StraightClock}
 use Rattle.fr_seen.specs.LogSeen.{log_senders, run_double}
-use Rattle.fr_sharp.specs.JudgedSteps.{EachHasRow, IsKnownAt}
-use Rattle.fr_sharp.specs.SharpHistories.{KeepsApart}
-use Rattle.fr_seen_runs.specs.Contradictions.{IsObservedRun, MissesNone, NamesArbitrary}
+use Rattle.fr_runs.specs.SharpHistories.{EachHasRow, IsKnownAt, KeepsApart}
+use Rattle.fr_seen.specs.Contradictions.{IsObservedRun, MissesNone, NamesArbitrary}
 
 -- ---- what is seen
 

@@ -1,7 +1,4 @@
 -- what the public contract cites
-pub mod Contradictions
-pub mod Completeness
-pub mod LogDoubles
 pub mod Standings
 pub mod ComputedValues
 pub mod ComputedTerms

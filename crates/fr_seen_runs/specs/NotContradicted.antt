@@ -15,8 +15,8 @@ use Rattle.fr_seen.specs.Clocks.{StraightClock}
 use Rattle.fr_seen.specs.LogSeen.{log_senders, run_double, sender_rows}
 use Rattle.fr_seen.specs.OwnSlots.{SlotsAreOwn}
 use Rattle.fr_seen.specs.Skews.{StaysWithin}
-use Rattle.fr_seen_runs.specs.Contradictions.{IsAsLogStates, IsObservedRun}
-use Rattle.fr_seen_runs.specs.LogDoubles.{IsDoubleThere}
+use Rattle.fr_seen.specs.Contradictions.{IsAsLogStates, IsObservedRun}
+use Rattle.fr_seen.specs.LogDoubles.{IsDoubleThere}
 use Rattle.fr_observe.specs.declared.fault.Fault.{Fault}
 use Rattle.fr_observe.specs.Faults.{asks_judged, asks_own_slots, own_faults, slot_faults}
 use Rattle.fr_findings.specs.Counting.{last_row_cycle}

@@ -18,8 +18,8 @@ use Rattle.fr_findings.specs.declared.verdict.Verdict.TheVariants as verdict
 use Rattle.fr_seen.specs.Clocks.{StraightClock}
 use Rattle.fr_seen.specs.LogSeen.{log_senders, run_double, sender_rows}
 use Rattle.fr_seen.specs.Skews.{HasSkew}
-use Rattle.fr_seen_runs.specs.Contradictions.{IsObservedRun}
-use Rattle.fr_seen_runs.specs.LogDoubles.{IsDoubleThere}
+use Rattle.fr_seen.specs.Contradictions.{IsObservedRun}
+use Rattle.fr_seen.specs.LogDoubles.{IsDoubleThere}
 
 -- those of a double cycle
 abbrev pub over_in : Basis → DoubleCycle → List OverRow

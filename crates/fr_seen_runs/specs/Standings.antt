@@ -25,11 +25,11 @@ use Rattle.fr_judging.specs.declared.missed.Missed.{Missed}
 use Rattle.fr_judging.specs.Hearing.{log_heard}
 use Rattle.fr_findings.specs.Verdict.{Basis, double_at, log_basis, log_span, no_progress, progress_behind, sightings_before, standing_told}
 use Rattle.fr_findings.specs.declared.progress.Progress.{Progress}
-use Rattle.fr_sharp.specs.JudgedSteps.{EachHasRow, IsHeardIn, IsKnownAt}
-use Rattle.fr_sharp.specs.SharpHistories.{KeepsApart}
+use Rattle.fr_sharp.specs.JudgedSteps.{IsHeardIn}
+use Rattle.fr_runs.specs.SharpHistories.{EachHasRow, IsKnownAt, KeepsApart}
 use Rattle.fr_seen.specs.Clocks.{StraightClock}
 use Rattle.fr_seen.specs.LogSeen.{log_senders, run_double}
-use Rattle.fr_seen_runs.specs.Contradictions.{IsAsLogStates, IsAsLogStatesBefore, IsObservedRun, MissesFew}
+use Rattle.fr_seen.specs.Contradictions.{IsAsLogStates, IsAsLogStatesBefore, IsObservedRun, MissesFew}
 
 -- so much is known of a double cycle of the log, where the run has it: in the run each correct node has a row in it
 abbrev pub IsKnownIn : Setting → Cycles → ℕ → ℕ → Known → Type 0

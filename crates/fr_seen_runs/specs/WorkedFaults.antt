@@ -14,7 +14,7 @@ use Rattle.fr_findings.specs.Verdict.{verdict_of}
 use Rattle.fr_findings.specs.declared.verdict.Verdict.TheVariants as verdict
 use Rattle.fr_seen.specs.Clocks.{StraightClock}
 use Rattle.fr_seen.specs.OwnSlots.{SlotsAreOwn}
-use Rattle.fr_seen_runs.specs.Contradictions.{IsAsLogStates, IsObservedRun}
+use Rattle.fr_seen.specs.Contradictions.{IsAsLogStates, IsObservedRun}
 use Rattle.fr_seen_runs.specs.WorkedLog.{by_double, no_delays, of_each, of_node, seen_cluster, seen_cycles, seen_entry, seen_log, seen_run, true_clock}
 
 -- an entry, so many units later where it is one of these

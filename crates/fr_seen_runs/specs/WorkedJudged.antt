@@ -24,7 +24,7 @@ use Rattle.fr_findings.specs.Verdict.{Basis, double_at, known_next_told, log_bas
 use Rattle.fr_findings.specs.declared.verdict.Verdict.{Verdict}
 use Rattle.fr_findings.specs.declared.verdict.Verdict.TheVariants as verdict
 use Rattle.fr_seen.specs.Clocks.{StraightClock}
-use Rattle.fr_seen_runs.specs.Contradictions.{IsAsLogStates, IsObservedRun}
+use Rattle.fr_seen.specs.Contradictions.{IsAsLogStates, IsObservedRun}
 use Rattle.fr_seen_runs.specs.WorkedFaults.{late_log, offset_told}
 use Rattle.fr_seen_runs.specs.WorkedLog.{no_delays, seen_cluster, seen_cycles, seen_entry, seen_log, seen_run, true_clock}
 

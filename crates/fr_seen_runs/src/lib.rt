@@ -2,24 +2,20 @@
 //! runs, their nodes' rows and the sightings of a log. Nothing here runs.
 #![tactic(auto)]
 
-mod completeness;
 mod computed;
 mod in_time;
 mod known;
-mod log_doubles;
 mod own;
 mod told;
 mod verdicts;
 mod worked;
 
-pub use completeness::{corners_are_narrow, far_senders_are_told, near_senders_are_within};
 pub use computed::{missed_senders_are_so, nodes_apply_midpoints, terms_are_computed};
 pub use in_time::{a_worked_reading, judged_is_near, near_is_timely, no_near_run_is_contradicted};
 pub use known::{
     known_faults_are_none, missings_are_so, seen_numbers_are_known, skew_faults_within_are_none,
     spreads_are_so, standings_are_so,
 };
-pub use log_doubles::{doubles_are_there, senders_lie_as_seen};
 pub use own::{own_faults_are_none, slot_faults_are_none};
 pub use told::{no_fault_is_told, steady_runs_miss_none, text_tells_doubles, verdict_tells_first};
 pub use verdicts::{no_run_is_contradicted, over_is_so, within_is_so};

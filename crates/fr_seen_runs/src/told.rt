@@ -1,4 +1,4 @@
-ghost use Rattle.fr_seen_runs.specs.Contradictions.{SteadyRunsMissNone};
+ghost use Rattle.fr_seen.specs.Contradictions.{SteadyRunsMissNone};
 ghost use Rattle.fr_seen_runs.specs.ToldDoubles.{TextTellsDoubles};
 ghost use Rattle.fr_seen_runs.specs.ToldFaults.{NoFaultIsTold, ToldFaultsAskEither, ToldFaultsAskOwnSlots, ToldFaultsAskJudged, VerdictTellsFirst};
 

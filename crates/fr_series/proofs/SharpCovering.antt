@@ -11,9 +11,9 @@ use Rattle.fr_drift.specs.View.{DriftView}
 use Rattle.fr_script.specs.View.{ScriptView}
 use Rattle.fr_bound.specs.SharpBounds.{sharp_near}
 use Rattle.fr_bound.specs.SharpChecks.{FirstSharpFailing, SharpChecksHold, sharp_holds_of}
-use Rattle.fr_sharp.specs.SharpJoining.{FirstSharpJoinFailing, SharpJoinChecksHold, sharp_join_holds_of}
+use Rattle.fr_promise.specs.SharpJoining.{FirstSharpJoinFailing, SharpJoinChecksHold, sharp_join_holds_of}
 use Rattle.fr_sharp.specs.SharpStatement.{has_arbitrary}
-use Rattle.fr_sharp.proofs.JoinBounds.{sharp_join_checks_suffice_lem}
+use Rattle.fr_promise.proofs.JoinBounds.{sharp_join_checks_suffice_lem}
 use Rattle.fr_series.specs.SharpCovered.{failed_sharp, failed_sharp_join, first_sharp_gap, sharp_checks_gap, sharp_gap_to_join, sharp_join_checks_gap, IsCoveredSharply}
 use Rattle.fr_series.proofs.CheckGaps.{first_fails, holds_below, none_fails}
 

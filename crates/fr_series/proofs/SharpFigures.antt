@@ -14,8 +14,8 @@ use Rattle.fr_history.specs.Cycles.{Cycle, Cycles, told_of}
 use Rattle.fr_bound.specs.SharpBounds.{sharp_near}
 use Rattle.fr_bound.specs.SharpChecks.{SharpChecksHold}
 use Rattle.fr_sharp.specs.SharpStatement.{has_arbitrary}
-use Rattle.fr_sharp.specs.SharpTested.{IsFirstSharpSync, IsUnfollowedSharpSyncAt, first_sharp_sync_of}
-use Rattle.fr_sharp.proofs.FreeLemmas.{sharp_sync_within}
+use Rattle.fr_promise.specs.SharpTested.{IsFirstSharpSync, IsUnfollowedSharpSyncAt, first_sharp_sync_of}
+use Rattle.fr_promise.proofs.FreeLemmas.{sharp_sync_within}
 use Rattle.fr_series.specs.Basis.{sharp_figures_of, sharp_scale_of}
 use Rattle.fr_series.specs.SharpCovered.{failed_sharp, failed_sharp_join, first_sharp_gap, sharp_checks_gap, sharp_gap_to_join, sharp_join_checks_gap}
 use Rattle.fr_series.specs.SharpMeaning.{AreSharpFiguresOf, IsFirstSharpGap, IsSharpCheckGap, IsSharpGapFound, IsSharpJoinGap, IsSharpSyncFound}

@@ -10,8 +10,8 @@ use Rattle.fr_history.specs.Cycles.{Cycle, Cycles}
 use Rattle.fr_history.specs.Next.{cycles_of, next_cycle}
 use Rattle.fr_history.specs.Unfollowed.{is_none}
 use Rattle.fr_history.proofs.RunsExist.{length-cycles_of}
-use Rattle.fr_sharp.specs.SharpTested.{IsFirstSharpSync, first_sharp_sync_of, is_in_sharp_sync}
-use Rattle.fr_sharp.proofs.FreeLemmas.{first_free-next, first_free-none, first_sharp_sync_is, sharp_sync_within}
+use Rattle.fr_promise.specs.SharpTested.{IsFirstSharpSync, first_sharp_sync_of, is_in_sharp_sync}
+use Rattle.fr_promise.proofs.FreeLemmas.{first_free-next, first_free-none, first_sharp_sync_is, sharp_sync_within}
 use Rattle.fr_series.specs.Basis.{sharp_figures_of, sharp_scale_of, sharply_followed, tally_of}
 use Rattle.fr_series.specs.Figures.{figures_by, lost_by}
 use Rattle.fr_series.specs.Scale.{next_synced}

@@ -27,13 +27,13 @@ use Rattle.fr_skew.specs.declared.peak.Peak.{Peak}
 use Rattle.fr_skew.specs.declared.sync.SyncBounds.{SyncBounds}
 use Rattle.fr_sharp.specs.HeldWalks.{sync_lasts}
 use Rattle.fr_sharp.specs.JoinedFiles.{CoveredFilesKeepSharplyJoined, KeepsSharplyJoined}
-use Rattle.fr_sharp.specs.JoinedHistories.{first_rates_last}
+use Rattle.fr_promise.specs.JoinedHistories.{first_rates_last}
 use Rattle.fr_bound.specs.SharpBounds.{sharp_precision}
 use Rattle.fr_sharp.specs.SharpFiles.{CoveredFilesKeepSharply}
 use Rattle.fr_sharp.specs.SharpStatement.{has_arbitrary, KeepsSharply}
-use Rattle.fr_sharp.specs.SharpTested.{IsFirstSharpSync, first_sharp_sync_of, is_in_sharp_sync, sharp_sync_bounds_of}
-use Rattle.fr_sharp.proofs.FirstRates.{first_rates_last_so}
-use Rattle.fr_sharp.proofs.FreeLemmas.{first_sharp_sync_is, first_sharp_sync_is_one, never_sharp_sync}
+use Rattle.fr_promise.specs.SharpTested.{IsFirstSharpSync, first_sharp_sync_of, is_in_sharp_sync, sharp_sync_bounds_of}
+use Rattle.fr_promise.proofs.FirstRates.{first_rates_last_so}
+use Rattle.fr_promise.proofs.FreeLemmas.{first_sharp_sync_is, first_sharp_sync_is_one, never_sharp_sync}
 use Rattle.fr_series.specs.Basis.{basis_of, sharp_figures_of, sharp_held}
 use Rattle.fr_series.specs.Figures.{DoubleTest, above_from, figures_by}
 use Rattle.fr_series.specs.Scale.{above_at, first_above}

@@ -11,12 +11,12 @@ use Rattle.fr_time.specs.declared.grid.Grid.{Grid}
 use Rattle.fr_skew.specs.Sync.{are_in_sync_by_even}
 use Rattle.fr_history.specs.Cycles.{Cycles}
 use Rattle.fr_sharp.specs.HeldWalks.{lasts_by}
-use Rattle.fr_sharp.specs.JoinedHistories.{first_rates_last}
+use Rattle.fr_promise.specs.JoinedHistories.{first_rates_last}
 use Rattle.fr_sharp.specs.LossRuns.{is_through_losses, losses_of}
 use Rattle.fr_bound.specs.SharpBounds.{sharp_near, sharp_precision}
 use Rattle.fr_bound.specs.SharpChecks.{sharp_holds_of}
 use Rattle.fr_sharp.specs.SharpStatement.{has_arbitrary}
-use Rattle.fr_sharp.specs.SharpTested.{first_sharp_sync_of, is_in_sharp_sync, sharp_sync_bounds_of}
+use Rattle.fr_promise.specs.SharpTested.{first_sharp_sync_of, is_in_sharp_sync, sharp_sync_bounds_of}
 use Rattle.fr_series.specs.Figures.{figures_by, figures_of}
 use Rattle.fr_series.specs.Scale.{followed, next_figures, scale_of, IsScale}
 use Rattle.fr_series.specs.SharpCovered.{first_sharp_gap}

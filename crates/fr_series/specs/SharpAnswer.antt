@@ -14,7 +14,7 @@ use Rattle.fr_history.specs.Cycles.{Cycles}
 use Rattle.fr_history.specs.Lawful.{IsLawful}
 use Rattle.fr_sharp.specs.JoinedFiles.{KeepsSharplyJoined}
 use Rattle.fr_sharp.specs.SharpStatement.{has_arbitrary, KeepsSharply}
-use Rattle.fr_sharp.specs.SharpTested.{IsFirstSharpSync}
+use Rattle.fr_promise.specs.SharpTested.{IsFirstSharpSync}
 use Rattle.fr_series.specs.Basis.{basis_of, sharp_figures_of}
 use Rattle.fr_series.specs.SharpCovered.{first_sharp_gap, IsCoveredSharply}
 use Rattle.fr_series.specs.SharpMeaning.{AreSharpFigures}

@@ -14,7 +14,7 @@ use Rattle.fr_script.specs.View.{ScriptView}
 use Rattle.fr_sharp.specs.JoinedFiles.{IsSharplyCoveredToJoin}
 use Rattle.fr_bound.specs.SharpBounds.{sharp_near}
 use Rattle.fr_bound.specs.SharpChecks.{sharp_holds_of, sharp_left_of, sharp_right_of}
-use Rattle.fr_sharp.specs.SharpJoining.{sharp_join_holds_of, sharp_join_right_of}
+use Rattle.fr_promise.specs.SharpJoining.{sharp_join_holds_of, sharp_join_right_of}
 use Rattle.fr_sharp.specs.SharpStatement.{has_arbitrary, IsSharplyCovered}
 
 -- a run is sharply covered where no correct node joins, or sharply covered to join where one does

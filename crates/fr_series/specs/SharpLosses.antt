@@ -11,11 +11,11 @@ use Rattle.fr_script.specs.View.{ScriptView}
 use Rattle.fr_history.specs.Cycles.{Cycles}
 use Rattle.fr_bound.specs.declared.judging.Heard.{Heard}
 use Rattle.fr_bound.specs.declared.judging.Heard.TheVariants as heard
-use Rattle.fr_sharp.specs.Among.{apart_through_losses}
+use Rattle.fr_precision.specs.Among.{apart_through_losses}
 use Rattle.fr_sharp.specs.LossRuns.{is_through_losses, losses_of, AreLosses}
 use Rattle.fr_sharp.specs.LossStatement.{run_apart, whole_in, IsCoveredThroughLosses}
-use Rattle.fr_sharp.specs.SharpHistories.{IsInSharpSyncAt, KeepsApart}
-use Rattle.fr_sharp.specs.SharpRun.{WalkLastsAfter}
+use Rattle.fr_runs.specs.SharpHistories.{IsInSharpSyncAt, KeepsApart}
+use Rattle.fr_precision.specs.SharpRun.{WalkLastsAfter}
 use Rattle.fr_sharp.specs.SharpStatement.{has_arbitrary}
 use Rattle.fr_sharp.specs.Traffic.{all_trusted, heard_in, traffic_in}
 use Rattle.fr_series.specs.declared.basis.Basis.{Basis}

@@ -16,9 +16,9 @@ use Rattle.fr_history.specs.History.{History}
 use Rattle.fr_history.specs.Skew.{IsEarlierPlace, skew_at}
 use Rattle.fr_bound.specs.SharpBounds.{sharp_near, sharp_precision}
 use Rattle.fr_bound.specs.SharpChecks.{FirstSharpFailing, SharpChecksHold}
-use Rattle.fr_sharp.specs.SharpJoining.{FirstSharpJoinFailing, SharpJoinChecksHold}
+use Rattle.fr_promise.specs.SharpJoining.{FirstSharpJoinFailing, SharpJoinChecksHold}
 use Rattle.fr_sharp.specs.SharpStatement.{has_arbitrary}
-use Rattle.fr_sharp.specs.SharpTested.{IsFirstSharpSync, IsUnfollowedSharpSyncAt}
+use Rattle.fr_promise.specs.SharpTested.{IsFirstSharpSync, IsUnfollowedSharpSyncAt}
 use Rattle.fr_series.specs.Basis.{sharp_figures_of}
 use Rattle.fr_series.specs.SharpCovered.{failed_sharp, failed_sharp_join, first_sharp_gap, IsCoveredSharply}
 use Rattle.fr_series.specs.SharpLosses.{TellsLosses}

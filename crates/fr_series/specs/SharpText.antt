@@ -17,7 +17,7 @@ use Rattle.fr_history.specs.History.{History, Record}
 use Rattle.fr_history.specs.Cycles.{Cycles, told_of}
 use Rattle.fr_history.specs.Next.{cycles_of}
 use Rattle.fr_text.specs.Pieces.{line}
-use Rattle.fr_sharp.specs.SharpTested.{is_in_sharp_sync}
+use Rattle.fr_promise.specs.SharpTested.{is_in_sharp_sync}
 use Rattle.fr_series.specs.Basis.{basis_of, tally_of}
 use Rattle.fr_series.specs.Scale.{peak_by}
 use Rattle.fr_series.specs.SharpLosses.{bound_or_none, hearing_text, kept_by, lost_text}

@@ -11,8 +11,9 @@ use fr_bound::{sharp_bounds, sharp_side};
 use fr_cluster::Params;
 use fr_coverage::{Gap, flutter, some_join};
 use fr_drift::Drift;
+use fr_promise::first_rates_last;
 use fr_script::Script;
-use fr_sharp::{first_rates_last, has_arbitrary, lasts_by, run_losses};
+use fr_sharp::{has_arbitrary, lasts_by, run_losses};
 use fr_skew::{SyncBounds, sync_bounds};
 use fr_time::grid_of;
 

@@ -1,5 +1,5 @@
 ghost use Rattle.std.specs.Prelude.{◌≡◌, ◌≤◌, ◌<◌, ◌+◌};
-ghost use Rattle.fr_sharp.specs.Among.{spread_through_losses};
+ghost use Rattle.fr_precision.specs.Among.{spread_through_losses};
 ghost use Rattle.fr_sharp.specs.LossStatement.{whole_in};
 ghost use Rattle.fr_sharp.specs.SharpStatement.{has_arbitrary};
 ghost use Rattle.fr_sharp.specs.Traffic.{heard_in, traffic_in};

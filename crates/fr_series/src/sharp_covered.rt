@@ -10,8 +10,9 @@ use fr_bound::{sharp_checks, sharp_side};
 use fr_cluster::Params;
 use fr_coverage::{Gap, run_covered, some_join};
 use fr_drift::Drift;
+use fr_promise::{sharp_join_checks, sharp_join_side};
 use fr_script::Script;
-use fr_sharp::{has_arbitrary, sharp_join_checks, sharp_join_side};
+use fr_sharp::has_arbitrary;
 
 // The first gap of the run itself, whatever the checks say.
 pub(crate) fn gap_of_run(params: &Params, drift: &Drift, script: &Script) -> Option<Gap>

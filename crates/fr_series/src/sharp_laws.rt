@@ -11,17 +11,15 @@ ghost use Rattle.fr_history.specs.Lawful.{IsLawful};
 ghost use Rattle.fr_text.specs.Files.{IsDecided};
 ghost use Rattle.fr_report.specs.Files.{run_files};
 ghost use Rattle.fr_sharp.specs.SharpStatement.{has_arbitrary};
-ghost use Rattle.fr_sharp.specs.SharpTested.{IsFirstSharpSync};
+ghost use Rattle.fr_promise.specs.SharpTested.{IsFirstSharpSync};
 ghost use Rattle.fr_series.specs.SharpAnswer.{FitsToJoin, IsSharpSeriesText, KeepsAndTells};
 ghost use Rattle.fr_series.specs.SharpCovered.{first_sharp_gap, IsCoveredSharply};
 ghost use Rattle.fr_series.specs.SharpText.{sharp_series_text};
 
 use fr_coverage::{flutter_is_the_greatest, found_gap_of_run_is_first};
 use fr_history::one_lawful_run;
-use fr_sharp::{
-    covered_files_keep_sharply, covered_files_keep_sharply_joined, losses_are_told,
-    one_first_sharp_sync,
-};
+use fr_promise::one_first_sharp_sync;
+use fr_sharp::{covered_files_keep_sharply, covered_files_keep_sharply_joined, losses_are_told};
 use fr_world::files_decide_one_run;
 
 /// A law: the text of the sharper series of some parameters, a drift and a script is that of their one lawful run over all

@@ -24,16 +24,16 @@ use Rattle.fr_history.specs.Cycles.{Cycles}
 use Rattle.fr_runs.specs.Links.{IsLinked, Share}
 use Rattle.fr_runs.proofs.Nodes.{correct_node}
 use Rattle.fr_promise.proofs.Covering.{few_nodes, nodes_keep_within, HaveNoGapOfRun}
-use Rattle.fr_sharp.specs.Flutter.{FluttersWithin}
+use Rattle.fr_runs.specs.Flutter.{FluttersWithin}
 use Rattle.fr_sharp.specs.HeldHistories.{HeldHistoriesKeepSharpSync, HistoriesKeepForEver, IsHeldAt}
 use Rattle.fr_sharp.specs.HeldWalks.{beyond_after, beyond_for_ever, walk_is_held, SyncLastsAfter, SyncLastsUpTo}
-use Rattle.fr_sharp.specs.Lengths.{walked_after}
+use Rattle.fr_precision.specs.Lengths.{walked_after}
 use Rattle.fr_bound.specs.SharpBounds.{sharp_near, sharp_precision}
 use Rattle.fr_bound.specs.SharpChecks.{SharpChecksHold}
 use Rattle.fr_sharp.specs.SharpFiles.{ArbitraryIsTold, CoveredFilesKeepSharply, FilesAreSteady, FilesFlutter, FilesGiveSteadyRuns, FilesSettleSharply}
-use Rattle.fr_sharp.specs.SharpHistories.{IsInSharpSyncAt, IsSteadyRun, KeepsApart, StaysInSharpSyncAt}
+use Rattle.fr_runs.specs.SharpHistories.{IsInSharpSyncAt, IsSteadyRun, KeepsApart, StaysInSharpSyncAt}
 use Rattle.fr_sharp.specs.SharpStatement.{has_arbitrary, FilesKeepSharpPrecision, KeepsSharply}
-use Rattle.fr_sharp.specs.SteadyRuns.{MayHaveArbitrary}
+use Rattle.fr_runs.specs.SteadyRuns.{MayHaveArbitrary}
 use Rattle.fr_sharp.proofs.HeldRuns.{never_lasts}
 use Rattle.fr_sharp.proofs.RunWay.{stated_runs_settle_sharply}
 use Rattle.fr_sharp.proofs.RunSync.{histories_keep_sharp_sync_lem}

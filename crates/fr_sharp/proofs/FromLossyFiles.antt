@@ -12,15 +12,15 @@ use Rattle.fr_bound.specs.declared.judging.Heard.TheVariants as heard
 use Rattle.fr_coverage.specs.Decided.{setting_of}
 use Rattle.fr_coverage.specs.Flutter.{flutter_of}
 use Rattle.fr_coverage.specs.Links.{is_sync}
-use Rattle.fr_sharp.specs.Among.{spread_through_losses, LaterSpreadsAreLess}
+use Rattle.fr_precision.specs.Among.{spread_through_losses, LaterSpreadsAreLess}
 use Rattle.fr_sharp.specs.Losses.{HistoriesKeepThroughLosses}
 use Rattle.fr_sharp.specs.LossStatement.{whole_in, without_losses, CoveredFilesKeepThroughLosses, FilesKeepThroughLosses, LossyFilesGiveRuns}
 use Rattle.fr_sharp.specs.Traffic.{all_linked, arbitrary_count, heard_in, lists_meet, traffic_in, Traffic}
 use Rattle.fr_bound.specs.SharpSpreads.{sharply_near_in}
 use Rattle.fr_sharp.specs.SharpStatement.{has_arbitrary}
-use Rattle.fr_sharp.specs.SteadyRuns.{IsTimedSetting}
+use Rattle.fr_runs.specs.SteadyRuns.{IsTimedSetting}
 use Rattle.fr_sharp.proofs.FromFiles.{arbitrary_is_told, files_are_steady}
-use Rattle.fr_sharp.proofs.JoinBounds.{near_grows}
+use Rattle.fr_promise.proofs.JoinBounds.{near_grows}
 use Rattle.fr_sharp.proofs.TrafficCounts.{some_counted}
 
 -- what is stated of oscillators and delays does not speak of what is lost

@@ -31,13 +31,13 @@ use Rattle.fr_runs.proofs.Receivers.{is_correct_node}
 use Rattle.fr_runs.proofs.RowsHeard.{RowLink}
 use Rattle.fr_coverage.specs.Links.{is_regular, is_sync, shares}
 use Rattle.fr_sharp.specs.Losses.{heard_at, heard_of, IsTrustedOf}
-use Rattle.fr_sharp.specs.SteadyRuns.{AreRowsInReach}
+use Rattle.fr_runs.specs.SteadyRuns.{AreRowsInReach}
 use Rattle.fr_sharp.specs.Traffic.{all_trusted, arbitrary_count, comes, has_value, is_trusted, most_count, is_correct_sender, sure_count, traffic_of, trusts, value_on, Traffic}
 use Rattle.fr_sharp.proofs.HeardCounts.{all_pass, count_two, discards_more, is_passed, nodes_counted, passes_at, passes_is}
 use Rattle.fr_sharp.proofs.HeardEvents.{may_come, regular_of}
 use Rattle.fr_sharp.proofs.HeardInPart.{is_other, least_there, mean_there, others_counted}
-use Rattle.fr_sharp.proofs.RowsSupplied.{comes_in, counted_in, frames_stored, link_to, looked_up, rows_heard_in_part, LawfulRows}
-use Rattle.fr_sharp.proofs.RunDoubles.{all_among, AllHave}
+use Rattle.fr_runs.proofs.RowsSupplied.{comes_in, counted_in, frames_stored, link_to, looked_up, rows_heard_in_part, LawfulRows}
+use Rattle.fr_promise.proofs.RunDoubles.{all_among, AllHave}
 
 -- the values of one of both kinds, by key index
 abbrev pub value_by : Bool → Hearer → (ℕ → Option ℤ)

@@ -29,19 +29,19 @@ use Rattle.fr_runs.proofs.Parts.{cycle_within}
 use Rattle.fr_runs.proofs.Rows.{contains_map}
 use Rattle.fr_sharp.specs.HeldHistories.{HeldHistoriesKeepSharpSync, HistoriesKeepForEver, IsHeldAt}
 use Rattle.fr_sharp.specs.HeldWalks.{beyond_for_ever, micros_of, oscillators_stay, sync_lasts, walk_is_held, IsHighLevel, IsLowLevel, LevelsAreThere, LevelsHold, LieBetween}
-use Rattle.fr_sharp.specs.Lengths.{IsAboutCycle, IsNextEven, KeepSenders}
+use Rattle.fr_precision.specs.Lengths.{IsAboutCycle, IsNextEven, KeepSenders}
 use Rattle.fr_sharp.specs.SharpFiles.{SyncLastsOn}
-use Rattle.fr_sharp.specs.SharpHistories.{members_at, senders_at, IsInSharpSyncAt, IsSteadyRun, KeepsApart, KeepsSharpPrecision}
-use Rattle.fr_sharp.specs.SharpRun.{AllUncut, IsNextDouble}
-use Rattle.fr_sharp.specs.SharpStep.{ComputesSharply, IsSharpDouble}
-use Rattle.fr_sharp.specs.Steady.{PlacesEven}
+use Rattle.fr_runs.specs.SharpHistories.{members_at, senders_at, IsInSharpSyncAt, IsSteadyRun, KeepsApart, KeepsSharpPrecision}
+use Rattle.fr_precision.specs.SharpRun.{AllUncut, IsNextDouble}
+use Rattle.fr_precision.specs.SharpStep.{ComputesSharply, IsSharpDouble}
+use Rattle.fr_precision.specs.Steady.{PlacesEven}
 use Rattle.fr_sharp.proofs.HeldSenders.{micros_are_own, own_are_proper, own_micros, some_sender, unchanged}
-use Rattle.fr_sharp.proofs.OlderLemmas.{first_check_lasts_on}
+use Rattle.fr_precision.proofs.OlderLemmas.{first_check_lasts_on}
 use Rattle.fr_sharp.proofs.RunCycles.{histories_keep_sharp_precision, keeps_by_cycle}
-use Rattle.fr_sharp.proofs.RunDoubles.{all_have, senders_found}
+use Rattle.fr_promise.proofs.RunDoubles.{all_have, senders_found}
 use Rattle.fr_sharp.proofs.RunSync.{active, found_at, heard, next_at, rows_at, stay, step_comes_to, step_keeps_apart, sync_at, sync_of_members, uncut}
-use Rattle.fr_sharp.proofs.Signed.{signed_of}
-use Rattle.fr_sharp.proofs.StepLemmas.{among_rows, sharp_is_wider}
+use Rattle.fr_precision.proofs.Signed.{signed_of}
+use Rattle.fr_precision.proofs.StepLemmas.{among_rows, sharp_is_wider}
 
 -- ---- numbers
 

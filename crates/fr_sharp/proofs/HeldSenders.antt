@@ -26,9 +26,9 @@ use Rattle.fr_runs.specs.Gathered.{round_at}
 use Rattle.fr_runs.proofs.Courses.{row_two}
 use Rattle.fr_runs.proofs.Doubles.{even_length}
 use Rattle.fr_sharp.specs.HeldWalks.{micros_of, oscillators_stay}
-use Rattle.fr_sharp.specs.SteadyRuns.{IsTimedSetting}
-use Rattle.fr_sharp.proofs.RowsSupplied.{few_in, LawfulRows}
-use Rattle.fr_sharp.proofs.RunDoubles.{all_among, AllHave}
+use Rattle.fr_runs.specs.SteadyRuns.{IsTimedSetting}
+use Rattle.fr_runs.proofs.RowsSupplied.{few_in, LawfulRows}
+use Rattle.fr_promise.proofs.RunDoubles.{all_among, AllHave}
 
 -- ---- lists of what is there
 

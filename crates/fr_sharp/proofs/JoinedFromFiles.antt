@@ -30,19 +30,19 @@ use Rattle.fr_runs.proofs.Nodes.{correct_node, node_there}
 use Rattle.fr_runs.proofs.Rows.{each_row}
 use Rattle.fr_runs.proofs.Whole.{double_runs}
 use Rattle.fr_bound.specs.SharpBounds.{rate_walk}
-use Rattle.fr_sharp.specs.SharpHistories.{IsInSharpSyncAt}
+use Rattle.fr_runs.specs.SharpHistories.{IsInSharpSyncAt}
 use Rattle.fr_sharp.specs.JoinedFiles.{CoveredFilesKeepSharplyJoined, IsSharplyCoveredToJoin, JoinedFilesKeepSharpPrecision}
-use Rattle.fr_sharp.specs.SharpJoined.{IsSteadyJoined}
-use Rattle.fr_sharp.specs.SharpJoining.{sharp_reach}
+use Rattle.fr_promise.specs.SharpJoined.{IsSteadyJoined}
+use Rattle.fr_promise.specs.SharpJoining.{sharp_reach}
 use Rattle.fr_sharp.specs.SharpStatement.{has_arbitrary}
-use Rattle.fr_sharp.specs.SteadyRuns.{IsSteadySetting}
-use Rattle.fr_sharp.proofs.BoundLemmas.{first_check_stops_walk}
+use Rattle.fr_runs.specs.SteadyRuns.{IsSteadySetting}
+use Rattle.fr_precision.proofs.BoundLemmas.{first_check_stops_walk}
 use Rattle.fr_sharp.proofs.FromFiles.{arbitrary_is_told, files_are_steady}
-use Rattle.fr_sharp.proofs.JoinedCycles.{joined_histories_keep_sharp_precision}
-use Rattle.fr_sharp.proofs.JoinedListeners.{joined_listeners_join, joined_listeners_join_up_to}
-use Rattle.fr_sharp.proofs.JoinedStarts.{steady_starts_are_natural}
-use Rattle.fr_sharp.proofs.RowsSupplied.{double_within}
-use Rattle.fr_sharp.proofs.JoinedRuns.{first_rates_last_on, joined_histories_keep_sharp_sync, still_zero}
+use Rattle.fr_promise.proofs.JoinedCycles.{joined_histories_keep_sharp_precision}
+use Rattle.fr_promise.proofs.JoinedListeners.{joined_listeners_join, joined_listeners_join_up_to}
+use Rattle.fr_promise.proofs.JoinedStarts.{steady_starts_are_natural}
+use Rattle.fr_runs.proofs.RowsSupplied.{double_within}
+use Rattle.fr_promise.proofs.JoinedRuns.{first_rates_last_on, joined_histories_keep_sharp_sync, still_zero}
 
 -- the reference of a node that joins is a node of the cluster
 reference_is : (p : Values) (d : DriftView) (s : ScriptView) (node : NodeSpec) (join : Join) → JoinsProperly p s node.id join → IsReference (setting_of p d s) node join

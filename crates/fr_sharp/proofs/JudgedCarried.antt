@@ -6,8 +6,8 @@ use Rattle.fr_bound.specs.declared.judging.Heard.{Heard}
 use Rattle.fr_bound.specs.declared.judging.Known.{Known}
 use Rattle.fr_history.specs.Cycles.{Cycles}
 use Rattle.fr_sharp.specs.JudgedStates.{AreKnownFrom, CarriedIsKnown, CarriesKnown}
-use Rattle.fr_sharp.specs.JudgedSteps.{GoesOnJudged, IsKnownAt}
-use Rattle.fr_sharp.specs.SharpHistories.{IsStatedRun}
+use Rattle.fr_sharp.specs.JudgedSteps.{GoesOnJudged}
+use Rattle.fr_runs.specs.SharpHistories.{IsKnownAt, IsStatedRun}
 use Rattle.fr_sharp.proofs.JudgedLaws.{judged_goes_on_lem, known_is_met_lem}
 
 module _ (x : Setting) (flutter : ℕ) (h : Cycles) (from : ℕ) (what : ℕ → Heard) (seen known : ℕ → Option Known) (w : IsStatedRun x flutter h) (carries : CarriesKnown x.params flutter what seen known)

@@ -36,24 +36,23 @@ use Rattle.fr_history.specs.Cycles.{Cycle, Cycles, cycle_at}
 use Rattle.fr_runs.specs.Gathered.{round_at}
 use Rattle.fr_runs.specs.Rounds.{IsDoubleOf}
 use Rattle.fr_runs.proofs.Parts.{even_is, odd_is}
-use Rattle.fr_sharp.specs.Among.{ComputesOwn}
-use Rattle.fr_sharp.specs.JudgedSteps.{AppliesMidpoints, ComputeBy, EachHasRow, GoesOnJudged, IsHeardIn, IsKnownAt, IsLawfulStatedRun, IsRoundBy, JudgedGoesOn, KnownIsMet, SharpSyncIsKnown, StatedRunsAreKnown, UnfollowedGoesOn}
-use Rattle.fr_sharp.specs.Lengths.{CanWalk, IsAboutCycle}
-use Rattle.fr_sharp.specs.Losses.{NoneIsDeaf}
-use Rattle.fr_sharp.specs.SharpHistories.{members_at, senders_at, BeginsActive, KeepsApart}
-use Rattle.fr_sharp.specs.SharpRun.{AllUncut}
-use Rattle.fr_sharp.specs.SharpStep.{ActInReach, AreSharp, ComeSharply, ComputesSharply, IsSharpDouble, IsSharpLimit}
-use Rattle.fr_sharp.specs.SteadyRuns.{row_hearers, AreRowsInReach, IsWhole, MayHaveArbitrary}
-use Rattle.fr_sharp.proofs.AmongSteps.{lost_spreads_grow}
-use Rattle.fr_sharp.proofs.BoundLemmas.{key_slots_act_early, sharp_checks_suffice_lem, walk_is_bounded}
+use Rattle.fr_precision.specs.Among.{ComputesOwn}
+use Rattle.fr_sharp.specs.JudgedSteps.{AppliesMidpoints, ComputeBy, GoesOnJudged, IsHeardIn, IsLawfulStatedRun, IsRoundBy, JudgedGoesOn, KnownIsMet, SharpSyncIsKnown, StatedRunsAreKnown, UnfollowedGoesOn}
+use Rattle.fr_precision.specs.Lengths.{CanWalk, IsAboutCycle}
+use Rattle.fr_runs.specs.SharpHistories.{members_at, senders_at, BeginsActive, EachHasRow, IsKnownAt, KeepsApart}
+use Rattle.fr_precision.specs.SharpRun.{AllUncut}
+use Rattle.fr_precision.specs.SharpStep.{ActInReach, AreSharp, ComeSharply, ComputesSharply, IsSharpDouble, IsSharpLimit}
+use Rattle.fr_runs.specs.SteadyRuns.{row_hearers, AreRowsInReach, IsWhole, MayHaveArbitrary, NoneIsDeaf}
+use Rattle.fr_precision.proofs.AmongSteps.{lost_spreads_grow}
+use Rattle.fr_precision.proofs.BoundLemmas.{key_slots_act_early, sharp_checks_suffice_lem, walk_is_bounded}
 use Rattle.fr_sharp.proofs.RowsInPart.{computes_own, round_in_part}
-use Rattle.fr_sharp.proofs.RowsSupplied.{round_in_reach}
-use Rattle.fr_sharp.proofs.RunDoubles.{members_found}
+use Rattle.fr_runs.proofs.RowsSupplied.{round_in_reach}
+use Rattle.fr_promise.proofs.RunDoubles.{members_found}
 use Rattle.fr_sharp.proofs.RunSettles.{timed_begin_active}
 use Rattle.fr_sharp.proofs.RunStated.{first_sharp}
 use Rattle.fr_sharp.proofs.RunSync.{none_cuts}
-use Rattle.fr_sharp.proofs.SettlingLemmas.{next_spread_draws}
-use Rattle.fr_sharp.proofs.StepLemmas.{macroticks_stay_sharp, next_is_near, spreads_shrink_in_reach}
+use Rattle.fr_precision.proofs.SettlingLemmas.{next_spread_draws}
+use Rattle.fr_precision.proofs.StepLemmas.{macroticks_stay_sharp, next_is_near, spreads_shrink_in_reach}
 use Rattle.fr_sharp.proofs.TimedRuns.{acting_with, each_alone, each_later, evens_of, found_of, have_rows, heard_of, keeps_apart_of, lawful_run, next_of, odds_of, rates_of_double, rows_of}
 
 -- ---- the numbers

@@ -27,9 +27,9 @@ use Rattle.fr_precision.proofs.PlacementLaws.{steady_within}
 use Rattle.fr_precision.proofs.Senders.{All-both}
 use Rattle.fr_precision.proofs.StepLaws.{unmapped}
 use Rattle.fr_sharp.specs.HeldWalks.{is_clear_above, is_clear_below, micros_of, walk_is_held, IsHighLevel, IsLowLevel, LevelsHold}
-use Rattle.fr_sharp.specs.Steady.{PlacesEven}
-use Rattle.fr_sharp.proofs.CrowdLemmas.{count_by-map, crowd_from, crowd_to, some_from, some_to}
-use Rattle.fr_sharp.proofs.Signed.{signed_of}
+use Rattle.fr_precision.specs.Steady.{PlacesEven}
+use Rattle.fr_precision.proofs.CrowdLemmas.{count_by-map, crowd_from, crowd_to, some_from, some_to}
+use Rattle.fr_precision.proofs.Signed.{signed_of}
 
 -- ---- over plain numbers
 

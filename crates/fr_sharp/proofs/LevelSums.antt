@@ -16,7 +16,7 @@ use Rattle.fr_bound.specs.Bounds.{shortest_micro}
 use Rattle.fr_bound.specs.SharpBounds.{rate_walk}
 use Rattle.fr_precision.specs.Rows.{longest_cycle, shortest_cycle}
 use Rattle.fr_sharp.specs.HeldWalks.{is_clear_above, is_clear_below, IsHighLevel, IsLowLevel, LevelsAreThere}
-use Rattle.fr_sharp.proofs.Signed.{signed_of}
+use Rattle.fr_precision.proofs.Signed.{signed_of}
 
 -- ---- quotients rounded down
 

@@ -12,21 +12,21 @@ use Rattle.fr_history.specs.Cycles.{Cycles}
 use Rattle.fr_bound.specs.SharpSpreads.{next_lost_spread}
 use Rattle.fr_bound.specs.declared.judging.Heard.{Heard}
 use Rattle.fr_bound.specs.declared.judging.Heard.TheVariants as heard
-use Rattle.fr_sharp.specs.Among.{apart_through_losses, lost_spread, spread_through_losses, LaterSpreadsAreLess, SpreadsAreBelowLost}
+use Rattle.fr_precision.specs.Among.{apart_through_losses, lost_spread, spread_through_losses, LaterSpreadsAreLess, SpreadsAreBelowLost}
 use Rattle.fr_sharp.specs.LossBursts.{BurstsCostNoMore, BurstsKeepThePeak, IsInBurst, LosesInBursts}
 use Rattle.fr_sharp.specs.LossCosts.{heard_behind}
 use Rattle.fr_sharp.specs.Losses.{lost_apart, HistoriesKeepThroughLosses}
 use Rattle.fr_sharp.specs.LossStatement.{whole_in}
-use Rattle.fr_sharp.specs.SharpHistories.{IsInSharpSyncAt, KeepsApart}
+use Rattle.fr_runs.specs.SharpHistories.{IsInSharpSyncAt, KeepsApart}
 use Rattle.fr_sharp.specs.SharpStatement.{has_arbitrary}
 use Rattle.fr_sharp.specs.Traffic.{heard_in, traffic_in}
 use Rattle.fr_bound.specs.SharpSpreads.{sharply_near_in}
-use Rattle.fr_sharp.proofs.AmongNumbers.{heard_again, next_is}
+use Rattle.fr_promise.proofs.AmongNumbers.{heard_again, next_is}
 use Rattle.fr_sharp.proofs.FromLossyFiles.{covered_files_keep_through_losses, none_is_clean, whole_is_clean}
-use Rattle.fr_sharp.proofs.JoinBounds.{near_grows}
+use Rattle.fr_promise.proofs.JoinBounds.{near_grows}
 use Rattle.fr_sharp.proofs.LossLemmas.{apart_under, far_grows, far_within, Far}
 use Rattle.fr_sharp.proofs.LossNumbers.{never, never_rises, same_yet}
-use Rattle.fr_sharp.proofs.LossOrder.{always_wide, below_itself, calm, later_below, next_below, through, whole_below_lost, whole_falls, IsBelow, IsWide}
+use Rattle.fr_promise.proofs.LossOrder.{always_wide, below_itself, calm, later_below, next_below, through, whole_below_lost, whole_falls, IsBelow, IsWide}
 
 module _ (p : Values) (flutter : ℕ) where
   abbrev by_never : ℕ → Spread

@@ -11,15 +11,15 @@ use Rattle.fr_bound.specs.declared.judging.Heard.TheVariants as heard
 use Rattle.fr_bound.specs.Judged.{heard_spread}
 use Rattle.fr_bound.specs.declared.settling.Spread.{Spread}
 use Rattle.fr_bound.specs.SharpSpreads.{next_lost_spread}
-use Rattle.fr_sharp.specs.Among.{all_or_any, every_second, lost_spread}
+use Rattle.fr_precision.specs.Among.{all_or_any, every_second, lost_spread}
 use Rattle.fr_sharp.specs.LossCosts.{apart_in_a_row, heard_behind, near_in_a_row, HearsEverySecond, IsBack, IsGreatest, IsGreatestEverySecond}
 use Rattle.fr_sharp.specs.LossSteps.{heard_apart}
 use Rattle.fr_sharp.specs.Losses.{lost_apart}
 use Rattle.fr_bound.specs.SharpBounds.{odd_spread, precision_by, sharp_lambda, sharp_pi, sharp_precision, wide_change}
 use Rattle.fr_bound.specs.SharpSpreads.{sharply_near_in}
-use Rattle.fr_sharp.proofs.AmongNumbers.{holds, next_is, Holds, IsCalm, IsStirred}
-use Rattle.fr_sharp.proofs.JoinBounds.{near_grows}
-use Rattle.fr_sharp.proofs.LossOrder.{added, always_wide, below_itself, lambda_by, lost_rises, through, whole_falls, IsBelow, IsWide}
+use Rattle.fr_promise.proofs.AmongNumbers.{holds, next_is, Holds, IsCalm, IsStirred}
+use Rattle.fr_promise.proofs.JoinBounds.{near_grows}
+use Rattle.fr_promise.proofs.LossOrder.{added, always_wide, below_itself, lambda_by, lost_rises, through, whole_falls, IsBelow, IsWide}
 use Rattle.fr_sharp.proofs.LostHistories.{sharp_after_two_whole}
 
 -- ---- what is heard behind so many

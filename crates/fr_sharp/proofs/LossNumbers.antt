@@ -17,15 +17,15 @@ use Rattle.fr_precision.proofs.Figures.{nat_le-true}
 use Rattle.fr_sharp.specs.declared.loss_costs.LossCost.{LossCost}
 use Rattle.fr_sharp.specs.declared.loss_costs.SecondCost.{SecondCost}
 use Rattle.fr_bound.specs.SharpSpreads.{next_lost_spread}
-use Rattle.fr_sharp.specs.Among.{lost_spread, spread_through_losses}
+use Rattle.fr_precision.specs.Among.{lost_spread, spread_through_losses}
 use Rattle.fr_sharp.specs.LossCosts.{apart_in_a_row, heard_behind, limits_hold, near_in_a_row, EverySecondIsReached, HoldInARow, IsBack, IsGreatest, IsGreatestEverySecond, IsLongest, IsLongestRow, IsLossCost, IsSecondCost, OneLongest, OneLossCost, OneSecondCost, SomeLongest, SomeLossCost, SomeSecondCost}
 use Rattle.fr_sharp.specs.LossSteps.{heard_apart}
 use Rattle.fr_bound.specs.SharpBounds.{sharp_lambda, sharp_pi, sharp_precision}
 use Rattle.fr_bound.specs.SharpChecks.{sharp_holds_of, sharp_right_of}
 use Rattle.fr_bound.specs.SharpSpreads.{sharply_near_in}
-use Rattle.fr_sharp.proofs.JoinBounds.{near_grows}
+use Rattle.fr_promise.proofs.JoinBounds.{near_grows}
 use Rattle.fr_sharp.proofs.LossLemmas.{back_behind, every_peak, every_peak_is, every_reach, lost_yet, peak_behind, reach_behind, widest as widest_spread}
-use Rattle.fr_sharp.proofs.LossOrder.{added, lost_rises, through, IsBelow, below_itself}
+use Rattle.fr_promise.proofs.LossOrder.{added, lost_rises, through, IsBelow, below_itself}
 
 -- ---- the checks of the limits hold with any lesser reach
 

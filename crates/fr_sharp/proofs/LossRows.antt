@@ -2,7 +2,7 @@
 use Rattle.std.proofs.Common.{◌≡◌, false, [], ◌∷◌, refl}
 use Rattle.fr_cluster.specs.Values.{Values}
 use Rattle.fr_precision.proofs.Worked.{node}
-use Rattle.fr_sharp.specs.Among.{every_second, lost_spread}
+use Rattle.fr_precision.specs.Among.{every_second, lost_spread}
 use Rattle.fr_sharp.specs.LossCosts.{apart_in_a_row}
 use Rattle.fr_bound.specs.SharpBounds.{sharp_precision}
 use Rattle.fr_sharp.proofs.SharpRows.{set_of}

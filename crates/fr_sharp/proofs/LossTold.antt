@@ -24,7 +24,7 @@ use Rattle.fr_coverage.specs.declared.gap.Gap.TheVariants as gap
 use Rattle.fr_bound.specs.declared.settling.Spread.{Spread}
 use Rattle.fr_bound.specs.Judged.{heard_spread}
 use Rattle.fr_bound.specs.declared.judging.Heard.{Heard}
-use Rattle.fr_sharp.specs.Among.{apart_through_losses, spread_through_losses, LaterSpreadsAreLess}
+use Rattle.fr_precision.specs.Among.{apart_through_losses, spread_through_losses, LaterSpreadsAreLess}
 use Rattle.fr_sharp.specs.LossCosts.{limits_hold}
 use Rattle.fr_sharp.specs.Losses.{HistoriesKeepThroughLosses}
 use Rattle.fr_sharp.specs.LossRuns.{all_reach, is_link_at_most, is_through_losses, losses_by, losses_of, lost_before, next_losses, reaches, reaches_each, through_checks, through_nodes, AreLosses, IsLastLost, LossesAreTold, RunsKeepTheirBounds}

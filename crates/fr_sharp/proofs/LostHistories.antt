@@ -14,26 +14,26 @@ use Rattle.fr_history.specs.Cycles.{Cycle, Cycles}
 use Rattle.fr_runs.specs.Rounds.{IsDoubleOf}
 use Rattle.fr_bound.specs.declared.judging.Heard.{Heard}
 use Rattle.fr_bound.specs.declared.judging.Heard.TheVariants.{Clean, Meeting, Poor}
-use Rattle.fr_sharp.specs.Among.{apart_through_losses, lost_spread, spread_through_losses, AreLossyDoubles, ComputesOwn, GoInReach, HearInCommon, HeardSo, LossyDoublesKeep, LossyDoublesStayApart, SpreadsGo}
+use Rattle.fr_precision.specs.Among.{apart_through_losses, lost_spread, spread_through_losses, AreLossyDoubles, ComputesOwn, GoInReach, HearInCommon, HeardSo, LossyDoublesKeep, LossyDoublesStayApart, SpreadsGo}
 use Rattle.fr_sharp.specs.JudgedSteps.{IsLawfulStatedRun}
-use Rattle.fr_sharp.specs.Lengths.{walked_after}
+use Rattle.fr_precision.specs.Lengths.{walked_after}
 use Rattle.fr_sharp.specs.Losses.{HistoriesKeepThroughLosses, IsLossyRun, SharpAfterTwoWhole}
 use Rattle.fr_bound.specs.SharpBounds.{last_action, odd_spread, precision_by, sharp_lambda, sharp_pi, sharp_precision}
 use Rattle.fr_bound.specs.SharpChecks.{SharpChecksHold}
-use Rattle.fr_sharp.specs.SharpHistories.{members_at, senders_at, BeginsActive, IsInSharpSyncAt, KeepsApart}
-use Rattle.fr_sharp.specs.SharpRun.{BeginSharp, WalkLastsAfter}
+use Rattle.fr_runs.specs.SharpHistories.{members_at, senders_at, BeginsActive, IsInSharpSyncAt, KeepsApart}
+use Rattle.fr_precision.specs.SharpRun.{BeginSharp, WalkLastsAfter}
 use Rattle.fr_bound.specs.SharpSpreads.{sharply_near_in}
-use Rattle.fr_sharp.specs.SharpStep.{ActInReach, AreSharp, IsInSharpSync}
-use Rattle.fr_sharp.specs.SteadyRuns.{AreRowsInReach}
+use Rattle.fr_precision.specs.SharpStep.{ActInReach, AreSharp, IsInSharpSync}
+use Rattle.fr_runs.specs.SteadyRuns.{AreRowsInReach}
 use Rattle.fr_sharp.specs.Traffic.{heard_in, lists_meet, traffic_of}
-use Rattle.fr_sharp.proofs.AmongNumbers.{heard_again}
-use Rattle.fr_sharp.proofs.BoundLemmas.{key_slots_act_early, sharp_checks_suffice_lem}
-use Rattle.fr_sharp.proofs.LastingLemmas.{near_fits, up_to}
-use Rattle.fr_sharp.proofs.RateRange.{walked_suffices}
+use Rattle.fr_promise.proofs.AmongNumbers.{heard_again}
+use Rattle.fr_precision.proofs.BoundLemmas.{key_slots_act_early, sharp_checks_suffice_lem}
+use Rattle.fr_precision.proofs.LastingLemmas.{near_fits, up_to}
+use Rattle.fr_precision.proofs.RateRange.{walked_suffices}
 use Rattle.fr_sharp.proofs.HeardInCommon.{rows_meet}
 use Rattle.fr_sharp.proofs.HeardKinds.{clean_is, meeting_is}
 use Rattle.fr_sharp.proofs.RowsInPart.{rows_compute_own}
-use Rattle.fr_sharp.proofs.RunDoubles.{members_found}
+use Rattle.fr_promise.proofs.RunDoubles.{members_found}
 use Rattle.fr_sharp.proofs.RunSync.{none_cuts}
 use Rattle.fr_sharp.proofs.TimedRuns.{acting_of, active_in_sync, active_of, each_alone, follows_of, found_of, heard_of, keeps_apart_of, lawful_run, members_in_sync, part, rates_of_double}
 

@@ -17,11 +17,11 @@ use Rattle.fr_runs.specs.Rounds.{IsDoubleOf}
 use Rattle.fr_runs.proofs.Parts.{cycle_found, cycle_within, each_cycle}
 use Rattle.fr_bound.specs.SharpBounds.{rate_walk, sharp_near, sharp_precision}
 use Rattle.fr_bound.specs.SharpChecks.{sharp_holds_of, SharpChecksHold}
-use Rattle.fr_sharp.specs.SharpHistories.{BeginsActive, CyclesKeepApart, HistoriesKeepSharpPrecision, IsInSharpSyncAt, IsSteadyRun, KeepsApart, KeepsSharpPrecision, StatedRunsAreSteady, StaysInSharpSyncAt}
-use Rattle.fr_sharp.specs.SharpRun.{WalkLastsAfter}
-use Rattle.fr_sharp.proofs.BoundLemmas.{first_check_stops_walk}
-use Rattle.fr_sharp.proofs.LastingLemmas.{up_to}
-use Rattle.fr_sharp.proofs.OlderLemmas.{does_not_walk, lasts_on, stays_in_range}
+use Rattle.fr_runs.specs.SharpHistories.{BeginsActive, CyclesKeepApart, HistoriesKeepSharpPrecision, IsInSharpSyncAt, IsSteadyRun, KeepsApart, KeepsSharpPrecision, StatedRunsAreSteady, StaysInSharpSyncAt}
+use Rattle.fr_precision.specs.SharpRun.{WalkLastsAfter}
+use Rattle.fr_precision.proofs.BoundLemmas.{first_check_stops_walk}
+use Rattle.fr_precision.proofs.LastingLemmas.{up_to}
+use Rattle.fr_precision.proofs.OlderLemmas.{does_not_walk, lasts_on, stays_in_range}
 use Rattle.fr_sharp.proofs.RunSync.{keeps_sync, sync_in}
 
 -- ---- each cycle

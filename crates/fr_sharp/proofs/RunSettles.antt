@@ -28,22 +28,22 @@ use Rattle.fr_runs.specs.Rounds.{IsDoubleOf}
 use Rattle.fr_runs.proofs.Doubles.{even_length, status_even}
 use Rattle.fr_runs.proofs.Outcomes.{begun_active}
 use Rattle.fr_runs.proofs.Parts.{even_is, odd_is}
-use Rattle.fr_sharp.specs.Lengths.{walked_after}
+use Rattle.fr_precision.specs.Lengths.{walked_after}
 use Rattle.fr_sharp.specs.SettlingHistories.{BeginsSharply, HistoriesBeginActive, HistoriesKeepToSpreads, HistoriesReachSharpSync, IsOlderRun, KeepsToSpreadsAt, OlderHistoriesSettle, SettlesFromSync}
 use Rattle.fr_bound.specs.SharpBounds.{last_action}
-use Rattle.fr_sharp.specs.SharpHistories.{members_at, senders_at, BeginsActive, IsSteadyRun, IsStatedRun, KeepsApart}
-use Rattle.fr_sharp.specs.SharpRun.{lengths_from, starts_from, BeginInSync, BeginSharp, BeginWithin, KeepsFromSync, KeepsToSpreads, WalkLastsAfter}
+use Rattle.fr_runs.specs.SharpHistories.{members_at, senders_at, BeginsActive, IsSteadyRun, IsStatedRun, KeepsApart}
+use Rattle.fr_precision.specs.SharpRun.{lengths_from, starts_from, BeginInSync, BeginSharp, BeginWithin, KeepsFromSync, KeepsToSpreads, WalkLastsAfter}
 use Rattle.fr_bound.specs.SharpSpreads.{sharply_apart_in}
-use Rattle.fr_sharp.specs.SharpSettling.{sharp_spread_after}
-use Rattle.fr_sharp.specs.SharpStep.{ActInReach, AreSharp}
-use Rattle.fr_sharp.proofs.BoundLemmas.{key_slots_act_early, sharp_checks_suffice_lem}
-use Rattle.fr_sharp.proofs.LastingLemmas.{sharp_spreads_keep, stays_at_rest, up_to, AllActive}
-use Rattle.fr_sharp.proofs.OlderLemmas.{lasts_on, older_sync_settles}
-use Rattle.fr_sharp.proofs.RowsSupplied.{covered_runs_are_steady}
+use Rattle.fr_precision.specs.SharpSettling.{sharp_spread_after}
+use Rattle.fr_precision.specs.SharpStep.{ActInReach, AreSharp}
+use Rattle.fr_precision.proofs.BoundLemmas.{key_slots_act_early, sharp_checks_suffice_lem}
+use Rattle.fr_precision.proofs.LastingLemmas.{sharp_spreads_keep, stays_at_rest, up_to, AllActive}
+use Rattle.fr_precision.proofs.OlderLemmas.{lasts_on, older_sync_settles}
+use Rattle.fr_runs.proofs.RowsSupplied.{covered_runs_are_steady}
 use Rattle.fr_sharp.proofs.RunSync.{acting_by, active_by, are_doubles, doubles_in_reach, evens_at, found_at, keeps_apart, none_cuts, odds_at, regular_at, stays_at, timed}
 use Rattle.fr_sharp.proofs.TimedRuns.{lawful_run, rows_of}
-use Rattle.fr_sharp.proofs.SettlingLemmas.{older_way_fits}
-use Rattle.fr_sharp.proofs.StepLemmas.{runs_of}
+use Rattle.fr_precision.proofs.SettlingLemmas.{older_way_fits}
+use Rattle.fr_precision.proofs.StepLemmas.{runs_of}
 
 -- ---- the first double cycle
 

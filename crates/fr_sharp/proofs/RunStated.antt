@@ -18,11 +18,11 @@ use Rattle.fr_runs.proofs.Courses.{is_correct_row}
 use Rattle.fr_runs.proofs.Going.{rows_ascend}
 use Rattle.fr_runs.proofs.Parts.{cycle_within, even_is, odd_is}
 use Rattle.fr_runs.proofs.Rows.{Ascend, all_rows, row_runs_by}
-use Rattle.fr_sharp.specs.Lengths.{IsAboutCycle}
+use Rattle.fr_precision.specs.Lengths.{IsAboutCycle}
 use Rattle.fr_sharp.specs.SettlingHistories.{first_length, AreStatedNear, StatedRunsBeginInSharpSync, StatedStartsAreSharp, TimedRunsBeginInSharpSync}
 use Rattle.fr_bound.specs.SharpBounds.{sharp_lambda, sharp_pi}
-use Rattle.fr_sharp.specs.SharpHistories.{IsStatedRun}
-use Rattle.fr_sharp.specs.SharpStep.{AreSharp}
+use Rattle.fr_runs.specs.SharpHistories.{IsStatedRun}
+use Rattle.fr_precision.specs.SharpStep.{AreSharp}
 use Rattle.fr_sharp.proofs.RunSettles.{timed_begin_active}
 use Rattle.fr_sharp.proofs.RunSync.{timed}
 use Rattle.fr_sharp.proofs.TimedRuns.{found_of, lawful_run, rows_of}

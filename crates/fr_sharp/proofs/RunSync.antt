@@ -23,20 +23,20 @@ use Rattle.fr_precision.proofs.Senders.{All-along}
 use Rattle.fr_history.specs.Cycles.{Cycle, Cycles, cycle_at}
 use Rattle.fr_runs.specs.Rounds.{IsDoubleOf}
 use Rattle.fr_runs.proofs.Parts.{cycle_within, even_is, odd_is, DoubleAt}
-use Rattle.fr_sharp.specs.JudgedSteps.{EachHasRow, IsLawfulStatedRun}
-use Rattle.fr_sharp.specs.Lengths.{walked_after, CanWalk, IsAboutCycle}
+use Rattle.fr_sharp.specs.JudgedSteps.{IsLawfulStatedRun}
+use Rattle.fr_precision.specs.Lengths.{walked_after, CanWalk, IsAboutCycle}
 use Rattle.fr_bound.specs.SharpBounds.{last_action, near_by, rate_walk, sharp_lambda, sharp_near, sharp_pi, sharp_precision}
 use Rattle.fr_bound.specs.SharpChecks.{RateSuffices, SharpChecksHold}
-use Rattle.fr_sharp.specs.SharpHistories.{members_at, senders_at, BeginsActive, HistoriesAreSharpDoubles, HistoriesHaveMembers, HistoriesKeepSharpSync, HistoriesStepSharply, IsInSharpSyncAt, IsSteadyRun, IsStatedRun, KeepsApart, StaysInSharpSyncAt}
-use Rattle.fr_sharp.specs.SharpRun.{AllUncut, AreSharpDoubles, BeginSharp, IsNextDouble, StaysInSharpSync, WalkLastsAfter}
-use Rattle.fr_sharp.specs.SharpStep.{ActInReach, ComeSharply, IsInSharpSync, IsSharpDouble, StaySharp}
-use Rattle.fr_sharp.proofs.BoundLemmas.{sharp_checks_suffice_lem, walk_is_bounded}
-use Rattle.fr_sharp.proofs.LastingLemmas.{sharp_sync_lasts_lem, up_to}
-use Rattle.fr_sharp.proofs.RateRange.{walked_suffices}
-use Rattle.fr_sharp.proofs.RowsSupplied.{LawfulRows}
+use Rattle.fr_runs.specs.SharpHistories.{members_at, senders_at, BeginsActive, HistoriesAreSharpDoubles, HistoriesHaveMembers, HistoriesKeepSharpSync, HistoriesStepSharply, IsInSharpSyncAt, IsSteadyRun, IsStatedRun, KeepsApart, StaysInSharpSyncAt, EachHasRow}
+use Rattle.fr_precision.specs.SharpRun.{AllUncut, AreSharpDoubles, BeginSharp, IsNextDouble, StaysInSharpSync, WalkLastsAfter}
+use Rattle.fr_precision.specs.SharpStep.{ActInReach, ComeSharply, IsInSharpSync, IsSharpDouble, StaySharp}
+use Rattle.fr_precision.proofs.BoundLemmas.{sharp_checks_suffice_lem, walk_is_bounded}
+use Rattle.fr_precision.proofs.LastingLemmas.{sharp_sync_lasts_lem, up_to}
+use Rattle.fr_precision.proofs.RateRange.{walked_suffices}
+use Rattle.fr_runs.proofs.RowsSupplied.{LawfulRows}
 use Rattle.fr_sharp.proofs.TimedRuns.{acting_of, acting_with, active_in_sync, active_of, each_alone, evens_of, follows_of, found_of, heard_of, keeps_apart_of, lawful_run, members_in_sync, next_of, odds_of, regular_of, rows_of, sync_in_of}
-use Rattle.fr_sharp.proofs.RunDoubles.{senders_found}
-use Rattle.fr_sharp.proofs.StepLemmas.{next_is_in_sharp_sync, sharp_sync_is_kept_lem}
+use Rattle.fr_promise.proofs.RunDoubles.{senders_found}
+use Rattle.fr_precision.proofs.StepLemmas.{next_is_in_sharp_sync, sharp_sync_is_kept_lem}
 
 Active_in : List NodeRow → Type 0
 Active_in rows = All (λ (row : NodeRow). row.state ≡ Active) rows

@@ -7,18 +7,18 @@ use Rattle.fr_cluster.specs.Setting.{Setting}
 use Rattle.fr_cluster.specs.Values.{Values}
 use Rattle.fr_bound.specs.declared.settling.Spread.{Spread}
 use Rattle.fr_history.specs.Cycles.{Cycles}
-use Rattle.fr_sharp.specs.declared.way.SharpWay.{SharpWay}
+use Rattle.fr_promise.specs.declared.way.SharpWay.{SharpWay}
 use Rattle.fr_sharp.specs.SettlingHistories.{BeginsSharply, KeepsToSpreadsAt}
-use Rattle.fr_sharp.specs.SharpHistories.{KeepsApart, StaysInSharpSyncAt}
-use Rattle.fr_sharp.specs.SharpRun.{WalkLastsUpTo}
+use Rattle.fr_runs.specs.SharpHistories.{KeepsApart, StaysInSharpSyncAt}
+use Rattle.fr_precision.specs.SharpRun.{WalkLastsUpTo}
 use Rattle.fr_bound.specs.SharpSpreads.{sharply_near_in}
 use Rattle.fr_bound.specs.SharpSpreads.{IsSharplySettled}
-use Rattle.fr_sharp.specs.SharpSettling.{sharp_spread_after}
-use Rattle.fr_sharp.specs.SharpWay.{apart_after, near_after, AllWayChecksHold, IsSharpWay, IsWayVerdict, LeadsTo}
+use Rattle.fr_precision.specs.SharpSettling.{sharp_spread_after}
+use Rattle.fr_promise.specs.SharpWay.{apart_after, near_after, AllWayChecksHold, IsSharpWay, IsWayVerdict, LeadsTo}
 use Rattle.fr_sharp.specs.WayHistories.{BeginsNear, ComesByTheWay, HistoriesSettleSharply, StatedRunsSettleSharply}
 use Rattle.fr_sharp.proofs.RunSettles.{histories_keep_to_spreads, histories_reach_sharp_sync}
 use Rattle.fr_sharp.proofs.RunStated.{stated_starts_are_sharp}
-use Rattle.fr_sharp.proofs.WayLemmas.{checks_of_way, settled_on, walk_lasts_up_to, walk_lasts_while}
+use Rattle.fr_promise.proofs.WayLemmas.{checks_of_way, settled_on, walk_lasts_up_to, walk_lasts_while}
 
 -- spreads at rest are the same, whenever that is
 same_near : (beside : Bool) (p : Values) (flutter : ℕ) (one other : Spread) → IsSharplySettled beside p flutter one → IsSharplySettled beside p flutter other → sharply_near_in p one ≡ sharply_near_in p other

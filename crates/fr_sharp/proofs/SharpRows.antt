@@ -8,7 +8,7 @@ use Rattle.fr_bound.specs.Checks.{holds_of}
 use Rattle.fr_precision.proofs.Worked.{cluster, node}
 use Rattle.fr_bound.specs.SharpBounds.{last_action, last_of, rate_walk, sharp_lambda, sharp_near, sharp_pi, sharp_precision, walk_lasts}
 use Rattle.fr_bound.specs.SharpSpreads.{sharply_apart_in, sharply_near_in}
-use Rattle.fr_sharp.specs.SharpSettling.{sharp_spread_after}
+use Rattle.fr_precision.specs.SharpSettling.{sharp_spread_after}
 use Rattle.fr_bound.specs.SharpChecks.{sharp_holds_of, sharp_left_of, sharp_right_of}
 
 -- such a cluster with these nodes, damping, compensation of the delay, drift and change bounds, and delay error

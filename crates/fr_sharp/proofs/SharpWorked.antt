@@ -33,19 +33,19 @@ use Rattle.fr_precision.specs.Step.{IsAmong, IsFollowed, Member}
 use Rattle.fr_precision.proofs.Worked.{node, row}
 use Rattle.fr_bound.specs.SharpBounds.{last_action, last_of, rate_walk, sharp_lambda, sharp_near, sharp_pi}
 use Rattle.fr_bound.specs.SharpChecks.{SharpChecksHold}
-use Rattle.fr_sharp.specs.Steady.{IsSteadyPair, PlacesEven}
-use Rattle.fr_sharp.specs.Lengths.{walked_after, CanWalk, IsAboutCycle, IsSteadyRound}
-use Rattle.fr_sharp.specs.SharpRun.{AreSharpDoubles, BeginWithin, IsNextDouble, KeepsToSpreads, StaysInSharpSync}
+use Rattle.fr_precision.specs.Steady.{IsSteadyPair, PlacesEven}
+use Rattle.fr_precision.specs.Lengths.{walked_after, CanWalk, IsAboutCycle, IsSteadyRound}
+use Rattle.fr_precision.specs.SharpRun.{AreSharpDoubles, BeginWithin, IsNextDouble, KeepsToSpreads, StaysInSharpSync}
 use Rattle.fr_bound.specs.SharpSpreads.{sharply_near_in}
 use Rattle.fr_bound.specs.SharpSpreads.{IsSharplySettled}
-use Rattle.fr_sharp.specs.SharpSettling.{sharp_spread_after}
-use Rattle.fr_sharp.specs.SharpStep.{AllKeepSenders, AreSharp, ComputesSharply, IsSharpDouble, IsInSharpSync, StaySharp}
-use Rattle.fr_sharp.proofs.Arriving.{frames_are_steady}
-use Rattle.fr_sharp.proofs.BoundLemmas.{sharp_checks_suffice_lem, walk_is_held}
+use Rattle.fr_precision.specs.SharpSettling.{sharp_spread_after}
+use Rattle.fr_precision.specs.SharpStep.{AllKeepSenders, AreSharp, ComputesSharply, IsSharpDouble, IsInSharpSync, StaySharp}
+use Rattle.fr_precision.proofs.Arriving.{frames_are_steady}
+use Rattle.fr_precision.proofs.BoundLemmas.{sharp_checks_suffice_lem, walk_is_held}
 use Rattle.fr_sharp.proofs.SharpRows.{set_of}
-use Rattle.fr_sharp.proofs.SteadyLemmas.{counted_are_steady, deviations_are_steady, steady_values_place_lem}
-use Rattle.fr_sharp.proofs.StepLemmas.{next_is_in_sharp_sync, sharp_is_wider, sharp_sync_is_kept_lem}
-use Rattle.fr_sharp.proofs.LastingLemmas.{sharp_spreads_keep, sharp_sync_is_reached, sharp_sync_lasts_lem}
+use Rattle.fr_precision.proofs.SteadyLemmas.{counted_are_steady, deviations_are_steady, steady_values_place_lem}
+use Rattle.fr_precision.proofs.StepLemmas.{next_is_in_sharp_sync, sharp_is_wider, sharp_sync_is_kept_lem}
+use Rattle.fr_precision.proofs.LastingLemmas.{sharp_spreads_keep, sharp_sync_is_reached, sharp_sync_lasts_lem}
 
 -- ---- the cluster: four key slots, damping 2, delays of 50 to 300 ns, 100 ppm
 

@@ -33,20 +33,20 @@ use Rattle.fr_runs.proofs.Receivers.{no_less}
 use Rattle.fr_runs.proofs.Spread.{macrotick_within, spread_within}
 use Rattle.fr_runs.proofs.Standing.{told_has}
 use Rattle.fr_runs.proofs.Whole.{prior_of}
-use Rattle.fr_sharp.specs.JudgedSteps.{EachHasRow, IsLawfulStatedRun}
-use Rattle.fr_sharp.specs.Lengths.{walked_after, CanWalk, IsAboutCycle}
+use Rattle.fr_sharp.specs.JudgedSteps.{IsLawfulStatedRun}
+use Rattle.fr_precision.specs.Lengths.{walked_after, CanWalk, IsAboutCycle}
 use Rattle.fr_bound.specs.SharpBounds.{last_action, near_by, rate_walk}
 use Rattle.fr_bound.specs.SharpChecks.{RateSuffices}
-use Rattle.fr_sharp.specs.SharpHistories.{members_at, senders_at, BeginsActive, IsInSharpSyncAt, IsStatedRun, KeepsApart}
-use Rattle.fr_sharp.specs.SharpRun.{AllUncut, BeginSharp, IsNextDouble, WalkLastsAfter}
-use Rattle.fr_sharp.specs.SharpStep.{ActInReach, AreSharp, IsInSharpSync, IsSharpDouble}
-use Rattle.fr_sharp.specs.SteadyRuns.{row_members, AreRowsInReach, IsTimedPart, IsWhole, MayHaveArbitrary}
-use Rattle.fr_sharp.proofs.BoundLemmas.{key_slots_act_early, walk_is_held}
-use Rattle.fr_sharp.proofs.LastingLemmas.{near_fits}
-use Rattle.fr_sharp.proofs.RateRange.{walked_suffices}
-use Rattle.fr_sharp.proofs.RowsSupplied.{double_is_sharp, timed_rows, members_regular, rates_in_limit, LawfulRows}
-use Rattle.fr_sharp.proofs.RunDoubles.{all_have, all_stay, ends_well, evens_are, members_found, next_double, odds_are, rows_lie, senders_found, AllHave}
-use Rattle.fr_sharp.proofs.StepLemmas.{nodes_near, reached_by}
+use Rattle.fr_runs.specs.SharpHistories.{members_at, senders_at, BeginsActive, EachHasRow, IsInSharpSyncAt, IsStatedRun, KeepsApart}
+use Rattle.fr_precision.specs.SharpRun.{AllUncut, BeginSharp, IsNextDouble, WalkLastsAfter}
+use Rattle.fr_precision.specs.SharpStep.{ActInReach, AreSharp, IsInSharpSync, IsSharpDouble}
+use Rattle.fr_runs.specs.SteadyRuns.{row_members, AreRowsInReach, IsTimedPart, IsWhole, MayHaveArbitrary}
+use Rattle.fr_precision.proofs.BoundLemmas.{key_slots_act_early, walk_is_held}
+use Rattle.fr_precision.proofs.LastingLemmas.{near_fits}
+use Rattle.fr_precision.proofs.RateRange.{walked_suffices}
+use Rattle.fr_runs.proofs.RowsSupplied.{double_is_sharp, timed_rows, members_regular, rates_in_limit, LawfulRows}
+use Rattle.fr_promise.proofs.RunDoubles.{all_have, all_stay, ends_well, evens_are, members_found, next_double, odds_are, rows_lie, senders_found, AllHave}
+use Rattle.fr_precision.proofs.StepLemmas.{nodes_near, reached_by}
 
 -- a run that no node joins is a lawful one
 pub lawful_run : (x : Setting) (flutter : ℕ) (h : Cycles) → IsStatedRun x flutter h → IsLawfulStatedRun x flutter h

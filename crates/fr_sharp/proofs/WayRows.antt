@@ -4,8 +4,8 @@ use Rattle.fr_cluster.specs.Values.{Values}
 use Rattle.fr_bound.specs.declared.settling.Spread.{Spread}
 use Rattle.fr_precision.proofs.Worked.{node}
 use Rattle.fr_bound.specs.SharpBounds.{last_of}
-use Rattle.fr_sharp.specs.SharpSettling.{sharp_spread_after}
-use Rattle.fr_sharp.specs.SharpWay.{apart_after, near_after, way_holds_of}
+use Rattle.fr_precision.specs.SharpSettling.{sharp_spread_after}
+use Rattle.fr_promise.specs.SharpWay.{apart_after, near_after, way_holds_of}
 use Rattle.fr_sharp.proofs.SharpRows.{set_of}
 
 -- oscillators of 100 ppm, with this damping

@@ -12,7 +12,7 @@ use Rattle.fr_bound.specs.Bounds.{shortest_micro}
 use Rattle.fr_bound.specs.SharpBounds.{rate_room, rate_walk, walk_lasts}
 use Rattle.fr_bound.specs.Sync.{cycle_length_of}
 use Rattle.fr_precision.specs.Rows.{longest_cycle, shortest_cycle, Sender}
-use Rattle.fr_sharp.specs.Lengths.{walked_after, IsNextEven, IsSteadyRound}
+use Rattle.fr_precision.specs.Lengths.{walked_after, IsNextEven, IsSteadyRound}
 
 -- oscillators do not change
 abbrev pub oscillators_stay : Values → Bool

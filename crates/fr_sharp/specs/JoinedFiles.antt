@@ -17,13 +17,13 @@ use Rattle.fr_coverage.specs.Order.{HasNoGapOfRun}
 use Rattle.fr_history.specs.Cycles.{Cycles}
 use Rattle.fr_promise.specs.Statement.{IsRunOf}
 use Rattle.fr_runs.specs.Whole.{IsJoined}
-use Rattle.fr_sharp.specs.JoinedHistories.{CyclesKeepJoined, FirstRatesLast, FirstRatesLastToEnd, IsJoinedUpTo, KeepsJoined, StaysJoined}
+use Rattle.fr_promise.specs.JoinedHistories.{CyclesKeepJoined, FirstRatesLast, FirstRatesLastToEnd, IsJoinedUpTo, KeepsJoined, StaysJoined}
 use Rattle.fr_bound.specs.SharpBounds.{sharp_precision}
 use Rattle.fr_bound.specs.SharpChecks.{sharp_holds_of}
-use Rattle.fr_sharp.specs.SharpHistories.{IsInSharpSyncAt}
-use Rattle.fr_sharp.specs.SharpJoining.{sharp_reach, SharpJoinChecksHold}
+use Rattle.fr_runs.specs.SharpHistories.{IsInSharpSyncAt}
+use Rattle.fr_promise.specs.SharpJoining.{sharp_reach, SharpJoinChecksHold}
 use Rattle.fr_sharp.specs.SharpStatement.{has_arbitrary}
-use Rattle.fr_sharp.specs.SharpTested.{IsUnfollowedSharpSyncAt}
+use Rattle.fr_promise.specs.SharpTested.{IsUnfollowedSharpSyncAt}
 
 -- the four sharper checks of nodes that join hold, and so those from 2 to 5 (`SharpJoinChecksSuffice`); the run itself has no gap;
 -- and its delays flutter by no more than so many ticks. Correct nodes may join

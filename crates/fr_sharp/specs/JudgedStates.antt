@@ -7,8 +7,8 @@ use Rattle.fr_bound.specs.Judged.{known_after, met_with, IsJudgedDouble}
 use Rattle.fr_bound.specs.declared.judging.Heard.{Heard}
 use Rattle.fr_bound.specs.declared.judging.Known.{Known}
 use Rattle.fr_history.specs.Cycles.{Cycles}
-use Rattle.fr_sharp.specs.JudgedSteps.{GoesOnJudged, IsHeardIn, IsKnownAt}
-use Rattle.fr_sharp.specs.SharpHistories.{IsStatedRun}
+use Rattle.fr_sharp.specs.JudgedSteps.{GoesOnJudged, IsHeardIn}
+use Rattle.fr_runs.specs.SharpHistories.{IsKnownAt, IsStatedRun}
 
 -- what is known of one is the step of what was met before it, and that is judged
 pub record IsSteppedFrom (p : Values) (flutter : ℕ) (what : Heard) (before : Option Known) (next : Known) : Type 0 where

@@ -1,13 +1,10 @@
 -- What holds in a double cycle that is judged, by what is known of it: its own numbers, which need not be those of sharp sync. Nothing
 -- is asked of other double cycles.
-use Rattle.std.specs.Prelude.{◌≡◌, ◌<◌, ◌≤◌, ◌*◌, ◌-ℤ◌, ℕ, suc, ℤ, pos, Bool, false, true, List, length, All, Contains, IsSome, Some}
+use Rattle.std.specs.Prelude.{◌≡◌, ◌<◌, ◌≤◌, ◌*◌, ◌-ℤ◌, ℕ, suc, ℤ, pos, Bool, false, true, List, length, Contains}
 use Rattle.fr_base.specs.Within.{IsWithin}
-use Rattle.fr_base.specs.declared.state.State.TheVariants.{Active}
-use Rattle.fr_cluster.specs.Setting.{Setting, correct_nodes}
+use Rattle.fr_cluster.specs.Setting.{Setting}
 use Rattle.fr_cluster.specs.Values.{Values}
-use Rattle.fr_cluster.specs.declared.nodes.NodeSpec.{NodeSpec}
 use Rattle.fr_midpoint.specs.Midpoint.{IsMidpoint}
-use Rattle.fr_time.specs.Cycles.{even_cycle, odd_cycle}
 use Rattle.fr_bound.specs.Judged.{apart_through, known_after, met_of, IsJudgedDouble}
 use Rattle.fr_bound.specs.SharpBounds.{last_action}
 use Rattle.fr_bound.specs.SharpSpreads.{sharp_spread, sharply_near_in}
@@ -17,18 +14,17 @@ use Rattle.fr_bound.specs.declared.judging.Known.{Known}
 use Rattle.fr_precision.specs.Round.{Hearer, Round}
 use Rattle.fr_precision.specs.Rows.{Sender}
 use Rattle.fr_precision.specs.Step.{Member}
-use Rattle.fr_history.specs.Cycles.{Cycle, Cycles, cycle_at}
-use Rattle.fr_history.specs.History.{row_of}
+use Rattle.fr_history.specs.Cycles.{Cycle, Cycles}
 use Rattle.fr_history.specs.Lawful.{IsLawful}
 use Rattle.fr_runs.specs.Gathered.{round_at}
 use Rattle.fr_runs.specs.Rounds.{IsDoubleOf}
-use Rattle.fr_sharp.specs.Among.{ComputesOwn}
-use Rattle.fr_sharp.specs.Losses.{IsRoundInPart, NoneIsDeaf}
+use Rattle.fr_precision.specs.Among.{ComputesOwn}
+use Rattle.fr_sharp.specs.Losses.{IsRoundInPart}
 use Rattle.fr_sharp.specs.SettlingHistories.{AreStatedNear}
-use Rattle.fr_sharp.specs.SharpHistories.{members_at, senders_at, IsInSharpSyncAt, IsStatedRun, KeepsApart}
-use Rattle.fr_sharp.specs.SharpRound.{IsRoundInReach}
-use Rattle.fr_sharp.specs.SharpStep.{AreSharp, IsSharpDouble}
-use Rattle.fr_sharp.specs.SteadyRuns.{row_hearers, AreRowsInReach, IsTimedSetting, IsWhole, MayHaveArbitrary}
+use Rattle.fr_runs.specs.SharpHistories.{members_at, senders_at, EachHasRow, IsInSharpSyncAt, IsKnownAt, IsStatedRun, KeepsApart}
+use Rattle.fr_precision.specs.SharpRound.{IsRoundInReach}
+use Rattle.fr_precision.specs.SharpStep.{IsSharpDouble}
+use Rattle.fr_runs.specs.SteadyRuns.{row_hearers, AreRowsInReach, IsTimedSetting, IsWhole, MayHaveArbitrary, NoneIsDeaf}
 
 -- what is heard in a double cycle of a run: of any two nodes one channel carries the frames of both cycles, without arbitrary sync
 -- nodes or beside them; or, without them, no node is left without any value
@@ -36,17 +32,6 @@ abbrev pub IsHeardIn : Heard → Setting → ℕ → Type 0
 IsHeardIn heard.Clean x double = MayHaveArbitrary false x × IsWhole x double
 IsHeardIn heard.Meeting x double = IsWhole x double
 IsHeardIn heard.Poor x double = MayHaveArbitrary false x × NoneIsDeaf x double
-
--- so much is known of a double cycle of a history, both of whose cycles it has: all nodes are active in both, starts and even lengths
--- lie no further apart, and these no further beyond their range
-pub record IsKnownAt (x : Setting) (h : Cycles) (double : ℕ) (known : Known) : Type 0 where
-  pub even : Cycle
-  pub odd : Cycle
-  pub has_even : cycle_at h (even_cycle double) ≡ Some even
-  pub has_odd : cycle_at h (odd_cycle double) ≡ Some odd
-  pub active_even : All (λ row. row.state ≡ Active) even.told.rows
-  pub active_odd : All (λ row. row.state ≡ Active) odd.told.rows
-  pub rows : AreSharp x.params known.spread.starts known.spread.lengths (pos known.beyond) even.told.rows
 
 -- the round of the nodes with rows: action points lie within a reach, in ticks, and each is supplied with the deviations of all
 -- senders, or of some, of which two on one channel are a steady pair
@@ -99,13 +84,8 @@ pub record IsLawfulStatedRun (x : Setting) (flutter : ℕ) (h : Cycles) : Type 0
   pub lawful : IsLawful x h
   pub whole : length h ≡ 2 * x.doubles
 
--- each correct node has a row in a double cycle: in its even cycle, and so in both
-abbrev pub EachHasRow : Setting → Cycles → ℕ → Type 0
-EachHasRow x h double =
-    (node : NodeSpec) → Contains (correct_nodes x) node → (earlier : Cycles) (even odd : Cycle)
-    → IsDoubleOf h double earlier even odd → IsSome (row_of even.told.rows node.id)
-
--- where that is so, a double cycle that is judged goes on in the same way, whoever has joined, and each has a row in the next one
+-- where each correct node has a row, a double cycle that is judged goes on in the same way, whoever has joined, and each has one in
+-- the next one
 abbrev pub UnfollowedGoesOn : Type 0
 UnfollowedGoesOn =
     (what : Heard) (x : Setting) (flutter : ℕ) (h : Cycles) (double : ℕ) (known : Known)

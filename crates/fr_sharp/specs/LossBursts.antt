@@ -10,13 +10,13 @@ use Rattle.fr_coverage.specs.Decided.{setting_of}
 use Rattle.fr_history.specs.Cycles.{Cycles}
 use Rattle.fr_promise.specs.Statement.{IsRunOf}
 use Rattle.fr_sharp.specs.declared.loss_costs.LossCost.{LossCost}
-use Rattle.fr_sharp.specs.Among.{lost_spread}
+use Rattle.fr_precision.specs.Among.{lost_spread}
 use Rattle.fr_sharp.specs.LossCosts.{IsLossCost}
 use Rattle.fr_sharp.specs.Losses.{lost_apart}
 use Rattle.fr_sharp.specs.LossStatement.{whole_in, IsCoveredThroughLosses}
-use Rattle.fr_sharp.specs.SharpHistories.{IsInSharpSyncAt, KeepsApart}
+use Rattle.fr_runs.specs.SharpHistories.{IsInSharpSyncAt, KeepsApart}
 use Rattle.fr_sharp.specs.SharpStatement.{has_arbitrary}
-use Rattle.fr_sharp.specs.SharpRun.{WalkLastsAfter}
+use Rattle.fr_precision.specs.SharpRun.{WalkLastsAfter}
 use Rattle.fr_bound.specs.SharpSpreads.{sharply_near_in}
 
 -- a double cycle is among so many from one on, and in the two before that one all is heard, as far as these are there

@@ -6,7 +6,7 @@ use Rattle.fr_cluster.specs.Values.{Values}
 use Rattle.fr_sharp.specs.declared.loss_checks.LossSides.{LossSides}
 use Rattle.fr_sharp.specs.declared.loss_costs.LossCost.{LossCost}
 use Rattle.fr_sharp.specs.declared.loss_costs.SecondCost.{SecondCost}
-use Rattle.fr_sharp.specs.Among.{every_second, lost_spread}
+use Rattle.fr_precision.specs.Among.{every_second, lost_spread}
 use Rattle.fr_sharp.specs.Losses.{lost_apart}
 use Rattle.fr_bound.specs.SharpBounds.{sharp_precision}
 use Rattle.fr_bound.specs.SharpChecks.{sharp_holds_of, sharp_left_of, sharp_right_of}

@@ -19,13 +19,13 @@ use Rattle.fr_coverage.specs.declared.gap.Gap.TheVariants as gap
 use Rattle.fr_history.specs.Cycles.{Cycles}
 use Rattle.fr_promise.specs.Statement.{IsRunOf}
 use Rattle.fr_bound.specs.declared.judging.Heard.{Heard}
-use Rattle.fr_sharp.specs.Among.{apart_through_losses, spread_through_losses}
+use Rattle.fr_precision.specs.Among.{apart_through_losses, spread_through_losses}
 use Rattle.fr_sharp.specs.LossCosts.{limits_hold}
 use Rattle.fr_sharp.specs.LossStatement.{run_apart, whole_in, IsCoveredThroughLosses}
 use Rattle.fr_sharp.specs.Traffic.{all_trusted, heard_in, traffic_in}
 use Rattle.fr_bound.specs.SharpChecks.{sharp_holds_of}
-use Rattle.fr_sharp.specs.SharpHistories.{IsInSharpSyncAt, KeepsApart}
-use Rattle.fr_sharp.specs.SharpRun.{WalkLastsAfter}
+use Rattle.fr_runs.specs.SharpHistories.{IsInSharpSyncAt, KeepsApart}
+use Rattle.fr_precision.specs.SharpRun.{WalkLastsAfter}
 use Rattle.fr_bound.specs.SharpSpreads.{sharply_near_in}
 use Rattle.fr_sharp.specs.SharpStatement.{has_arbitrary}
 use Rattle.fr_sharp.specs.declared.losses_of_runs.RunLosses.{RunLosses}

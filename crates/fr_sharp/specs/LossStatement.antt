@@ -18,12 +18,12 @@ use Rattle.fr_coverage.specs.Order.{HasNoGapOfRun}
 use Rattle.fr_history.specs.Cycles.{Cycles}
 use Rattle.fr_promise.specs.Statement.{IsRunOf}
 use Rattle.fr_bound.specs.declared.settling.Spread.{Spread}
-use Rattle.fr_sharp.specs.Among.{apart_through_losses, spread_through_losses}
+use Rattle.fr_precision.specs.Among.{apart_through_losses, spread_through_losses}
 use Rattle.fr_sharp.specs.Losses.{IsLossyRun}
 use Rattle.fr_sharp.specs.Traffic.{all_trusted, heard_in, traffic_in}
 use Rattle.fr_bound.specs.SharpChecks.{SharpChecksHold}
-use Rattle.fr_sharp.specs.SharpHistories.{IsInSharpSyncAt, KeepsApart}
-use Rattle.fr_sharp.specs.SharpRun.{WalkLastsAfter}
+use Rattle.fr_runs.specs.SharpHistories.{IsInSharpSyncAt, KeepsApart}
+use Rattle.fr_precision.specs.SharpRun.{WalkLastsAfter}
 use Rattle.fr_bound.specs.SharpSpreads.{sharply_near_in}
 use Rattle.fr_sharp.specs.SharpStatement.{has_arbitrary}
 

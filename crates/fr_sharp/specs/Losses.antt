@@ -1,8 +1,8 @@
 -- A run in which frames are lost: what a node still makes of those that come, and how far its clocks then lie apart. Of links nothing
 -- is asked but that each correct node has a value, and discards at each end as many as there may be of arbitrary nodes.
-use Rattle.std.specs.Prelude.{◌≡◌, ◌⊎◌, ◌+◌, ◌<◌, ◌≤◌, ℕ, suc, ℤ, pos, max, Bool, true, false, if◌then◌else◌, List, length, map, Contains, Option, None, IsSome, is_some}
+use Rattle.std.specs.Prelude.{◌≡◌, ◌⊎◌, ◌+◌, ◌<◌, ◌≤◌, ℕ, suc, ℤ, pos, max, Bool, true, false, if◌then◌else◌, List, length, map, Contains, Option, None, is_some}
 use Rattle.std.specs.List.{filter_map, range_with_len}
-use Rattle.fr_cluster.specs.Setting.{Setting, correct_nodes}
+use Rattle.fr_cluster.specs.Setting.{Setting}
 use Rattle.fr_cluster.specs.Values.{Values}
 use Rattle.fr_cluster.specs.declared.nodes.NodeSpec.{NodeSpec}
 use Rattle.fr_bound.specs.Bounds.{longest_micro}
@@ -12,20 +12,19 @@ use Rattle.fr_precision.specs.Round.{offsets_of, rates_of, sender_at, sync_count
 use Rattle.fr_precision.specs.Rows.{Sender}
 use Rattle.fr_precision.specs.Step.{Member}
 use Rattle.fr_history.specs.Cycles.{Cycle, Cycles, some_joins}
-use Rattle.fr_runs.specs.Links.{IsCarried, IsLinked}
 use Rattle.fr_runs.specs.Rounds.{IsDoubleOf}
 use Rattle.fr_midpoint.specs.Midpoint.{discarded}
 use Rattle.fr_measure.specs.Values.{offset_at, rate_at}
-use Rattle.fr_sharp.specs.Among.{apart_through_losses, lost_spread, spread_through_losses, ComputesOwn, HearInCommon}
+use Rattle.fr_precision.specs.Among.{apart_through_losses, lost_spread, spread_through_losses, ComputesOwn, HearInCommon}
 use Rattle.fr_sharp.specs.Traffic.{all_trusted, heard_in, lists_meet, traffic_of}
-use Rattle.fr_sharp.specs.Hearing.{AreSteadyPairs, IsHeardInPart}
+use Rattle.fr_precision.specs.Hearing.{AreSteadyPairs, IsHeardInPart}
 use Rattle.fr_bound.specs.SharpBounds.{last_action, precision_by, sharp_precision}
 use Rattle.fr_bound.specs.SharpChecks.{SharpChecksHold}
-use Rattle.fr_sharp.specs.SharpHistories.{IsInSharpSyncAt, IsStatedRun, KeepsApart}
-use Rattle.fr_sharp.specs.SharpRound.{as_member}
-use Rattle.fr_sharp.specs.SharpRun.{WalkLastsAfter}
+use Rattle.fr_runs.specs.SharpHistories.{IsInSharpSyncAt, IsStatedRun, KeepsApart}
+use Rattle.fr_precision.specs.SharpRound.{as_member}
+use Rattle.fr_precision.specs.SharpRun.{WalkLastsAfter}
 use Rattle.fr_bound.specs.SharpSpreads.{sharply_near_in}
-use Rattle.fr_sharp.specs.SteadyRuns.{row_members, AreRowsInReach, IsTimedPart, MayHaveArbitrary}
+use Rattle.fr_runs.specs.SteadyRuns.{row_members, AreRowsInReach, IsTimedPart, MayHaveArbitrary}
 
 -- ---- a round
 
@@ -69,15 +68,6 @@ RoundsInPartComputeOwn =
     → ComputesOwn r.params flutter (map (as_member r.params) rows) (pos (last_action r.params)) node
 
 -- ---- a run
-
--- in a double cycle a node has a value: its own if it has a key slot, or that of a node whose frames of both cycles one channel
--- carries to it
-abbrev pub HearsSome : Setting → NodeSpec → ℕ → Type 0
-HearsSome x node double =
-    IsSome node.key ⊎ ((sender : NodeSpec) × ((slot : ℕ) × IsLinked x sender node slot × IsCarried x sender node double))
-
-abbrev pub NoneIsDeaf : Setting → ℕ → Type 0
-NoneIsDeaf x double = (node : NodeSpec) → Contains (correct_nodes x) node → HearsSome x node double
 
 -- in one of its double cycles each node with a row computes its terms from the values of senders of its own, where each correct node
 -- trusts its lists

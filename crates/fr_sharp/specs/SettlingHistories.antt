@@ -8,17 +8,17 @@ use Rattle.fr_history.specs.Cycles.{Cycle, Cycles, cycle_at, some_joins}
 use Rattle.fr_history.specs.Lawful.{IsLawful}
 use Rattle.fr_history.specs.Unfollowed.{RowsAreInSyncAt}
 use Rattle.fr_runs.specs.Supplied.{IsCoveredByFiles}
-use Rattle.fr_sharp.specs.Flutter.{FluttersWithin}
-use Rattle.fr_sharp.specs.Lengths.{walked_after, IsAboutCycle}
+use Rattle.fr_runs.specs.Flutter.{FluttersWithin}
+use Rattle.fr_precision.specs.Lengths.{walked_after, IsAboutCycle}
 use Rattle.fr_bound.specs.SharpBounds.{sharp_lambda, sharp_pi, walk_lasts}
 use Rattle.fr_bound.specs.SharpChecks.{SharpChecksHold}
-use Rattle.fr_sharp.specs.SharpHistories.{BeginsActive, IsInSharpSyncAt, IsSteadyRun, IsStatedRun, KeepsApart, StaysInSharpSyncAt}
-use Rattle.fr_sharp.specs.SharpRun.{lengths_from, starts_from, WalkLastsAfter, WalkLastsUpTo}
+use Rattle.fr_runs.specs.SharpHistories.{BeginsActive, IsInSharpSyncAt, IsSteadyRun, IsStatedRun, KeepsApart, StaysInSharpSyncAt}
+use Rattle.fr_precision.specs.SharpRun.{lengths_from, starts_from, WalkLastsAfter, WalkLastsUpTo}
 use Rattle.fr_bound.specs.SharpSpreads.{sharply_apart_in, sharply_near_in}
 use Rattle.fr_bound.specs.SharpSpreads.{IsSharplySettled}
-use Rattle.fr_sharp.specs.SharpSettling.{sharp_spread_after}
-use Rattle.fr_sharp.specs.SharpStep.{AreSharp}
-use Rattle.fr_sharp.specs.SteadyRuns.{MayHaveArbitrary}
+use Rattle.fr_precision.specs.SharpSettling.{sharp_spread_after}
+use Rattle.fr_precision.specs.SharpStep.{AreSharp}
+use Rattle.fr_runs.specs.SteadyRuns.{MayHaveArbitrary}
 
 -- ---- from stated numbers
 

@@ -10,17 +10,16 @@ use Rattle.fr_coverage.specs.Flutter.{flutter_of}
 use Rattle.fr_coverage.specs.Order.{HasNoGapOfRun}
 use Rattle.fr_history.specs.Cycles.{Cycles, some_joins}
 use Rattle.fr_promise.specs.Statement.{IsRunOf}
-use Rattle.fr_sharp.specs.Flutter.{FluttersWithin}
-use Rattle.fr_bound.specs.SharpBounds.{walk_lasts}
+use Rattle.fr_runs.specs.Flutter.{FluttersWithin}
 use Rattle.fr_bound.specs.SharpChecks.{sharp_holds_of}
 use Rattle.fr_sharp.specs.HeldWalks.{sync_lasts, walk_is_held}
 use Rattle.fr_sharp.specs.SettlingHistories.{AreStatedNear}
-use Rattle.fr_sharp.specs.SharpWay.{IsSharpWay}
+use Rattle.fr_promise.specs.SharpWay.{IsSharpWay}
 use Rattle.fr_sharp.specs.WayHistories.{ComesByTheWay}
-use Rattle.fr_sharp.specs.declared.way.SharpWay.{SharpWay}
-use Rattle.fr_sharp.specs.SharpHistories.{IsInSharpSyncAt, IsSteadyRun}
+use Rattle.fr_promise.specs.declared.way.SharpWay.{SharpWay}
+use Rattle.fr_runs.specs.SharpHistories.{IsInSharpSyncAt, IsSteadyRun}
 use Rattle.fr_sharp.specs.SharpStatement.{has_arbitrary, IsSharplyCovered, KeepsSharply}
-use Rattle.fr_sharp.specs.SteadyRuns.{IsSteadySetting, MayHaveArbitrary}
+use Rattle.fr_runs.specs.SteadyRuns.{IsSteadySetting, MayHaveArbitrary}
 
 -- the delays of the run that files decide flutter by no more than a number, in ticks, exactly where its flutter is no more
 abbrev pub FilesFlutter : Type 0
@@ -51,12 +50,7 @@ CoveredFilesKeepSharply =
     → IsInSharpSyncAt (has_arbitrary p s) p flutter (pos 0) h double
     → KeepsSharply (has_arbitrary p s) (setting_of p d s) flutter h double
 
--- the walk lasts on and on exactly where the first of the sharper checks holds
-abbrev pub FirstCheckLastsOn : Type 0
-FirstCheckLastsOn =
-    (p : Values) (flutter reach : ℕ) → IsSane p → (sharp_holds_of 1 flutter reach p ≡ true) ↔ (walk_lasts p flutter ≡ None)
-
--- so does sharp sync exactly where it holds or the walk is held
+-- sharp sync lasts on and on exactly where the first of the sharper checks holds or the walk is held
 abbrev pub SyncLastsOn : Type 0
 SyncLastsOn =
     (p : Values) (flutter reach : ℕ) → IsSane p

@@ -20,7 +20,7 @@ use Rattle.fr_promise.specs.Statement.{IsRunOf}
 use Rattle.fr_sharp.specs.HeldWalks.{beyond_after, beyond_for_ever, sync_lasts, SyncLastsAfter, SyncLastsUpTo}
 use Rattle.fr_bound.specs.SharpBounds.{sharp_near, sharp_precision}
 use Rattle.fr_bound.specs.SharpChecks.{SharpChecksHold}
-use Rattle.fr_sharp.specs.SharpHistories.{IsInSharpSyncAt, KeepsApart, KeepsSharpPrecision}
+use Rattle.fr_runs.specs.SharpHistories.{IsInSharpSyncAt, KeepsApart, KeepsSharpPrecision}
 
 -- whether some node with a key slot is arbitrary
 abbrev pub has_arbitrary_in : List NodeSpec → ScriptView → Bool

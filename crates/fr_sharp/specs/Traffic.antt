@@ -3,7 +3,6 @@
 use Rattle.std.specs.Prelude.{ℕ, ◌+◌, ◌*◌, ◌==◌, ◌&&◌, ◌||◌, nat_le, nat_lt, nat_eq, Bool, true, false, not, if◌then◌else◌, List, [], ◌∷◌, count_by}
 use Rattle.std.specs.List.{list_all}
 use Rattle.fr_base.specs.Event.{Event}
-use Rattle.fr_base.specs.Event as event
 use Rattle.fr_base.specs.declared.channel.Channel.{Channel}
 use Rattle.fr_base.specs.declared.channel.Channel.TheVariants as channel
 use Rattle.fr_cluster.specs.Setting.{Setting}
@@ -16,6 +15,7 @@ use Rattle.fr_coverage.specs.Links.{is_regular, is_sync, shares}
 use Rattle.fr_script.specs.Events.{event_of}
 use Rattle.fr_script.specs.View.{ScriptView, is_arbitrary}
 use Rattle.fr_sharp.specs.declared.traffic.Costs.{Costs}
+use Rattle.fr_runs.specs.SteadyRuns.{is_silent}
 
 -- the nodes of a cluster, which of them are arbitrary, and by cycle, sender, receiver and channel what becomes of frames
 pub record Traffic : Type 0 where
@@ -34,11 +34,6 @@ abbrev pub traffic_in : Values → ScriptView → Traffic
 traffic_in p s = traffic_with p.nodes s
 
 -- ---- one sender at one receiver
-
--- certainly nothing comes of a frame
-abbrev pub is_silent : Event → Bool
-is_silent event.Silent = true
-is_silent other = false
 
 -- the frame of a cycle comes; or something may come of it
 abbrev pub comes : Bool → Event → Bool

@@ -2,12 +2,12 @@
 use Rattle.std.specs.Prelude.{◌≡◌, ◌<◌, ◌≤◌, ◌+◌, ◌*◌, ℕ, pos, Bool, None, Some}
 use Rattle.fr_cluster.specs.Setting.{Setting}
 use Rattle.fr_history.specs.Cycles.{Cycle, Cycles, cycle_at}
-use Rattle.fr_sharp.specs.declared.way.SharpWay.{SharpWay}
-use Rattle.fr_sharp.specs.Lengths.{walked_after}
+use Rattle.fr_promise.specs.declared.way.SharpWay.{SharpWay}
+use Rattle.fr_precision.specs.Lengths.{walked_after}
 use Rattle.fr_sharp.specs.SettlingHistories.{AreStatedNear}
-use Rattle.fr_sharp.specs.SharpHistories.{BeginsActive, IsInSharpSyncAt, IsSteadyRun, KeepsApart, StaysInSharpSyncAt}
-use Rattle.fr_sharp.specs.SharpStep.{AreSharp}
-use Rattle.fr_sharp.specs.SharpWay.{IsSharpWay}
+use Rattle.fr_runs.specs.SharpHistories.{BeginsActive, IsInSharpSyncAt, IsSteadyRun, KeepsApart, StaysInSharpSyncAt}
+use Rattle.fr_precision.specs.SharpStep.{AreSharp}
+use Rattle.fr_promise.specs.SharpWay.{IsSharpWay}
 
 -- a history whose starts and even lengths lie within stated numbers in a double cycle, in ticks, with lengths in their range; all
 -- nodes are active in it, as they are in the first one in any case

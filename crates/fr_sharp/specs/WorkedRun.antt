@@ -12,7 +12,7 @@ use Rattle.fr_history.specs.Worked.{on_a}
 use Rattle.fr_runs.specs.Stated.{all_cycles}
 use Rattle.fr_bound.specs.SharpBounds.{sharp_near, sharp_precision, walk_lasts}
 use Rattle.fr_bound.specs.SharpChecks.{sharp_holds_of}
-use Rattle.fr_sharp.specs.SharpHistories.{CyclesKeepApart, IsInSharpSyncAt, IsSteadyRun, StaysInSharpSyncAt}
+use Rattle.fr_runs.specs.SharpHistories.{CyclesKeepApart, IsInSharpSyncAt, IsSteadyRun, StaysInSharpSyncAt}
 
 -- a cluster of four nodes on channel A with key slots 1 to 4: a cycle of 5 ms at a microtick of 25 ns, damping 2, oscillators within
 -- 100 ppm, and delays of 50 to 300 ns

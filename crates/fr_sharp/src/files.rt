@@ -1,5 +1,6 @@
-ghost use Rattle.fr_sharp.specs.SharpFiles.{ArbitraryIsTold, CoveredFilesKeepSharply, FilesAreSteady, FilesFlutter, FilesGiveSteadyRuns, FilesSettleSharply, FirstCheckLastsOn, SyncLastsOn};
+ghost use Rattle.fr_sharp.specs.SharpFiles.{ArbitraryIsTold, CoveredFilesKeepSharply, FilesAreSteady, FilesFlutter, FilesGiveSteadyRuns, FilesSettleSharply, SyncLastsOn};
 ghost use Rattle.fr_sharp.specs.SharpStatement.{FilesKeepSharpPrecision};
+ghost use Rattle.fr_precision.specs.SharpChecks.{FirstCheckLastsOn};
 
 use crate::held::held_walks_keep_sharp_sync;
 

@@ -1,6 +1,6 @@
 ghost use Rattle.fr_sharp.specs.SettlingHistories.{HistoriesBeginActive, HistoriesKeepToSpreads, HistoriesReachSharpSync, OlderHistoriesSettle, StatedRunsBeginInSharpSync, StatedStartsAreSharp, TimedRunsBeginInSharpSync};
 ghost use Rattle.fr_sharp.specs.WayHistories.{HistoriesSettleSharply, StatedRunsSettleSharply};
-ghost use Rattle.fr_sharp.specs.SharpHistories.{HistoriesAreSharpDoubles, HistoriesHaveMembers, HistoriesKeepSharpPrecision, HistoriesKeepSharpSync, HistoriesStepSharply, StatedRunsAreSteady};
+ghost use Rattle.fr_runs.specs.SharpHistories.{HistoriesAreSharpDoubles, HistoriesHaveMembers, HistoriesKeepSharpPrecision, HistoriesKeepSharpSync, HistoriesStepSharply, StatedRunsAreSteady};
 
 use fr_history::one_lawful_run;
 

@@ -1,8 +1,5 @@
 ghost use Rattle.fr_sharp.specs.JudgedSteps.{JudgedGoesOn, KnownIsMet, SharpSyncIsKnown, StatedRunsAreKnown, UnfollowedGoesOn};
 ghost use Rattle.fr_sharp.specs.JudgedStates.{CarriedIsKnown};
-ghost use Rattle.fr_sharp.specs.WorkedJudged.{FarNumbersAreJudged, WorkedNumbersGoOn, WorkedRunGoesOn};
-
-use fr_history::one_lawful_run;
 
 /// The law of a double cycle that is judged by what is known of it: in a lawful history that no node joins, no macroticks
 /// of it lie further apart than these numbers say, in ticks, each node has a deviation of each sender that it hears, and a
@@ -23,14 +20,3 @@ pub fn judged_double_cycles_go_on()
 pub fn carried_states_are_known()
     ensures { CarriedIsKnown }
 {}
-
-/// A law: the first double cycle of the worked run is judged by its own numbers, 18,000,000 ticks of starts and 4,000,000 of
-/// lengths, and goes on so, without an arbitrary node and beside one, whatever that says. Numbers far from sharp sync are
-/// judged too; where the third check fails with them, or the rate limit cannot follow, they are not.
-pub fn a_judged_run()
-    ensures numbers { WorkedNumbersGoOn }
-    ensures far { FarNumbersAreJudged }
-    ensures goes { WorkedRunGoesOn }
-{
-    one_lawful_run();
-}

@@ -1,6 +1,6 @@
 ghost use Rattle.fr_sharp.specs.Losses.{HistoriesKeepThroughLosses, RoundsInPartComputeOwn, RowsComputeOwn, RowsMeet, SharpAfterTwoWhole};
 
-use crate::among::{heard_numbers, losses_last};
+use fr_promise::{heard_numbers, losses_last};
 
 /// The law of hearing where frames are lost: each receiver of a round that trusts its lists computes its terms from the
 /// values of senders of its own, those of whom it has one (sections 8.5 and 8.6). So do the nodes with rows in a double

@@ -1,8 +1,8 @@
 ghost use Rattle.fr_sharp.specs.LossBursts.{BurstsCostNoMore, BurstsKeepThePeak};
 ghost use Rattle.fr_sharp.specs.LossCosts.{EverySecondIsReached, OneLongest, OneLossCost, OneSecondCost, SomeLongest, SomeLossCost, SomeSecondCost};
 
-use crate::among::heard_numbers;
 use crate::losing::histories_keep_through_losses;
+use fr_promise::heard_numbers;
 
 /// A law: what losses cost, in ticks, is one answer, and so is how many double cycles in a row the limits bear.
 pub fn costs_are_one()

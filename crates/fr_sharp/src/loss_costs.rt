@@ -1,5 +1,5 @@
 ghost use Rattle.std.specs.Prelude.{◌≡◌, ◌≤◌, ◌<◌, ◌+◌, ◌-◌, None, Some};
-ghost use Rattle.fr_sharp.specs.Among.{all_or_any, lost_spread};
+ghost use Rattle.fr_precision.specs.Among.{all_or_any, lost_spread};
 ghost use Rattle.fr_sharp.specs.LossCosts.{IsLongest, IsLossCost, IsSecondCost, heard_behind};
 ghost use Rattle.fr_sharp.specs.LossSteps.{most_lost};
 ghost use Rattle.fr_bound.specs.SharpBounds.{most_flutter};

@@ -4,7 +4,6 @@ ghost use Rattle.fr_sharp.specs.LossStatement.{whole_in};
 ghost use Rattle.fr_sharp.specs.LossSteps.{most_lost};
 ghost use Rattle.fr_bound.specs.SharpBounds.{most_flutter};
 
-use crate::among::heard_numbers;
 use crate::arbitrary::has_arbitrary;
 use crate::heard::all_reach;
 use crate::losing::histories_keep_through_losses;
@@ -13,6 +12,7 @@ use crate::traffic::{all_trusted, heard_in};
 use fr_cluster::Params;
 use fr_coverage::found_gap_of_run_is_first;
 use fr_drift::Drift;
+use fr_promise::heard_numbers;
 use fr_script::Script;
 
 /// What a run loses, by its files, and how far apart that may take its clocks, from a double cycle in sharp sync on.

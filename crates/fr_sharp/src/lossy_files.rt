@@ -1,8 +1,7 @@
-ghost use Rattle.fr_sharp.specs.WorkedLosses.{LosingFilesAreCovered, LosingFilesKeep};
 ghost use Rattle.fr_sharp.specs.LossStatement.{CoveredFilesKeepThroughLosses, FilesKeepThroughLosses, LossyFilesGiveRuns};
 
-use crate::among::heard_numbers;
 use crate::losing::histories_keep_through_losses;
+use fr_promise::heard_numbers;
 
 /// The promise where frames are lost: the run that three accepted files decide, where they are covered through losses,
 /// keeps from each double cycle in sharp sync on to the numbers by what was heard since, in ticks, whatever frames are
@@ -18,17 +17,6 @@ pub fn files_keep_through_losses()
 pub fn lossy_files_give_runs()
     ensures keep { CoveredFilesKeepThroughLosses }
     ensures runs { LossyFilesGiveRuns }
-{
-    histories_keep_through_losses();
-    heard_numbers();
-}
-
-/// A law: a script by which every frame of a cycle is lost, with a drift whose delays flutter by 250 ticks, is covered
-/// through losses; the run is in sharp sync from the start on and keeps to the numbers, in ticks, in the double cycle that
-/// loses the frames and in the one behind it.
-pub fn files_that_lose_frames()
-    ensures covered { LosingFilesAreCovered }
-    ensures keeps { LosingFilesKeep }
 {
     histories_keep_through_losses();
     heard_numbers();

@@ -30,3 +30,10 @@ pub mod BareRows
 pub mod CoveredRuns
 pub mod VerdictTells
 pub mod FileRanges
+pub mod TraceRows
+pub mod TraceStep
+pub mod TraceSpreads
+pub mod TraceSync
+pub mod TraceCycles
+pub mod TraceSettles
+pub mod TraceWorked

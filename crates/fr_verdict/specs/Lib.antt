@@ -18,3 +18,6 @@ pub mod Runs
 pub mod RunFits
 pub mod CoveredRuns
 pub mod FileRuns
+-- of the sharper precision
+pub mod SharpTraces
+pub mod WorkedTrace

@@ -1,5 +1,6 @@
 //! Whether a recorded trace is that of a lawful run that the precision theorem covers: the first record that
-//! breaks a law, or the first gap, or else from when on the clocks were in sync and how far they lay apart.
+//! breaks a law, or the first gap, or else from when on the clocks were in sync and how far they lay apart. And laws by
+//! which a recorded trace keeps the sharper precision.
 #![tactic(auto)]
 
 mod covering;
@@ -8,6 +9,7 @@ mod laws;
 mod ordered;
 mod run_laws;
 mod searching;
+mod traces;
 mod unlawful;
 
 pub use covering::{first_gap, timed_cycles};
@@ -21,4 +23,5 @@ pub use run_laws::{
     a_covered_run_passes, a_run_breaks_no_law, a_run_is_read_back, a_verdict_tells_of_the_run,
     files_are_read_back,
 };
+pub use traces::{a_steady_trace, traces_keep_sharp_sync, traces_settle_sharply};
 pub use unlawful::{Unlawful, Verdict};

@@ -62,15 +62,15 @@ use Rattle.fr_runs.proofs.Whole.{double_runs}
 use Rattle.fr_script.specs.Files.{ScriptFits}
 use Rattle.fr_script.specs.View.{ScriptView, is_arbitrary, join_of}
 use Rattle.fr_sharp.specs.JoinedFiles.{CoveredFilesKeepSharplyJoined, IsSharplyCoveredToJoin, KeepsSharplyJoined}
-use Rattle.fr_sharp.specs.Lengths.{IsAboutCycle}
-use Rattle.fr_sharp.specs.SharpHistories.{IsInSharpSyncAt}
-use Rattle.fr_sharp.specs.SharpJoining.{sharp_reach}
+use Rattle.fr_precision.specs.Lengths.{IsAboutCycle}
+use Rattle.fr_runs.specs.SharpHistories.{IsInSharpSyncAt}
+use Rattle.fr_promise.specs.SharpJoining.{sharp_reach}
 use Rattle.fr_sharp.specs.SharpStatement.{has_arbitrary}
-use Rattle.fr_sharp.specs.SharpTested.{IsUnfollowedSharpSyncAt}
-use Rattle.fr_sharp.specs.SteadyRuns.{IsSteadyPart, IsSteadySetting}
+use Rattle.fr_promise.specs.SharpTested.{IsUnfollowedSharpSyncAt}
+use Rattle.fr_runs.specs.SteadyRuns.{IsSteadyPart, IsSteadySetting}
 use Rattle.fr_sharp.proofs.FromFiles.{files_are_steady}
-use Rattle.fr_sharp.proofs.JoinBounds.{sharp_join_checks_suffice_lem}
-use Rattle.fr_sharp.proofs.RowsSupplied.{lawful_rows}
+use Rattle.fr_promise.proofs.JoinBounds.{sharp_join_checks_suffice_lem}
+use Rattle.fr_runs.proofs.RowsSupplied.{lawful_rows}
 use Rattle.fr_whole.specs.PowerOn.{joined_ticks, leads_ticks, longest_time, synced_ticks, takes_part_from, IsInSyncFromPowerOn, IsLedRun, JoinsLeader, PowerOnIsInSync}
 use Rattle.fr_whole.proofs.LoneLeader.{alone_among, leader_among, six_cycles, AllActive}
 

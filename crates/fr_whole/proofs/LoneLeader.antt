@@ -49,10 +49,10 @@ use Rattle.fr_runs.proofs.Receivers.{is_correct_node}
 use Rattle.fr_runs.proofs.Rows.{all_rows, each_row, map_contains, row_runs_by}
 use Rattle.fr_runs.proofs.Standing.{differs, told_has}
 use Rattle.fr_runs.proofs.Whole.{double_runs, prior_of}
-use Rattle.fr_sharp.specs.SharpRound.{as_member, IsSteadilySupplied}
-use Rattle.fr_sharp.specs.SteadyRuns.{row_hearers, row_members, AreRowsInReach, IsSteadyPart}
-use Rattle.fr_sharp.proofs.RoundLemmas.{all_given}
-use Rattle.fr_sharp.proofs.RowsSupplied.{lawful_rows, rows_hear_steadily}
+use Rattle.fr_precision.specs.SharpRound.{as_member, IsSteadilySupplied}
+use Rattle.fr_runs.specs.SteadyRuns.{row_hearers, row_members, AreRowsInReach, IsSteadyPart}
+use Rattle.fr_precision.proofs.RoundLemmas.{all_given}
+use Rattle.fr_runs.proofs.RowsSupplied.{lawful_rows, rows_hear_steadily}
 use Rattle.fr_time.proofs.Keys.{key_node_has}
 use Rattle.fr_time.specs.Instant.{instant_of}
 use Rattle.fr_time.specs.Position.{grid_for}

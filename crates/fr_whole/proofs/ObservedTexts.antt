@@ -22,7 +22,7 @@ use Rattle.fr_findings.specs.declared.verdict.Verdict.{Verdict}
 use Rattle.fr_findings.specs.declared.verdict.Verdict.TheVariants as verdict
 use Rattle.fr_seen.specs.LogSeen.{EvenWordsHold, ObservedNextRowsHold, ObservedRowsHold, OddWordsHold, SaysSo, log_senders, sender_rows}
 use Rattle.fr_seen_runs.specs.InTime.{NearIsTimely}
-use Rattle.fr_seen_runs.specs.LogDoubles.{DoublesAreThere}
+use Rattle.fr_seen.specs.LogDoubles.{DoublesAreThere}
 use Rattle.fr_seen_runs.specs.NotContradicted.{NoRunHasOwnFaults, NoRunIsContradicted, WithinIsSo, WithinIsThere, WithinReachesEnd}
 use Rattle.fr_seen_runs.specs.OverRows.{OverIsCounted, OverIsSo, RowIsOver, over_rows}
 use Rattle.fr_seen_runs.specs.Standings.{MissingsAreSo, SpreadIsSo, SpreadsAreSo, log_missing, log_spreads}

@@ -6,7 +6,7 @@ use Rattle.fr_bound.specs.SharpChecks.{sharp_holds_of}
 use Rattle.fr_cluster.specs.Values.{Values}
 use Rattle.fr_coverage.specs.declared.gap.Gap.{Gap}
 use Rattle.fr_params.specs.Files.{params_file}
-use Rattle.fr_sharp.specs.SharpJoining.{sharp_join_holds_of, sharp_reach, SharpJoinChecksHold}
+use Rattle.fr_promise.specs.SharpJoining.{sharp_join_holds_of, sharp_reach, SharpJoinChecksHold}
 use Rattle.fr_text.specs.Defined.{DefinesOneStatus}
 use Rattle.fr_text.specs.Files.{IsDecided}
 use Rattle.fr_text.specs.Kind.{HasOneAnswer, HasSomeAnswer}

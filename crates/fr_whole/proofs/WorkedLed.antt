@@ -18,7 +18,7 @@ use Rattle.fr_history.specs.Worked.{on_a}
 use Rattle.fr_script.specs.Deeds.{deed_in}
 use Rattle.fr_script.specs.Events.{event_of}
 use Rattle.fr_script.specs.View.{deed_of, is_arbitrary, join_of}
-use Rattle.fr_sharp.specs.SharpJoining.{SharpJoinChecksHold}
+use Rattle.fr_promise.specs.SharpJoining.{SharpJoinChecksHold}
 use Rattle.fr_sharp.specs.SharpStatement.{has_arbitrary}
 use Rattle.fr_sharp.specs.WorkedRun.{steady_cluster}
 use Rattle.fr_sharp.proofs.SharpWorked.{is_sane}

@@ -25,9 +25,9 @@ use Rattle.fr_sharp.specs.JudgedSteps.{IsHeardIn}
 use Rattle.fr_seen.specs.Clocks.{StraightClock}
 use Rattle.fr_seen.specs.LogSeen.{NextRowsHold, RowsHold, SaysSo, log_senders, run_double, sender_rows}
 use Rattle.fr_seen.specs.OwnSlots.{SlotsAreOwn}
-use Rattle.fr_seen_runs.specs.Contradictions.{IsAsLogStates, IsAsLogStatesBefore, IsObservedRun}
+use Rattle.fr_seen.specs.Contradictions.{IsAsLogStates, IsAsLogStatesBefore, IsObservedRun}
 use Rattle.fr_seen_runs.specs.InTime.{IsReadNear}
-use Rattle.fr_seen_runs.specs.LogDoubles.{IsDoubleThere}
+use Rattle.fr_seen.specs.LogDoubles.{IsDoubleThere}
 use Rattle.fr_seen_runs.specs.NotContradicted.{IsWithinReach}
 use Rattle.fr_seen_runs.specs.OverRows.{RowIsOver, over_rows}
 use Rattle.fr_seen_runs.specs.Standings.{Missing, MissingIsSo, SpreadIsSo, log_missing, log_spreads}

@@ -28,8 +28,8 @@ use Rattle.fr_promise.specs.Statement.{IsRunOf}
 use Rattle.fr_script.specs.Files.{ScriptFits}
 use Rattle.fr_script.specs.View.{ScriptView}
 use Rattle.fr_sharp.specs.JoinedFiles.{IsSharplyCoveredToJoin}
-use Rattle.fr_sharp.specs.SharpHistories.{IsInSharpSyncAt}
-use Rattle.fr_sharp.specs.SharpJoining.{sharp_reach}
+use Rattle.fr_runs.specs.SharpHistories.{IsInSharpSyncAt}
+use Rattle.fr_promise.specs.SharpJoining.{sharp_reach}
 
 -- ---- numbers, in ticks
 

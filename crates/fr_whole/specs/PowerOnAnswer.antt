@@ -9,7 +9,7 @@ use Rattle.fr_coverage.specs.declared.gap.Gap.{Gap}
 use Rattle.fr_params.specs.Files.{params_file}
 use Rattle.fr_params.specs.Told.{params_says}
 use Rattle.fr_program.specs.Command.{Command}
-use Rattle.fr_sharp.specs.SharpJoining.{sharp_reach, SharpJoinChecksHold}
+use Rattle.fr_promise.specs.SharpJoining.{sharp_reach, SharpJoinChecksHold}
 use Rattle.fr_text.specs.Files.{Files, IsNeverSaid, file, text}
 use Rattle.fr_text.specs.Pieces.{line}
 use Rattle.fr_whole.specs.PowerOn.{leads_ticks, synced_ticks, PowerOnIsInSync}

@@ -9,7 +9,7 @@ use Rattle.fr_drift.specs.View.{DriftView}
 use Rattle.fr_script.specs.View.{ScriptView}
 use Rattle.fr_bound.specs.SharpBounds.{sharp_near}
 use Rattle.fr_bound.specs.SharpChecks.{sharp_holds_of}
-use Rattle.fr_sharp.specs.SharpJoining.{sharp_join_holds_of}
+use Rattle.fr_promise.specs.SharpJoining.{sharp_join_holds_of}
 use Rattle.fr_sharp.specs.SharpStatement.{has_arbitrary}
 use Rattle.fr_series.specs.SharpCovered.{failed_sharp, failed_sharp_join, first_sharp_gap}
 use Rattle.fr_whole.specs.declared.sharp_gaps.SharpGaps.{SharpGaps}

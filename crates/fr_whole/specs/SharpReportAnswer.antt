@@ -17,7 +17,7 @@ use Rattle.fr_series.specs.SharpMeaning.{AreSharpFigures}
 use Rattle.fr_whole.specs.SharpGaps.{sharp_gaps_of, AreSharpGaps}
 use Rattle.fr_whole.specs.SharpReport.{sharp_lines_by}
 use Rattle.fr_sharp.specs.SharpStatement.{has_arbitrary}
-use Rattle.fr_sharp.specs.SharpTested.{IsFirstSharpSync}
+use Rattle.fr_promise.specs.SharpTested.{IsFirstSharpSync}
 
 -- a text is what the sharper bounds say of some cycles of these files: that the run is sharply covered exactly where it is, and then
 -- the cycles keep what the promise says, with their own flutter; that its gaps are the first of each kind; and the figures mean what they

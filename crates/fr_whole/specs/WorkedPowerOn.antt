@@ -9,7 +9,7 @@ use Rattle.fr_drift.specs.View.{DriftView}
 use Rattle.fr_drift.specs.Keys.{delay_key, length_key}
 use Rattle.fr_script.specs.View.{ScriptView}
 use Rattle.fr_sharp.specs.JoinedFiles.{IsSharplyCoveredToJoin}
-use Rattle.fr_sharp.specs.SharpJoining.{sharp_reach}
+use Rattle.fr_promise.specs.SharpJoining.{sharp_reach}
 use Rattle.fr_sharp.specs.WorkedRun.{steady_cluster}
 use Rattle.fr_whole.specs.PowerOn.{IsLedRun, StartsAsItLeads}
 

@@ -3,10 +3,10 @@ ghost use Rattle.fr_findings.specs.Text.{observe_text};
 ghost use Rattle.fr_log.specs.View.{LogView};
 ghost use Rattle.fr_whole.specs.ObservedText.{IsObservedText};
 
-use fr_seen::{cycle_words_hold, observed_rows_hold};
+use fr_seen::{cycle_words_hold, doubles_are_there, observed_rows_hold};
 use fr_seen_runs::{
-    doubles_are_there, missings_are_so, near_is_timely, no_fault_is_told, no_run_is_contradicted,
-    over_is_so, spreads_are_so, text_tells_doubles, verdict_tells_first, within_is_so,
+    missings_are_so, near_is_timely, no_fault_is_told, no_run_is_contradicted, over_is_so,
+    spreads_are_so, text_tells_doubles, verdict_tells_first, within_is_so,
 };
 
 /// A law: the text of a log means what its clause says, in each run that the log is seen of, or read of where its numbers

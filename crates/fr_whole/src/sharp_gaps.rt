@@ -6,8 +6,9 @@ use fr_bound::sharp_side;
 use fr_cluster::Params;
 use fr_coverage::{Gap, RunGaps, gaps_by_kind, some_join};
 use fr_drift::Drift;
+use fr_promise::sharp_join_side;
 use fr_script::Script;
-use fr_sharp::{has_arbitrary, sharp_join_side};
+use fr_sharp::has_arbitrary;
 
 /// The first gap of a run of each kind by the sharper bounds, in the order in which they are looked for.
 #[derive(Clone, Copy, Debug, PartialEq, Eq)]

@@ -46,10 +46,10 @@ use Rattle.fr_script.specs.declared.deeds.Passage.{Passage}
 use Rattle.fr_sharp.specs.JoinedFiles.{IsSharplyCoveredToJoin, JoinedFilesKeepSharpPrecision, KeepsSharplyJoined}
 use Rattle.fr_bound.specs.SharpBounds.{last_of}
 use Rattle.fr_bound.specs.SharpChecks.{sharp_holds_of}
-use Rattle.fr_sharp.specs.SharpJoining.{sharp_reach, SharpJoinChecksHold}
+use Rattle.fr_promise.specs.SharpJoining.{sharp_reach, SharpJoinChecksHold}
 use Rattle.fr_sharp.specs.SharpStatement.{has_arbitrary}
-use Rattle.fr_sharp.specs.SharpTested.{IsFirstSharpSync, IsUnfollowedSharpSyncAt, first_free_of, first_sharp_sync_of}
-use Rattle.fr_sharp.proofs.FreeLemmas.{first_sharp_sync_is}
+use Rattle.fr_promise.specs.SharpTested.{IsFirstSharpSync, IsUnfollowedSharpSyncAt, first_free_of, first_sharp_sync_of}
+use Rattle.fr_promise.proofs.FreeLemmas.{first_sharp_sync_is}
 use Rattle.fr_skew.specs.Sync.{are_in_sync_by_even}
 use Rattle.fr_text.specs.Fields.{looked_up, or_else}
 use Rattle.fr_text.specs.Records.{records_of}

@@ -28,15 +28,15 @@ use Rattle.fr_verdict.proofs.Finding.{none_found_is_lawful}
 use Rattle.fr_verdict.proofs.Gaps.{no_gap_found_is_covered}
 use Rattle.fr_verdict.proofs.Syncing.{first_synced_is}
 use Rattle.fr_verdict.proofs.Worked.{on_traces}
-use Rattle.fr_sharp.specs.Lengths.{IsAboutCycle}
+use Rattle.fr_precision.specs.Lengths.{IsAboutCycle}
 use Rattle.fr_bound.specs.SharpBounds.{last_of, sharp_near}
 use Rattle.fr_bound.specs.SharpChecks.{sharp_holds_of}
 use Rattle.fr_bound.specs.SharpSpreads.{sharply_near_in}
-use Rattle.fr_sharp.specs.SharpSettling.{sharp_spread_after}
-use Rattle.fr_sharp.specs.SharpTested.{is_in_sharp_sync}
-use Rattle.fr_sharp.specs.SharpTraces.{IsRecordedInSharpSync, IsRecordedNear, IsSteadyTrace, PassingTracesComeSharp, TracedChecksHold, TracedWayHolds, TracesKeepSharpPrecision, TracesSettleSharply, recorded_flutter}
-use Rattle.fr_sharp.proofs.TestedLemmas.{sharp_sync_from, to_sharp_sync}
-use Rattle.fr_sharp.proofs.TraceSync.{checked_traces_are_steady}
+use Rattle.fr_precision.specs.SharpSettling.{sharp_spread_after}
+use Rattle.fr_promise.specs.SharpTested.{is_in_sharp_sync}
+use Rattle.fr_verdict.specs.SharpTraces.{IsRecordedInSharpSync, IsRecordedNear, IsSteadyTrace, PassingTracesComeSharp, TracedChecksHold, TracedWayHolds, TracesKeepSharpPrecision, TracesSettleSharply, recorded_flutter}
+use Rattle.fr_promise.proofs.TestedLemmas.{sharp_sync_from, to_sharp_sync}
+use Rattle.fr_verdict.proofs.TraceSync.{checked_traces_are_steady}
 use Rattle.fr_worked.specs.Traces.{KeepsSharplyBeside, PassesAndComesSharp, SettlesFromFarStarts, coming_cycles, coming_reach, coming_trace, coming_verdict, four_nodes, named_cycle, named_cycles, named_trace, record_told, two_devs, two_nodes, two_rows}
 use Rattle.fr_worked.proofs.Sane.{cluster_sane, nodes_from}
 use Rattle.fr_worked.proofs.TracesFit.{fitting_record, no_pairs, pairs_if, pairs_pass, traced_records}

@@ -45,12 +45,12 @@ use Rattle.fr_bound.specs.SharpBounds.{last_of, rate_walk, sharp_near, walk_last
 use Rattle.fr_bound.specs.SharpChecks.{sharp_holds_of, SharpChecksHold}
 use Rattle.fr_sharp.specs.HeldWalks.{SyncLastsAfter, sync_lasts}
 use Rattle.fr_sharp.specs.JoinedFiles.{IsSharplyCoveredToJoin, JoinedFilesKeepSharpPrecision, KeepsSharplyJoined}
-use Rattle.fr_sharp.specs.JoinedHistories.{FirstRatesLast, FirstRatesLastSo, first_rates_last}
-use Rattle.fr_sharp.specs.SharpHistories.{IsInSharpSyncAt}
-use Rattle.fr_sharp.specs.SharpJoining.{SharpJoinChecksHold}
+use Rattle.fr_promise.specs.JoinedHistories.{FirstRatesLast, FirstRatesLastSo, first_rates_last}
+use Rattle.fr_runs.specs.SharpHistories.{IsInSharpSyncAt}
+use Rattle.fr_promise.specs.SharpJoining.{SharpJoinChecksHold}
 use Rattle.fr_sharp.specs.SharpStatement.{FilesKeepSharpPrecision, has_arbitrary, IsSharplyCovered, KeepsSharply}
-use Rattle.fr_sharp.specs.SharpTested.{IsUnfollowedSharpSyncAt, first_free_of, first_sharp_sync_of}
-use Rattle.fr_sharp.proofs.FreeLemmas.{first_sharp_sync_is}
+use Rattle.fr_promise.specs.SharpTested.{IsUnfollowedSharpSyncAt, first_free_of, first_sharp_sync_of}
+use Rattle.fr_promise.proofs.FreeLemmas.{first_sharp_sync_is}
 use Rattle.fr_skew.specs.Sync.{are_in_sync_by_even}
 use Rattle.fr_text.specs.Fields.{looked_up, or_else}
 use Rattle.fr_text.specs.Records.{records_of}

@@ -22,3 +22,12 @@ pub mod SharplyJoinedFiles
 pub mod Traces
 pub mod TracedFiles
 pub mod WalkingFiles
+-- of the sharper precision
+pub mod DrivenRun
+pub mod FarRun
+pub mod HaltingRun
+pub mod LongRun
+pub mod ReachedRun
+pub mod WorkedFiles
+pub mod WorkedJudged
+pub mod WorkedLosses

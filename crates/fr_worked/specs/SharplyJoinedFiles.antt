@@ -17,9 +17,9 @@ use Rattle.fr_promise.specs.Statement.{IsRunOf}
 use Rattle.fr_runs.specs.Stated.{all_cycles}
 use Rattle.fr_sharp.specs.JoinedFiles.{IsSharplyCoveredToJoin, KeepsSharplyJoined}
 use Rattle.fr_bound.specs.SharpChecks.{sharp_holds_of}
-use Rattle.fr_sharp.specs.SharpJoining.{sharp_reach}
+use Rattle.fr_promise.specs.SharpJoining.{sharp_reach}
 use Rattle.fr_sharp.specs.SharpStatement.{has_arbitrary}
-use Rattle.fr_sharp.specs.SharpTested.{IsFirstSharpSync}
+use Rattle.fr_promise.specs.SharpTested.{IsFirstSharpSync}
 use Rattle.fr_worked.specs.Clusters.{cluster_of}
 use Rattle.fr_worked.specs.Files.{no_arbitrary, no_join}
 use Rattle.fr_worked.specs.RunFiles.{RunFiles, run_of_files}

@@ -18,8 +18,8 @@ use Rattle.fr_verdict.specs.declared.unlawful.Verdict.{Verdict}
 use Rattle.fr_bound.specs.SharpBounds.{sharp_near}
 use Rattle.fr_bound.specs.SharpChecks.{sharp_holds_of}
 use Rattle.fr_bound.specs.SharpSpreads.{IsSharplySettled}
-use Rattle.fr_sharp.specs.SharpSettling.{sharp_spread_after}
-use Rattle.fr_sharp.specs.SharpTraces.{IsRecordedInSharpSync, IsRecordedNear, IsSteadyTrace, KeepsSharpClocks, SettlesRecorded, TracedChecksHold, TracedWayHolds, recorded_flutter}
+use Rattle.fr_precision.specs.SharpSettling.{sharp_spread_after}
+use Rattle.fr_verdict.specs.SharpTraces.{IsRecordedInSharpSync, IsRecordedNear, IsSteadyTrace, KeepsSharpClocks, SettlesRecorded, TracedChecksHold, TracedWayHolds, recorded_flutter}
 use Rattle.fr_worked.specs.Clusters.{cluster_of}
 use Rattle.fr_worked.specs.Entries.{row_with, steady_rows}
 use Rattle.fr_worked.specs.OneArbitrary.{one_arbitrary_devs}

@@ -19,10 +19,10 @@ use Rattle.fr_bound.specs.SharpBounds.{rate_walk, sharp_near, sharp_precision, w
 use Rattle.fr_bound.specs.SharpChecks.{sharp_holds_of}
 use Rattle.fr_sharp.specs.HeldWalks.{beyond_for_ever, sync_lasts}
 use Rattle.fr_sharp.specs.JoinedFiles.{IsSharplyCoveredToJoin, KeepsSharplyJoined}
-use Rattle.fr_sharp.specs.JoinedHistories.{first_rates_last, IsJoinedUpTo, KeepsJoined}
-use Rattle.fr_sharp.specs.SharpHistories.{KeepsApart, KeepsSharpPrecision}
+use Rattle.fr_promise.specs.JoinedHistories.{first_rates_last, IsJoinedUpTo, KeepsJoined}
+use Rattle.fr_runs.specs.SharpHistories.{KeepsApart, KeepsSharpPrecision}
 use Rattle.fr_sharp.specs.SharpStatement.{has_arbitrary, IsSharplyCovered, KeepsSharply}
-use Rattle.fr_sharp.specs.SharpTested.{IsFirstSharpSync}
+use Rattle.fr_promise.specs.SharpTested.{IsFirstSharpSync}
 use Rattle.fr_worked.specs.Files.{no_arbitrary, no_join}
 use Rattle.fr_worked.specs.RunFiles.{RunFiles, run_of_files}
 use Rattle.fr_worked.specs.SharplyJoinedFiles.{joins_5, wide_cluster}

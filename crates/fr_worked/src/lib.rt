@@ -1,7 +1,8 @@
 //! Worked runs of a cluster, computed from the definitions alone: what happens cycle by cycle, the greatest skew,
 //! the first double cycle in sync, the report, and that they meet what the laws of runs ask. And worked files of runs
 //! that nodes join, by their bytes, and worked traces: they meet what is asked where something is promised of such, by
-//! the older bounds and by the sharper ones. Nothing here runs.
+//! the older bounds and by the sharper ones. And runs that come near the precision, in closed form too, and runs that
+//! lose it where a check fails. Nothing here runs.
 #![tactic(auto)]
 
 ghost use Rattle.std.specs.Prelude.{◌≡◌, None, false, pos, true};
@@ -18,28 +19,46 @@ ghost use Rattle.fr_worked.specs.Quiet.{worked_quiet};
 ghost use Rattle.fr_worked.specs.Lost.{worked_lost, worked_flipped, worked_lost_on_one};
 ghost use Rattle.fr_worked.specs.Working.{IsAsWritten, WorkedRunKeepsPrecision};
 
+mod driven_run;
 mod edge;
 mod far;
+mod far_run;
+mod halting_run;
 mod joined_files;
+mod judged_run;
 mod late;
 mod laws;
+mod long_run;
+mod lossy_files;
+mod meeting_files;
+mod reached_run;
 mod sharply_joined_files;
 mod traces;
 mod uneven;
 mod walking_files;
+mod worked_run;
 
+pub use driven_run::a_driven_run;
 pub use edge::the_precision_is_reached;
 pub use far::a_far_follower;
+pub use far_run::{each_cluster_has_a_far_run, far_runs_reach};
 use fr_history::{a_joined_run, one_lawful_run};
+pub use halting_run::the_first_sharp_check_is_needed;
 pub use joined_files::{
     joined_files_are_traced, joined_files_keep_their_precision, uneven_files_keep_their_precision,
 };
+pub use judged_run::a_judged_run;
 pub use late::the_promise_begins_in_sync;
 pub use laws::{a_joined_run_keeps_together, a_joined_run_keeps_up, a_joined_run_stays_together};
+pub use long_run::a_long_walk;
+pub use lossy_files::files_that_lose_frames;
+pub use meeting_files::files_whose_lists_meet;
+pub use reached_run::the_sharper_precision_is_reached;
 pub use sharply_joined_files::joined_files_keep_their_sharper_precision;
 pub use traces::{a_trace_beside_an_arbitrary_node, a_trace_that_comes_sharp};
 pub use uneven::{an_uneven_run, an_uneven_run_stays_together};
 pub use walking_files::walking_files_keep_while_it_lasts;
+pub use worked_run::{a_steady_run, files_that_flutter};
 
 /// A law: two clocks that start two and a half microticks apart come within half a microtick.
 pub fn a_run_with_an_offset()

@@ -1,6 +1,6 @@
 ghost use Rattle.fr_worked.specs.Traces.{KeepsSharplyBeside, PassesAndComesSharp, SettlesFromFarStarts};
 
-use fr_sharp::{traces_keep_sharp_sync, traces_settle_sharply};
+use fr_verdict::{traces_keep_sharp_sync, traces_settle_sharply};
 
 /// A law: what is said of traces that come into sharp sync is not empty. A worked trace of four double cycles begins with
 /// starts 60,000,000 ticks apart, in sync and not in sharp sync. It passes, so it keeps the sharper precision from its third

@@ -2,9 +2,8 @@ ghost use Rattle.fr_worked.specs.WalkingFiles.{KeepThoughLengthsWalk, KeepWhileF
 ghost use Rattle.fr_worked.specs.WalkingFiles.{changing_files, walking_files, walking_joined_files};
 
 use fr_history::one_lawful_run;
-use fr_sharp::{
-    files_keep_sharp_precision, joined_files_keep_sharp_precision, joined_histories_keep_sharp_sync,
-};
+use fr_promise::joined_histories_keep_sharp_sync;
+use fr_sharp::{files_keep_sharp_precision, joined_files_keep_sharp_precision};
 
 /// A law: the sharper promise has an end where it says so, and none where it says none. Three runs of twelve double
 /// cycles at a damping of 1 microtick are sharply covered and begin in sharp sync, while the first of the sharper

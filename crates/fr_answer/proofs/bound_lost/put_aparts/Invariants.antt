@@ -2,7 +2,7 @@ use Rattle.std.proofs.Common.{◌≡◌, ◌-◌}
 use Rattle.std.specs.Prelude.{Result}
 use Rattle.fr_base.specs.Device.{Puts, Sunk}
 use Rattle.fr_base.specs.declared.sink.PutFault.{PutFault}
-use Rattle.fr_sharp.specs.Among.{lost_spread}
+use Rattle.fr_precision.specs.Among.{lost_spread}
 use Rattle.fr_sharp.specs.LossCosts.{heard_behind}
 use Rattle.fr_answer.specs.LossText.{loss_apart_lines}
 use Rattle.fr_answer.proofs.bound_lost.put_aparts.Given as goal

@@ -2,7 +2,7 @@ use Rattle.std.proofs.Common.{◌≡◌, ◌∙◌, ℕ, Bool, Option, ap, ap₂
 use Rattle.fr_cluster.specs.Values.{Values}
 use Rattle.fr_script.specs.View.{ScriptView}
 use Rattle.fr_bound.specs.declared.judging.Heard.{Heard}
-use Rattle.fr_sharp.specs.Among.{apart_through_losses}
+use Rattle.fr_precision.specs.Among.{apart_through_losses}
 use Rattle.fr_sharp.specs.LossStatement.{whole_in}
 use Rattle.fr_sharp.specs.SharpStatement.{has_arbitrary}
 use Rattle.fr_sharp.specs.Traffic.{heard_in, traffic_in}

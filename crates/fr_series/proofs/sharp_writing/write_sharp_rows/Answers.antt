@@ -7,7 +7,7 @@ use Rattle.fr_time.specs.Position.{grid_for}
 use Rattle.fr_world.specs.World.{WorldView, setting_after}
 use Rattle.fr_cluster.specs.Values.{Values}
 use Rattle.fr_script.specs.View.{ScriptView}
-use Rattle.fr_sharp.specs.Among.{spread_through_losses}
+use Rattle.fr_precision.specs.Among.{spread_through_losses}
 use Rattle.fr_bound.specs.declared.settling.Spread.{Spread}
 use Rattle.fr_sharp.specs.SharpStatement.{has_arbitrary}
 use Rattle.fr_sharp.specs.Traffic.{heard_in, traffic_in}

@@ -2,7 +2,7 @@ use Rattle.std.proofs.Common.{◌≡◌, ◌*◌, Ok}
 use Rattle.fr_base.specs.Device.{Puts}
 use Rattle.fr_history.specs.Next.{cycles_of}
 use Rattle.fr_world.specs.World.{setting_after}
-use Rattle.fr_sharp.specs.Among.{spread_through_losses}
+use Rattle.fr_precision.specs.Among.{spread_through_losses}
 use Rattle.fr_sharp.specs.SharpStatement.{has_arbitrary}
 use Rattle.fr_sharp.specs.Traffic.{heard_in, traffic_in}
 use Rattle.fr_series.specs.Basis.{tally_of}

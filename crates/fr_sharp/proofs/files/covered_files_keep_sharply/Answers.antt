@@ -1,6 +1,6 @@
 use Rattle.fr_sharp.proofs.FromFiles.{covered_files_keep_sharply as covered_files_keep_sharply_lem}
 use Rattle.fr_sharp.proofs.HeldRuns.{sync_lasts_on}
-use Rattle.fr_sharp.proofs.OlderLemmas.{first_check_lasts_on}
+use Rattle.fr_precision.proofs.OlderLemmas.{first_check_lasts_on}
 use Rattle.fr_sharp.proofs.files.covered_files_keep_sharply.Goals as goal
 
 pub returns-clause-keep : goal.returns-clause-keep

@@ -1,6 +1,6 @@
 use Rattle.std.proofs.Common.{◌≡◌, ◌∙◌, ℕ, false, ap, sym, arith}
 use Rattle.fr_bound.specs.SharpSpreads.{next_lost_spread}
-use Rattle.fr_sharp.specs.Among.{lost_spread}
+use Rattle.fr_precision.specs.Among.{lost_spread}
 use Rattle.fr_sharp.proofs.LossNumbers.{first_of, never, never_heard, never_more, same_yet}
 use Rattle.fr_sharp.proofs.loss_costs.behind.Goals as goal
 

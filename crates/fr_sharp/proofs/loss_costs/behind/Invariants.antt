@@ -1,5 +1,5 @@
 use Rattle.std.proofs.Common.{◌≡◌}
-use Rattle.fr_sharp.specs.Among.{lost_spread}
+use Rattle.fr_precision.specs.Among.{lost_spread}
 use Rattle.fr_sharp.proofs.LossNumbers.{never}
 use Rattle.fr_sharp.proofs.loss_costs.behind.Given as goal
 

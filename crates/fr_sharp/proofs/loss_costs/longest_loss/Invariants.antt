@@ -1,5 +1,5 @@
 use Rattle.std.proofs.Common.{◌≡◌, ℕ, ◌<◌}
-use Rattle.fr_sharp.specs.Among.{lost_spread}
+use Rattle.fr_precision.specs.Among.{lost_spread}
 use Rattle.fr_sharp.proofs.LossNumbers.{never, Bears}
 use Rattle.fr_sharp.proofs.loss_costs.longest_loss.Given as goal
 

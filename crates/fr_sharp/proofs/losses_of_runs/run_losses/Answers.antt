@@ -5,7 +5,7 @@ use Rattle.fr_script.specs.View.{ScriptView}
 use Rattle.fr_sharp.specs.LossRuns.{losses_by}
 use Rattle.fr_sharp.specs.LossStatement.{whole_in}
 use Rattle.fr_sharp.specs.LossSteps.{most_lost}
-use Rattle.fr_sharp.specs.Among.{spread_through_losses}
+use Rattle.fr_precision.specs.Among.{spread_through_losses}
 use Rattle.fr_sharp.specs.SharpStatement.{has_arbitrary}
 use Rattle.fr_sharp.specs.Traffic.{all_trusted, heard_in, traffic_in}
 use Rattle.fr_sharp.specs.declared.losses_of_runs.RunLosses.{RunLosses}

@@ -1,5 +1,5 @@
 use Rattle.std.proofs.Common.{◌∙◌, ap₂}
-use Rattle.fr_sharp.specs.Among.{spread_through_losses}
+use Rattle.fr_precision.specs.Among.{spread_through_losses}
 use Rattle.fr_sharp.specs.LossSteps.{spread_with}
 use Rattle.fr_sharp.proofs.loss_steps.LossSpread.first.Goals as goal
 

@@ -1,0 +1,217 @@
+-- A double cycle of a run that nodes join: its round is such a group as the sharper step asks for.
+use Rattle.std.proofs.Common.{◌≡◌, ◌⊎◌, ℕ, ◌*◌, Bool, true, false, ℤ, pos, Option, Some, None, List, length, map, refl, ap, sym, ◌∙◌, subst, inl, inr, arith}
+use Rattle.std.specs.Prelude.{◌≤ℤ◌, Contains}
+use Rattle.std.proofs.lemmas.Int.{ints}
+use Rattle.fr_base.specs.declared.node_row.NodeRow.{NodeRow}
+use Rattle.fr_base.specs.Within.{IsWithin}
+use Rattle.fr_cluster.specs.Setting.{Setting, correct_nodes}
+use Rattle.fr_cluster.specs.declared.join.Join.{Join}
+use Rattle.fr_cluster.specs.declared.nodes.NodeSpec.{NodeSpec}
+use Rattle.fr_cluster.proofs.Elements.{filtered}
+use Rattle.fr_precision.specs.Instants.{gap_of, row_in}
+use Rattle.fr_precision.specs.Offsets.{LimitSuffices}
+use Rattle.fr_precision.specs.Reception.{LeavesRoom}
+use Rattle.fr_precision.specs.Round.{Hearer}
+use Rattle.fr_precision.specs.Step.{Member}
+use Rattle.fr_history.specs.Cycles.{Cycle, Cycles}
+use Rattle.fr_history.specs.History.{row_for}
+use Rattle.fr_history.specs.Standing.{following_nodes, follows, follows_by, row_nodes}
+use Rattle.fr_runs.specs.Gathered.{follower_hearer, followers_since, hearers_of, round_at, row_hearer}
+use Rattle.fr_runs.specs.Hearers.{group_of, member_from, IsOneOf}
+use Rattle.fr_runs.proofs.Going.{is_since}
+use Rattle.fr_runs.proofs.Rows.{contains_map, map_contains}
+use Rattle.fr_runs.proofs.Standing.{how_follows, is_follower}
+use Rattle.fr_runs.proofs.Lawful.{lawful_cycles_run}
+use Rattle.fr_runs.proofs.Whole.{double_runs, fresh_at, none_follows}
+use Rattle.fr_precision.specs.Lengths.{CanWalk}
+use Rattle.fr_bound.specs.SharpBounds.{last_action, sharp_lambda, sharp_near, sharp_pi}
+use Rattle.fr_promise.specs.SharpFollowing.{AreFollowersInReach}
+use Rattle.fr_promise.specs.SharpGroup.{IsSharpRoundFollowed}
+use Rattle.fr_promise.specs.SharpJoining.{sharp_first_apart, sharp_first_lengths, sharp_reach, sharp_second_apart}
+use Rattle.fr_promise.specs.SharpJoined.{IsJoinedDouble, IsSteadyJoined, JoinedDoublesAreKept, JoinedIsInSharpSync, UnfollowedIsJoined}
+use Rattle.fr_precision.specs.SharpRound.{as_member, IsSteadilySupplied}
+use Rattle.fr_precision.specs.SharpStep.{AreSharp}
+use Rattle.fr_runs.specs.SteadyRuns.{row_members, AreRowsInReach, IsSteadyPart, IsWhole, MayHaveArbitrary}
+use Rattle.fr_promise.proofs.FollowersSupplied.{follower_regular, supplied_at as follower_supplied}
+use Rattle.fr_promise.proofs.JoinBounds.{followers_come_nearer_lem, sharp_join_checks_suffice_lem}
+use Rattle.fr_runs.proofs.RowsSupplied.{lawful_rows, members_regular, rates_in_limit, round_in_reach, row_regular, supplied_at as row_supplied, LawfulRows}
+use Rattle.fr_promise.proofs.RunDoubles.{evens_are}
+use Rattle.fr_promise.proofs.SharpFollowed.{sharp_rounds_are_followed}
+use Rattle.fr_promise.proofs.SharpGrouped.{apart_reached, in_natural, sharp_groups_are_kept}
+use Rattle.fr_precision.proofs.StepLemmas.{nodes_near, Double}
+
+pub joined_part : (beside : Bool) (x : Setting) (flutter : ℕ) (h : Cycles) → IsSteadyJoined beside x flutter h → IsSteadyPart x flutter h
+joined_part beside x flutter h w = record { covered = w.covered; lawful = w.lawful; within = (let whole = w.whole in omega (arith, whole)) }
+
+-- whoever follows does so for the second or for the first double cycle
+pub since_when : (x : Setting) (h : Cycles) (double : ℕ) (node : NodeSpec) → length h ≡ 2 * double → Contains (following_nodes x h) node
+    → Contains (followers_since x h 2 double) node ⊎ Contains (followers_since x h 1 double) node
+since_when x h double node counted among =
+    let parts = filtered (λ (n : NodeSpec). follows x h n.id) (correct_nodes x) node among in
+    by_join parts.0 parts.1 (x.join node.id) refl
+  where
+    by_join : Contains (correct_nodes x) node → follows x h node.id ≡ true → (join : Option Join) → x.join node.id ≡ join
+        → Contains (followers_since x h 2 double) node ⊎ Contains (followers_since x h 1 double) node
+    by_join there does None at =
+        let e : false ≡ true = sym (ap (follows_by x h node.id) at) ∙ does in
+        absurd (cc)
+    by_join there does (Some join) at =
+        elim (how_follows x h node.id join double counted (sym (ap (follows_by x h node.id) at) ∙ does)) [
+          | inl begins ↦ inr (is_follower x h 1 double node join at there does (sym begins.1))
+          | inr goes ↦ inl (is_follower x h 2 double node join at there does (sym goes.1))
+        ]
+
+no_less : (n : ℕ) → pos n ≤ℤ pos n
+no_less n = omega (arith, ints)
+
+module _
+    (beside : Bool) (x : Setting) (flutter : ℕ) (h : Cycles) (even odd : Cycle) (double : ℕ) (beyond : ℤ)
+    (s : LawfulRows x flutter h even odd double) (may : MayHaveArbitrary beside x) (g : IsJoinedDouble beside x flutter beyond h even odd double) where
+  -- ---- members by their nodes
+
+  pub row_member : (node : NodeSpec) → Contains (row_nodes x h) node → Contains (row_members x h even odd) (as_member x.params (row_hearer x even odd node.id))
+  row_member node among =
+      let at : NodeSpec → Hearer = λ n. row_hearer x even odd n.id in
+      contains_map (as_member x.params) (map at (row_nodes x h)) (at node) (contains_map at (row_nodes x h) node among)
+
+  pub follower_member : (ago : ℕ) (node : NodeSpec) → Contains (followers_since x h ago double) node
+      → Contains (map (member_from x.params) (map (λ (n : NodeSpec). follower_hearer x even odd n.id) (followers_since x h ago double))) (member_from x.params (follower_hearer x even odd node.id))
+  follower_member ago node among =
+      let at : NodeSpec → Hearer = λ n. follower_hearer x even odd n.id in
+      contains_map (member_from x.params) (map at (followers_since x h ago double)) (at node) (contains_map at (followers_since x h ago double) node among)
+
+  module _ (reach : ℤ) (limit : LimitSuffices x.params reach) (room : LeavesRoom x.params reach) (takes : pos (sharp_reach beside x.params flutter) ≤ℤ reach) where
+    -- ---- each is within reach of those with rows
+
+    doubled : Double x.params (sharp_pi beside x.params flutter) (sharp_lambda beside x.params flutter) beyond (row_members x h even odd)
+    doubled = record { sane = s.covered.sane; sharp = g.placed.sharp; regular = members_regular x flutter h even odd double s g.rows.rates }
+
+    near_takes : pos (sharp_near beside x.params flutter) ≤ℤ reach
+    near_takes = in_natural (sharp_near beside x.params flutter) (sharp_reach beside x.params flutter) reach (followers_come_nearer_lem beside x.params flutter s.covered.sane).3 takes
+
+    rows_in : AreRowsInReach x h even odd reach
+    rows_in = record {
+      active_even = g.active_even;
+      active_odd = g.active_odd;
+      rates = g.rows.rates;
+      limit = limit;
+      room = room;
+      acts =
+          λ is_odd one other action here there from to.
+          let near = nodes_near x.params (sharp_pi beside x.params flutter) (sharp_lambda beside x.params flutter) beyond (row_members x h even odd) doubled one other here there in
+          apart_reached x.params (sharp_pi beside x.params flutter) (sharp_lambda beside x.params flutter) reach is_odd one other action s.covered.sane near_takes (members_regular x flutter h even odd double s g.rows.rates one here)
+          (members_regular x flutter h even odd double s g.rows.rates other there) near.by_start near.by_even from to;
+    }
+
+    follower_reached : (is_odd : Bool) (sender follower : NodeSpec) (action : ℤ) → Contains (row_nodes x h) sender → Contains (following_nodes x h) follower → pos 0 ≤ℤ action → action ≤ℤ pos (last_action x.params)
+        → IsWithin reach
+        (
+        gap_of x.params is_odd action (row_in is_odd (row_for even.told.rows sender.id) (row_for odd.told.rows sender.id))
+        (row_in is_odd (row_for even.followers follower.id) (row_for odd.followers follower.id))
+        )
+    follower_reached is_odd sender follower action here there from to =
+        let p = x.params in
+        let row = as_member p (row_hearer x even odd sender.id) in
+        let node = member_from p (follower_hearer x even odd follower.id) in
+        let one = row_regular x flutter h even odd double s g.rows.rates sender here in
+        let other = follower_regular x flutter h even odd double s g.follower_rates follower there in
+        elim (since_when x h double follower s.counted there) [
+          | inl second ↦
+              let member = follower_member 2 follower second in
+              apart_reached p (sharp_second_apart beside p flutter) (sharp_lambda beside p flutter) reach is_odd row node action s.covered.sane
+              (in_natural _ (sharp_reach beside p flutter) reach (followers_come_nearer_lem beside p flutter s.covered.sane).2 takes) one other
+              (g.placed.seconds_start row node (row_member sender here) member) (g.placed.seconds_last row node (inl (row_member sender here)) member) from to
+          | inr first ↦
+              let member = follower_member 1 follower first in
+              apart_reached p (sharp_first_apart beside p flutter) (sharp_first_lengths beside p flutter) reach is_odd row node action s.covered.sane takes one other
+              (g.placed.firsts_start row node (row_member sender here) member) (g.placed.firsts_last row node (inl (row_member sender here)) member) from to
+        ]
+
+    followers_in : AreFollowersInReach x h even odd reach
+    followers_in = record {
+      active_even = g.active_even;
+      active_odd = g.active_odd;
+      rates = g.follower_rates;
+      limit = limit;
+      room = room;
+      acts = follower_reached;
+    }
+
+    -- ---- so all are supplied, where all is heard
+
+    module _ (links : IsWhole x double) where
+      supplied : (n : Hearer) → IsOneOf (hearers_of x h even odd double) n → IsSteadilySupplied (round_at x h even odd) flutter n
+      supplied n (inl (inl here)) =
+          let from = map_contains (λ (m : NodeSpec). row_hearer x even odd m.id) (row_nodes x h) n here in
+          subst (IsSteadilySupplied (round_at x h even odd) flutter) from.2 (row_supplied x flutter h even odd double reach s rows_in links from.0 from.1)
+      supplied n (inl (inr here)) =
+          let from = map_contains (λ (m : NodeSpec). follower_hearer x even odd m.id) (followers_since x h 2 double) n here in
+          subst (IsSteadilySupplied (round_at x h even odd) flutter) from.2 (follower_supplied x flutter h even odd double reach s followers_in links from.0 (is_since x h 2 double from.0 from.1))
+      supplied n (inr here) =
+          let from = map_contains (λ (m : NodeSpec). follower_hearer x even odd m.id) (followers_since x h 1 double) n here in
+          subst (IsSteadilySupplied (round_at x h even odd) flutter) from.2 (follower_supplied x flutter h even odd double reach s followers_in links from.0 (is_since x h 1 double from.0 from.1))
+
+      pub round_followed : (walk : ℤ) → CanWalk x.params flutter beyond walk → IsSharpRoundFollowed beside (round_at x h even odd) flutter beyond walk (hearers_of x h even odd double) reach
+      round_followed walk walks =
+          let r = round_in_reach x flutter h even odd double reach s rows_in links beside may in
+          record {
+            round = r.round;
+            arbitrary = r.arbitrary;
+            walks = walks;
+            takes = record { limit = limit; fits = near_takes; fits_followers = λ node follows. takes };
+            placed = g.placed;
+            supplied = supplied;
+            among = r.among;
+          }
+
+pub joined_doubles_are_kept : JoinedDoublesAreKept
+joined_doubles_are_kept beside x flutter h double earlier even odd beyond walk next w d n g =
+    let p = x.params in
+    let reach = sharp_reach beside p flutter in
+    let suffice = sharp_join_checks_suffice_lem beside p flutter w.covered.timed.sane w.checks in
+    let s = lawful_rows x flutter h (joined_part beside x flutter h w) double earlier even odd d in
+    sharp_groups_are_kept beside p flutter beyond walk next _ (group_of p (hearers_of x earlier even odd double)) (pos reach)
+    (
+    sharp_rounds_are_followed beside (round_at x earlier even odd) flutter beyond walk (hearers_of x earlier even odd double) (pos reach)
+    (round_followed beside x flutter earlier even odd double beyond s w.arbitrary g (pos reach) suffice.0 suffice.1 (no_less reach) (w.covered.links double s.within) walk n.walks)
+    )
+    n.from n.to
+
+-- ---- where it begins
+
+none_member : (x : Setting) (h : Cycles) (even odd : Cycle) (ago double : ℕ) (node : Member) → ((n : NodeSpec) → Contains (following_nodes x h) n → ⊥)
+    → Contains (map (member_from x.params) (map (λ (n : NodeSpec). follower_hearer x even odd n.id) (followers_since x h ago double))) node → ⊥
+none_member x h even odd ago double node none here =
+    let at : NodeSpec → Hearer = λ n. follower_hearer x even odd n.id in
+    let n = map_contains (member_from x.params) (map at (followers_since x h ago double)) node here in
+    let from = map_contains at (followers_since x h ago double) n.0 n.1 in
+    none from.0 (is_since x h ago double from.0 from.1)
+
+pub unfollowed_is_joined : UnfollowedIsJoined
+unfollowed_is_joined beside x flutter h double earlier even odd beyond w d suffices sync unfollowed =
+    let p = x.params in
+    let s = lawful_rows x flutter h (joined_part beside x flutter h w) double earlier even odd d in
+    let runs = double_runs x h double earlier even odd d (lawful_cycles_run x h w.lawful) in
+    let none = λ (node : NodeSpec) (among : Contains (following_nodes x earlier) node). none_follows x earlier even node runs.1.0 unfollowed among in
+    let Sharp : List NodeRow → Type 0 = λ rows. AreSharp p (sharp_pi beside x.params flutter) (sharp_lambda beside x.params flutter) beyond rows in
+    record {
+      active_even = sync.active_even;
+      active_odd = sync.active_odd;
+      rows = record { rates = rates_in_limit x flutter earlier even odd double s beyond suffices sync.rows.about; about = sync.rows.about };
+      placed = record {
+        sharp = subst Sharp (sym (evens_are x flutter earlier even odd double s)) sync.rows;
+        seconds_start = λ row node here there. absurd (none_member x earlier even odd 2 double node none there);
+        seconds_last = λ other node here there. absurd (none_member x earlier even odd 2 double node none there);
+        firsts_start = λ row node here there. absurd (none_member x earlier even odd 1 double node none there);
+        firsts_last = λ other node here there. absurd (none_member x earlier even odd 1 double node none there);
+      };
+      follower_rates = λ node among. absurd (none node among);
+      fresh = λ node there has. fresh_at x earlier node runs.1.1 there has;
+    }
+
+pub joined_is_in_sharp_sync : JoinedIsInSharpSync
+joined_is_in_sharp_sync beside x flutter h double earlier even odd beyond w d g =
+    let p = x.params in
+    let s = lawful_rows x flutter h (joined_part beside x flutter h w) double earlier even odd d in
+    let Sharp : List NodeRow → Type 0 = λ rows. AreSharp p (sharp_pi beside x.params flutter) (sharp_lambda beside x.params flutter) beyond rows in
+    record { active_even = g.active_even; active_odd = g.active_odd; rows = subst Sharp (evens_are x flutter earlier even odd double s) g.placed.sharp }

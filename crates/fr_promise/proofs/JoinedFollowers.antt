@@ -1,0 +1,120 @@
+-- A run that nodes join: no follower is left behind, where no term of it is cut.
+use Rattle.std.proofs.Common.{◌≡◌, ℕ, suc, ◌+◌, ◌*◌, ◌==◌, Bool, true, ◌&&◌, ◌||◌, Option, None, List, ◌∷◌, length, ℤ, pos, ap, ap₂, ◌∙◌, inl, inr, arith}
+use Rattle.std.specs.Prelude.{Contains, is_some}
+use Rattle.std.proofs.lemmas.Bool.{or_right}
+use Rattle.fr_base.specs.declared.dev.Dev.{Dev}
+use Rattle.fr_base.specs.declared.node_row.NodeRow.{NodeRow}
+use Rattle.fr_base.specs.declared.state.Outcome.TheVariants.{Within}
+use Rattle.fr_cluster.specs.Setting.{Setting, correct_nodes}
+use Rattle.fr_cluster.specs.Values.{Values}
+use Rattle.fr_cluster.specs.declared.nodes.NodeSpec.{NodeSpec}
+use Rattle.fr_time.specs.Cycles.{is_odd}
+use Rattle.fr_correct.specs.Terms.{is_uncut, rate_term_of}
+use Rattle.fr_measure.specs.Deviations.{rate_values_by}
+use Rattle.fr_history.specs.History.{row_for, row_of}
+use Rattle.fr_history.specs.Terms.{offset_term_by, rate_term_by}
+use Rattle.fr_history.specs.Catching.{begins_with}
+use Rattle.fr_history.specs.Cycles.{Cycle, Cycles}
+use Rattle.fr_history.specs.Standing.{followed_well, following_nodes, follows, follows_by, goes_on, has_row, has_row_by, is_steady, row_nodes}
+use Rattle.fr_history.proofs.Standing.{equal}
+use Rattle.fr_precision.specs.Round.{senders_of}
+use Rattle.fr_cluster.proofs.Elements.{kept_filtered}
+use Rattle.fr_runs.proofs.Rows.{contains_map, has_row as row_there}
+use Rattle.fr_runs.specs.Gathered.{follower_hearer, followers_since, hearers_of, round_at}
+use Rattle.fr_runs.specs.Hearers.{IsOneOf, group_of, member_from}
+use Rattle.fr_runs.proofs.Standing.{follower_of, follows_stays, is_follower}
+use Rattle.fr_runs.proofs.Joined.{is_of}
+use Rattle.fr_promise.specs.SharpGroup.{IsSharpGroupKept}
+use Rattle.fr_promise.specs.SharpJoined.{JoinedFollowersJoin}
+use Rattle.fr_promise.specs.SharpJoining.{sharp_reach}
+use Rattle.fr_promise.proofs.JoinedDoubles.{joined_doubles_are_kept, joined_part}
+use Rattle.fr_runs.proofs.RowsSupplied.{lawful_rows, LawfulRows}
+
+-- a double cycle whose clocks run by their laws, and in which no term is cut
+record AtDouble (beside : Bool) (x : Setting) (flutter : ℕ) (beyond next : ℤ) (h : Cycles) (even odd : Cycle) (double : ℕ) : Type 0 where
+  rows : LawfulRows x flutter h even odd double
+  kept :
+      IsSharpGroupKept beside x.params flutter beyond next (senders_of (round_at x h even odd)) (group_of x.params (hearers_of x h even odd double))
+      (pos (sharp_reach beside x.params flutter))
+
+both_true : (a b : Bool) → a ≡ true → b ≡ true → (a && b) ≡ true
+both_true a b one other = ap₂ (λ c d. c && d) one other
+
+-- a follower neither of whose terms was cut or missing was steady
+pub steady_at : (p : Values) (evens odds : List Dev) (node : ℕ) (row : NodeRow) → row.node ≡ node
+    → (offset_term_by p evens odds node None).outcome ≡ Within
+    → (rate_term_of row.rate p.damping p.rate_limit (rate_values_by p evens odds node None)).outcome ≡ Within
+    → is_steady p evens odds row ≡ true
+steady_at p evens odds node row own offset rate =
+    let by_offset : is_uncut (offset_term_by p evens odds row.node None).outcome ≡ true =
+    ap (λ n. is_uncut (offset_term_by p evens odds n None).outcome) own ∙ ap is_uncut offset in
+    let by_rate : is_uncut (rate_term_by p evens odds row None).outcome ≡ true =
+    ap (λ n. is_uncut (rate_term_of row.rate p.damping p.rate_limit (rate_values_by p evens odds n None)).outcome) own ∙ ap is_uncut rate in
+    both_true (is_uncut (offset_term_by p evens odds row.node None).outcome) (is_uncut (rate_term_by p evens odds row None).outcome) by_offset by_rate
+
+-- each follower followed well up to the end of the double cycle
+record FollowedWell (x : Setting) (h : Cycles) (even odd : Cycle) (node : NodeSpec) : Type 0 where
+  there : is_some (row_of odd.followers node.id) ≡ true
+  well : followed_well x.params odd (even ∷ h) (row_of odd.followers node.id) ≡ true
+
+follows_well : (beside : Bool) (x : Setting) (flutter : ℕ) (beyond next : ℤ) (h : Cycles) (even odd : Cycle) (double : ℕ) (node : NodeSpec) → AtDouble beside x flutter beyond next h even odd double
+    → Contains (correct_nodes x) node → follows x h node.id ≡ true → IsOneOf (hearers_of x h even odd double) (follower_hearer x even odd node.id)
+    → FollowedWell x h even odd node
+follows_well beside x flutter beyond next h even odd double node g there does one =
+    let still : follows x (even ∷ h) node.id ≡ true = follows_stays x h even double node g.rows.counted g.rows.even_runs there ∙ does in
+    let among = kept_filtered (λ (n : NodeSpec). follows x (even ∷ h) n.id) (correct_nodes x) node there still in
+    let row = row_there (following_nodes x (even ∷ h)) odd.followers node g.rows.odd_runs.followers.nodes among in
+    let k = g.kept in
+    let member = member_from x.params (follower_hearer x even odd node.id) in
+    let is = is_of x h even odd double (follower_hearer x even odd node.id) one in
+    record {
+      there = ap (λ (o : Option NodeRow). is_some o) row.is;
+      well =
+          ap (followed_well x.params odd (even ∷ h)) row.is
+          ∙ steady_at x.params even.follower_devs odd.follower_devs node.id (row_for odd.followers node.id) row.number (k.uncut member is) (k.range member is).uncut;
+    }
+
+-- whoever follows for the second time has a row then
+second_has : (beside : Bool) (x : Setting) (flutter : ℕ) (beyond next : ℤ) (h : Cycles) (even odd : Cycle) (double : ℕ) → AtDouble beside x flutter beyond next h even odd double
+    → (node : NodeSpec) → Contains (followers_since x h 2 double) node → Contains (row_nodes x (odd ∷ even ∷ h)) node
+second_has beside x flutter beyond next h even odd double g node among =
+    let f = follower_of x h 2 double node among in
+    let does : follows x h node.id ≡ true = ap (follows_by x h node.id) f.joins ∙ f.does in
+    let one = contains_map (λ (n : NodeSpec). follower_hearer x even odd n.id) (followers_since x h 2 double) node among in
+    let followed = follows_well beside x flutter beyond next h even odd double node g f.correct does (inl (inr one)) in
+    let counted : length h ≡ 2 * double = g.rows.counted in
+    let since : f.join.double + 2 ≡ double = f.since in
+    let now : Bool = suc (suc (length h)) == 2 * f.join.double + 6 in
+    let well : Bool = followed_well x.params odd (even ∷ h) (row_of odd.followers node.id) in
+    let at : now ≡ true = equal (suc (suc (length h))) (2 * f.join.double + 6) (omega (arith, counted, since)) in
+    let has : has_row x (odd ∷ even ∷ h) node.id ≡ true =
+    ap (has_row_by x (odd ∷ even ∷ h) node.id) f.joins ∙ or_right (is_some (row_of odd.told.rows node.id)) (now && well) (both_true now well at followed.well) in
+    kept_filtered (λ (n : NodeSpec). has_row x (odd ∷ even ∷ h) n.id) (correct_nodes x) node f.correct has
+
+-- and whoever follows for the first time follows for the second time
+first_follows : (beside : Bool) (x : Setting) (flutter : ℕ) (beyond next : ℤ) (h : Cycles) (even odd : Cycle) (double : ℕ) → AtDouble beside x flutter beyond next h even odd double
+    → (node : NodeSpec) → Contains (followers_since x h 1 double) node → Contains (followers_since x (odd ∷ even ∷ h) 2 (suc double)) node
+first_follows beside x flutter beyond next h even odd double g node among =
+    let f = follower_of x h 1 double node among in
+    let does : follows x h node.id ≡ true = ap (follows_by x h node.id) f.joins ∙ f.does in
+    let one = contains_map (λ (n : NodeSpec). follower_hearer x even odd n.id) (followers_since x h 1 double) node among in
+    let followed = follows_well beside x flutter beyond next h even odd double node g f.correct does (inr one) in
+    let counted : length h ≡ 2 * double = g.rows.counted in
+    let since : f.join.double + 1 ≡ double = f.since in
+    let now : Bool = suc (suc (length h)) == 2 * f.join.double + 4 in
+    let well : Bool = followed_well x.params odd (even ∷ h) (row_of odd.followers node.id) in
+    let at : now ≡ true = equal (suc (suc (length h))) (2 * f.join.double + 4) (omega (arith, counted, since)) in
+    let further : Bool = is_odd (suc (suc (length h))) || (now && well) in
+    let goes : goes_on x (odd ∷ even ∷ h) node.id f.join ≡ true =
+    both_true (is_some (row_of odd.followers node.id)) further followed.there (or_right (is_odd (suc (suc (length h)))) (now && well) (both_true now well at followed.well)) in
+    let again : follows x (odd ∷ even ∷ h) node.id ≡ true =
+    ap (follows_by x (odd ∷ even ∷ h) node.id) f.joins ∙ or_right (is_some (begins_with x (odd ∷ even ∷ h) node.id f.join)) (goes_on x (odd ∷ even ∷ h) node.id f.join) goes in
+    is_follower x (odd ∷ even ∷ h) 2 (suc double) node f.join f.joins f.correct again (omega (arith, since))
+
+pub joined_followers_join : JoinedFollowersJoin
+joined_followers_join beside x flutter h double earlier even odd beyond walk next w d n g =
+    let at : AtDouble beside x flutter beyond next earlier even odd double = record {
+      rows = lawful_rows x flutter h (joined_part beside x flutter h w) double earlier even odd d;
+      kept = joined_doubles_are_kept beside x flutter h double earlier even odd beyond walk next w d n g;
+    } in
+    (second_has beside x flutter beyond next earlier even odd double at, first_follows beside x flutter beyond next earlier even odd double at)

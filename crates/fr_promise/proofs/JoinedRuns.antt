@@ -1,0 +1,288 @@
+-- A run that nodes join: from a double cycle in sharp sync in which none follows each one is, while first rates last.
+use Rattle.std.proofs.Common.{◌≡◌, ℕ, zero, suc, ◌+◌, ◌*◌, ◌<◌, ◌≤◌, Bool, true, false, if◌then◌else◌, ℤ, pos, Option, Some, All, [], ◌∷◌, refl, ap, sym, ◌∙◌, subst, inl, arith}
+use Rattle.std.specs.Prelude.{◌+ℤ◌, ◌*ℤ◌, ◌≤ℤ◌, Contains, IfSome, int_le, is_some}
+use Rattle.std.specs.Option.{option_map, option_map_or}
+use Rattle.std.proofs.lemmas.Int.{ints}
+use Rattle.fr_base.specs.Within.{IsWithin}
+use Rattle.fr_base.specs.declared.state.Outcome.TheVariants.{Within}
+use Rattle.fr_base.specs.declared.state.State.TheVariants.{Active}
+use Rattle.fr_cluster.specs.Sane.{IsSane}
+use Rattle.fr_cluster.specs.Setting.{Setting, correct_nodes}
+use Rattle.fr_cluster.specs.Values.{Values, amount}
+use Rattle.fr_cluster.specs.declared.names.ParamName.TheVariants as name
+use Rattle.fr_cluster.specs.declared.nodes.NodeSpec.{NodeSpec}
+use Rattle.fr_cluster.proofs.Elements.{kept_filtered}
+use Rattle.fr_time.specs.Cycles.{odd_cycle}
+use Rattle.fr_time.specs.Position.{grid_for}
+use Rattle.fr_midpoint.proofs.Products.{addz-mulz}
+use Rattle.fr_correct.specs.declared.term.Term.{Term}
+use Rattle.fr_bound.specs.Checks.{holds_of, left_of, right_of}
+use Rattle.fr_precision.specs.Instants.{gap_of}
+use Rattle.fr_precision.specs.Round.{senders_of, Hearer}
+use Rattle.fr_precision.proofs.Figures.{nat_le-true}
+use Rattle.fr_skew.specs.Spreads.{spread_at}
+use Rattle.fr_history.specs.Cycles.{Cycle, Cycles, cycle_at, told_of}
+use Rattle.fr_history.specs.History.{row_for, row_of, Record, record_at}
+use Rattle.fr_history.specs.Laws.{row_laws}
+use Rattle.fr_history.specs.Rows.{offset_after}
+use Rattle.fr_history.specs.Skew.{skew_at}
+use Rattle.fr_history.specs.Standing.{has_row, row_nodes}
+use Rattle.fr_history.specs.Terms.{offset_term_in, status_in}
+use Rattle.fr_runs.specs.Gathered.{hearers_of, round_at, row_hearer}
+use Rattle.fr_runs.specs.Hearers.{group_of, member_from, IsOneOf}
+use Rattle.fr_runs.specs.Links.{cycle_in}
+use Rattle.fr_runs.specs.Rounds.{IsDoubleOf}
+use Rattle.fr_runs.proofs.Courses.{row_term_is}
+use Rattle.fr_runs.proofs.Doubles.{even_length, odd_length}
+use Rattle.fr_runs.proofs.Joined.{is_of}
+use Rattle.fr_runs.proofs.Outcomes.{active_after, begun_active, outcomes_none}
+use Rattle.fr_runs.proofs.Parts.{double_at, even_is, odd_is, told_at, DoubleAt}
+use Rattle.fr_runs.proofs.Receivers.{no_less}
+use Rattle.fr_runs.proofs.Rows.{contains_map, each_row, row_runs_by}
+use Rattle.fr_runs.proofs.Spread.{macrotick_within, spread_within}
+use Rattle.fr_runs.proofs.Standing.{has_stays, is_none, told_has}
+use Rattle.fr_runs.proofs.Whole.{prior_of}
+use Rattle.fr_precision.specs.Lengths.{walked_after}
+use Rattle.fr_bound.specs.SharpBounds.{rate_walk, sharp_precision}
+use Rattle.fr_bound.specs.SharpChecks.{RateSuffices}
+use Rattle.fr_promise.specs.SharpGroup.{IsSharpGroupKept}
+use Rattle.fr_runs.specs.SharpHistories.{IsInSharpSyncAt}
+use Rattle.fr_promise.specs.SharpJoining.{sharp_reach}
+use Rattle.fr_precision.specs.SharpStep.{IsInSharpSync}
+use Rattle.fr_precision.specs.SharpRun.{WalkLastsAfter}
+use Rattle.fr_promise.specs.SharpListening.{RateTakesIn}
+use Rattle.fr_promise.specs.SharpJoined.{IsJoinedDouble, IsSteadyJoined, WalksJoined}
+use Rattle.fr_promise.specs.SharpTested.{IsUnfollowedSharpSyncAt}
+use Rattle.fr_promise.specs.JoinedHistories.{FirstRatesLast, FirstRatesLastOn, JoinedHistoriesKeepSharpSync, KeepsJoined, NoneIsCut}
+use Rattle.fr_precision.proofs.BoundLemmas.{first_check_stops_walk, walk_is_held, walked_none}
+use Rattle.fr_precision.proofs.OlderLemmas.{does_not_walk}
+use Rattle.fr_promise.proofs.JoinBounds.{sharp_join_checks_suffice_lem}
+use Rattle.fr_promise.proofs.JoinedDoubles.{joined_doubles_are_kept, joined_is_in_sharp_sync, joined_part, unfollowed_is_joined}
+use Rattle.fr_promise.proofs.JoinedNext.{joined_doubles_go_on}
+use Rattle.fr_promise.proofs.JoinedUncut.{even_uncut, odd_uncut, terms_within}
+use Rattle.fr_runs.proofs.RowsSupplied.{lawful_rows, LawfulRows}
+use Rattle.fr_promise.proofs.RunDoubles.{rows_lie}
+
+-- ---- numbers
+
+-- behind a double cycle in which the walk lasts, the rate limit still follows as far as the lengths have walked
+next_suffices : (p : Values) (flutter passed : ℕ) → IsSane p → holds_of 2 p ≡ true → WalkLastsAfter p flutter passed → RateSuffices p (walked_after p flutter (suc passed))
+next_suffices p flutter passed sane second before = by (int_le (rate_walk p flutter) (pos 0)) (walk_is_held p flutter passed sane second before).0.suffices
+  where
+    still : (a b : ℕ) → a ≤ b → (pos a +ℤ pos 0) ≤ℤ pos b
+    still a b le = omega (arith, ints, le)
+
+    once : (t : ℤ) → pos 1 *ℤ t ≡ t
+    once t = omega (arith, ints)
+
+    more : (w : ℤ) → pos (passed + 1) *ℤ w ≡ (pos passed *ℤ w) +ℤ w
+    more w = addz-mulz (pos passed) (pos 1) w ∙ ap (λ x. (pos passed *ℤ w) +ℤ x) (once w)
+
+    by : (stops : Bool) → RateSuffices p ((if stops then pos 0 else pos passed *ℤ rate_walk p flutter) +ℤ rate_walk p flutter)
+        → RateSuffices p (if stops then pos 0 else pos (suc passed) *ℤ rate_walk p flutter)
+    by true suffices = still (right_of 2 p) (left_of 2 p) (nat_le-true (right_of 2 p) (left_of 2 p) second)
+    by false suffices =
+        let next : passed + 1 ≡ suc passed = omega arith in
+        let At : ℤ → Type 0 = λ z. RateSuffices p z in
+        subst At (sym (more (rate_walk p flutter)) ∙ ap (λ (n : ℕ). pos n *ℤ rate_walk p flutter) next) suffices
+
+pub still_zero : (w z : ℤ) → w ≤ℤ pos 0 → (if int_le w (pos 0) then pos 0 else z) ≡ pos 0
+still_zero w z le = by (int_le w (pos 0)) (tested w le)
+  where
+    tested : (w : ℤ) → w ≤ℤ pos 0 → int_le w (pos 0) ≡ true
+    tested w le = grind (arith, ints)
+
+    by : (b : Bool) → b ≡ true → (if b then pos 0 else z) ≡ pos 0
+    by true is = refl
+    by false is = absurd (cc)
+
+pub first_rates_last_on : FirstRatesLastOn
+first_rates_last_on beside p flutter reach passed sane first checks =
+    let still = (first_check_stops_walk p flutter reach sane).0 first in
+    let Lasts : Option ℕ → Type 0 = λ o. IfSome o (λ lasts. passed < lasts) in
+    let Takes : ℤ → Type 0 = λ z. RateTakesIn p flutter z in
+    (subst Lasts (sym (does_not_walk p flutter still)) tt, subst Takes (sym (still_zero (rate_walk p flutter) (pos passed *ℤ rate_walk p flutter) still)) (sharp_join_checks_suffice_lem beside p flutter sane checks).2)
+
+-- ---- a history
+
+module _ (beside : Bool) (x : Setting) (flutter : ℕ) (h : Cycles) (w : IsSteadyJoined beside x flutter h) where
+  second : holds_of 2 x.params ≡ true
+  second = (sharp_join_checks_suffice_lem beside x.params flutter w.covered.timed.sane w.checks).3 2 (omega arith) (omega arith)
+
+  -- the numbers of a double cycle while first rates last
+  pub numbers : (passed : ℕ) → FirstRatesLast x.params flutter passed
+      → WalksJoined beside x flutter (walked_after x.params flutter passed) (rate_walk x.params flutter) (walked_after x.params flutter (suc passed))
+  numbers passed last =
+      let held = walk_is_held x.params flutter passed w.covered.timed.sane second last.0 in
+      record { walks = held.0; joins = last.1; from = held.1; to = held.2 }
+
+  -- ---- from the first on
+
+  module _ (double : ℕ) (begin : IsUnfollowedSharpSyncAt beside x.params flutter h double) where
+    first : (earlier : Cycles) (even odd : Cycle) → IsDoubleOf h double earlier even odd → IsJoinedDouble beside x flutter (walked_after x.params flutter 0) earlier even odd double
+    first earlier even odd d =
+        let p = x.params in
+        let s = begin.synced in
+        let late : odd_cycle double ≡ suc (2 * double) = omega arith in
+        let one : Some s.even ≡ Some even = sym s.has_even ∙ even_is h double earlier even odd d in
+        let other : Some s.odd ≡ Some odd = sym s.has_odd ∙ ap (cycle_at h) late ∙ odd_is h double earlier even odd d in
+        let same_even : s.even ≡ even = cc in
+        let same_odd : s.odd ≡ odd = cc in
+        let Even : Cycle → Type 0 = λ c. IsInSharpSync beside p flutter (pos 0) c.told.rows odd.told.rows in
+        let Odd : Cycle → Type 0 = λ c. IsInSharpSync beside p flutter (pos 0) s.even.told.rows c.told.rows in
+        let Free : Cycle → Type 0 = λ c. c.followers ≡ [] in
+        let At : ℤ → Type 0 = λ z. IsJoinedDouble beside x flutter z earlier even odd double in
+        subst At (sym (walked_none p flutter))
+        (
+        unfollowed_is_joined beside x flutter h double earlier even odd (pos 0) w d (zero_suffices (right_of 2 p) (left_of 2 p) (nat_le-true (right_of 2 p) (left_of 2 p) second))
+        (subst Even same_even (subst Odd same_odd s.in_sync)) (subst Free same_even begin.none_early)
+        )
+      where
+        zero_suffices : (a b : ℕ) → a ≤ b → (pos a +ℤ pos 0) ≤ℤ pos b
+        zero_suffices a b le = omega (arith, ints, le)
+
+    joined_from : (n k : ℕ) (earlier : Cycles) (even odd : Cycle) → k ≡ n + double → k < x.doubles → ((m : ℕ) → m < n → FirstRatesLast x.params flutter m) → IsDoubleOf h k earlier even odd
+        → IsJoinedDouble beside x flutter (walked_after x.params flutter n) earlier even odd k
+    joined_from zero k earlier even odd is within lasting d =
+        let same : k ≡ double = omega (arith, is) in
+        let Of : ℕ → Type 0 = λ j. IsDoubleOf h j earlier even odd in
+        let At : ℕ → Type 0 = λ j. IsJoinedDouble beside x flutter (walked_after x.params flutter 0) earlier even odd j in
+        subst At (sym same) (first earlier even odd (subst Of same d))
+    joined_from (suc n) k [] even odd is within lasting d =
+        let counted : 0 ≡ 2 * k = d.counted in
+        absurd (omega (arith, counted, is))
+    joined_from (suc n) k (o ∷ []) even odd is within lasting d =
+        let counted : 1 ≡ 2 * k = d.counted in
+        absurd (omega (arith, counted))
+    joined_from (suc n) k (o ∷ e ∷ earlier) even odd is within lasting d =
+        let m : ℕ = n + double in
+        let next : k ≡ suc m = omega (arith, is) in
+        let Of : ℕ → Type 0 = λ j. IsDoubleOf h j (o ∷ e ∷ earlier) even odd in
+        let At : ℕ → Type 0 = λ j. IsJoinedDouble beside x flutter (walked_after x.params flutter (suc n)) (o ∷ e ∷ earlier) even odd j in
+        let there : IsDoubleOf h (suc m) (o ∷ e ∷ earlier) even odd = subst Of next d in
+        let last = lasting n (omega arith) in
+        let before = joined_from n m earlier e o refl (omega (arith, is, within)) (λ j less. lasting j (omega (arith, less))) (prior_of h m earlier e o even odd there) in
+        subst At (sym next)
+        (
+        joined_doubles_go_on beside x flutter h m earlier e o even odd (walked_after x.params flutter n) (rate_walk x.params flutter) (walked_after x.params flutter (suc n)) w there (numbers n last)
+        (next_suffices x.params flutter n w.covered.timed.sane second last.0) before
+        )
+
+  -- ---- what one of them comes to
+
+  found_at : (k : ℕ) → k < x.doubles → DoubleAt h k
+  found_at k within = let whole = w.whole in double_at h k (omega (arith, whole, within))
+
+  synced_at : (k : ℕ) (beyond : ℤ) → k < x.doubles
+      → ((earlier : Cycles) (even odd : Cycle) → IsDoubleOf h k earlier even odd → IsJoinedDouble beside x flutter beyond earlier even odd k) → IsInSharpSyncAt beside x.params flutter beyond h k
+  synced_at k beyond within joined =
+      let f = found_at k within in
+      let late : odd_cycle k ≡ suc (2 * k) = omega arith in
+      record {
+        even = f.even;
+        odd = f.odd;
+        has_even = even_is h k f.earlier f.even f.odd f.is;
+        has_odd = ap (cycle_at h) late ∙ odd_is h k f.earlier f.even f.odd f.is;
+        in_sync = joined_is_in_sharp_sync beside x flutter h k f.earlier f.even f.odd beyond w f.is (joined f.earlier f.even f.odd f.is);
+      }
+
+  module _
+      (k : ℕ) (beyond walk next : ℤ) (earlier : Cycles) (even odd : Cycle) (d : IsDoubleOf h k earlier even odd) (n : WalksJoined beside x flutter beyond walk next)
+      (g : IsJoinedDouble beside x flutter beyond earlier even odd k) where
+    lawful : LawfulRows x flutter earlier even odd k
+    lawful = lawful_rows x flutter h (joined_part beside x flutter h w) k earlier even odd d
+
+    kept :
+        IsSharpGroupKept beside x.params flutter beyond next (senders_of (round_at x earlier even odd)) (group_of x.params (hearers_of x earlier even odd k))
+        (pos (sharp_reach beside x.params flutter))
+    kept = joined_doubles_are_kept beside x flutter h k earlier even odd beyond walk next w d n g
+
+    offset_within : (m : Hearer) → IsOneOf (hearers_of x earlier even odd k) m → (member_from x.params m).offset_term.outcome ≡ Within
+    offset_within m one = kept.uncut (member_from x.params m) (is_of x earlier even odd k m one)
+
+    rate_within : (m : Hearer) → IsOneOf (hearers_of x earlier even odd k) m → (member_from x.params m).rate_term.outcome ≡ Within
+    rate_within m one = (kept.range (member_from x.params m) (is_of x earlier even odd k m one)).uncut
+
+    row_active : (node : NodeSpec) → Contains (row_nodes x earlier) node → (status_in x.params (told_of (odd ∷ even ∷ earlier)) node.id).state ≡ Active
+    row_active node among =
+        let p = x.params in
+        let s = lawful in
+        let at : NodeSpec → Hearer = λ m. row_hearer x even odd m.id in
+        let early = row_runs_by (row_laws x earlier) (offset_after p (told_of earlier) even.told) (row_nodes x earlier) even.told.rows node s.two.even_rows among in
+        let late = row_runs_by (row_laws x (even ∷ earlier)) (offset_after p (told_of (even ∷ earlier)) odd.told) (row_nodes x earlier) odd.told.rows node s.two.odd_rows among in
+        let active = each_row (row_nodes x earlier) even.told.rows (λ row. row.state ≡ Active) node s.two.even_rows.nodes among g.active_even in
+        let one : IsOneOf (hearers_of x earlier even odd k) (at node) = inl (inl (contains_map at (row_nodes x earlier) node among)) in
+        active_after x earlier even odd k node.id (row_for odd.told.rows node.id) s.counted late.has.is (sym early.state ∙ active)
+        (ap (λ m. (offset_term_in p (told_of (even ∷ earlier)) odd.told.devs m).outcome) late.has.number ∙ offset_within (at node) one)
+        (ap (λ (t : Term). t.outcome) (row_term_is x earlier even odd node.id late.has.number) ∙ rate_within (at node) one)
+
+    -- of a node without a row no term was told, so it stands as it begins
+    all_active : (node : NodeSpec) → Contains (correct_nodes x) node → (status_in x.params (told_of (odd ∷ even ∷ earlier)) node.id).state ≡ Active
+    all_active node there = by_kind (has_row x earlier node.id) refl
+      where
+        by_kind : (b : Bool) → has_row x earlier node.id ≡ b → (status_in x.params (told_of (odd ∷ even ∷ earlier)) node.id).state ≡ Active
+        by_kind true has = row_active node (kept_filtered (λ (n : NodeSpec). has_row x earlier n.id) (correct_nodes x) node there has)
+        by_kind false has =
+            let s = lawful in
+            let untold : is_some (row_of odd.told.rows node.id) ≡ false =
+            told_has x (even ∷ earlier) odd node s.odd_runs there ∙ has_stays x earlier even k node s.counted s.even_runs there ∙ has in
+            let none = is_none (row_of odd.told.rows node.id) untold in
+            begun_active x (odd ∷ even ∷ earlier) node.id (outcomes_none x earlier even odd k node.id s.counted none ∙ g.fresh node there has)
+
+    none_is_cut : NoneIsCut x earlier even odd
+    none_is_cut = record {
+      within = terms_within x flutter earlier even odd k lawful g.active_odd offset_within rate_within;
+      uncut_even = even_uncut x flutter earlier even odd k lawful g.active_odd offset_within rate_within;
+      uncut_odd = odd_uncut x flutter earlier even odd k lawful g.active_odd offset_within rate_within;
+      active = all_active;
+    }
+
+    skew_in : (macrotick : ℕ) (is_odd : Bool) → macrotick < amount x.params name.gMacroPerCycle
+        → skew_at x.params (told_of h) (cycle_in is_odd k) macrotick ≤ℤ pos (sharp_precision beside x.params flutter)
+    skew_in macrotick is_odd less =
+        let p = x.params in
+        let s = lawful in
+        let lie =
+        rows_lie x flutter earlier even odd k s (pos (sharp_precision beside x.params flutter)) macrotick
+        (λ is_odd one other here there. kept.precise one other (pos macrotick) is_odd here there (no_less macrotick) (macrotick_within p macrotick s.covered.sane less)) in
+        by is_odd lie.0 lie.1
+      where
+        Most : ℕ → Option Record → Type 0
+        Most cycle o = option_map_or (λ r. spread_at (grid_for x.params) cycle r.rows macrotick) o (pos 0) ≤ℤ pos (sharp_precision beside x.params flutter)
+
+        by : (is_odd : Bool)
+            → All (λ one. All (λ other. IsWithin (pos (sharp_precision beside x.params flutter)) (gap_of x.params false (pos macrotick) one other)) even.told.rows) even.told.rows
+            → All (λ one. All (λ other. IsWithin (pos (sharp_precision beside x.params flutter)) (gap_of x.params true (pos macrotick) one other)) odd.told.rows) odd.told.rows
+            → skew_at x.params (told_of h) (cycle_in is_odd k) macrotick ≤ℤ pos (sharp_precision beside x.params flutter)
+        by false early late =
+            let told : record_at (told_of h) (2 * k) ≡ Some even.told = told_at h (2 * k) ∙ ap (option_map (λ (c : Cycle). c.told)) (even_is h k earlier even odd d) in
+            subst (Most (2 * k)) (sym told)
+            (spread_within x.params (2 * k) (pos (sharp_precision beside x.params flutter)) even.told.rows macrotick false (even_length (2 * k) k refl) (no_less (sharp_precision beside x.params flutter)) early)
+        by true early late =
+            let told : record_at (told_of h) (suc (2 * k)) ≡ Some odd.told = told_at h (suc (2 * k)) ∙ ap (option_map (λ (c : Cycle). c.told)) (odd_is h k earlier even odd d) in
+            subst (Most (suc (2 * k))) (sym told)
+            (spread_within x.params (suc (2 * k)) (pos (sharp_precision beside x.params flutter)) odd.told.rows macrotick true (odd_length (2 * k) k refl) (no_less (sharp_precision beside x.params flutter)) late)
+
+  keeps_at : (k passed : ℕ) → k < x.doubles → FirstRatesLast x.params flutter passed
+      → ((earlier : Cycles) (even odd : Cycle) → IsDoubleOf h k earlier even odd → IsJoinedDouble beside x flutter (walked_after x.params flutter passed) earlier even odd k)
+      → KeepsJoined x h k (sharp_precision beside x.params flutter)
+  keeps_at k passed within last joined =
+      let f = found_at k within in
+      let beyond = walked_after x.params flutter passed in
+      let walk = rate_walk x.params flutter in
+      let next = walked_after x.params flutter (suc passed) in
+      record {
+        skew = skew_in k beyond walk next f.earlier f.even f.odd f.is (numbers passed last) (joined f.earlier f.even f.odd f.is);
+        ends = λ earlier even odd d. none_is_cut k beyond walk next earlier even odd d (numbers passed last) (joined earlier even odd d);
+      }
+
+pub joined_histories_keep_sharp_sync : JoinedHistoriesKeepSharpSync
+joined_histories_keep_sharp_sync beside x flutter h double w begin passed within lasting =
+    let turned : double + passed ≡ passed + double = omega arith in
+    let joined = λ (earlier : Cycles) (even odd : Cycle) (d : IsDoubleOf h (double + passed) earlier even odd).
+    joined_from beside x flutter h w double begin passed (double + passed) earlier even odd turned within lasting d in
+    record {
+      synced = synced_at beside x flutter h w (double + passed) (walked_after x.params flutter passed) within joined;
+      joined = joined;
+      keeps = λ last. keeps_at beside x flutter h w (double + passed) passed within last joined;
+    }

@@ -1,0 +1,48 @@
+ghost use Rattle.fr_precision.specs.Among.{CleanAgain, EndsComeAmong, EverySecondCosts, HeardAgain, LaterSpreadsAreLess, LengthsComeAmong, LostIsBy, LostSpreadGoes, LossyDoublesKeep, LossyDoublesStayApart, LostSpreadsGrow, MeetingSpreadsDraw, MeetingStays, OneLossCosts, SpreadsAreBelowLost, SpreadsGo};
+
+/// The laws of losses: whichever senders two nodes have heard, their next lengths and their next starts, in ticks,
+/// lie no further apart than those of the senders, and some.
+pub fn nodes_come_among()
+    ensures lengths { LengthsComeAmong }
+    ensures ends { EndsComeAmong }
+{}
+
+/// The law of a double cycle in which anything may be lost: its nodes come so near, in ticks; and what that costs from
+/// sharp sync, without arbitrary nodes.
+pub fn losses_cost()
+    ensures step { LostSpreadsGrow }
+    ensures cost { OneLossCosts }
+{}
+
+/// The law of a double cycle in which lists meet: any two nodes that have enough senders in common come half as near, and
+/// some, in ticks, as beside arbitrary nodes where all is heard.
+pub fn meeting_lists_draw()
+    ensures { MeetingSpreadsDraw }
+{}
+
+/// The law of many double cycles in some of which anything may be lost: nodes keep to numbers that go on by what was
+/// heard, in ticks.
+pub fn losses_last()
+    ensures keep { LossyDoublesKeep }
+    ensures apart { LossyDoublesStayApart }
+{}
+
+/// The law of the numbers by what is heard, in ticks: they go on as the step does, from a later double cycle on they are no
+/// greater, they come back where all is heard twice, and where lists meet in each double cycle they never grow further than
+/// beside arbitrary nodes.
+pub fn heard_numbers()
+    ensures goes { SpreadsGo }
+    ensures later { LaterSpreadsAreLess }
+    ensures again { CleanAgain }
+    ensures meeting { MeetingStays }
+    ensures below { SpreadsAreBelowLost }
+{}
+
+/// The law of the numbers where all is heard or anything may be lost, without arbitrary nodes: they are a case of those, and
+/// never grow further than so where all is heard in one of any two adjacent double cycles.
+pub fn lost_numbers()
+    ensures case { LostIsBy }
+    ensures goes { LostSpreadGoes }
+    ensures again { HeardAgain }
+    ensures second { EverySecondCosts }
+{}

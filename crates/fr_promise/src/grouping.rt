@@ -1,0 +1,12 @@
+ghost use Rattle.fr_promise.specs.SharpGroup.{SharpGroupsAreKept, SharpRoundsAreFollowed};
+
+/// The sharper law of the step of a cluster that nodes join: where the nodes with rows lie as near as in sharp sync, those
+/// that follow lie near them, and each computes its terms from its values of every sender, no term is cut, no macrotick of
+/// two nodes with rows lies further apart than the sharper precision, in ticks, and it is so in the next double cycle:
+/// whoever followed twice is in sharp sync with the nodes with rows, and whoever followed once lies near them. So does
+/// whoever listened to a sender, where the rate limit takes in the rate that it begins with. A round whose receivers lie so
+/// near and are so supplied is such a cluster, whatever supplies it.
+pub fn sharp_groups_are_kept()
+    ensures kept { SharpGroupsAreKept }
+    ensures round { SharpRoundsAreFollowed }
+{}

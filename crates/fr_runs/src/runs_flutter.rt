@@ -1,0 +1,7 @@
+ghost use Rattle.fr_runs.specs.Flutter.{StatedDelaysFlutter};
+
+/// A law: the delays of a run that keep within what is stated of them flutter by no more than twice the delay error, in
+/// ticks.
+pub fn stated_delays_flutter()
+    ensures { StatedDelaysFlutter }
+{}

@@ -1,5 +1,0 @@
-use Rattle.fr_seen_runs.proofs.SeenDoubles.{doubles_are_there as doubles_are_there_lem}
-use Rattle.fr_seen_runs.proofs.log_doubles.doubles_are_there.Goals as goal
-
-pub returns : goal.returns
-returns c = doubles_are_there_lem

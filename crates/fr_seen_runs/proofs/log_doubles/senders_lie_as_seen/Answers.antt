@@ -1,5 +1,0 @@
-use Rattle.fr_seen_runs.proofs.SendersApart.{senders_lie_as_seen as senders_lie_as_seen_lem}
-use Rattle.fr_seen_runs.proofs.log_doubles.senders_lie_as_seen.Goals as goal
-
-pub returns : goal.returns
-returns c = senders_lie_as_seen_lem

@@ -1,8 +1,0 @@
-use Rattle.fr_sharp.proofs.AmongSteps.{lost_spreads_grow, one_loss_costs}
-use Rattle.fr_sharp.proofs.among.losses_cost.Goals as goal
-
-pub returns-clause-step : goal.returns-clause-step
-returns-clause-step c = lost_spreads_grow
-
-pub returns-clause-cost : goal.returns-clause-cost
-returns-clause-cost c = one_loss_costs

@@ -1,5 +1,0 @@
-use Rattle.fr_sharp.proofs.JoinBounds.{followers_come_nearer_lem}
-use Rattle.fr_sharp.proofs.joining.followers_come_nearer.Goals as goal
-
-pub returns : goal.returns
-returns c = followers_come_nearer_lem

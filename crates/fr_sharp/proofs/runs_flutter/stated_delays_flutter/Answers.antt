@@ -1,5 +1,0 @@
-use Rattle.fr_sharp.proofs.RunFlutter.{stated_delays_flutter_lem}
-use Rattle.fr_sharp.proofs.runs_flutter.stated_delays_flutter.Goals as goal
-
-pub returns : goal.returns
-returns c = stated_delays_flutter_lem

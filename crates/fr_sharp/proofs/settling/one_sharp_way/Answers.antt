@@ -1,5 +1,0 @@
-use Rattle.fr_sharp.proofs.OneWay.{one_sharp_way}
-use Rattle.fr_sharp.proofs.settling.one_sharp_way.Goals as goal
-
-pub returns : goal.returns
-returns c = one_sharp_way

@@ -1,5 +1,0 @@
-use Rattle.fr_sharp.proofs.TraceSpreads.{traces_settle_sharply_lem}
-use Rattle.fr_sharp.proofs.traces.traces_settle_sharply.Goals as goal
-
-pub returns : goal.returns
-returns c = traces_settle_sharply_lem

@@ -1,7 +1,0 @@
-use Rattle.std.proofs.Common.{◌≡◌, ℕ, ◌<◌, ◌≤◌, true}
-use Rattle.fr_sharp.specs.SharpWay.{way_holds_of}
-use Rattle.fr_sharp.proofs.way.first_failing.Given as goal
-
--- those before it hold
-abbrev pub invariant-loop-number : goal.invariant-loop-number
-invariant-loop-number l = (k : ℕ) → 1 ≤ k → k < l.number → way_holds_of k l.flutter l.doubles l.reach l.params ≡ true

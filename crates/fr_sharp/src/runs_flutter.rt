@@ -1,7 +1,0 @@
-ghost use Rattle.fr_sharp.specs.Flutter.{StatedDelaysFlutter};
-
-/// A law: the delays of a run that keep within what is stated of them flutter by no more than twice the delay error, in
-/// ticks.
-pub fn stated_delays_flutter()
-    ensures { StatedDelaysFlutter }
-{}
