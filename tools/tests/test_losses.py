@@ -11,6 +11,7 @@ from clocks_peer import PRODUCTION
 
 RUNS = int(os.environ.get("FLEXRAY_LOSS_RUNS", "14"))
 DRIFT = "doubles,2,,,,\n"
+EACH = range(1, 9)
 
 
 class Bordering(unittest.TestCase):
@@ -30,15 +31,14 @@ class Bordering(unittest.TestCase):
     def test_how_many_may_be_missed(self):
         for what, wanted in (
                 # Of eight each may miss two: both miss or discard three. With three it is four.
-                (self.heard(8, {two: 2 for two in range(1, 9)}), "most"), (self.heard(8, {two: 3 for two in range(1, 9)}), "any"),
+                (self.heard(8, dict.fromkeys(EACH, 2)), "most"), (self.heard(8, dict.fromkeys(EACH, 3)), "any"),
                 (self.heard(8, {1: 3}), "most"), (self.heard(8, {1: 3, 2: 3}), "any"),
                 # Of four one may miss two of the others, by the two greatest sums; two may not.
                 (self.heard(4, {2: 2}), "most"), (self.heard(4, {2: 2, 3: 2}), "any"), (self.heard(4, {2: 1, 3: 1}), "any"),
                 # A frame that is damaged may come all the same: then its list discards more.
-                (self.heard(8, {}, damaged={two: 2 for two in range(1, 9)}), "any"),
-                (self.heard(8, {}, damaged={two: 1 for two in range(1, 9)}), "most"),
+                (self.heard(8, {}, damaged=dict.fromkeys(EACH, 2)), "any"), (self.heard(8, {}, damaged=dict.fromkeys(EACH, 1)), "most"),
                 # A rate value is of both cycles. Of two nodes neither has the other's, or one has, or both.
-                (self.heard(8, {two: 3 for two in range(1, 9)}, is_even=True), "any"), (self.heard(2, {1: 1, 2: 1}), "any"),
+                (self.heard(8, dict.fromkeys(EACH, 3), is_even=True), "any"), (self.heard(2, {1: 1, 2: 1}), "any"),
                 (self.heard(2, {1: 1}), "most"), (self.heard(2, {}), "all"), (self.heard(1, {}), "all")):
             with self.subTest(what=what, wanted=wanted):
                 self.assertEqual(what, (wanted, {"all": "clean", "most": "meeting", "any": "poor"}[wanted], True))
@@ -81,9 +81,9 @@ class Losses(Bench):
     def test_words_at_the_border(self):
         """What the program says of losses that are as many as may be, and of one more."""
         params = "".join(f"param,{name},{value},,\n" for name, value in PRODUCTION.items())
-        for count, liar, missed, wanted in ((8, False, {two: 2 for two in range(1, 9)}, "most"), (8, False, {two: 3 for two in range(1, 9)}, "any"),
-                                            (4, False, {2: 2}, "most"), (4, False, {2: 2, 3: 2}, "any"),
-                                            (4, True, {}, "all"), (4, True, {1: 1}, "any"), (8, True, {1: 2, 2: 2}, "most")):
+        for count, liar, missed, wanted in (
+                (8, False, dict.fromkeys(EACH, 2), "most"), (8, False, dict.fromkeys(EACH, 3), "any"), (4, False, {2: 2}, "most"),
+                (4, False, {2: 2, 3: 2}, "any"), (4, True, {}, "all"), (4, True, {1: 1}, "any"), (8, True, {1: 2, 2: 2}, "most")):
             nodes = "".join(f"node,{node},{node},A,1\n" for node in range(1, count + 1))
             script = f"arbitrary,{count},,,,,\n" if liar else ""
             for two, share in missed.items():
@@ -113,7 +113,7 @@ class Losses(Bench):
         self.assertGreater(told.skew(19), 20 * int(told.lines["sharp"][0]))
 
     def test_cliques_that_a_fifth_node_joins(self):
-        """Where a fifth node hears both camps and is heard by them, lists meet in each double cycle, and the run is covered through losses."""
+        """Where a fifth node hears both camps and is heard by them lists meet in each double cycle: the run is covered through losses."""
         params, drift, script = losses_peer.cliques()
         told = self.series(params + "node,5,5,A,0\n", drift + "start,5,10000000,0,,\n", script)
         self.assertEqual({row["heard"] for row in told.cycles}, {"most"})
