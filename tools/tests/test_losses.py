@@ -62,15 +62,22 @@ class Losses(Bench):
         paths = [self.write(f"{name}.csv", text) for name, text in zip(("params", "drift", "script"), texts)]
         return losses_peer.Series(subprocess.run([SERIES, *paths, "sharp"], capture_output=True, text=True, check=True).stdout)
 
+    def flexray_of_run(self, word, *words):
+        paths = [self.path(f"{name}.csv") for name in ("params", "drift", "script")]
+        return subprocess.run([FLEXRAY, word, *paths, *words], capture_output=True, text=True, check=True).stdout
+
     def test_each_double_cycle_keeps_its_number(self):
         kinds, held, losing, covered, beside = list(losses_peer.KINDS), 0, 0, 0, 0
         for seed in range(RUNS):
             run = losses_peer.Run(random.Random(seed), kinds[seed % len(kinds)], 12)
             with self.subTest(seed=seed):
                 told = self.series(run.params(), run.drift, run.script)
-                trace = subprocess.run([FLEXRAY, "trace", *(self.path(f"{name}.csv") for name in ("params", "drift", "script"))],
-                                       capture_output=True, text=True, check=True).stdout if seed % 5 == 0 else None
-                found = losses_peer.hold(run, told, trace)
+                is_traced = seed % 5 == 0
+                found = losses_peer.hold(run, told, self.flexray_of_run("trace") if is_traced else None)
+                if is_traced:
+                    count, last, bound, place = told.lines["lost"]
+                    self.assertIn(f"\nsharp lost {count} last {last} bound {bound}{'' if bound == '-' else f' double {place}'}\n",
+                                  self.flexray_of_run("run", "sharp"))
                 covered, held, losing = covered + found[0], held + found[1], losing + found[2]
                 beside += found[0] and bool(run.arbitrary)
         self.assertGreater(covered, RUNS // 5)
