@@ -11,9 +11,9 @@ use Rattle.fr_script.specs.View.{ScriptView}
 use Rattle.fr_history.specs.Cycles.{Cycles}
 use Rattle.fr_bound.specs.declared.judging.Heard.{Heard}
 use Rattle.fr_bound.specs.declared.judging.Heard.TheVariants as heard
-use Rattle.fr_sharp.specs.Among.{apart_by}
+use Rattle.fr_sharp.specs.Among.{apart_through_losses}
 use Rattle.fr_sharp.specs.LossRuns.{is_through_losses, losses_of, AreLosses}
-use Rattle.fr_sharp.specs.LossStatement.{apart_in, whole_in, IsCoveredThroughLosses}
+use Rattle.fr_sharp.specs.LossStatement.{run_apart, whole_in, IsCoveredThroughLosses}
 use Rattle.fr_sharp.specs.SharpHistories.{IsInSharpSyncAt, KeepsApart}
 use Rattle.fr_sharp.specs.SharpRun.{WalkLastsAfter}
 use Rattle.fr_sharp.specs.SharpStatement.{has_arbitrary}
@@ -32,7 +32,7 @@ abbrev pub kept_by : Values → ScriptView → Basis → ℕ → Kept
 kept_by p s basis double = record {
   whole = whole_in p s double;
   heard = heard_in (traffic_in p s) double;
-  bound = bound_of basis.through (apart_by (has_arbitrary p s) p basis.flutter (heard_in (traffic_in p s)) double);
+  bound = bound_of basis.through (apart_through_losses (has_arbitrary p s) p basis.flutter (heard_in (traffic_in p s)) double);
 }
 
 -- ---- the texts
@@ -44,8 +44,8 @@ most_or_any heard.Meeting = codes "most"
 most_or_any heard.Poor = codes "any"
 
 -- whether all is heard in a double cycle, and else whether of any two nodes enough in common
-abbrev pub heard_text : Kept → List ℕ
-heard_text kept = if kept.whole then codes "all" else most_or_any kept.heard
+abbrev pub hearing_text : Kept → List ℕ
+hearing_text kept = if kept.whole then codes "all" else most_or_any kept.heard
 
 -- its number, in ticks; none where the run is not covered through losses
 abbrev pub bound_or_none : Option ℕ → List ℕ
@@ -84,5 +84,5 @@ pub record TellsLosses (p : Values) (d : DriftView) (s : ScriptView) (h : Cycles
       IsCoveredThroughLosses p d s (flutter_of p d s) (losses_of p d s (flutter_of p d s)).reach → (double passed : ℕ)
       → IsInSharpSyncAt (has_arbitrary p s) p (flutter_of p d s) (pos 0) h double → double + passed < doubles_of d
       → WalkLastsAfter p (flutter_of p d s) passed
-      → KeepsApart (setting_of p d s) h (double + passed) (apart_in p s (flutter_of p d s) (double + passed))
+      → KeepsApart (setting_of p d s) h (double + passed) (run_apart p s (flutter_of p d s) (double + passed))
       × KeepsApart (setting_of p d s) h (double + passed) (losses_of p d s (flutter_of p d s)).peak

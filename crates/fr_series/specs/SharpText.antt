@@ -20,7 +20,7 @@ use Rattle.fr_text.specs.Pieces.{line}
 use Rattle.fr_sharp.specs.SharpTested.{is_in_sharp_sync}
 use Rattle.fr_series.specs.Basis.{basis_of, tally_of}
 use Rattle.fr_series.specs.Scale.{peak_by}
-use Rattle.fr_series.specs.SharpLosses.{bound_or_none, heard_text, kept_by, lost_text}
+use Rattle.fr_series.specs.SharpLosses.{bound_or_none, hearing_text, kept_by, lost_text}
 use Rattle.fr_series.specs.SeriesText.{above_text, greatest_text, series_head, series_row, synced_text, within_text, yes_or_no}
 use Rattle.fr_series.specs.declared.basis.Basis.{Basis}
 use Rattle.fr_series.specs.declared.kept.Kept.{Kept}
@@ -35,7 +35,7 @@ sharp_head = series_head ++ codes ",sharp,heard,bound"
 abbrev pub sharp_row : ℕ → Bool → Bool → Kept → Option Peak → List ℕ
 sharp_row cycle in_sync sharp kept peak =
     series_row cycle in_sync peak ++ codes "," ++ yes_or_no sharp
-    ++ codes "," ++ heard_text kept ++ codes "," ++ bound_or_none kept.bound
+    ++ codes "," ++ hearing_text kept ++ codes "," ++ bound_or_none kept.bound
 
 abbrev pub sharp_double_by : Grid → Bool → Bool → Kept → ℕ → List NodeRow → List NodeRow → List ℕ
 sharp_double_by grid in_sync sharp kept cycle even odd =

@@ -1,5 +1,5 @@
 ghost use Rattle.std.specs.Prelude.{◌≡◌, ◌≤◌, ◌<◌, ◌+◌};
-ghost use Rattle.fr_sharp.specs.Among.{spread_by};
+ghost use Rattle.fr_sharp.specs.Among.{spread_through_losses};
 ghost use Rattle.fr_sharp.specs.LossStatement.{whole_in};
 ghost use Rattle.fr_sharp.specs.SharpStatement.{has_arbitrary};
 ghost use Rattle.fr_sharp.specs.Traffic.{heard_in, traffic_in};
@@ -35,12 +35,12 @@ pub(crate) fn next_kept(
     requires double { double < 100_000 }
     requires passed { spread.old.passed ≡ double }
     requires spread { spread.old.spread ≡
-        spread_by (has_arbitrary params.now script.now) params.now basis.now.flutter
+        spread_through_losses (has_arbitrary params.now script.now) params.now basis.now.flutter
         (heard_in (traffic_in params.now script.now)) double }
     ensures kept { result ≡ kept_by params.now script.now basis.now double }
     ensures passed { spread.new.passed ≡ double + 1 }
     ensures spread { spread.new.spread ≡
-        spread_by (has_arbitrary params.now script.now) params.now basis.now.flutter
+        spread_through_losses (has_arbitrary params.now script.now) params.now basis.now.flutter
         (heard_in (traffic_in params.now script.now)) (double + 1) }
 {
     let whole = is_whole(params, script, double);

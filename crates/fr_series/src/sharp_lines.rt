@@ -1,6 +1,6 @@
 ghost use Rattle.std.specs.Prelude.{◌≡◌, ◌++◌, ◌≤◌, codes, length, IfSome};
 ghost use Rattle.std.specs.Fmt.{decimal};
-ghost use Rattle.fr_series.specs.SharpLosses.{bound_or_none, heard_text, last_lost_text, lost_text, most_or_any};
+ghost use Rattle.fr_series.specs.SharpLosses.{bound_or_none, hearing_text, last_lost_text, lost_text, most_or_any};
 ghost use Rattle.fr_series.specs.SeriesText.{above_text, greatest_text, synced_text, within_text};
 ghost use Rattle.fr_series.specs.SharpText.{beside_or_alone, doubles_or_on, flutter_text, older_end, sharp_covered_text, sharp_end};
 ghost use Rattle.fr_series.specs.SharpText.{sharp_head, sharp_precision_text, sharp_row, sharp_synced_text};
@@ -67,7 +67,7 @@ pub(crate) fn sharp_cycle_line(
 }
 
 fn heard_piece<'a>(kept: Kept) -> Piece<'a>
-    ensures { Spells result (heard_text kept) 4 }
+    ensures { Spells result (hearing_text kept) 4 }
 {
     if kept.whole {
         Word(b"all")

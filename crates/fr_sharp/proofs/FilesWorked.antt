@@ -48,7 +48,7 @@ unfolding flutter_of greatest_below greatest_in doubles_of delay_of held is_arbi
 flutter_is false = refl
 flutter_is true = refl
 
-kind_is : (beside : Bool) → has_arbitrary steady_cluster (marking_script beside) ≡ beside
+pub kind_is : (beside : Bool) → has_arbitrary steady_cluster (marking_script beside) ≡ beside
 unfolding is_arbitrary
 kind_is false = refl
 kind_is true = refl
@@ -72,7 +72,7 @@ checks_hold true (suc (suc (suc (suc zero)))) from to = refl
 checks_hold true (suc (suc (suc (suc (suc zero))))) from to = refl
 checks_hold beside (suc (suc (suc (suc (suc (suc k)))))) from to = absurd (omega (arith, to))
 
-covered : (beside : Bool) → IsSharplyCovered steady_cluster fluttering_drift (marking_script beside) 250
+pub covered : (beside : Bool) → IsSharplyCovered steady_cluster fluttering_drift (marking_script beside) 250
 covered beside = record {
   checks =
       let Hold : Bool → Type 0 = λ b. SharpChecksHold 250 (sharp_near b steady_cluster 250) steady_cluster in
@@ -166,7 +166,7 @@ three_doubles beside = lit≤ tt
 lasts_on : sync_lasts steady_cluster 250 ≡ None
 lasts_on = refl
 
-steady : (beside : Bool) (h : Cycles) → IsRunOf (worked beside) h → IsSteadyRun beside (worked beside) 250 h
+pub steady : (beside : Bool) (h : Cycles) → IsRunOf (worked beside) h → IsSteadyRun beside (worked beside) 250 h
 steady beside h run =
     let c = covered beside in
     let Steady : Bool → Type 0 = λ b. IsSteadyRun b (worked beside) 250 h in

@@ -3,6 +3,7 @@ use Rattle.std.proofs.Common.{◌≡◌, ◌≢◌, ℕ, ◌<◌, ◌≤◌, ℤ
 use Rattle.std.specs.Prelude.{option_and_then}
 use Rattle.std.specs.Option.{option_map}
 use Rattle.std.proofs.lemmas.Bool.{and_parts, not-false, or_parts}
+use Rattle.fr_base.specs.Event.{Event}
 use Rattle.fr_base.specs.Rows.{dev_in}
 use Rattle.fr_base.specs.States.{is_active, is_halted}
 use Rattle.fr_base.specs.declared.channel.Channel.{Channel}
@@ -22,7 +23,7 @@ use Rattle.fr_reception.specs.Regular.{regular_frame}
 use Rattle.fr_reception.proofs.Early.{early}
 use Rattle.fr_precision.specs.Deviations.{counted_of}
 use Rattle.fr_history.specs.History.{row_for}
-use Rattle.fr_history.specs.Offers.{is_on, stored_in, value_of}
+use Rattle.fr_history.specs.Offers.{arrived_of, is_on, stored_in, value_of}
 use Rattle.fr_history.specs.Rows.{uncorrected}
 use Rattle.fr_runs.specs.Exchange.{Exchange, IsExchanged, IsNearExchange}
 use Rattle.fr_runs.specs.Links.{IsNearLink, Link, Share, stored_on}
@@ -31,7 +32,6 @@ use Rattle.fr_runs.proofs.Known.{IsStoredOf, coming, does_send, is_deaf, offer_i
 use Rattle.fr_runs.proofs.Nodes.{correct_node, key_slot_there, node_there}
 use Rattle.fr_runs.proofs.Reception.{recorded_in, uncorrected_row}
 use Rattle.fr_runs.proofs.Rows.{has_row}
-use Rattle.fr_sharp.proofs.HeardEvents.{arrived_comes}
 
 -- both have the channel, and a deviation is counted from an arrival
 pub record IsCounted (x : Setting) (l : Link) (is_odd : Bool) (channel : Channel) (value : ℤ) : Type 0 where
@@ -49,6 +49,10 @@ offer_on x l channel bytes = offer_with x l.cycle (uncorrected l.from) (uncorrec
 pub on_channel : (x : Setting) (node : ℕ) (spec : NodeSpec) (channel : Channel) → node ≡ spec.id → node_of x.params spec.id ≡ Some spec → is_on x node channel ≡ has_channel (Some spec) channel
 on_channel x node spec channel same found =
     ap (λ (id : ℕ). is_on x id channel) same ∙ ap (λ (o : Option NodeSpec). has_channel o channel) found
+
+-- where something arrives it is not silent
+arrived_comes : (e : Event) (frame : List ℕ) → IsSome (arrived_of e frame) → is_silent e ≡ false
+arrived_comes e frame arrived = grind arith
 
 -- what is stored of some bytes comes of a frame that is not lost
 bytes_come : (deaf sends : Bool) (answer : Offer → Option ℤ) (offer : List ℕ → Offer) (o : Option (List ℕ)) (value : ℤ)

@@ -12,7 +12,7 @@ use Rattle.fr_bound.specs.declared.judging.Heard.TheVariants as heard
 use Rattle.fr_coverage.specs.Decided.{setting_of}
 use Rattle.fr_coverage.specs.Flutter.{flutter_of}
 use Rattle.fr_coverage.specs.Links.{is_sync}
-use Rattle.fr_sharp.specs.Among.{spread_by, LaterSpreadsAreLess}
+use Rattle.fr_sharp.specs.Among.{spread_through_losses, LaterSpreadsAreLess}
 use Rattle.fr_sharp.specs.Losses.{HistoriesKeepThroughLosses}
 use Rattle.fr_sharp.specs.LossStatement.{whole_in, without_losses, CoveredFilesKeepThroughLosses, FilesKeepThroughLosses, LossyFilesGiveRuns}
 use Rattle.fr_sharp.specs.Traffic.{all_linked, arbitrary_count, heard_in, lists_meet, traffic_in, Traffic}
@@ -96,11 +96,11 @@ module _ (keep : HistoriesKeepThroughLosses) (later : LaterSpreadsAreLess) where
       what : ℕ → Heard
       what m = heard_in (traffic_in p s) m
 
-      near : (k : ℕ) → double + k < doubles_of d → sharply_near_in p (spread_by (has_arbitrary p s) p flutter (λ m. heard_in (traffic_in p s) (double + m)) k) ≤ reach
+      near : (k : ℕ) → double + k < doubles_of d → sharply_near_in p (spread_through_losses (has_arbitrary p s) p flutter (λ m. heard_in (traffic_in p s) (double + m)) k) ≤ reach
       near k short =
           let below = later (has_arbitrary p s) p flutter what double k (none_is_clean p s) in
-          let now = spread_by (has_arbitrary p s) p flutter (λ m. heard_in (traffic_in p s) (double + m)) k in
-          let all = spread_by (has_arbitrary p s) p flutter what (double + k) in
+          let now = spread_through_losses (has_arbitrary p s) p flutter (λ m. heard_in (traffic_in p s) (double + m)) k in
+          let all = spread_through_losses (has_arbitrary p s) p flutter what (double + k) in
           let grows = near_grows p now.starts now.lengths all.starts all.lengths sane below.0 below.1 in
           let le = covered.near (double + k) short in
           omega (arith, grows, le)

@@ -1,23 +1,12 @@
 -- What comes of a frame by what becomes of it.
-use Rattle.std.proofs.Common.{◌≡◌, ℕ, true, false, not, IsSome, List, refl, ap}
+use Rattle.std.proofs.Common.{◌≡◌, true, false, not, ap, arith}
 use Rattle.fr_base.specs.Event.{Event}
 use Rattle.fr_base.specs.Event as event
 use Rattle.fr_coverage.specs.Links.{is_regular}
-use Rattle.fr_history.specs.Offers.{arrived_of}
 use Rattle.fr_sharp.specs.Traffic.{comes, is_silent}
 
 pub regular_of : (e : Event) → is_regular e ≡ true → e ≡ event.Regular
-regular_of event.Regular is = refl
-regular_of event.Silent is = absurd (cc)
-regular_of (event.Flip bit) is = absurd (cc)
-regular_of (event.Say shift bytes) is = absurd (cc)
-
--- where something arrives it is not silent
-pub arrived_comes : (e : Event) (frame : List ℕ) → IsSome (arrived_of e frame) → is_silent e ≡ false
-arrived_comes event.Regular frame arrived = refl
-arrived_comes event.Silent frame arrived = absurd (cc)
-arrived_comes (event.Flip bit) frame arrived = refl
-arrived_comes (event.Say shift bytes) frame arrived = refl
+regular_of e is = grind arith
 
 pub may_come : (e : Event) → is_silent e ≡ false → comes false e ≡ true
 may_come e is = ap not is

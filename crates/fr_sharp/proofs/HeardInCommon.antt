@@ -33,7 +33,7 @@ use Rattle.fr_sharp.specs.Losses.{heard_at, IsRoundInPart, RowsMeet}
 use Rattle.fr_sharp.specs.SharpRound.{as_member}
 use Rattle.fr_sharp.specs.Steady.{PlacesEven}
 use Rattle.fr_sharp.specs.SteadyRuns.{row_hearers, row_members, AreRowsInReach}
-use Rattle.fr_sharp.specs.Traffic.{all_trusted, costs_of, has_value, lists_meet, most_count, sender_count, sends, traffic_of}
+use Rattle.fr_sharp.specs.Traffic.{all_trusted, costs_of, has_value, lists_meet, most_count, sender_count, is_correct_sender, traffic_of}
 use Rattle.fr_sharp.proofs.HeardCounts.{count_three, discards_more, is_passed, passes_at, passes_is, two_cost, IsPassed}
 use Rattle.fr_sharp.proofs.HeardInPart.{offsets_heard, rates_heard}
 use Rattle.fr_sharp.proofs.HeardValues.{most_values, senders_counted, surely_heard, value_by}
@@ -238,27 +238,27 @@ module _ (x : Setting) (flutter : ℕ) (h : Cycles) (even odd : Cycle) (double :
   has rate node sender = has_value rate true (traffic_of x) double node sender
 
   abbrev misses : Bool → NodeSpec → NodeSpec → Bool
-  misses rate node sender = sends (traffic_of x) sender && not (has rate node sender)
+  misses rate node sender = is_correct_sender (traffic_of x) sender && not (has rate node sender)
 
   sane : IsSane x.params
   sane = s.covered.sane
 
   -- of each sender both have a value, or one of them misses it
-  heard_or_missed : (rate : Bool) (b c : NodeSpec) (index : ℕ) → Contains (row_nodes x h) b → Contains (row_nodes x h) c → passes_at x.params (λ (a : NodeSpec). sends (traffic_of x) a && true) index ≡ true
+  heard_or_missed : (rate : Bool) (b c : NodeSpec) (index : ℕ) → Contains (row_nodes x h) b → Contains (row_nodes x h) c → passes_at x.params (λ (a : NodeSpec). is_correct_sender (traffic_of x) a && true) index ≡ true
       → (is_some (both_at (round_at x h even odd) (at rate b) (at rate c) index) ≡ true)
       ⊎ ((passes_at x.params (misses rate b) index ≡ true) ⊎ (passes_at x.params (misses rate c) index ≡ true))
   unfolding both_at
   heard_or_missed rate b c index here there is = by (has rate b from.node) (has rate c from.node) refl refl
     where
-      from : IsPassed x.params (λ (a : NodeSpec). sends (traffic_of x) a && true) index
-      from = is_passed x.params (λ (a : NodeSpec). sends (traffic_of x) a && true) index sane is
+      from : IsPassed x.params (λ (a : NodeSpec). is_correct_sender (traffic_of x) a && true) index
+      from = is_passed x.params (λ (a : NodeSpec). is_correct_sender (traffic_of x) a && true) index sane is
 
-      correct : sends (traffic_of x) from.node ≡ true
-      correct = (and_parts (sends (traffic_of x) from.node) true from.passes).0
+      correct : is_correct_sender (traffic_of x) from.node ≡ true
+      correct = (and_parts (is_correct_sender (traffic_of x) from.node) true from.passes).0
 
-      passes : (test : NodeSpec → Bool) → test from.node ≡ true → passes_at x.params (λ (a : NodeSpec). sends (traffic_of x) a && test a) index ≡ true
+      passes : (test : NodeSpec → Bool) → test from.node ≡ true → passes_at x.params (λ (a : NodeSpec). is_correct_sender (traffic_of x) a && test a) index ≡ true
       passes test is =
-          passes_is x.params (λ (a : NodeSpec). sends (traffic_of x) a && test a) index from.slot from.node from.slot_is (key_node_is x.params from.node from.slot sane from.there from.key)
+          passes_is x.params (λ (a : NodeSpec). is_correct_sender (traffic_of x) a && test a) index from.slot from.node from.slot_is (key_node_is x.params from.node from.slot sane from.there from.key)
           ∙ rw (correct, is) refl
 
       found : (a b : Bool) (o : Option Sender) → a ≡ true → b ≡ true → is_some o ≡ true → is_some (if a && b then o else None) ≡ true
@@ -297,7 +297,7 @@ module _ (x : Setting) (flutter : ℕ) (h : Cycles) (even odd : Cycle) (double :
       let also_missed = senders_counted x flutter h even odd double reach s r all (λ a. not (has rate c a)) in
       let common = filter_map_counts (both_at (round_at x h even odd) (at rate b) (at rate c)) (range_with_len 0 15) in
       let three =
-      count_three (passes_at x.params (λ (a : NodeSpec). sends t a && true)) (λ i. is_some (both_at (round_at x h even odd) (at rate b) (at rate c) i)) (passes_at x.params (misses rate b))
+      count_three (passes_at x.params (λ (a : NodeSpec). is_correct_sender t a && true)) (λ i. is_some (both_at (round_at x h even odd) (at rate b) (at rate c) i)) (passes_at x.params (misses rate b))
       (passes_at x.params (misses rate c)) (range_with_len 0 15) (λ index is. heard_or_missed rate b c index here there is) in
       omega (arith, cost, within, discards, also_discards, senders, missed, also_missed, common, three)
 

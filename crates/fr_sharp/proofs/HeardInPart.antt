@@ -184,7 +184,7 @@ module _ (r : Round) (n : Hearer) (is : IsRound r) (hears : IsHeardInPart r n) w
         let both = length-append parts.said parts.further in
         omega (arith, long, size, both)
 
-    pub hears_heard : IsTrustedOf r at (values_of at) → Hears Sender Says (heard_of r at) (values_of at)
+    pub hears_heard : IsTrustedOf r at → Hears Sender Says (heard_of r at) (values_of at)
     hears_heard trusted =
         let At : ℕ → Type 0 = λ m. length (parts.further) ≤ discarded m in
         record {
@@ -198,7 +198,7 @@ module _ (r : Round) (n : Hearer) (is : IsRound r) (hears : IsHeardInPart r n) w
         }
 
     -- without arbitrary sync nodes a list with a value is trusted
-    pub trusted_alone : sync_count r.params r.is_arbitrary ≡ 0 → 1 ≤ length (values_of at) → IsTrustedOf r at (values_of at)
+    pub trusted_alone : sync_count r.params r.is_arbitrary ≡ 0 → 1 ≤ length (values_of at) → IsTrustedOf r at
     trusted_alone none some = record {
       few = omega (arith, none);
       some = (let same = as_many in let few = few_further in omega (arith, none, some, same, few));
@@ -304,20 +304,20 @@ module _ (r : Round) (flutter : ℕ) (n : Hearer) (is : IsRound r) (s : IsSuppli
   abbrev rates : ℕ → Option ℤ
   rates = rate_at n.look n.own
 
-  pub offsets_heard : IsTrustedOf r offsets (offsets_of n) → Hears Sender (λ sender value. IsDeviation r.params true sender.action n.odd sender.odd value) (heard_of r offsets) (offsets_of n)
+  pub offsets_heard : IsTrustedOf r offsets → Hears Sender (λ sender value. IsDeviation r.params true sender.action n.odd sender.odd value) (heard_of r offsets) (offsets_of n)
   unfolding Offset
   offsets_heard trusted =
       hears_heard r n is s.hears (λ sender value. IsDeviation r.params true sender.action n.odd sender.odd value) offsets
       (λ index sender v from some. offset_by index sender v (is_own n.own index) from refl some) (λ index v some no_sender. offset_other index v (is_own n.own index) refl some no_sender) trusted
 
-  pub rates_heard : IsTrustedOf r rates (rates_of n) → Hears Sender (λ sender value. PlacesEven r.params flutter sender n.odd value) (heard_of r rates) (rates_of n)
+  pub rates_heard : IsTrustedOf r rates → Hears Sender (λ sender value. PlacesEven r.params flutter sender n.odd value) (heard_of r rates) (rates_of n)
   unfolding Rate
   rates_heard trusted =
       hears_heard r n is s.hears (λ sender value. PlacesEven r.params flutter sender n.odd value) rates
       (λ index sender v from some. rate_by index sender v (is_own n.own index) from refl some) (λ index v some no_sender. rate_other index v (is_own n.own index) refl some no_sender) trusted
 
   -- without arbitrary sync nodes both lists are, where each has a value
-  pub both_trusted : sync_count r.params r.is_arbitrary ≡ 0 → IsTrustedOf r offsets (offsets_of n) × IsTrustedOf r rates (rates_of n)
+  pub both_trusted : sync_count r.params r.is_arbitrary ≡ 0 → IsTrustedOf r offsets × IsTrustedOf r rates
   both_trusted none = (
     trusted_alone r n is s.hears Offset offsets
         (λ index sender v from some. offset_by index sender v (is_own n.own index) from refl some) (λ index v some no_sender. offset_other index v (is_own n.own index) refl some no_sender)

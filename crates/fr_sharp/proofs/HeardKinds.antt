@@ -14,7 +14,7 @@ use Rattle.fr_coverage.specs.Links.{is_regular, shares}
 use Rattle.fr_runs.specs.Links.{IsCarried}
 use Rattle.fr_runs.proofs.Nodes.{correct_node}
 use Rattle.fr_sharp.specs.SteadyRuns.{IsWhole, MayHaveArbitrary}
-use Rattle.fr_sharp.specs.Traffic.{all_linked, arbitrary_count, heard_in, is_linked, lists_meet, rate_on, traffic_of}
+use Rattle.fr_sharp.specs.Traffic.{all_linked, arbitrary_count, heard_in, bears_on, lists_meet, rate_on, traffic_of}
 use Rattle.fr_sharp.proofs.HeardCounts.{all_pass}
 use Rattle.fr_sharp.proofs.HeardEvents.{regular_of}
 use Rattle.fr_sharp.proofs.HeardValues.{share_of}
@@ -64,10 +64,10 @@ module _ (x : Setting) (double : ℕ) where
       let from = correct_node x sender link.sends in
       let to = correct_node x receiver link.hears in
       let carries = λ (b : NodeSpec). rate_on true t sender b double A || rate_on true t sender b double B in
-      let of_sender = all_pass (λ (a : NodeSpec). list_all (λ (b : NodeSpec). not (is_linked t a b) || (rate_on true t a b double A || rate_on true t a b double B)) t.nodes) t.nodes sender all from.there in
-      let either = all_pass (λ (b : NodeSpec). not (is_linked t sender b) || carries b) t.nodes receiver of_sender to.there in
-      let linked : is_linked t sender receiver ≡ true = rw (link.key, from.correct, to.correct, ne_eqb sender.id receiver.id link.other) refl in
-      elim (or_cases (rate_on true t sender receiver double A) (rate_on true t sender receiver double B) (right (is_linked t sender receiver) (carries receiver) linked either)) [
+      let of_sender = all_pass (λ (a : NodeSpec). list_all (λ (b : NodeSpec). not (bears_on t a b) || (rate_on true t a b double A || rate_on true t a b double B)) t.nodes) t.nodes sender all from.there in
+      let either = all_pass (λ (b : NodeSpec). not (bears_on t sender b) || carries b) t.nodes receiver of_sender to.there in
+      let linked : bears_on t sender receiver ≡ true = rw (link.key, from.correct, to.correct, ne_eqb sender.id receiver.id link.other) refl in
+      elim (or_cases (rate_on true t sender receiver double A) (rate_on true t sender receiver double B) (right (bears_on t sender receiver) (carries receiver) linked either)) [
         | inl a ↦ carried_on sender receiver A a
         | inr b ↦ carried_on sender receiver B b
       ]

@@ -10,7 +10,7 @@ use Rattle.fr_bound.specs.SharpSpreads.{lost_lengths, lost_starts, next_lost_spr
 use Rattle.fr_bound.specs.declared.judging.Heard.{Heard}
 use Rattle.fr_bound.specs.declared.judging.Heard.TheVariants.{Clean, Meeting, Poor}
 use Rattle.fr_bound.specs.declared.settling.Spread.{Spread}
-use Rattle.fr_sharp.specs.Among.{all_or_any, lost_spread, spread_by, CleanAgain, GoesTo, LaterSpreadsAreLess, LostIsBy, MeetingStays, SpreadsAreBelowLost, SpreadsGo}
+use Rattle.fr_sharp.specs.Among.{all_or_any, lost_spread, spread_through_losses, CleanAgain, GoesTo, LaterSpreadsAreLess, LostIsBy, MeetingStays, SpreadsAreBelowLost, SpreadsGo}
 use Rattle.fr_sharp.proofs.LossOrder.{always_wide, below_itself, lost_rises, next_below, next_calm, through, IsBelow, IsWide}
 use Rattle.fr_sharp.proofs.SettlingLemmas.{next_spread_draws}
 
@@ -25,21 +25,21 @@ goes_by Meeting p flutter s = next_spread_draws true p flutter s
 goes_by Poor p flutter s = (le_itself (lost_starts p s.starts s.lengths), le_itself (lost_lengths p flutter s.lengths))
 
 pub spreads_go : SpreadsGo
-unfolding spread_by
-spreads_go beside p flutter what k = goes_by (what k) p flutter (spread_by beside p flutter what k)
+unfolding spread_through_losses
+spreads_go beside p flutter what k = goes_by (what k) p flutter (spread_through_losses beside p flutter what k)
 
 -- the next numbers, where it is known what is heard
 next_by : (beside : Bool) (p : Values) (flutter : ℕ) (what : ℕ → Heard) (k : ℕ) (heard : Heard) → what k ≡ heard
-    → spread_by beside p flutter what (suc k) ≡ heard_spread heard p flutter (spread_by beside p flutter what k)
-unfolding spread_by
-next_by beside p flutter what k heard is = ap (λ h. heard_spread h p flutter (spread_by beside p flutter what k)) is
+    → spread_through_losses beside p flutter what (suc k) ≡ heard_spread heard p flutter (spread_through_losses beside p flutter what k)
+unfolding spread_through_losses
+next_by beside p flutter what k heard is = ap (λ h. heard_spread h p flutter (spread_through_losses beside p flutter what k)) is
 
 pub clean_again : CleanAgain
 clean_again p flutter what k first second =
     let one = next_by false p flutter what k Clean first in
     let two = next_by false p flutter what (suc k) Clean second in
-    let long : (spread_by false p flutter what (suc k)).lengths ≡ sharp_lambda false p flutter = ap (λ (s : Spread). s.lengths) one in
-    let start : (spread_by false p flutter what (suc (suc k))).starts ≡ odd_spread p (spread_by false p flutter what (suc k)).lengths + 2 * arrival_error p + 3 * longest_micro p =
+    let long : (spread_through_losses false p flutter what (suc k)).lengths ≡ sharp_lambda false p flutter = ap (λ (s : Spread). s.lengths) one in
+    let start : (spread_through_losses false p flutter what (suc (suc k))).starts ≡ odd_spread p (spread_through_losses false p flutter what (suc k)).lengths + 2 * arrival_error p + 3 * longest_micro p =
     ap (λ (s : Spread). s.starts) two in
     (ap (λ (s : Spread). s.lengths) two, omega (arith, start, long))
 
@@ -100,25 +100,25 @@ sync_below true Meeting p flutter never = record {
     lengths l = omega arith
 
 module _ (beside : Bool) (p : Values) (flutter : ℕ) (what : ℕ → Heard) (never : beside ≡ true → (m : ℕ) → what m ≡ Clean → ⊥) where
-  none_less : (k : ℕ) → IsBelow (sharp_spread beside p flutter) (spread_by beside p flutter what k)
-  unfolding spread_by
+  none_less : (k : ℕ) → IsBelow (sharp_spread beside p flutter) (spread_through_losses beside p flutter what k)
+  unfolding spread_through_losses
   none_less zero = below_itself (sharp_spread beside p flutter)
   none_less (suc k) =
-      through (sharp_spread beside p flutter) (heard_spread (what k) p flutter (sharp_spread beside p flutter)) (heard_spread (what k) p flutter (spread_by beside p flutter what k))
+      through (sharp_spread beside p flutter) (heard_spread (what k) p flutter (sharp_spread beside p flutter)) (heard_spread (what k) p flutter (spread_through_losses beside p flutter what k))
       (sync_below beside (what k) p flutter (λ arbitrary clean. never arbitrary k clean))
-      (heard_below (what k) p flutter (sharp_spread beside p flutter) (spread_by beside p flutter what k) (none_less k))
+      (heard_below (what k) p flutter (sharp_spread beside p flutter) (spread_through_losses beside p flutter what k) (none_less k))
 
-  pub later_by : (double k : ℕ) → IsBelow (spread_by beside p flutter (λ m. what (double + m)) k) (spread_by beside p flutter what (double + k))
-  unfolding spread_by
+  pub later_by : (double k : ℕ) → IsBelow (spread_through_losses beside p flutter (λ m. what (double + m)) k) (spread_through_losses beside p flutter what (double + k))
+  unfolding spread_through_losses
   later_by double zero =
       let same : double ≡ double + 0 = omega arith in
-      let At : ℕ → Type 0 = λ n. IsBelow (sharp_spread beside p flutter) (spread_by beside p flutter what n) in
+      let At : ℕ → Type 0 = λ n. IsBelow (sharp_spread beside p flutter) (spread_through_losses beside p flutter what n) in
       subst At same (none_less double)
   later_by double (suc k) =
       let same : suc (double + k) ≡ double + suc k = omega arith in
-      let At : ℕ → Type 0 = λ n. IsBelow (heard_spread (what (double + k)) p flutter (spread_by beside p flutter (λ m. what (double + m)) k)) (spread_by beside p flutter what n) in
+      let At : ℕ → Type 0 = λ n. IsBelow (heard_spread (what (double + k)) p flutter (spread_through_losses beside p flutter (λ m. what (double + m)) k)) (spread_through_losses beside p flutter what n) in
       subst At same
-      (heard_below (what (double + k)) p flutter (spread_by beside p flutter (λ m. what (double + m)) k) (spread_by beside p flutter what (double + k)) (later_by double k))
+      (heard_below (what (double + k)) p flutter (spread_through_losses beside p flutter (λ m. what (double + m)) k) (spread_through_losses beside p flutter what (double + k)) (later_by double k))
 
 pub later_spreads_are_less : LaterSpreadsAreLess
 later_spreads_are_less beside p flutter what double k never = let below = later_by beside p flutter what never double k in (below.start, below.long)
@@ -158,11 +158,11 @@ stays_at_most Meeting p flutter s never below = record {
     lengths k l le = omega (arith, le)
 stays_at_most Poor p flutter s never below = absurd (never refl)
 
-pub meeting_below_beside : (beside : Bool) (p : Values) (flutter : ℕ) (what : ℕ → Heard) → ((k : ℕ) → what k ≡ Poor → ⊥) → (k : ℕ) → IsBelow (spread_by beside p flutter what k) (sharp_spread true p flutter)
-unfolding spread_by
+pub meeting_below_beside : (beside : Bool) (p : Values) (flutter : ℕ) (what : ℕ → Heard) → ((k : ℕ) → what k ≡ Poor → ⊥) → (k : ℕ) → IsBelow (spread_through_losses beside p flutter what k) (sharp_spread true p flutter)
+unfolding spread_through_losses
 meeting_below_beside beside p flutter what never zero = at_most beside p flutter
 meeting_below_beside beside p flutter what never (suc k) =
-    stays_at_most (what k) p flutter (spread_by beside p flutter what k) (never k) (meeting_below_beside beside p flutter what never k)
+    stays_at_most (what k) p flutter (spread_through_losses beside p flutter what k) (never k) (meeting_below_beside beside p flutter what never k)
 
 pub meeting_stays : MeetingStays
 meeting_stays beside p flutter what never k = let below = meeting_below_beside beside p flutter what never k in (below.start, below.long)
@@ -174,7 +174,7 @@ step_is true p flutter s = refl
 step_is false p flutter s = refl
 
 pub lost_is_by : LostIsBy
-unfolding lost_spread spread_by
+unfolding lost_spread spread_through_losses
 lost_is_by p flutter whole zero = refl
 lost_is_by p flutter whole (suc k) =
     step_is (whole k) p flutter (lost_spread p flutter whole k) ∙ ap (λ s. heard_spread (all_or_any (whole k)) p flutter s) (lost_is_by p flutter whole k)
@@ -207,12 +207,12 @@ below_lost Meeting p flutter s wide = record {
 below_lost Poor p flutter s wide = below_itself (next_lost_spread false p flutter s)
 
 pub by_below_lost : (p : Values) (flutter : ℕ) (what : ℕ → Heard) (whole : ℕ → Bool) → ((m : ℕ) → whole m ≡ true → what m ≡ Clean) → (k : ℕ)
-    → IsBelow (spread_by false p flutter what k) (lost_spread p flutter whole k)
-unfolding spread_by lost_spread
+    → IsBelow (spread_through_losses false p flutter what k) (lost_spread p flutter whole k)
+unfolding spread_through_losses lost_spread
 by_below_lost p flutter what whole clean zero = below_itself (sharp_spread false p flutter)
 by_below_lost p flutter what whole clean (suc k) =
-    through (heard_spread (what k) p flutter (spread_by false p flutter what k)) (heard_spread (what k) p flutter (lost_spread p flutter whole k)) (next_lost_spread (whole k) p flutter (lost_spread p flutter whole k))
-    (heard_below (what k) p flutter (spread_by false p flutter what k) (lost_spread p flutter whole k) (by_below_lost p flutter what whole clean k)) (by (whole k) refl)
+    through (heard_spread (what k) p flutter (spread_through_losses false p flutter what k)) (heard_spread (what k) p flutter (lost_spread p flutter whole k)) (next_lost_spread (whole k) p flutter (lost_spread p flutter whole k))
+    (heard_below (what k) p flutter (spread_through_losses false p flutter what k) (lost_spread p flutter whole k) (by_below_lost p flutter what whole clean k)) (by (whole k) refl)
   where
     by : (b : Bool) → whole k ≡ b → IsBelow (heard_spread (what k) p flutter (lost_spread p flutter whole k)) (next_lost_spread b p flutter (lost_spread p flutter whole k))
     by true is =

@@ -32,7 +32,7 @@ use Rattle.fr_runs.proofs.RowsHeard.{RowLink}
 use Rattle.fr_coverage.specs.Links.{is_regular, is_sync, shares}
 use Rattle.fr_sharp.specs.Losses.{heard_at, heard_of, IsTrustedOf}
 use Rattle.fr_sharp.specs.SteadyRuns.{AreRowsInReach}
-use Rattle.fr_sharp.specs.Traffic.{all_trusted, arbitrary_count, comes, has_value, is_trusted, most_count, sends, sure_count, traffic_of, trusts, value_on, Traffic}
+use Rattle.fr_sharp.specs.Traffic.{all_trusted, arbitrary_count, comes, has_value, is_trusted, most_count, is_correct_sender, sure_count, traffic_of, trusts, value_on, Traffic}
 use Rattle.fr_sharp.proofs.HeardCounts.{all_pass, count_two, discards_more, is_passed, nodes_counted, passes_at, passes_is}
 use Rattle.fr_sharp.proofs.HeardEvents.{may_come, regular_of}
 use Rattle.fr_sharp.proofs.HeardInPart.{is_other, least_there, mean_there, others_counted}
@@ -134,7 +134,7 @@ module _ (x : Setting) (flutter : ℕ) (h : Cycles) (even odd : Cycle) (double :
     among : Contains (row_nodes x h) sender
     from : sender_at (round_at x h even odd) index ≡ Some (sender_with (round_at x h even odd) slot sender.id)
 
-  correct_at : (index slot : ℕ) (sender : NodeSpec) → key_slot_of x.params index ≡ Some slot → Contains x.params.nodes sender → sender.key ≡ Some slot → sends (traffic_of x) sender ≡ true
+  correct_at : (index slot : ℕ) (sender : NodeSpec) → key_slot_of x.params index ≡ Some slot → Contains x.params.nodes sender → sender.key ≡ Some slot → is_correct_sender (traffic_of x) sender ≡ true
       → IsCorrectAt index sender
   correct_at index slot sender slot_is there key is =
       let both = and_parts (is_sync sender) (not (x.is_arbitrary sender.id)) is in
@@ -196,7 +196,7 @@ module _ (x : Setting) (flutter : ℕ) (h : Cycles) (even odd : Cycle) (double :
       )
 
   sure_value : (rate : Bool) (node sender : NodeSpec) (index slot : ℕ) → Contains (row_nodes x h) node → key_slot_of x.params index ≡ Some slot → Contains x.params.nodes sender → sender.key ≡ Some slot
-      → sends (traffic_of x) sender ≡ true → has_value rate true (traffic_of x) double node sender ≡ true → IsSome (value_by rate (row_hearer x even odd node.id) index)
+      → is_correct_sender (traffic_of x) sender ≡ true → has_value rate true (traffic_of x) double node sender ≡ true → IsSome (value_by rate (row_hearer x even odd node.id) index)
   sure_value rate node sender index slot among slot_is there key correct has = by (sender.id == node.id) refl has
     where
       unequal : (a b : ℕ) → (a == b) ≡ false → a ≢ b
@@ -221,7 +221,7 @@ module _ (x : Setting) (flutter : ℕ) (h : Cycles) (even odd : Cycle) (double :
 
   -- a test of a sender and a receiver, as it is counted
   abbrev may : Bool → NodeSpec → NodeSpec → Bool
-  may rate node sender = sends (traffic_of x) sender && has_value rate false (traffic_of x) double node sender
+  may rate node sender = is_correct_sender (traffic_of x) sender && has_value rate false (traffic_of x) double node sender
 
   own_passes : (rate : Bool) (node : NodeSpec) (index : ℕ) → Contains (row_nodes x h) node → is_own (own_index x.params node.id) index ≡ true → passes_at x.params (may rate node) index ≡ true
   own_passes rate node index among own =
@@ -243,7 +243,7 @@ module _ (x : Setting) (flutter : ℕ) (h : Cycles) (even odd : Cycle) (double :
     sender : NodeSpec
     slot_is : key_slot_of x.params index ≡ Some slot
     node_is : key_node_of x.params slot ≡ Some sender
-    correct : sends (traffic_of x) sender ≡ true
+    correct : is_correct_sender (traffic_of x) sender ≡ true
     link : RowLink x h sender node slot
 
   linked_at : (node : NodeSpec) (index : ℕ) (is_odd : Bool) (channel : Channel) (value : ℤ) → Contains (row_nodes x h) node → is_own (own_index x.params node.id) index ≡ false
@@ -283,7 +283,7 @@ module _ (x : Setting) (flutter : ℕ) (h : Cycles) (even odd : Cycle) (double :
       → passes_at x.params (may rate node) index ≡ true
   may_pass rate node index channel at is =
       passes_is x.params (may rate node) index at.slot at.sender at.slot_is at.node_is
-      ∙ whole (sends (traffic_of x) at.sender) (at.sender.id == node.id) (value_on rate false (traffic_of x) at.sender node double) channel at.correct is
+      ∙ whole (is_correct_sender (traffic_of x) at.sender) (at.sender.id == node.id) (value_on rate false (traffic_of x) at.sender node double) channel at.correct is
     where
       whole : (a b : Bool) (on : Channel → Bool) (channel : Channel) → a ≡ true → on channel ≡ true → (a && (b || (on A || on B))) ≡ true
       whole true true on channel one two = refl
@@ -349,20 +349,20 @@ module _ (x : Setting) (flutter : ℕ) (h : Cycles) (even odd : Cycle) (double :
 
   -- ---- counted
 
-  tested_by_key : (test : NodeSpec → Bool) (node : NodeSpec) → node.key ≡ None → (sends (traffic_of x) node && test node) ≡ false
+  tested_by_key : (test : NodeSpec → Bool) (node : NodeSpec) → node.key ≡ None → (is_correct_sender (traffic_of x) node && test node) ≡ false
   tested_by_key test node none = ap (λ (o : Option ℕ). (is_some o && not (x.is_arbitrary node.id)) && test node) none
 
   pub senders_counted : (test : NodeSpec → Bool)
-      → count_by (λ (a : NodeSpec). sends (traffic_of x) a && test a) x.params.nodes ≡ count_by (passes_at x.params (λ (a : NodeSpec). sends (traffic_of x) a && test a)) (range_with_len 0 15)
-  senders_counted test = nodes_counted x.params (λ (a : NodeSpec). sends (traffic_of x) a && test a) sane (tested_by_key test)
+      → count_by (λ (a : NodeSpec). is_correct_sender (traffic_of x) a && test a) x.params.nodes ≡ count_by (passes_at x.params (λ (a : NodeSpec). is_correct_sender (traffic_of x) a && test a)) (range_with_len 0 15)
+  senders_counted test = nodes_counted x.params (λ (a : NodeSpec). is_correct_sender (traffic_of x) a && test a) sane (tested_by_key test)
 
   -- of a sender of whom it surely has a value it has heard
   pub surely_heard : (rate : Bool) (node : NodeSpec) (index : ℕ) → Contains (row_nodes x h) node
-      → passes_at x.params (λ (a : NodeSpec). sends (traffic_of x) a && has_value rate true (traffic_of x) double node a) index ≡ true
+      → passes_at x.params (λ (a : NodeSpec). is_correct_sender (traffic_of x) a && has_value rate true (traffic_of x) double node a) index ≡ true
       → IsSome (value_by rate (row_hearer x even odd node.id) index) × (is_some (sender_at (round_at x h even odd) index) ≡ true)
   surely_heard rate node index among is =
-      let of = is_passed x.params (λ (a : NodeSpec). sends (traffic_of x) a && has_value rate true (traffic_of x) double node a) index sane is in
-      let both = and_parts (sends (traffic_of x) of.node) (has_value rate true (traffic_of x) double node of.node) of.passes in (
+      let of = is_passed x.params (λ (a : NodeSpec). is_correct_sender (traffic_of x) a && has_value rate true (traffic_of x) double node a) index sane is in
+      let both = and_parts (is_correct_sender (traffic_of x) of.node) (has_value rate true (traffic_of x) double node of.node) of.passes in (
         sure_value rate node of.node index of.slot among of.slot_is of.there of.key both.0 both.1,
         ap is_some (correct_at index of.slot of.node of.slot_is of.there of.key both.0).from,
       )
@@ -371,7 +371,7 @@ module _ (x : Setting) (flutter : ℕ) (h : Cycles) (even odd : Cycle) (double :
       → sure_count rate (traffic_of x) double node ≤ length (heard_of (round_at x h even odd) (value_by rate (row_hearer x even odd node.id)))
   heard_enough rate node among =
       let at = value_by rate (row_hearer x even odd node.id) in
-      let test = λ (a : NodeSpec). sends (traffic_of x) a && has_value rate true (traffic_of x) double node a in
+      let test = λ (a : NodeSpec). is_correct_sender (traffic_of x) a && has_value rate true (traffic_of x) double node a in
       let sure = senders_counted (has_value rate true (traffic_of x) double node) in
       let heard = filter_map_counts (heard_at (round_at x h even odd) at) (range_with_len 0 15) in
       let le =
@@ -404,7 +404,7 @@ module _ (x : Setting) (flutter : ℕ) (h : Cycles) (even odd : Cycle) (double :
   -- ---- trusted
 
   trusted_of : (rate : Bool) (node : NodeSpec) → Contains (row_nodes x h) node → is_trusted rate (traffic_of x) double node ≡ true
-      → IsTrustedOf (round_at x h even odd) (value_by rate (row_hearer x even odd node.id)) (values_of (value_by rate (row_hearer x even odd node.id)))
+      → IsTrustedOf (round_at x h even odd) (value_by rate (row_hearer x even odd node.id))
   trusted_of rate node among is =
       let sure = sure_count rate (traffic_of x) double node in
       let others = arbitrary_count (traffic_of x) in
@@ -417,8 +417,8 @@ module _ (x : Setting) (flutter : ℕ) (h : Cycles) (even odd : Cycle) (double :
       record { few = omega (arith, few, more); some = omega (arith, some, enough) }
 
   pub rows_trusted : all_trusted (traffic_of x) double ≡ true → (node : NodeSpec) → Contains (row_nodes x h) node
-      → IsTrustedOf (round_at x h even odd) (offset_at (row_hearer x even odd node.id).look (row_hearer x even odd node.id).own) (offsets_of (row_hearer x even odd node.id))
-      × IsTrustedOf (round_at x h even odd) (rate_at (row_hearer x even odd node.id).look (row_hearer x even odd node.id).own) (rates_of (row_hearer x even odd node.id))
+      → IsTrustedOf (round_at x h even odd) (offset_at (row_hearer x even odd node.id).look (row_hearer x even odd node.id).own)
+      × IsTrustedOf (round_at x h even odd) (rate_at (row_hearer x even odd node.id).look (row_hearer x even odd node.id).own)
   rows_trusted trusted node among =
       let correct = correct_node x node (is_correct_row x h node among) in
       let own = all_pass (trusts (traffic_of x) double) x.params.nodes node trusted correct.there in

@@ -82,6 +82,7 @@ pub mod FromLossyFiles
 pub mod LossBurstLaws
 pub mod LossTold
 pub mod LossesWorked
+pub mod MeetingWorked
 pub mod JoinWorked
 pub mod SharpListened
 pub mod SharpGrouped

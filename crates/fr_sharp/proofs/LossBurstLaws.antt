@@ -12,7 +12,7 @@ use Rattle.fr_history.specs.Cycles.{Cycles}
 use Rattle.fr_bound.specs.SharpSpreads.{next_lost_spread}
 use Rattle.fr_bound.specs.declared.judging.Heard.{Heard}
 use Rattle.fr_bound.specs.declared.judging.Heard.TheVariants as heard
-use Rattle.fr_sharp.specs.Among.{apart_by, lost_spread, spread_by, LaterSpreadsAreLess, SpreadsAreBelowLost}
+use Rattle.fr_sharp.specs.Among.{apart_through_losses, lost_spread, spread_through_losses, LaterSpreadsAreLess, SpreadsAreBelowLost}
 use Rattle.fr_sharp.specs.LossBursts.{BurstsCostNoMore, BurstsKeepThePeak, IsInBurst, LosesInBursts}
 use Rattle.fr_sharp.specs.LossCosts.{heard_behind}
 use Rattle.fr_sharp.specs.Losses.{lost_apart, HistoriesKeepThroughLosses}
@@ -133,22 +133,22 @@ apart_below p s t next other below le = both (Far p s) (Far p t) next.starts oth
 
 -- the number from a later double cycle on is no greater than that from the first one on
 pub later_apart : LaterSpreadsAreLess → (beside : Bool) (p : Values) (flutter : ℕ) (what : ℕ → Heard) (double k : ℕ) → (beside ≡ true → (m : ℕ) → what m ≡ heard.Clean → ⊥)
-    → apart_by beside p flutter (λ m. what (double + m)) k ≤ apart_by beside p flutter what (double + k)
+    → apart_through_losses beside p flutter (λ m. what (double + m)) k ≤ apart_through_losses beside p flutter what (double + k)
 later_apart later beside p flutter what double k none =
     let one = later beside p flutter what double k none in
     let two = later beside p flutter what double (suc k) none in
     let next : double + suc k ≡ suc (double + k) = omega arith in
-    let At : ℕ → Type 0 = λ m. (spread_by beside p flutter (λ m. what (double + m)) (suc k)).starts ≤ (spread_by beside p flutter what m).starts in
-    apart_below p (spread_by beside p flutter (λ m. what (double + m)) k) (spread_by beside p flutter what (double + k)) (spread_by beside p flutter (λ m. what (double + m)) (suc k))
-    (spread_by beside p flutter what (suc (double + k))) (record { start = one.0; long = one.1 }) (subst At next two.0)
+    let At : ℕ → Type 0 = λ m. (spread_through_losses beside p flutter (λ m. what (double + m)) (suc k)).starts ≤ (spread_through_losses beside p flutter what m).starts in
+    apart_below p (spread_through_losses beside p flutter (λ m. what (double + m)) k) (spread_through_losses beside p flutter what (double + k)) (spread_through_losses beside p flutter (λ m. what (double + m)) (suc k))
+    (spread_through_losses beside p flutter what (suc (double + k))) (record { start = one.0; long = one.1 }) (subst At next two.0)
 
 -- nor than where nothing is asked of double cycles in which not all is heard
 below_lost : SpreadsAreBelowLost → (p : Values) (flutter : ℕ) (what : ℕ → Heard) (whole : ℕ → Bool) (k : ℕ) → ((m : ℕ) → whole m ≡ true → what m ≡ heard.Clean)
-    → apart_by false p flutter what k ≤ lost_apart p flutter whole k
+    → apart_through_losses false p flutter what k ≤ lost_apart p flutter whole k
 below_lost below p flutter what whole k clean =
     let one = below p flutter what whole k clean in
     let two = below p flutter what whole (suc k) clean in
-    apart_below p (spread_by false p flutter what k) (lost_spread p flutter whole k) (spread_by false p flutter what (suc k)) (lost_spread p flutter whole (suc k)) (record { start = one.0; long = one.1 }) two.0
+    apart_below p (spread_through_losses false p flutter what k) (lost_spread p flutter whole k) (spread_through_losses false p flutter what (suc k)) (lost_spread p flutter whole (suc k)) (record { start = one.0; long = one.1 }) two.0
 
 pub bursts_keep_the_peak : HistoriesKeepThroughLosses → LaterSpreadsAreLess → SpreadsAreBelowLost → BurstsKeepThePeak
 bursts_keep_the_peak keep later below p d s flutter count cost h double passed sane bursts is covered alone run sync within lasts =
@@ -157,10 +157,10 @@ bursts_keep_the_peak keep later below p d s flutter count cost h double passed s
     let keeps = covered_files_keep_through_losses keep later p d s flutter cost.reach h double sane covered run synced passed within lasts in
     let one = later_apart later (has_arbitrary p s) p flutter what double passed (none_is_clean p s) in
     let other = below_lost below p flutter what (whole_in p s) (double + passed) (whole_is_clean p s alone) in
-    let same : apart_by (has_arbitrary p s) p flutter what (double + passed) ≡ apart_by false p flutter what (double + passed) = ap (λ (b : Bool). apart_by b p flutter what (double + passed)) alone in
+    let same : apart_through_losses (has_arbitrary p s) p flutter what (double + passed) ≡ apart_through_losses false p flutter what (double + passed) = ap (λ (b : Bool). apart_through_losses b p flutter what (double + passed)) alone in
     let cost_is = (bursts_cost_no_more p flutter count (whole_in p s) cost (double + passed) sane bursts is).0 in
-    keeps_wider (setting_of p d s) h (double + passed) (apart_by (has_arbitrary p s) p flutter (λ m. heard_in (traffic_in p s) (double + m)) passed) cost.peak
-    (up (apart_by (has_arbitrary p s) p flutter (λ m. heard_in (traffic_in p s) (double + m)) passed) (apart_by (has_arbitrary p s) p flutter what (double + passed)) (apart_by false p flutter what (double + passed))
+    keeps_wider (setting_of p d s) h (double + passed) (apart_through_losses (has_arbitrary p s) p flutter (λ m. heard_in (traffic_in p s) (double + m)) passed) cost.peak
+    (up (apart_through_losses (has_arbitrary p s) p flutter (λ m. heard_in (traffic_in p s) (double + m)) passed) (apart_through_losses (has_arbitrary p s) p flutter what (double + passed)) (apart_through_losses false p flutter what (double + passed))
     (lost_apart p flutter (whole_in p s) (double + passed)) cost.peak one same other cost_is)
     keeps
   where

@@ -17,7 +17,7 @@ use Rattle.fr_precision.proofs.Figures.{nat_le-true}
 use Rattle.fr_sharp.specs.declared.loss_costs.LossCost.{LossCost}
 use Rattle.fr_sharp.specs.declared.loss_costs.SecondCost.{SecondCost}
 use Rattle.fr_bound.specs.SharpSpreads.{next_lost_spread}
-use Rattle.fr_sharp.specs.Among.{lost_spread, spread_by}
+use Rattle.fr_sharp.specs.Among.{lost_spread, spread_through_losses}
 use Rattle.fr_sharp.specs.LossCosts.{apart_in_a_row, heard_behind, limits_hold, near_in_a_row, EverySecondIsReached, HoldInARow, IsBack, IsGreatest, IsGreatestEverySecond, IsLongest, IsLongestRow, IsLossCost, IsSecondCost, OneLongest, OneLossCost, OneSecondCost, SomeLongest, SomeLossCost, SomeSecondCost}
 use Rattle.fr_sharp.specs.LossSteps.{heard_apart}
 use Rattle.fr_bound.specs.SharpBounds.{sharp_lambda, sharp_pi, sharp_precision}
@@ -110,11 +110,11 @@ module _ (p : Values) (flutter : ℕ) where
       after ∙ ap (λ (m : ℕ). lost_spread p flutter never m) next
 
   -- so it is at first
-  pub first_by : (s : Spread) → s ≡ spread_by false p flutter never_heard 0 → s ≡ record { starts = sharp_pi false p flutter; lengths = sharp_lambda false p flutter }
-  unfolding spread_by
+  pub first_by : (s : Spread) → s ≡ spread_through_losses false p flutter never_heard 0 → s ≡ record { starts = sharp_pi false p flutter; lengths = sharp_lambda false p flutter }
+  unfolding spread_through_losses
   first_by s is = is
 
-  pub first_of : (whole : ℕ → Bool) (s : Spread) → s ≡ spread_by false p flutter never_heard 0 → s ≡ lost_spread p flutter whole 0
+  pub first_of : (whole : ℕ → Bool) (s : Spread) → s ≡ spread_through_losses false p flutter never_heard 0 → s ≡ lost_spread p flutter whole 0
   unfolding lost_spread
   first_of whole s is = first_by s is
 

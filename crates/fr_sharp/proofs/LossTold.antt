@@ -24,7 +24,7 @@ use Rattle.fr_coverage.specs.declared.gap.Gap.TheVariants as gap
 use Rattle.fr_bound.specs.declared.settling.Spread.{Spread}
 use Rattle.fr_bound.specs.Judged.{heard_spread}
 use Rattle.fr_bound.specs.declared.judging.Heard.{Heard}
-use Rattle.fr_sharp.specs.Among.{apart_by, spread_by, LaterSpreadsAreLess}
+use Rattle.fr_sharp.specs.Among.{apart_through_losses, spread_through_losses, LaterSpreadsAreLess}
 use Rattle.fr_sharp.specs.LossCosts.{limits_hold}
 use Rattle.fr_sharp.specs.Losses.{HistoriesKeepThroughLosses}
 use Rattle.fr_sharp.specs.LossRuns.{all_reach, is_link_at_most, is_through_losses, losses_by, losses_of, lost_before, next_losses, reaches, reaches_each, through_checks, through_nodes, AreLosses, IsLastLost, LossesAreTold, RunsKeepTheirBounds}
@@ -104,10 +104,10 @@ module _ (beside : Bool) (p : Values) (flutter : ℕ) (whole : ℕ → Bool) (wh
   at n = losses_by beside p flutter whole what trusted n
 
   abbrev apart : ℕ → ℕ
-  apart n = apart_by beside p flutter what n
+  apart n = apart_through_losses beside p flutter what n
 
   abbrev near : ℕ → ℕ
-  near n = sharply_near_in p (spread_by beside p flutter what n)
+  near n = sharply_near_in p (spread_through_losses beside p flutter what n)
 
   counted : (n : ℕ) → (at n).doubles ≡ lost_before whole n
   unfolding losses_by lost_before
@@ -188,42 +188,42 @@ pub no_more_than_one : (heard : Bool) (count n : ℕ) → count ≤ n → (if he
 no_more_than_one true count n few = omega (arith, few)
 no_more_than_one false count n few = omega (arith, few)
 
-next_spread : (beside : Bool) (p : Values) (flutter : ℕ) (what : ℕ → Heard) (n : ℕ) → heard_spread (what n) p flutter (spread_by beside p flutter what n) ≡ spread_by beside p flutter what (suc n)
-unfolding spread_by
+next_spread : (beside : Bool) (p : Values) (flutter : ℕ) (what : ℕ → Heard) (n : ℕ) → heard_spread (what n) p flutter (spread_through_losses beside p flutter what n) ≡ spread_through_losses beside p flutter what (suc n)
+unfolding spread_through_losses
 next_spread beside p flutter what n = refl
 
-here_apart : (beside : Bool) (p : Values) (flutter : ℕ) (what : ℕ → Heard) (n : ℕ) → heard_apart (what n) p flutter (spread_by beside p flutter what n) ≡ apart_by beside p flutter what n
-unfolding spread_by
+here_apart : (beside : Bool) (p : Values) (flutter : ℕ) (what : ℕ → Heard) (n : ℕ) → heard_apart (what n) p flutter (spread_through_losses beside p flutter what n) ≡ apart_through_losses beside p flutter what n
+unfolding spread_through_losses
 here_apart beside p flutter what n = refl
 
-pub spread_on : (beside : Bool) (p : Values) (flutter : ℕ) (what : ℕ → Heard) (n : ℕ) (hears : Heard) (now next : Spread) → hears ≡ what n → now ≡ spread_by beside p flutter what n
-    → next ≡ heard_spread hears p flutter now → next ≡ spread_by beside p flutter what (n + 1)
+pub spread_on : (beside : Bool) (p : Values) (flutter : ℕ) (what : ℕ → Heard) (n : ℕ) (hears : Heard) (now next : Spread) → hears ≡ what n → now ≡ spread_through_losses beside p flutter what n
+    → next ≡ heard_spread hears p flutter now → next ≡ spread_through_losses beside p flutter what (n + 1)
 spread_on beside p flutter what n hears now next is now_is goes =
     goes ∙ ap (λ (h : Heard). heard_spread h p flutter now) is ∙ ap (heard_spread (what n) p flutter) now_is ∙ next_spread beside p flutter what n
-    ∙ ap (spread_by beside p flutter what) (sym (add-one n))
+    ∙ ap (spread_through_losses beside p flutter what) (sym (add-one n))
 
-pub apart_on : (beside : Bool) (p : Values) (flutter : ℕ) (what : ℕ → Heard) (n : ℕ) (hears : Heard) (now : Spread) (apart : ℕ) → hears ≡ what n → now ≡ spread_by beside p flutter what n
-    → apart ≡ heard_apart hears p flutter now → apart ≡ apart_by beside p flutter what n
+pub apart_on : (beside : Bool) (p : Values) (flutter : ℕ) (what : ℕ → Heard) (n : ℕ) (hears : Heard) (now : Spread) (apart : ℕ) → hears ≡ what n → now ≡ spread_through_losses beside p flutter what n
+    → apart ≡ heard_apart hears p flutter now → apart ≡ apart_through_losses beside p flutter what n
 apart_on beside p flutter what n hears now apart is now_is far =
     far ∙ ap (λ (h : Heard). heard_apart h p flutter now) is ∙ ap (heard_apart (what n) p flutter) now_is ∙ here_apart beside p flutter what n
 
 next_by : (beside : Bool) (p : Values) (flutter : ℕ) (whole : ℕ → Bool) (what : ℕ → Heard) (trusted : ℕ → Bool) (k : ℕ)
-    → next_losses (whole k) (trusted k) k (apart_by beside p flutter what k) (sharply_near_in p (spread_by beside p flutter what k)) (losses_by beside p flutter whole what trusted k)
+    → next_losses (whole k) (trusted k) k (apart_through_losses beside p flutter what k) (sharply_near_in p (spread_through_losses beside p flutter what k)) (losses_by beside p flutter whole what trusted k)
     ≡ losses_by beside p flutter whole what trusted (suc k)
 unfolding losses_by
 next_by beside p flutter whole what trusted k = refl
 
 module _ (beside : Bool) (p : Values) (flutter : ℕ) (whole : ℕ → Bool) (what : ℕ → Heard) (trusted : ℕ → Bool) where
   pub losses_on : (n : ℕ) (all trust : Bool) (hears : Heard) (apart near : ℕ) (now : Spread) (was : RunLosses) → all ≡ whole n → trust ≡ trusted n → hears ≡ what n
-      → now ≡ spread_by beside p flutter what n → apart ≡ heard_apart hears p flutter now → near ≡ sharply_near_in p now → was ≡ losses_by beside p flutter whole what trusted n
+      → now ≡ spread_through_losses beside p flutter what n → apart ≡ heard_apart hears p flutter now → near ≡ sharply_near_in p now → was ≡ losses_by beside p flutter whole what trusted n
       → next_losses all trust n apart near was ≡ losses_by beside p flutter whole what trusted (n + 1)
   losses_on n all trust hears apart near now was all_is trust_is is now_is apart_is near_is was_is =
-      let far : apart ≡ apart_by beside p flutter what n = apart_on beside p flutter what n hears now apart is now_is apart_is in
-      let close : near ≡ sharply_near_in p (spread_by beside p flutter what n) = near_is ∙ ap (sharply_near_in p) now_is in
+      let far : apart ≡ apart_through_losses beside p flutter what n = apart_on beside p flutter what n hears now apart is now_is apart_is in
+      let close : near ≡ sharply_near_in p (spread_through_losses beside p flutter what n) = near_is ∙ ap (sharply_near_in p) now_is in
       ap (λ (b : Bool). next_losses b trust n apart near was) all_is ∙ ap (λ (b : Bool). next_losses (whole n) b n apart near was) trust_is
       ∙ ap (λ (a : ℕ). next_losses (whole n) (trusted n) n a near was) far
-      ∙ ap (λ (a : ℕ). next_losses (whole n) (trusted n) n (apart_by beside p flutter what n) a was) close
-      ∙ ap (next_losses (whole n) (trusted n) n (apart_by beside p flutter what n) (sharply_near_in p (spread_by beside p flutter what n))) was_is
+      ∙ ap (λ (a : ℕ). next_losses (whole n) (trusted n) n (apart_through_losses beside p flutter what n) a was) close
+      ∙ ap (next_losses (whole n) (trusted n) n (apart_through_losses beside p flutter what n) (sharply_near_in p (spread_through_losses beside p flutter what n))) was_is
       ∙ next_by beside p flutter whole what trusted n
       ∙ ap (losses_by beside p flutter whole what trusted) (sym (add-one n))
 
@@ -500,8 +500,8 @@ runs_keep_their_bounds keep later p d s flutter h double passed sane covered run
     let reach = (losses_of p d s flutter).reach in
     let beside = has_arbitrary p s in
     let what : ℕ → Heard = λ m. heard_in (traffic_in p s) m in
-    let now = apart_by beside p flutter (λ m. heard_in (traffic_in p s) (double + m)) passed in
-    let all = apart_by beside p flutter what (double + passed) in
+    let now = apart_through_losses beside p flutter (λ m. heard_in (traffic_in p s) (double + m)) passed in
+    let all = apart_through_losses beside p flutter what (double + passed) in
     let keeps = covered_files_keep_through_losses keep later p d s flutter reach h double sane covered run sync passed within lasts in
     let bound = keeps_wider (setting_of p d s) h (double + passed) now all (later_apart later beside p flutter what double passed (none_is_clean p s)) keeps in
     let most = greatest beside p flutter (whole_in p s) what (all_trusted (traffic_in p s)) (doubles_of d) (double + passed) within in

@@ -12,7 +12,7 @@ use Rattle.fr_drift.specs.Questions.{delay_of, doubles_of, length_of}
 use Rattle.fr_script.specs.Deeds.{deed_in}
 use Rattle.fr_script.specs.Events.{event_of}
 use Rattle.fr_script.specs.View.{deed_of, is_arbitrary, join_of}
-use Rattle.fr_sharp.specs.Among.{apart_by, spread_by, LaterSpreadsAreLess}
+use Rattle.fr_sharp.specs.Among.{apart_through_losses, spread_through_losses, LaterSpreadsAreLess}
 use Rattle.fr_sharp.specs.Losses.{HistoriesKeepThroughLosses}
 use Rattle.fr_sharp.specs.LossStatement.{whole_in, without_losses, IsCoveredThroughLosses}
 use Rattle.fr_sharp.specs.SettlingHistories.{AreStatedNear}
@@ -78,18 +78,18 @@ abbrev what : ℕ → Heard
 what double = heard_in (traffic_in steady_cluster losing_script) double
 
 abbrev near_at : ℕ → ℕ
-near_at double = sharply_near_in steady_cluster (spread_by (has_arbitrary steady_cluster losing_script) steady_cluster 250 what double)
+near_at double = sharply_near_in steady_cluster (spread_through_losses (has_arbitrary steady_cluster losing_script) steady_cluster 250 what double)
 
 near_0 : near_at 0 ≤ 61_281_165
-unfolding spread_by last_of is_arbitrary
+unfolding spread_through_losses last_of is_arbitrary
 near_0 = lit≤ tt
 
 near_1 : near_at 1 ≤ 61_281_165
-unfolding spread_by costs_of last_of is_arbitrary deed_of deed_in event_of
+unfolding spread_through_losses costs_of last_of is_arbitrary deed_of deed_in event_of
 near_1 = lit≤ tt
 
 near_2 : near_at 2 ≤ 61_281_165
-unfolding spread_by costs_of last_of is_arbitrary deed_of deed_in event_of
+unfolding spread_through_losses costs_of last_of is_arbitrary deed_of deed_in event_of
 near_2 = lit≤ tt
 
 near_in : (double : ℕ) → double < doubles_of fluttering_drift → near_at double ≤ 61_281_165
@@ -133,18 +133,18 @@ lasts : (passed : ℕ) → WalkLastsAfter steady_cluster 250 passed
 lasts passed = tt
 
 abbrev apart_at : ℕ → ℕ
-apart_at passed = apart_by (has_arbitrary steady_cluster losing_script) steady_cluster 250 (λ m. heard_in (traffic_in steady_cluster losing_script) (0 + m)) passed
+apart_at passed = apart_through_losses (has_arbitrary steady_cluster losing_script) steady_cluster 250 (λ m. heard_in (traffic_in steady_cluster losing_script) (0 + m)) passed
 
 apart_0 : apart_at 0 ≡ 36_005_494
-unfolding spread_by costs_of is_arbitrary deed_of deed_in event_of
+unfolding spread_through_losses costs_of is_arbitrary deed_of deed_in event_of
 apart_0 = refl
 
 apart_1 : apart_at 1 ≡ 48_007_094
-unfolding spread_by costs_of is_arbitrary deed_of deed_in event_of
+unfolding spread_through_losses costs_of is_arbitrary deed_of deed_in event_of
 apart_1 = refl
 
 apart_2 : apart_at 2 ≡ 75_011_786
-unfolding spread_by costs_of is_arbitrary deed_of deed_in event_of
+unfolding spread_through_losses costs_of is_arbitrary deed_of deed_in event_of
 apart_2 = refl
 
 three : doubles_of fluttering_drift ≡ 3

@@ -14,7 +14,7 @@ use Rattle.fr_history.specs.Cycles.{Cycle, Cycles}
 use Rattle.fr_runs.specs.Rounds.{IsDoubleOf}
 use Rattle.fr_bound.specs.declared.judging.Heard.{Heard}
 use Rattle.fr_bound.specs.declared.judging.Heard.TheVariants.{Clean, Meeting, Poor}
-use Rattle.fr_sharp.specs.Among.{apart_by, lost_spread, spread_by, AreLossyDoubles, ComputesOwn, GoInReach, HearInCommon, HeardSo, LossyDoublesKeep, LossyDoublesStayApart, SpreadsGo}
+use Rattle.fr_sharp.specs.Among.{apart_through_losses, lost_spread, spread_through_losses, AreLossyDoubles, ComputesOwn, GoInReach, HearInCommon, HeardSo, LossyDoublesKeep, LossyDoublesStayApart, SpreadsGo}
 use Rattle.fr_sharp.specs.JudgedSteps.{IsLawfulStatedRun}
 use Rattle.fr_sharp.specs.Lengths.{walked_after}
 use Rattle.fr_sharp.specs.Losses.{HistoriesKeepThroughLosses, IsLossyRun, SharpAfterTwoWhole}
@@ -39,16 +39,16 @@ use Rattle.fr_sharp.proofs.TimedRuns.{acting_of, active_in_sync, active_of, each
 
 module _ (keep : LossyDoublesKeep) (stay : LossyDoublesStayApart) (goes : SpreadsGo) (beside : Bool) (x : Setting) (flutter : ℕ) (h : Cycles) (double reach : ℕ) (w : IsLossyRun beside x flutter h)
     (checks : SharpChecksHold flutter reach x.params)
-    (fits : (k : ℕ) → double + k < x.doubles → sharply_near_in x.params (spread_by beside x.params flutter (λ m. heard_in (traffic_of x) (double + m)) k) ≤ reach)
+    (fits : (k : ℕ) → double + k < x.doubles → sharply_near_in x.params (spread_through_losses beside x.params flutter (λ m. heard_in (traffic_of x) (double + m)) k) ≤ reach)
     (sync : IsInSharpSyncAt beside x.params flutter (pos 0) h double) (short : double < x.doubles) where
   abbrev on : ℕ → Heard
   on k = heard_in (traffic_of x) (double + k)
 
   abbrev starts : ℕ → ℕ
-  starts k = (spread_by beside x.params flutter (λ m. heard_in (traffic_of x) (double + m)) k).starts
+  starts k = (spread_through_losses beside x.params flutter (λ m. heard_in (traffic_of x) (double + m)) k).starts
 
   abbrev lengths : ℕ → ℕ
-  lengths k = (spread_by beside x.params flutter (λ m. heard_in (traffic_of x) (double + m)) k).lengths
+  lengths k = (spread_through_losses beside x.params flutter (λ m. heard_in (traffic_of x) (double + m)) k).lengths
 
   abbrev nodes : ℕ → List Member
   nodes k = members_at x h (double + k)
@@ -162,19 +162,19 @@ module _ (keep : LossyDoublesKeep) (stay : LossyDoublesStayApart) (goes : Spread
   }
 
   first : AreSharp x.params (starts 0) (lengths 0) (pos 0) (map (λ (node : Member). node.even) (nodes 0))
-  unfolding spread_by
+  unfolding spread_through_losses
   first =
       let same : double ≡ double + 0 = omega arith in
       let At : ℕ → Type 0 = λ m. AreSharp x.params (sharp_pi beside x.params flutter) (sharp_lambda beside x.params flutter) (pos 0) (map (λ (node : Member). node.even) (members_at x h m)) in
       subst At same own_sync.rows
 
-  pub keeps_through : (passed : ℕ) → double + passed < x.doubles → WalkLastsAfter x.params flutter passed → KeepsApart x h (double + passed) (apart_by beside x.params flutter on passed)
+  pub keeps_through : (passed : ℕ) → double + passed < x.doubles → WalkLastsAfter x.params flutter passed → KeepsApart x h (double + passed) (apart_through_losses beside x.params flutter on passed)
   keeps_through passed within before =
       let p : Values = x.params in
       let less : passed < x.doubles - double = omega (arith, within) in
       let keeps = keep p flutter (x.doubles - double) on starts lengths senders nodes (pos reach) last are go first passed less in
       let begin = keeps.begins (up_to p flutter passed before) in
-      let apart = apart_by beside p flutter on passed in
+      let apart = apart_through_losses beside p flutter on passed in
       let one = most (precision_by p (starts passed) (lengths passed)) (starts (suc passed) + longest_micro p) in
       keeps_apart_of x flutter h run (double + passed) apart within (each_alone x flutter h run w.run.none_joins (double + passed)) (active_at passed begin)
       (none_cuts p (starts (suc passed)) (lengths (suc passed)) (walked_after p flutter (suc passed)) (nodes passed) (keeps.come before))

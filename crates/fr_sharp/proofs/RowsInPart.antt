@@ -132,7 +132,7 @@ module _ (x : Setting) (flutter : ℕ) (h : Cycles) (even odd : Cycle) (double :
 
   -- both its lists are trusted
   abbrev Trusted : Hearer → Type 0
-  Trusted n = IsTrustedOf (round_at x h even odd) (offset_at n.look n.own) (offsets_of n) × IsTrustedOf (round_at x h even odd) (rate_at n.look n.own) (rates_of n)
+  Trusted n = IsTrustedOf (round_at x h even odd) (offset_at n.look n.own) × IsTrustedOf (round_at x h even odd) (rate_at n.look n.own)
 
   round_with : ((node : NodeSpec) → Contains (row_nodes x h) node → IsSuppliedInPart (round_at x h even odd) flutter (row_hearer x even odd node.id))
       → ((node : NodeSpec) → Contains (row_nodes x h) node → Trusted (row_hearer x even odd node.id)) → IsRoundInPart (round_at x h even odd) flutter (row_hearers x h even odd)

@@ -7,7 +7,7 @@ use Rattle.std.proofs.lemmas.List.{drop_all, drop_more}
 use Rattle.std.proofs.lemmas.List.Sums.{sum_by-cons}
 use Rattle.fr_cluster.specs.declared.nodes.NodeSpec.{NodeSpec}
 use Rattle.fr_midpoint.specs.Midpoint.{discarded}
-use Rattle.fr_sharp.specs.Traffic.{arbitrary_count, costs_of, has_value, is_trusted, missed_or_discarded, sender_count, sends, with_cost, Traffic}
+use Rattle.fr_sharp.specs.Traffic.{arbitrary_count, costs_of, has_value, is_trusted, missed_or_discarded, sender_count, is_correct_sender, with_cost, Traffic}
 use Rattle.fr_sharp.specs.declared.traffic.Costs.{Costs}
 
 module _ {X : Type 0} where
@@ -55,11 +55,11 @@ module _ {X : Type 0} where
 
 -- without arbitrary nodes a list is trusted where there is something in it
 pub trusted_alone : (rate : Bool) (t : Traffic) (double : ℕ) (b : NodeSpec) → arbitrary_count t ≡ 0
-    → is_trusted rate t double b ≡ list_any (λ a. sends t a && has_value rate true t double b a) t.nodes
+    → is_trusted rate t double b ≡ list_any (λ a. is_correct_sender t a && has_value rate true t double b a) t.nodes
 trusted_alone rate t double b none =
     let sure = sender_count t (has_value rate true t double b) in
     let zero_fits : nat_le 0 (discarded (sure + 0)) ≡ true = grind arith in
-    ap (λ (n : ℕ). nat_le 1 sure && nat_le n (discarded (sure + n))) none ∙ ap (λ (b : Bool). nat_le 1 sure && b) zero_fits ∙ both (nat_le 1 sure) ∙ some_counted (λ a. sends t a && has_value rate true t double b a) t.nodes
+    ap (λ (n : ℕ). nat_le 1 sure && nat_le n (discarded (sure + n))) none ∙ ap (λ (b : Bool). nat_le 1 sure && b) zero_fits ∙ both (nat_le 1 sure) ∙ some_counted (λ a. is_correct_sender t a && has_value rate true t double b a) t.nodes
   where
     both : (b : Bool) → (b && true) ≡ b
     both true = refl
@@ -67,10 +67,10 @@ trusted_alone rate t double b none =
 
 pub cost_is : (rate : Bool) (t : Traffic) (double : ℕ) (b : NodeSpec) (missed sure most kept : ℕ) → sure ≡ sender_count t (has_value rate true t double b)
     → most ≡ sender_count t (has_value rate false t double b) + arbitrary_count t
-    → missed + sure ≡ count_by (sends t) t.nodes → kept ≡ discarded most → missed + kept ≡ missed_or_discarded rate t double b
+    → missed + sure ≡ count_by (is_correct_sender t) t.nodes → kept ≡ discarded most → missed + kept ≡ missed_or_discarded rate t double b
 cost_is rate t double b missed sure most kept sure_is most_is missed_is kept_is =
-    let parts = parted (sends t) (has_value rate true t double b) t.nodes in
-    let lacks : missed ≡ sender_count t (λ a. not (has_value rate true t double b a)) = left missed sure (sender_count t (λ a. not (has_value rate true t double b a))) (sender_count t (has_value rate true t double b)) (count_by (sends t) t.nodes) sure_is missed_is parts in
+    let parts = parted (is_correct_sender t) (has_value rate true t double b) t.nodes in
+    let lacks : missed ≡ sender_count t (λ a. not (has_value rate true t double b a)) = left missed sure (sender_count t (λ a. not (has_value rate true t double b a))) (sender_count t (has_value rate true t double b)) (count_by (is_correct_sender t) t.nodes) sure_is missed_is parts in
     ap (λ (n : ℕ). n + kept) lacks ∙ ap (λ (n : ℕ). sender_count t (λ a. not (has_value rate true t double b a)) + n) (kept_is ∙ ap discarded most_is)
   where
     left : (a s b c n : ℕ) → s ≡ c → a + s ≡ n → b + c ≡ n → a ≡ b

@@ -193,44 +193,44 @@ LossyDoublesStayApart =
 
 -- ---- the numbers by what is heard, from sharp sync on, without arbitrary nodes or beside them
 
-unfoldable pub spread_by : Bool → Values → ℕ → (ℕ → Heard) → ℕ → Spread
-spread_by beside p flutter what zero = sharp_spread beside p flutter
-spread_by beside p flutter what (suc k) = heard_spread (what k) p flutter (spread_by beside p flutter what k)
+unfoldable pub spread_through_losses : Bool → Values → ℕ → (ℕ → Heard) → ℕ → Spread
+spread_through_losses beside p flutter what zero = sharp_spread beside p flutter
+spread_through_losses beside p flutter what (suc k) = heard_spread (what k) p flutter (spread_through_losses beside p flutter what k)
 
 -- how far macroticks may lie apart so many double cycles after one in sharp sync: as far as starts and lengths say, or as the next
 -- starts do
-abbrev pub apart_by : Bool → Values → ℕ → (ℕ → Heard) → ℕ → ℕ
-apart_by beside p flutter what passed =
-    max (precision_by p (spread_by beside p flutter what passed).starts (spread_by beside p flutter what passed).lengths)
-    ((spread_by beside p flutter what (suc passed)).starts + longest_micro p)
+abbrev pub apart_through_losses : Bool → Values → ℕ → (ℕ → Heard) → ℕ → ℕ
+apart_through_losses beside p flutter what passed =
+    max (precision_by p (spread_through_losses beside p flutter what passed).starts (spread_through_losses beside p flutter what passed).lengths)
+    ((spread_through_losses beside p flutter what (suc passed)).starts + longest_micro p)
 
 -- they go on as the laws above ask for
 abbrev pub SpreadsGo : Type 0
 SpreadsGo =
     (beside : Bool) (p : Values) (flutter : ℕ) (what : ℕ → Heard) (k : ℕ)
-    → GoesTo (what k) p flutter (spread_by beside p flutter what k).starts (spread_by beside p flutter what k).lengths
-    (spread_by beside p flutter what (suc k)).starts (spread_by beside p flutter what (suc k)).lengths
+    → GoesTo (what k) p flutter (spread_through_losses beside p flutter what k).starts (spread_through_losses beside p flutter what k).lengths
+    (spread_through_losses beside p flutter what (suc k)).starts (spread_through_losses beside p flutter what (suc k)).lengths
 
 -- those from a later double cycle on are no greater than those from the first one on; nothing is clean beside arbitrary nodes
 abbrev pub LaterSpreadsAreLess : Type 0
 LaterSpreadsAreLess =
     (beside : Bool) (p : Values) (flutter : ℕ) (what : ℕ → Heard) (double k : ℕ)
     → (beside ≡ true → (m : ℕ) → what m ≡ heard.Clean → ⊥)
-    → ((spread_by beside p flutter (λ m. what (double + m)) k).starts ≤ (spread_by beside p flutter what (double + k)).starts)
-    × ((spread_by beside p flutter (λ m. what (double + m)) k).lengths ≤ (spread_by beside p flutter what (double + k)).lengths)
+    → ((spread_through_losses beside p flutter (λ m. what (double + m)) k).starts ≤ (spread_through_losses beside p flutter what (double + k)).starts)
+    × ((spread_through_losses beside p flutter (λ m. what (double + m)) k).lengths ≤ (spread_through_losses beside p flutter what (double + k)).lengths)
 
 -- where two double cycles were clean, they are those of sharp sync without arbitrary nodes again, whatever came before; and where lists
 -- meet in each, they are no greater than those beside arbitrary nodes, for ever
 abbrev pub CleanAgain : Type 0
 CleanAgain =
     (p : Values) (flutter : ℕ) (what : ℕ → Heard) (k : ℕ)
-    → what k ≡ heard.Clean → what (suc k) ≡ heard.Clean → IsSharplySettled false p flutter (spread_by false p flutter what (suc (suc k)))
+    → what k ≡ heard.Clean → what (suc k) ≡ heard.Clean → IsSharplySettled false p flutter (spread_through_losses false p flutter what (suc (suc k)))
 
 abbrev pub MeetingStays : Type 0
 MeetingStays =
     (beside : Bool) (p : Values) (flutter : ℕ) (what : ℕ → Heard)
     → ((k : ℕ) → what k ≡ heard.Poor → ⊥)
-    → (k : ℕ) → ((spread_by beside p flutter what k).starts ≤ sharp_pi true p flutter) × ((spread_by beside p flutter what k).lengths ≤ sharp_lambda true p flutter)
+    → (k : ℕ) → ((spread_through_losses beside p flutter what k).starts ≤ sharp_pi true p flutter) × ((spread_through_losses beside p flutter what k).lengths ≤ sharp_lambda true p flutter)
 
 -- ---- the same where all is heard or nothing is asked, without arbitrary nodes
 
@@ -247,13 +247,13 @@ abbrev pub SpreadsAreBelowLost : Type 0
 SpreadsAreBelowLost =
     (p : Values) (flutter : ℕ) (what : ℕ → Heard) (whole : ℕ → Bool) (k : ℕ)
     → ((m : ℕ) → whole m ≡ true → what m ≡ heard.Clean)
-    → ((spread_by false p flutter what k).starts ≤ (lost_spread p flutter whole k).starts)
-    × ((spread_by false p flutter what k).lengths ≤ (lost_spread p flutter whole k).lengths)
+    → ((spread_through_losses false p flutter what k).starts ≤ (lost_spread p flutter whole k).starts)
+    × ((spread_through_losses false p flutter what k).lengths ≤ (lost_spread p flutter whole k).lengths)
 
 abbrev pub LostIsBy : Type 0
 LostIsBy =
     (p : Values) (flutter : ℕ) (whole : ℕ → Bool) (k : ℕ)
-    → lost_spread p flutter whole k ≡ spread_by false p flutter (λ m. all_or_any (whole m)) k
+    → lost_spread p flutter whole k ≡ spread_through_losses false p flutter (λ m. all_or_any (whole m)) k
 
 -- they go on as the laws above ask for
 abbrev pub LostSpreadGoes : Type 0

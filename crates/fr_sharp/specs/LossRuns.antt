@@ -19,9 +19,9 @@ use Rattle.fr_coverage.specs.declared.gap.Gap.TheVariants as gap
 use Rattle.fr_history.specs.Cycles.{Cycles}
 use Rattle.fr_promise.specs.Statement.{IsRunOf}
 use Rattle.fr_bound.specs.declared.judging.Heard.{Heard}
-use Rattle.fr_sharp.specs.Among.{apart_by, spread_by}
+use Rattle.fr_sharp.specs.Among.{apart_through_losses, spread_through_losses}
 use Rattle.fr_sharp.specs.LossCosts.{limits_hold}
-use Rattle.fr_sharp.specs.LossStatement.{apart_in, whole_in, IsCoveredThroughLosses}
+use Rattle.fr_sharp.specs.LossStatement.{run_apart, whole_in, IsCoveredThroughLosses}
 use Rattle.fr_sharp.specs.Traffic.{all_trusted, heard_in, traffic_in}
 use Rattle.fr_bound.specs.SharpChecks.{sharp_holds_of}
 use Rattle.fr_sharp.specs.SharpHistories.{IsInSharpSyncAt, KeepsApart}
@@ -66,12 +66,12 @@ IsLastLost whole doubles (Some last) =
 pub record AreLosses (beside : Bool) (p : Values) (flutter : ℕ) (whole : ℕ → Bool) (what : ℕ → Heard) (trusted : ℕ → Bool) (doubles : ℕ) (losses : RunLosses) : Type 0 where
   pub count : losses.doubles ≡ lost_before whole doubles
   pub last : IsLastLost whole doubles losses.last
-  pub greatest : (k : ℕ) → k < doubles → apart_by beside p flutter what k ≤ losses.peak
+  pub greatest : (k : ℕ) → k < doubles → apart_through_losses beside p flutter what k ≤ losses.peak
   pub place : losses.place < doubles
-  pub reached : apart_by beside p flutter what losses.place ≡ losses.peak
-  pub first : (k : ℕ) → k < losses.place → apart_by beside p flutter what k < losses.peak
-  pub near : (k : ℕ) → k < doubles → sharply_near_in p (spread_by beside p flutter what k) ≤ losses.reach
-  pub least : (reach : ℕ) → ((k : ℕ) → k < doubles → sharply_near_in p (spread_by beside p flutter what k) ≤ reach) → losses.reach ≤ reach
+  pub reached : apart_through_losses beside p flutter what losses.place ≡ losses.peak
+  pub first : (k : ℕ) → k < losses.place → apart_through_losses beside p flutter what k < losses.peak
+  pub near : (k : ℕ) → k < doubles → sharply_near_in p (spread_through_losses beside p flutter what k) ≤ losses.reach
+  pub least : (reach : ℕ) → ((k : ℕ) → k < doubles → sharply_near_in p (spread_through_losses beside p flutter what k) ≤ reach) → losses.reach ≤ reach
   pub always_trusted : losses.trusted ≡ true → (k : ℕ) → k < doubles → trusted k ≡ true
   pub all_are_trusted : ((k : ℕ) → k < doubles → trusted k ≡ true) → losses.trusted ≡ true
 
@@ -93,7 +93,7 @@ next_losses heard trusted double apart near was = record {
 unfoldable pub losses_by : Bool → Values → ℕ → (ℕ → Bool) → (ℕ → Heard) → (ℕ → Bool) → ℕ → RunLosses
 losses_by beside p flutter whole what trusted zero = no_losses
 losses_by beside p flutter whole what trusted (suc k) =
-    next_losses (whole k) (trusted k) k (apart_by beside p flutter what k) (sharply_near_in p (spread_by beside p flutter what k))
+    next_losses (whole k) (trusted k) k (apart_through_losses beside p flutter what k) (sharply_near_in p (spread_through_losses beside p flutter what k))
     (losses_by beside p flutter whole what trusted k)
 
 -- what the run of some parameters, a drift and a script loses, where its delays flutter by so many ticks
@@ -149,5 +149,5 @@ RunsKeepTheirBounds =
     (p : Values) (d : DriftView) (s : ScriptView) (flutter : ℕ) (h : Cycles) (double passed : ℕ)
     → IsSane p → IsCoveredThroughLosses p d s flutter (losses_of p d s flutter).reach → IsRunOf (setting_of p d s) h
     → IsInSharpSyncAt (has_arbitrary p s) p flutter (pos 0) h double → double + passed < doubles_of d → WalkLastsAfter p flutter passed
-    → KeepsApart (setting_of p d s) h (double + passed) (apart_in p s flutter (double + passed))
+    → KeepsApart (setting_of p d s) h (double + passed) (run_apart p s flutter (double + passed))
     × KeepsApart (setting_of p d s) h (double + passed) (losses_of p d s flutter).peak

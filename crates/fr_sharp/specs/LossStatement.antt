@@ -1,5 +1,5 @@
 -- What is promised of a run in which frames are lost, by its files. The words of it, from the top: `IsLawful` (what a run is),
--- `IsCoveredThroughLosses` (what is asked of the files), `apart_by` (by what is heard, `heard_in`), `IsInSharpSyncAt`, `walk_lasts`,
+-- `IsCoveredThroughLosses` (what is asked of the files), `apart_through_losses` (by what is heard, `heard_in`), `IsInSharpSyncAt`, `walk_lasts`,
 -- `KeepsApart`.
 use Rattle.std.specs.Prelude.{◌≡◌, ◌+◌, ◌<◌, ◌≤◌, ℕ, pos, Bool, true, false, not, ◌||◌, List, []}
 use Rattle.std.specs.List.{list_all}
@@ -18,7 +18,7 @@ use Rattle.fr_coverage.specs.Order.{HasNoGapOfRun}
 use Rattle.fr_history.specs.Cycles.{Cycles}
 use Rattle.fr_promise.specs.Statement.{IsRunOf}
 use Rattle.fr_bound.specs.declared.settling.Spread.{Spread}
-use Rattle.fr_sharp.specs.Among.{apart_by, spread_by}
+use Rattle.fr_sharp.specs.Among.{apart_through_losses, spread_through_losses}
 use Rattle.fr_sharp.specs.Losses.{IsLossyRun}
 use Rattle.fr_sharp.specs.Traffic.{all_trusted, heard_in, traffic_in}
 use Rattle.fr_bound.specs.SharpChecks.{SharpChecksHold}
@@ -36,18 +36,18 @@ abbrev pub whole_in : Values → ScriptView → ℕ → Bool
 whole_in p s double = list_all (λ a. list_all (λ b. not (is_link s a b) || is_carried s a b double) p.nodes) p.nodes
 
 -- how far starts and even lengths may lie apart in a double cycle by what was heard since the first, and how far macroticks, in ticks
-abbrev pub spread_in : Values → ScriptView → ℕ → ℕ → Spread
-spread_in p s flutter double = spread_by (has_arbitrary p s) p flutter (heard_in (traffic_in p s)) double
+abbrev pub run_spread : Values → ScriptView → ℕ → ℕ → Spread
+run_spread p s flutter double = spread_through_losses (has_arbitrary p s) p flutter (heard_in (traffic_in p s)) double
 
-abbrev pub apart_in : Values → ScriptView → ℕ → ℕ → ℕ
-apart_in p s flutter double = apart_by (has_arbitrary p s) p flutter (heard_in (traffic_in p s)) double
+abbrev pub run_apart : Values → ScriptView → ℕ → ℕ → ℕ
+run_apart p s flutter double = apart_through_losses (has_arbitrary p s) p flutter (heard_in (traffic_in p s)) double
 
 -- of the sharper checks those from 2 to 5 hold with a reach, in ticks, that takes in how far action points may lie apart in each double
 -- cycle, by what was heard; no correct node joins; the run would have no gap if nothing were lost; its delays flutter by no more than so
 -- many ticks; and in each double cycle each correct node has a value, and discards as many as there may be of arbitrary nodes
 pub record IsCoveredThroughLosses (p : Values) (d : DriftView) (s : ScriptView) (flutter reach : ℕ) : Type 0 where
   pub checks : SharpChecksHold flutter reach p
-  pub near : (double : ℕ) → double < doubles_of d → sharply_near_in p (spread_in p s flutter double) ≤ reach
+  pub near : (double : ℕ) → double < doubles_of d → sharply_near_in p (run_spread p s flutter double) ≤ reach
   pub none_joins : some_join p s ≡ false
   pub none : HasNoGapOfRun p d (without_losses s)
   pub flutters : flutter_of p d s ≤ flutter
@@ -66,7 +66,7 @@ abbrev pub KeepsThroughLosses : Values → DriftView → ScriptView → ℕ → 
 KeepsThroughLosses p d s flutter h double =
     (passed : ℕ) → double + passed < doubles_of d → WalkLastsAfter p flutter passed
     → KeepsApart (setting_of p d s) h (double + passed)
-    (apart_by (has_arbitrary p s) p flutter (λ m. heard_in (traffic_in p s) (double + m)) passed)
+    (apart_through_losses (has_arbitrary p s) p flutter (λ m. heard_in (traffic_in p s) (double + m)) passed)
 
 -- so it is of sane parameters, a drift and a script that are covered through losses, from each double cycle in sharp sync on
 abbrev pub CoveredFilesKeepThroughLosses : Type 0

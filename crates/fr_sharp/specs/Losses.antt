@@ -16,7 +16,7 @@ use Rattle.fr_runs.specs.Links.{IsCarried, IsLinked}
 use Rattle.fr_runs.specs.Rounds.{IsDoubleOf}
 use Rattle.fr_midpoint.specs.Midpoint.{discarded}
 use Rattle.fr_measure.specs.Values.{offset_at, rate_at}
-use Rattle.fr_sharp.specs.Among.{apart_by, lost_spread, spread_by, ComputesOwn, HearInCommon}
+use Rattle.fr_sharp.specs.Among.{apart_through_losses, lost_spread, spread_through_losses, ComputesOwn, HearInCommon}
 use Rattle.fr_sharp.specs.Traffic.{all_trusted, heard_in, lists_meet, traffic_of}
 use Rattle.fr_sharp.specs.Hearing.{AreSteadyPairs, IsHeardInPart}
 use Rattle.fr_bound.specs.SharpBounds.{last_action, precision_by, sharp_precision}
@@ -45,8 +45,8 @@ pub record IsSuppliedInPart (r : Round) (flutter : ℕ) (n : Hearer) : Type 0 wh
   pub some_offsets : 1 ≤ length (offsets_of n)
   pub some_rates : 1 ≤ length (rates_of n)
 
--- a list has values of so many arbitrary nodes alone as it discards at each end
-pub record IsTrustedOf (r : Round) (at : ℕ → Option ℤ) (values : List ℤ) : Type 0 where
+-- of a list by key index: a value is of a sender, and at each end as many are discarded as there may be of arbitrary nodes
+pub record IsTrustedOf (r : Round) (at : ℕ → Option ℤ) : Type 0 where
   pub few : sync_count r.params r.is_arbitrary ≤ discarded (length (heard_of r at) + sync_count r.params r.is_arbitrary)
   pub some : 1 ≤ length (heard_of r at)
 
@@ -55,7 +55,7 @@ pub record IsRoundInPart (r : Round) (flutter : ℕ) (rows : List Hearer) : Type
   pub round : IsRound r
   pub trusted :
       (n : Hearer) → Contains rows n
-      → IsTrustedOf r (offset_at n.look n.own) (offsets_of n) × IsTrustedOf r (rate_at n.look n.own) (rates_of n)
+      → IsTrustedOf r (offset_at n.look n.own) × IsTrustedOf r (rate_at n.look n.own)
   pub supplied : (n : Hearer) → Contains rows n → IsSuppliedInPart r flutter n
   pub among :
       (node : NodeSpec) (slot : ℕ) → IsSender r node slot
@@ -119,10 +119,10 @@ HistoriesKeepThroughLosses =
     (beside : Bool) (x : Setting) (flutter : ℕ) (h : Cycles) (double reach : ℕ)
     → IsLossyRun beside x flutter h → SharpChecksHold flutter reach x.params
     → ((k : ℕ) → double + k < x.doubles
-    → sharply_near_in x.params (spread_by beside x.params flutter (λ m. heard_in (traffic_of x) (double + m)) k) ≤ reach)
+    → sharply_near_in x.params (spread_through_losses beside x.params flutter (λ m. heard_in (traffic_of x) (double + m)) k) ≤ reach)
     → IsInSharpSyncAt beside x.params flutter (pos 0) h double
     → (passed : ℕ) → double + passed < x.doubles → WalkLastsAfter x.params flutter passed
-    → KeepsApart x h (double + passed) (apart_by beside x.params flutter (λ m. heard_in (traffic_of x) (double + m)) passed)
+    → KeepsApart x h (double + passed) (apart_through_losses beside x.params flutter (λ m. heard_in (traffic_of x) (double + m)) passed)
 
 -- where all was heard in the two double cycles before one and is heard in it, that is the sharper precision again
 abbrev pub SharpAfterTwoWhole : Type 0

@@ -37,10 +37,8 @@ traffic_in p s = traffic_with p.nodes s
 
 -- certainly nothing comes of a frame
 abbrev pub is_silent : Event → Bool
-is_silent event.Regular = false
 is_silent event.Silent = true
-is_silent (event.Flip bit) = false
-is_silent (event.Say shift bytes) = false
+is_silent other = false
 
 -- the frame of a cycle comes; or something may come of it
 abbrev pub comes : Bool → Event → Bool
@@ -68,12 +66,12 @@ has_value rate surely t double b a =
 -- ---- one receiver
 
 -- a correct node with a key slot
-abbrev pub sends : Traffic → NodeSpec → Bool
-sends t a = is_sync a && not (t.is_arbitrary a.id)
+abbrev pub is_correct_sender : Traffic → NodeSpec → Bool
+is_correct_sender t a = is_sync a && not (t.is_arbitrary a.id)
 
 -- how many of them pass a test, and how many arbitrary sync nodes there are
 abbrev pub sender_count : Traffic → (NodeSpec → Bool) → ℕ
-sender_count t test = count_by (λ a. sends t a && test a) t.nodes
+sender_count t test = count_by (λ a. is_correct_sender t a && test a) t.nodes
 
 abbrev pub arbitrary_count : Traffic → ℕ
 arbitrary_count t = count_by (λ a. is_sync a && t.is_arbitrary a.id) t.nodes
@@ -122,13 +120,13 @@ lists_meet rate t double =
     nat_lt ((costs_of rate t double t.nodes).most + (costs_of rate t double t.nodes).second) (sender_count t (λ a. true))
 
 -- all is heard: of any two nodes one channel carries the frames of both cycles
-abbrev pub is_linked : Traffic → NodeSpec → NodeSpec → Bool
-is_linked t a b = is_sync a && not (t.is_arbitrary a.id) && not (t.is_arbitrary b.id) && not (a.id == b.id)
+abbrev pub bears_on : Traffic → NodeSpec → NodeSpec → Bool
+bears_on t a b = is_sync a && not (t.is_arbitrary a.id) && not (t.is_arbitrary b.id) && not (a.id == b.id)
 
 abbrev pub all_linked : Traffic → ℕ → Bool
 all_linked t double =
     list_all
-    (λ a. list_all (λ b. not (is_linked t a b) || (rate_on true t a b double channel.A || rate_on true t a b double channel.B)) t.nodes)
+    (λ a. list_all (λ b. not (bears_on t a b) || (rate_on true t a b double channel.A || rate_on true t a b double channel.B)) t.nodes)
     t.nodes
 
 -- what is heard in a double cycle: all of all, without arbitrary sync nodes; of any two nodes enough in common; or what there is

@@ -1,5 +1,7 @@
--- The files of a worked run in which every frame of one cycle is lost, and what they promise.
-use Rattle.std.specs.Prelude.{◌≡◌, ℕ, pos, true, false, [], ◌∷◌, replicate, Option, None}
+-- The files of worked runs in which frames are lost, and what they promise: every frame of one cycle, or one frame at one node; and of
+-- one beside an arbitrary node.
+use Rattle.std.specs.Prelude.{◌≡◌, ◌<◌, ℕ, pos, true, false, [], ◌∷◌, replicate, Option, None}
+use Rattle.fr_bound.specs.declared.judging.Heard.TheVariants as heard
 use Rattle.fr_cluster.specs.declared.join.Join.{Join}
 use Rattle.fr_coverage.specs.Decided.{setting_of}
 use Rattle.fr_history.specs.Cycles.{Cycles}
@@ -11,7 +13,8 @@ use Rattle.fr_script.specs.declared.deeds.Deed.TheVariants as deed
 use Rattle.fr_script.specs.declared.deeds.Passage.{Passage}
 use Rattle.fr_sharp.specs.LossStatement.{whole_in, IsCoveredThroughLosses}
 use Rattle.fr_sharp.specs.SharpHistories.{IsInSharpSyncAt, KeepsApart}
-use Rattle.fr_sharp.specs.WorkedFiles.{fluttering_drift}
+use Rattle.fr_sharp.specs.Traffic.{heard_in, traffic_in}
+use Rattle.fr_sharp.specs.WorkedFiles.{fluttering_drift, marking_script}
 use Rattle.fr_sharp.specs.WorkedRun.{steady_cluster}
 
 abbrev pub lost_at : ℕ → ℕ → Passage × Deed
@@ -44,3 +47,45 @@ LosingFilesKeep =
     × KeepsApart (setting_of steady_cluster fluttering_drift losing_script) h 0 36_005_494
     × KeepsApart (setting_of steady_cluster fluttering_drift losing_script) h 1 48_007_094
     × KeepsApart (setting_of steady_cluster fluttering_drift losing_script) h 2 75_011_786
+
+-- ---- one frame at one node
+
+-- the frame of cycle 2 from node 2 to node 1
+abbrev pub missing_script : ScriptView
+missing_script = record {
+  arbitrary = replicate 65 false;
+  joins = let none : Option Join = None in replicate 65 none;
+  on_a = lost_at 2 1 ∷ [];
+  on_b = [];
+}
+
+-- in double cycle 1 lists meet; and the files are covered through losses, with a reach of 45,726,402 ticks
+abbrev pub MissingFilesAreCovered : Type 0
+MissingFilesAreCovered =
+    (heard_in (traffic_in steady_cluster missing_script) 0 ≡ heard.Clean) × (heard_in (traffic_in steady_cluster missing_script) 1 ≡ heard.Meeting)
+    × (heard_in (traffic_in steady_cluster missing_script) 2 ≡ heard.Clean)
+    × IsCoveredThroughLosses steady_cluster fluttering_drift missing_script 250 45_726_402
+
+-- no macroticks lie further apart than 36,005,494 ticks in double cycle 0 and in the one that loses the frame, and 57,008,790 in the one
+-- behind it, where it is 75,011,786 if every frame is lost
+abbrev pub MissingFilesKeep : Type 0
+MissingFilesKeep =
+    (h : Cycles) → IsRunOf (setting_of steady_cluster fluttering_drift missing_script) h
+    → IsInSharpSyncAt false steady_cluster 250 (pos 0) h 0
+    × KeepsApart (setting_of steady_cluster fluttering_drift missing_script) h 0 36_005_494
+    × KeepsApart (setting_of steady_cluster fluttering_drift missing_script) h 1 36_005_494
+    × KeepsApart (setting_of steady_cluster fluttering_drift missing_script) h 2 57_008_790
+
+-- ---- beside an arbitrary node
+
+-- in each double cycle lists meet; the files are covered through losses, with a reach of 84,305,863 ticks; and no macroticks lie further
+-- apart than 99,015,680 ticks
+abbrev pub BesideFilesAreCovered : Type 0
+BesideFilesAreCovered =
+    ((double : ℕ) → double < 3 → heard_in (traffic_in steady_cluster (marking_script true)) double ≡ heard.Meeting)
+    × IsCoveredThroughLosses steady_cluster fluttering_drift (marking_script true) 250 84_305_863
+
+abbrev pub BesideFilesKeep : Type 0
+BesideFilesKeep =
+    (h : Cycles) → IsRunOf (setting_of steady_cluster fluttering_drift (marking_script true)) h
+    → (double : ℕ) → double < 3 → KeepsApart (setting_of steady_cluster fluttering_drift (marking_script true)) h double 99_015_680

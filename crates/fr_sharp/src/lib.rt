@@ -38,6 +38,7 @@ mod loss_costs;
 mod loss_steps;
 mod losses_of_runs;
 mod lossy_files;
+mod meeting_files;
 mod nearness;
 mod reached_run;
 mod runs_flutter;
@@ -92,6 +93,7 @@ pub use loss_costs::{
 pub use loss_steps::LossSpread;
 pub use losses_of_runs::{RunLosses, losses_are_told, run_losses};
 pub use lossy_files::{files_keep_through_losses, files_that_lose_frames, lossy_files_give_runs};
+pub use meeting_files::files_whose_lists_meet;
 pub use nearness::nodes_lie_near;
 pub use reached_run::the_sharper_precision_is_reached;
 pub use runs_flutter::stated_delays_flutter;

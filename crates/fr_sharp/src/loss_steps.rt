@@ -4,7 +4,7 @@ ghost use Rattle.fr_cluster.specs.Values.{amount};
 ghost use Rattle.fr_cluster.specs.declared.names.ParamName.TheVariants as name;
 ghost use Rattle.fr_bound.specs.Judged.{heard_spread};
 ghost use Rattle.fr_bound.specs.declared.judging.Heard.{Heard};
-ghost use Rattle.fr_sharp.specs.Among.{spread_by};
+ghost use Rattle.fr_sharp.specs.Among.{spread_through_losses};
 ghost use Rattle.fr_sharp.specs.LossSteps.{LossDouble, IsReckoned, heard_apart, most_lost, most_passed, spread_with};
 ghost use Rattle.fr_bound.specs.SharpBounds.{last_action, most_flutter, odd_spread, precision_by, steady_error};
 ghost use Rattle.fr_bound.specs.SharpSpreads.{sharply_near_in};
@@ -38,7 +38,7 @@ impl LossSpread {
     /// many ticks, 0 to 1,000,000,000.
     pub fn first(params: &Params, beside: bool, flutter: u64) -> LossSpread
         requires { flutter ≤ most_flutter }
-        ensures spread { (what : ℕ → Heard) → result.spread ≡ spread_by beside params.now flutter what 0 }
+        ensures spread { (what : ℕ → Heard) → result.spread ≡ spread_through_losses beside params.now flutter what 0 }
         ensures passed { result.passed ≡ 0 }
     {
         LossSpread {

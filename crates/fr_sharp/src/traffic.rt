@@ -7,7 +7,7 @@ ghost use Rattle.fr_script.specs.View.{is_arbitrary};
 ghost use Rattle.fr_coverage.specs.Links.{is_sync};
 ghost use Rattle.fr_midpoint.specs.Midpoint.{discarded};
 ghost use Rattle.fr_sharp.specs.LossStatement.{whole_in};
-ghost use Rattle.fr_sharp.specs.Traffic.{all_linked, all_trusted, arbitrary_count, comes, costs_of, has_value, heard_in, is_trusted, lists_meet, missed_or_discarded, sender_count, sends, traffic_in, traffic_with, trusts, value_on, with_cost};
+ghost use Rattle.fr_sharp.specs.Traffic.{all_linked, all_trusted, arbitrary_count, comes, costs_of, has_value, heard_in, is_trusted, lists_meet, missed_or_discarded, sender_count, is_correct_sender, traffic_in, traffic_with, trusts, value_on, with_cost};
 
 use crate::arbitrary::is_arbitrary_sync;
 use fr_base::Channel;
@@ -145,7 +145,7 @@ fn is_enough(sure: u64, arbitrary: u64) -> bool
 fn hears_some(nodes: &NodeList, script: &Script, asked: Asked, receiver: &NodeSpec) -> bool
     requires { asked.double ≤ 100_000 }
     ensures { result ≡ list_any
-        (λ a. sends (traffic_with nodes.now script.now) a
+        (λ a. is_correct_sender (traffic_with nodes.now script.now) a
         && has_value asked.rate asked.surely (traffic_with nodes.now script.now) asked.double receiver.now a)
         nodes.now }
 {
@@ -207,7 +207,8 @@ fn costs_with(
     requires second { costs.second ≤ 100 }
     ensures value { result ≡
         (if is_arbitrary script.now node.now.id then costs
-        else with_cost (missed_or_discarded asked.rate (traffic_with nodes.now script.now) asked.double node.now) costs) }
+        else with_cost
+        (missed_or_discarded asked.rate (traffic_with nodes.now script.now) asked.double node.now) costs) }
     ensures most { result.most ≤ 100 }
     ensures second { result.second ≤ 100 }
 {
@@ -264,8 +265,8 @@ fn cost_of(nodes: &NodeList, script: &Script, asked: Asked, node: &NodeSpec) -> 
 // Of how many correct nodes with a key slot a receiver has no value, by that of those of whom it has one.
 fn missed(nodes: &NodeList, script: &Script, heard: u64) -> u64
     requires few { length nodes.now ≤ 64 }
-    requires heard { heard ≤ count_by (sends (traffic_with nodes.now script.now)) nodes.now }
-    ensures value { result + heard ≡ count_by (sends (traffic_with nodes.now script.now)) nodes.now }
+    requires heard { heard ≤ count_by (is_correct_sender (traffic_with nodes.now script.now)) nodes.now }
+    ensures value { result + heard ≡ count_by (is_correct_sender (traffic_with nodes.now script.now)) nodes.now }
     ensures most { result ≤ 64 }
 {
     senders(nodes, script) - heard
@@ -295,14 +296,14 @@ fn counted(nodes: &NodeList, script: &Script, asked: Asked, receiver: &NodeSpec)
 
 fn senders(nodes: &NodeList, script: &Script) -> u64
     requires { length nodes.now ≤ 64 }
-    ensures value { result ≡ count_by (sends (traffic_with nodes.now script.now)) nodes.now }
+    ensures value { result ≡ count_by (is_correct_sender (traffic_with nodes.now script.now)) nodes.now }
     ensures most { result ≤ 64 }
 {
     let mut count = 0;
     for place in 0..nodes.len() {
         match nodes.get(place) {
             Some(node) => {
-                if sends(script, node) {
+                if is_correct_sender(script, node) {
                     count += 1;
                 }
             }
@@ -331,7 +332,7 @@ fn arbitrary_count(nodes: &NodeList, script: &Script) -> u64
     count
 }
 
-fn sends(script: &Script, node: &NodeSpec) -> bool
+fn is_correct_sender(script: &Script, node: &NodeSpec) -> bool
     ensures { result ≡ (is_sync node.now && not (is_arbitrary script.now node.now.id)) }
 {
     node.key.is_some() && !script.arbitrary(node.id)
@@ -340,10 +341,10 @@ fn sends(script: &Script, node: &NodeSpec) -> bool
 // A sender of whom a receiver has such a value.
 fn is_heard(script: &Script, asked: Asked, receiver: &NodeSpec, sender: &NodeSpec) -> bool
     requires { asked.double ≤ 100_000 }
-    ensures { (nodes : List NodeSpec) → result ≡ (sends (traffic_with nodes script.now) sender.now
+    ensures { (nodes : List NodeSpec) → result ≡ (is_correct_sender (traffic_with nodes script.now) sender.now
         && has_value asked.rate asked.surely (traffic_with nodes script.now) asked.double receiver.now sender.now) }
 {
-    sends(script, sender) && has_value(script, asked, receiver, sender)
+    is_correct_sender(script, sender) && has_value(script, asked, receiver, sender)
 }
 
 fn has_value(script: &Script, asked: Asked, receiver: &NodeSpec, sender: &NodeSpec) -> bool
@@ -358,8 +359,10 @@ fn has_value(script: &Script, asked: Asked, receiver: &NodeSpec, sender: &NodeSp
 fn comes_over(script: &Script, asked: Asked, receiver: &NodeSpec, sender: &NodeSpec) -> bool
     requires { asked.double ≤ 100_000 }
     ensures { (nodes : List NodeSpec) → result ≡
-        (value_on asked.rate asked.surely (traffic_with nodes script.now) sender.now receiver.now asked.double channel.A
-        || value_on asked.rate asked.surely (traffic_with nodes script.now) sender.now receiver.now asked.double channel.B) }
+        (value_on asked.rate asked.surely (traffic_with nodes script.now) sender.now receiver.now asked.double
+        channel.A
+        || value_on asked.rate asked.surely (traffic_with nodes script.now) sender.now receiver.now asked.double
+        channel.B) }
 {
     value_on(script, asked, sender, receiver, Channel::A)
         || value_on(script, asked, sender, receiver, Channel::B)

@@ -2,7 +2,7 @@ use Rattle.std.proofs.Common.{◌≡◌, ◌∙◌, ℕ, Bool, Option, ap, ap₂
 use Rattle.fr_cluster.specs.Values.{Values}
 use Rattle.fr_script.specs.View.{ScriptView}
 use Rattle.fr_bound.specs.declared.judging.Heard.{Heard}
-use Rattle.fr_sharp.specs.Among.{apart_by}
+use Rattle.fr_sharp.specs.Among.{apart_through_losses}
 use Rattle.fr_sharp.specs.LossStatement.{whole_in}
 use Rattle.fr_sharp.specs.SharpStatement.{has_arbitrary}
 use Rattle.fr_sharp.specs.Traffic.{heard_in, traffic_in}
@@ -22,7 +22,7 @@ returns-clause-kept c =
     let n : ℕ = c.args.double in
     let what : ℕ → Heard = λ m. heard_in (traffic_in p s) m in
     let hears : Heard = c.heard_in-heard.result in
-    let apart : c.apart-apart.result ≡ apart_by (has_arbitrary p s) p b.flutter what n =
+    let apart : c.apart-apart.result ≡ apart_through_losses (has_arbitrary p s) p b.flutter what n =
     apart_on (has_arbitrary p s) p b.flutter what n hears c.args.spread.now.spread c.apart-apart.result c.heard_in-heard.ensures c.requires.spread c.apart-apart.ensures.value in
     let bound = c.bound_of.ensures ∙ ap (bound_of b.through) apart in
     ap₂ (λ (w : Bool) (h : Heard). kept_with w h c.bound_of.result) c.is_whole-whole.ensures c.heard_in-heard.ensures ∙ ap (kept_with (whole_in p s n) (what n)) bound

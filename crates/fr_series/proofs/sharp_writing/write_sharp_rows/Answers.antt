@@ -7,7 +7,7 @@ use Rattle.fr_time.specs.Position.{grid_for}
 use Rattle.fr_world.specs.World.{WorldView, setting_after}
 use Rattle.fr_cluster.specs.Values.{Values}
 use Rattle.fr_script.specs.View.{ScriptView}
-use Rattle.fr_sharp.specs.Among.{spread_by}
+use Rattle.fr_sharp.specs.Among.{spread_through_losses}
 use Rattle.fr_bound.specs.declared.settling.Spread.{Spread}
 use Rattle.fr_sharp.specs.SharpStatement.{has_arbitrary}
 use Rattle.fr_sharp.specs.Traffic.{heard_in, traffic_in}
@@ -24,7 +24,7 @@ use Rattle.fr_series.proofs.Worlds.{two-more}
 use Rattle.fr_series.proofs.sharp_writing.write_sharp_rows.Goals as goal
 
 abbrev spread_at : ℕ → ℕ → Values → ScriptView → Spread
-spread_at flutter n p s = spread_by (has_arbitrary p s) p flutter (heard_in (traffic_in p s)) n
+spread_at flutter n p s = spread_through_losses (has_arbitrary p s) p flutter (heard_in (traffic_in p s)) n
 
 pub loop-double-init : goal.loop-double-init
 loop-double-init g c =
@@ -40,7 +40,7 @@ loop-double-init g c =
       text = subst P (sym (told-none (sharp_rows keeps beside w.params flutter) (sharp_double keeps beside w.params flutter) (sharp_grows keeps beside w.params flutter) (setting_after w))) (puts_none a);
       spread =
           c.first-spread.ensures.spread (heard_in (traffic_in w.params w.script))
-          ∙ ap₂ (λ (b : Bool) (p : Values). spread_by b p flutter (heard_in (traffic_in w.params w.script)) 0)
+          ∙ ap₂ (λ (b : Bool) (p : Values). spread_through_losses b p flutter (heard_in (traffic_in w.params w.script)) 0)
           (c.has_arbitrary-beside.ensures ∙ ap₂ has_arbitrary c.params.ensures.value c.script.ensures.value) c.params-2.ensures.value;
       passed = c.first-spread.ensures.passed;
     }
@@ -52,7 +52,7 @@ loop-double-preserved g c =
     let inv = c.loop-double.invariant in
     let n = c.loop-double.double in
     let here : c.params-in-loop-double.result.now ≡ w.params = c.params-in-loop-double.ensures.value ∙ ap (λ (v : WorldView). v.params) inv.ran in
-    let there : c.script.result.now ≡ w.script = c.script.ensures.value ∙ ap (λ (v : WorldView). v.script) inv.ran in
+    let there : c.script-in-loop-double.result.now ≡ w.script = c.script-in-loop-double.ensures.value ∙ ap (λ (v : WorldView). v.script) inv.ran in
     let kept : c.next_kept-kept.result ≡ kept_by w.params w.script b n = c.next_kept-kept.ensures.kept ∙ ap₂ (λ (p : Values) (s : ScriptView). kept_by p s b n) here there in
     let P : List ℕ → Type 0 = λ l. Puts (Ok tt) (g.O.Sink.state c.args.out.now) (g.O.Sink.state c.write_sharp_double.new.out) l in
     record {
@@ -70,7 +70,7 @@ returns-in_err-write_sharp_double-clause-text g c =
     let inv = c.loop-double.invariant in
     let n = c.loop-double.double in
     let here : c.params-in-loop-double.result.now ≡ w.params = c.params-in-loop-double.ensures.value ∙ ap (λ (v : WorldView). v.params) inv.ran in
-    let there : c.script.result.now ≡ w.script = c.script.ensures.value ∙ ap (λ (v : WorldView). v.script) inv.ran in
+    let there : c.script-in-loop-double.result.now ≡ w.script = c.script-in-loop-double.ensures.value ∙ ap (λ (v : WorldView). v.script) inv.ran in
     let kept : c.next_kept-kept.result ≡ kept_by w.params w.script b n = c.next_kept-kept.ensures.kept ∙ ap₂ (λ (p : Values) (s : ScriptView). kept_by p s b n) here there in
     let doubles : c.doubles-doubles.result ≡ doubles_of w.drift = c.doubles-doubles.ensures.value ∙ ap doubles_of c.drift.ensures.value in
     let le : n + 1 ≤ doubles_of w.drift = omega (arith, doubles) in
@@ -87,7 +87,7 @@ returns-in_err-write_sharp_double-clause-ran g c =
     let inv = c.loop-double.invariant in
     let n = c.loop-double.double in
     let here : c.params-in-loop-double.result.now ≡ w.params = c.params-in-loop-double.ensures.value ∙ ap (λ (v : WorldView). v.params) inv.ran in
-    let there : c.script.result.now ≡ w.script = c.script.ensures.value ∙ ap (λ (v : WorldView). v.script) inv.ran in
+    let there : c.script-in-loop-double.result.now ≡ w.script = c.script-in-loop-double.ensures.value ∙ ap (λ (v : WorldView). v.script) inv.ran in
     let kept : c.next_kept-kept.result ≡ kept_by w.params w.script b n = c.next_kept-kept.ensures.kept ∙ ap₂ (λ (p : Values) (s : ScriptView). kept_by p s b n) here there in
     let doubles : c.doubles-doubles.result ≡ doubles_of w.drift = c.doubles-doubles.ensures.value ∙ ap doubles_of c.drift.ensures.value in
     let below : n < doubles_of w.drift = omega (arith, doubles) in
@@ -159,5 +159,5 @@ next_kept-kept-requires-clause-spread g c =
     let inv = c.loop-double.invariant in
     let n = c.loop-double.double in
     let here : c.params-in-loop-double.result.now ≡ w.params = c.params-in-loop-double.ensures.value ∙ ap (λ (v : WorldView). v.params) inv.ran in
-    let there : c.script.result.now ≡ w.script = c.script.ensures.value ∙ ap (λ (v : WorldView). v.script) inv.ran in
+    let there : c.script-in-loop-double.result.now ≡ w.script = c.script-in-loop-double.ensures.value ∙ ap (λ (v : WorldView). v.script) inv.ran in
     inv.spread ∙ sym (ap₂ (spread_at b.flutter n) here there)

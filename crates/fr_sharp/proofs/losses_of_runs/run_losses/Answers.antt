@@ -5,7 +5,7 @@ use Rattle.fr_script.specs.View.{ScriptView}
 use Rattle.fr_sharp.specs.LossRuns.{losses_by}
 use Rattle.fr_sharp.specs.LossStatement.{whole_in}
 use Rattle.fr_sharp.specs.LossSteps.{most_lost}
-use Rattle.fr_sharp.specs.Among.{spread_by}
+use Rattle.fr_sharp.specs.Among.{spread_through_losses}
 use Rattle.fr_sharp.specs.SharpStatement.{has_arbitrary}
 use Rattle.fr_sharp.specs.Traffic.{all_trusted, heard_in, traffic_in}
 use Rattle.fr_sharp.specs.declared.losses_of_runs.RunLosses.{RunLosses}
@@ -20,7 +20,7 @@ loop-double-init c =
     record {
       spread =
           c.first-spread.ensures.spread (heard_in (traffic_in c.args.params.now c.args.script.now))
-          ∙ ap (λ (b : Bool). spread_by b c.args.params.now c.args.flutter (heard_in (traffic_in c.args.params.now c.args.script.now)) 0) c.has_arbitrary.ensures;
+          ∙ ap (λ (b : Bool). spread_through_losses b c.args.params.now c.args.flutter (heard_in (traffic_in c.args.params.now c.args.script.now)) 0) c.has_arbitrary.ensures;
       passed = c.first-spread.ensures.passed;
       losses = c.none-losses.ensures;
       few = omega (arith, none);

@@ -1,12 +1,12 @@
 use Rattle.std.proofs.Common.{◌≡◌, ◌≤◌, ◌+◌, true, arith, ap₂, sym, ◌∙◌}
-use Rattle.fr_sharp.specs.Traffic.{has_value, sends, traffic_with}
+use Rattle.fr_sharp.specs.Traffic.{has_value, is_correct_sender, traffic_with}
 use Rattle.fr_sharp.proofs.TrafficCounts.{cost_is, no_more}
 use Rattle.fr_sharp.proofs.traffic.cost_of.Goals as goal
 
 pub missed-requires-clause-heard : goal.missed-requires-clause-heard
 missed-requires-clause-heard c =
     let t = traffic_with c.args.nodes.now c.args.script.now in
-    let le = no_more (sends t) (has_value c.args.asked.rate true t c.args.asked.double c.args.node.now) t.nodes in
+    let le = no_more (is_correct_sender t) (has_value c.args.asked.rate true t c.args.asked.double c.args.node.now) t.nodes in
     let is = c.counted-sure.ensures.value in
     omega (arith, le, is)
 
