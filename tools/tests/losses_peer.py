@@ -1,7 +1,7 @@
 """Random runs in which frames are lost, and what docs/PRECISION.md, "Where frames are lost", says of each double cycle, reckoned by
 plain Python and whole numbers from the files alone: `bench/losses` and `test_losses` hold it against the skew of every cycle.
 
-A run is of production shape, but that macroticks may be longer: a cycle of 5 ms at a microtick of 25 ns, 2 to 8 correct nodes with a key
+A run is of production shape, but that macroticks may be longer: a cycle of 5 ms at a microtick of 25 ns, 2 to 10 correct nodes with a key
 slot that begin near each other, delays around the compensation, frames that are lost or damaged in some double cycles, and up to two
 arbitrary nodes that are early for some and late for others, or say anything.
 """
