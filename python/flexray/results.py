@@ -198,16 +198,17 @@ class SharpReport:
 
 class SeriesCycle(NamedTuple):
     """A cycle of a series: whether its double cycle is in sync, and its greatest skew, which is 0 at macrotick 0 where no node
-    runs. `sharp` is whether it is in sharp sync; `heard` whether from each sync node to each other node one channel carries those of
-    both cycles; `bound` its number in ticks where the run is covered through losses: in the double cycles that are promised no skew is
-    above it, before the first one in sharp sync it may be. None in a series that was not asked for them."""
+    runs. `sharp` is whether it is in sharp sync; `heard` is `all` if from each sync node to each other node one channel carries those of
+    both cycles, `most` if lists meet all the same, else `any`; `bound` its number in ticks where the run is covered through losses: in
+    the double cycles that are promised no skew is above it, before the first one in sharp sync it may be. None in a series that was not
+    asked for them."""
 
     cycle: int
     in_sync: bool
     skew: int
     macrotick: int
     sharp: bool | None = None
-    heard: bool | None = None
+    heard: str | None = None
     bound: int | None = None
 
 
@@ -218,12 +219,12 @@ class SeriesCycles(Sequence[SeriesCycle]):
     __slots__ = ("in_sync", "skews", "macroticks", "sharp", "heard", "bounds")
 
     def __init__(self, in_sync: tuple[bool, ...], skews: tuple[int, ...], macroticks: tuple[int, ...],
-                 sharp: tuple[bool, ...] = (), heard: tuple[bool, ...] = (), bounds: tuple[int | None, ...] = ()) -> None:
+                 sharp: tuple[bool, ...] = (), heard: tuple[str, ...] = (), bounds: tuple[int | None, ...] = ()) -> None:
         self.in_sync, self.skews, self.macroticks = in_sync, skews, macroticks
         self.sharp, self.heard, self.bounds = sharp, heard, bounds
 
     @property
-    def columns(self) -> tuple[tuple[bool, ...], tuple[int, ...], tuple[int, ...], tuple[bool, ...], tuple[bool, ...],
+    def columns(self) -> tuple[tuple[bool, ...], tuple[int, ...], tuple[int, ...], tuple[bool, ...], tuple[str, ...],
                                tuple[int | None, ...]]:
         return self.in_sync, self.skews, self.macroticks, self.sharp, self.heard, self.bounds
 

@@ -182,7 +182,7 @@ def series(text: str) -> Series:
     return Series(text, cycles, *_ends(lines, ""))
 
 
-TRUTHS, HEARD = frozenset(("yes", "no")), frozenset(("all", "any"))
+TRUTHS, HEARD = frozenset(("yes", "no")), frozenset(("all", "most", "any"))
 
 
 def _cycles(text: str, head: str, width: int) -> tuple[SeriesCycles, _Lines]:
@@ -210,8 +210,7 @@ def _cycles(text: str, head: str, width: int) -> tuple[SeriesCycles, _Lines]:
     if not unbound:
         ticks = tuple(map(int, bounds))
     return (SeriesCycles(tuple([word == "yes" for word in in_sync]), tuple(map(int, skews)), tuple(map(int, macroticks)),
-                         tuple([word == "yes" for word in sharp]), tuple([word == "all" for word in heard]),
-                         ticks), _Lines(text[end:]))
+                         tuple([word == "yes" for word in sharp]), tuple(heard), ticks), _Lines(text[end:]))
 
 
 @functools.lru_cache(maxsize=1)
@@ -228,7 +227,7 @@ def _are_digits(column: list[str]) -> bool:
 
 def _strange_row(rows: str, width: int) -> str:
     """The first of these rows that has not its form."""
-    form = r"(\d+),(?:yes|no),\d+,\d+" + (r",(?:yes|no),(?:all|any),(?:-|\d+)" if width > 4 else "")
+    form = r"(\d+),(?:yes|no),\d+,\d+" + (r",(?:yes|no),(?:all|most|any),(?:-|\d+)" if width > 4 else "")
     lines = rows.split("\n")
     matches = (re.fullmatch(form, line, re.ASCII) for line in lines)
     return next((line for at, (line, found) in enumerate(zip(lines, matches)) if not found or found[1] != str(at)), lines[-1])

@@ -1,23 +1,35 @@
 """Random runs in which frames are lost, and what docs/PRECISION.md, "Where frames are lost", says of each double cycle, reckoned by
 plain Python and whole numbers from the files alone: `bench/losses` and `test_losses` hold it against the skew of every cycle.
 
-A run is of production shape, but that macroticks may be longer: a cycle of 5 ms at a microtick of 25 ns, 2 to 8 nodes with a key slot
-that begin near each other, delays around the compensation, and frames that are lost or damaged in some double cycles.
+A run is of production shape, but that macroticks may be longer: a cycle of 5 ms at a microtick of 25 ns, 2 to 10 correct nodes with a key
+slot that begin near each other, delays around the compensation, frames that are lost or damaged in some double cycles, and up to two
+arbitrary nodes that are early for some and late for others, or say anything.
 """
+from typing import NamedTuple
+
 from clocks_peer import CHANGE, PRODUCTION
 from flexlab.program.forms import FORMS
 
 # The row of a script by which a bit of a frame is inverted on its way.
 DAMAGED = next(word for word, fields in FORMS["script"].kinds.items() if any(field.name == "BIT" for field in fields))
 MILLION = 1_000_000
-# What frames are lost in a double cycle with losses: of each frame on a channel the share, or all of them.
-KINDS = {"bursts": 1, "twentieths": 0.05, "halves": 0.5, "all": 1, "one": 0}
+# What frames are lost in a double cycle with losses: of each frame on a channel the share, or all of them; of one node at one other;
+# of a few nodes at each other one; or channel A's in the even cycle and channel B's in the odd one.
+KINDS = {"bursts": 1, "twentieths": 0.05, "halves": 0.5, "all": 1, "one": 0, "few": 0, "crossed": 0}
+# What is heard in a double cycle decides how its numbers go on.
+CLEAN, MEETING, POOR = "clean", "meeting", "poor"
+
+
+def discarded(count):
+    """How many of so many values a midpoint leaves out at each end."""
+    return 0 if count < 3 else 1 if count < 8 else 2
 
 
 class Numbers:
-    """Those of a cluster for a flutter, without arbitrary nodes: lambda, pi, the checks by a reach, the walk, and whether it is held."""
+    """Those of a cluster for a flutter, beside arbitrary nodes or without: lambda, pi, the checks by a reach, the walk, and whether it is
+    held."""
 
-    def __init__(self, values, last_slot, flutter):
+    def __init__(self, values, last_slot, flutter, beside=False):
         self.values, self.flutter = values, flutter
         v, bound = values, values["xRateBound"]
         self.longest, self.shortest = MILLION + bound, MILLION - bound
@@ -27,9 +39,12 @@ class Numbers:
         later = (v["pMicroPerCycle"] + v["pRateCorrectionOut"] + v["pOffsetCorrectionOut"] + 1) * change
         damping = v["pClusterDriftDamping"]
         value = flutter + self.longest - 1 + later
-        self.lengths = 2 * value + self.longest + 2 * damping * self.longest + 2 * self.change
-        self.starts = self.lengths + 2 * self.change + 2 * self.arrival + 3 * self.longest
-        self.precision = self.starts + 2 * self.lengths + 2 * self.change + 2 * self.longest
+        self.alone = 2 * value + self.longest + 2 * damping * self.longest + 2 * self.change
+        self.lengths, self.starts = self.alone, self.alone + 2 * self.change + 2 * self.arrival + 3 * self.longest
+        if beside:
+            self.lengths = 2 * self.alone
+            self.starts = 3 * self.lengths + 4 * self.change + 4 * self.arrival + 7 * self.longest
+        self.precision = self.apart(self.starts, self.lengths)
         self.action = (last_slot - 1) * v["gdStaticSlot"] + v["gdActionPointOffset"]
         walk = flutter + self.change + later - 1 + (self.longest if damping == 0 else -(damping - 1) * self.shortest)
         room = v["pRateCorrectionOut"] * self.shortest - 2 * v["pMicroPerCycle"] * bound
@@ -39,8 +54,14 @@ class Numbers:
 
     def behind(self, heard, starts, lengths):
         """Starts and lengths of the next double cycle."""
-        more = lengths + 2 * self.change + 2 * self.arrival + 3 * self.longest
-        return (more, self.lengths) if heard else (starts + lengths + more, lengths + self.lengths - self.longest)
+        odd = lengths + 2 * self.change
+        if heard == MEETING:
+            return (starts + lengths + 2 * odd + 4 * self.arrival + 7 * self.longest) // 2, (lengths + 2 * self.alone) // 2
+        more = odd + 2 * self.arrival + 3 * self.longest
+        return (more, self.alone) if heard == CLEAN else (starts + lengths + more, lengths + self.alone - self.longest)
+
+    def apart(self, starts, lengths):
+        return starts + 2 * lengths + 2 * self.change + 2 * self.longest
 
     def near(self, starts, lengths):
         return starts + lengths + self.action * (lengths + 2 * self.change) // self.values["gMacroPerCycle"] + self.longest
@@ -48,9 +69,9 @@ class Numbers:
     def by(self, heard):
         """The number of each double cycle by what is heard from the first one on, and the reach."""
         spread, apart, reach = (self.starts, self.lengths), [], 0
-        for is_heard in heard:
-            later = self.behind(is_heard, *spread)
-            apart.append(max(spread[0] + 2 * spread[1] + 2 * self.change + 2 * self.longest, later[0] + self.longest))
+        for what in heard:
+            later = self.behind(what, *spread)
+            apart.append(max(self.apart(*spread), later[0] + self.longest))
             reach, spread = max(reach, self.near(*spread)), later
         return apart, reach
 
@@ -68,10 +89,53 @@ class Numbers:
                 and front(v["gdStaticSlot"] - v["gdActionPointOffset"]) > macros * (late + v["pDelayCompensation"] * MILLION))
 
 
-class Run:
+class Heard(NamedTuple):
+    """What is heard in a double cycle: the word of its column, how its numbers go on, and whether each correct node trusts its lists."""
+    word: str
+    what: str
+    is_trusted: bool
+
+
+class Traffic:
+    """What becomes of the frames of correct nodes: of each node its key slot, if it has one, and its channels; which are arbitrary; and
+    the passages (cycle, sender, receiver, channel) that are lost, or come damaged."""
+
+    def __init__(self, nodes, arbitrary=(), lost=(), damaged=()):
+        self.nodes, self.arbitrary, self.lost, self.damaged = nodes, frozenset(arbitrary), set(lost), set(damaged)
+        self.receivers = [node for node in nodes if node not in self.arbitrary]
+        self.senders = [node for node in self.receivers if nodes[node][0]]
+
+    def has(self, surely, cycles, one, two):
+        """Whether a receiver has a value of a sender, surely or perhaps, from one channel in each of these cycles."""
+        gone = self.lost | self.damaged if surely else self.lost - self.damaged
+        return one == two or any(all((cycle, one, two, channel) not in gone for cycle in cycles)
+                                 for channel in "AB" if channel in self.nodes[one][1] and channel in self.nodes[two][1])
+
+    def counts(self, cycles):
+        """Of each receiver how many senders it surely has a value of, and of how many perhaps."""
+        return [[sum(self.has(surely, cycles, one, two) for one in self.senders) for surely in (True, False)] for two in self.receivers]
+
+    def heard(self, double):
+        """An offset value is of the odd cycle, a rate value of both."""
+        lists = [self.counts(cycles) for cycles in ((2 * double + 1,), (2 * double, 2 * double + 1))]
+        liars, senders = len(self.arbitrary), len(self.senders)
+        is_whole = all(sure == senders for sure, _ in lists[1])
+        meets = True
+        for counts in lists:
+            costs = sorted(senders - sure + discarded(perhaps + liars) for sure, perhaps in counts)
+            meets = meets and sum(costs[-2:]) < senders
+        return Heard("all" if is_whole else "most" if meets else "any", CLEAN if is_whole and not liars else MEETING if meets else POOR,
+                     all(sure and liars <= discarded(sure + liars) for counts in lists for sure, _ in counts))
+
+    def outweighs(self):
+        """Whether the correct senders are enough for the arbitrary ones."""
+        return dict(enumerate((1, 3, 6))).get(len(self.arbitrary), 1 << 64) <= len(self.senders)
+
+
+class Run(Traffic):
     """A random run; `kind` says what is lost."""
 
-    def __init__(self, draw, kind, most_doubles=12):
+    def __init__(self, draw, kind, most_doubles=12, liars=None):
         self.draw, self.kind = draw, kind
         compensation, error = draw.choice([(7, 5), (7, 5), (4, 2), (3, 1)])
         bound, change = draw.choice([(100, 0), (100, 1), (300, 0), (50, 0)])
@@ -83,17 +147,24 @@ class Run:
             "gdNIT": macros - slots * slot, "gOffsetCorrectionStart": macros - macros // 36, CHANGE: change,
             "pOffsetCorrectionOut": draw.choice([127, 127, 200, 300]), "pClusterDriftDamping": draw.choice([0, 1, 2, 2, 2, 4]),
             "pDelayCompensation": compensation, "xRateBound": bound, "xDelayError": error * MILLION}
-        self.doubles, count = draw.randrange(6, most_doubles + 1), draw.randrange(2, 9)
-        channels = draw.choice(["A", "AB", "AB", "mixed"])
+        if liars is None:
+            # Where all frames of a sender are lost, nobody trusts what is left beside an arbitrary node.
+            liars = draw.choice([0, 0, 0, 0, 0, 0, 1, 2] if KINDS[kind] > 0.1 else [0, 0, 1, 1, 1, 2])
+        self.doubles, count = draw.randrange(6, most_doubles + 1), draw.randrange(*((2, 9), (2, 9), (5, 11))[liars]) + liars
+        channels = draw.choice(["A", "AB", "AB", "mixed"]) if kind != "crossed" else draw.choice(["AB", "AB", "AB", "mixed"])
         slots = sorted(draw.sample(range(1, 20), count))
         # Of each node its key slot and its channels; all share channel A.
-        self.nodes = {node: (slots[node - 1] if node <= count else None, draw.choice(["A", "AB"]) if channels == "mixed" else channels)
-                      for node in range(1, count + 1 + (draw.random() < 0.3))}
-        self.links = [(one, two, channel) for one, (slot, _) in self.nodes.items() if slot for two in self.nodes if two != one
-                      for channel in "AB" if channel in self.nodes[one][1] and channel in self.nodes[two][1]]
-        self.flutter, self.lost = 0, set()
+        nodes = {node: (slots[node - 1] if node <= count else None, draw.choice(["A", "AB"]) if channels == "mixed" else channels)
+                 for node in range(1, count + 1 + (draw.random() < 0.3))}
+        super().__init__(nodes, draw.sample(range(1, count + 1), liars))
+        self.links = [link for one in self.senders for link in self.links_of(one)]
+        self.flutter = 0
         self.clocks(change)
         self.losses()
+
+    def links_of(self, one):
+        return [(one, two, channel) for two in self.receivers if two != one for channel in "AB"
+                if channel in self.nodes[one][1] and channel in self.nodes[two][1]]
 
     def params(self):
         return ("".join(f"param,{name},{value},,\n" for name, value in self.values.items())
@@ -104,7 +175,7 @@ class Run:
         draw, values, lines = self.draw, self.values, [f"doubles,{self.doubles},,,,\n"]
         bound, micros = values["xRateBound"], values["pMicroPerCycle"]
         apart, is_settled = draw.choice([1, 8, 40]) * MILLION, draw.random() < 0.7
-        for node in self.nodes:
+        for node in self.receivers:
             length = MILLION + draw.choice([-bound, bound, draw.randint(-bound, bound)])
             rate = -round(micros * (length - MILLION) / length) if is_settled else 0
             lines.append(f"start,{node},{draw.randrange(apart)},{rate},,\n")
@@ -124,18 +195,47 @@ class Run:
         self.drift = "".join(lines)
 
     def losses(self):
-        """The script: which frames are lost, or come damaged."""
-        draw, share = self.draw, KINDS[self.kind]
+        """The script: what arbitrary nodes say, and which frames are lost, or come damaged."""
+        draw = self.draw
         for double in self.with_losses():
-            links = [draw.choice(self.links)[:2]] if self.kind == "one" else {link[:2] for link in self.links}
-            cycles = draw.choice([(0,), (1,), (0, 1), (0, 1)])
-            self.lost |= {(2 * double + odd, one, two, channel) for one, two, channel in self.links if (one, two) in links for odd in cycles
-                          if share in (0, 1) or draw.random() < share}
+            self.lost |= set(self.lost_in(double))
         rows = sorted(self.lost)
-        damaged = {at for at in rows if draw.random() < 0.1}
-        self.script = "".join(
-            f"{DAMAGED},{cycle},{one},{two},{channel},{draw.randrange(64)},\n" if (cycle, one, two, channel) in damaged
+        share = draw.choice([0, 0.1, 0.1, 0.5])
+        self.damaged = {at for at in rows if draw.random() < share}
+        self.script = "".join(f"arbitrary,{node},,,,,\n" for node in sorted(self.arbitrary))
+        self.script += "".join(
+            f"{DAMAGED},{cycle},{one},{two},{channel},{draw.randrange(64)},\n" if (cycle, one, two, channel) in self.damaged
             else f"lose,{cycle},{one},{two},{channel},,\n" for cycle, one, two, channel in rows)
+        self.script += "".join(row for node in sorted(self.arbitrary) for row in self.said_by(node))
+
+    def lost_in(self, double):
+        """What is lost in a double cycle."""
+        draw, share = self.draw, KINDS[self.kind]
+        cycles = [2 * double + odd for odd in draw.choice([(0,), (1,), (0, 1), (0, 1)])]
+        if self.kind == "crossed":
+            pairs = [link[:2] for link in self.links if draw.random() < 0.2]
+            return [(2 * double + (channel == "B"), *pair, channel) for *pair, channel in self.links if tuple(pair) in pairs]
+        if self.kind == "one":
+            pairs = [draw.choice(self.links)[:2]] if self.links else []
+        elif self.kind == "few":
+            most, is_even = draw.choice([1, 1, 2, 2, 3]), draw.random() < 0.5
+            pairs = [(one, two) for two in self.receivers
+                     for one in draw.sample(self.senders, min(len(self.senders), most if is_even else draw.randint(0, most)))]
+        else:
+            pairs = [link[:2] for link in self.links]
+        return [(cycle, *link) for link in self.links if link[:2] in pairs for cycle in cycles if share in (0, 1) or draw.random() < share]
+
+    def said_by(self, node):
+        """What an arbitrary node says: early to some and late to others, else in the odd cycle than in the even one; now and then nothing,
+        something at any time, or bytes that are no frame of it."""
+        draw, most = self.draw, self.draw.choice([2, 10, 40, 100]) * MILLION
+        shifts = {two: [draw.choice([-most, most]) for _ in (0, 1)] for two in self.receivers}
+        for cycle in range(2 * self.doubles):
+            for _, two, channel in self.links_of(node):
+                chance = draw.random()
+                shift = shifts[two][cycle % 2] if chance < 0.8 else draw.randint(-10 * most, 10 * most)
+                if chance < 0.95:
+                    yield f"say,{cycle},{node},{two},{channel},{shift},{'300504E0E1CAFE00057B3E86' if chance > 0.92 else ''}\n"
 
     def with_losses(self):
         """Double cycles in which some are."""
@@ -146,19 +246,6 @@ class Run:
             found += range(double, min(self.doubles, double + draw.choice([1, 1, 1, 2, 2, 3])))
             double = found[-1] + draw.choice([2, 3, 3, 4, 6])
         return found
-
-    def is_carried(self, one, two, double):
-        return any((one, two, channel) in self.all_links and not {(2 * double + odd, one, two, channel) for odd in (0, 1)} & self.lost
-                   for channel in "AB")
-
-    def heard(self):
-        """Of each double cycle whether all is heard, and whether each node has a value."""
-        self.all_links, pairs, all_heard, is_deaf = set(self.links), {link[:2] for link in self.links}, [], []
-        for double in range(self.doubles):
-            carried = {pair for pair in pairs if self.is_carried(*pair, double)}
-            all_heard.append(carried == pairs)
-            is_deaf.append(any(slot is None and not any(two == node for _, two in carried) for node, (slot, _) in self.nodes.items()))
-        return all_heard, is_deaf
 
 
 def cliques(doubles=20):
@@ -229,14 +316,15 @@ def hold(run, series, trace=None):
     """Holds what the series of a run tells against what is reckoned here, and each double cycle's skew against its number. What does not
     fit ends in AssertionError. Hands back whether the run is covered through losses, how many double cycles were held, in how many of
     them frames are lost, and the greatest share of its number that a skew had."""
-    heard, is_deaf = run.heard()
-    numbers = Numbers(run.values, max(slot for slot, _ in run.nodes.values() if slot), run.flutter)
-    apart, reach = numbers.by(heard)
-    is_covered = not any(is_deaf) and numbers.hold(reach)
-    lost = [double for double, is_heard in enumerate(heard) if not is_heard]
+    heard = [run.heard(double) for double in range(run.doubles)]
+    numbers = Numbers(run.values, max(slot for slot, _ in run.nodes.values() if slot), run.flutter, bool(run.arbitrary))
+    apart, reach = numbers.by([one.what for one in heard])
+    is_covered = run.outweighs() and all(one.is_trusted for one in heard) and numbers.hold(reach)
+    lost = [double for double, one in enumerate(heard) if one.word != "all"]
     told = series.lines["lost"]
     assert int(series.lines["flutter"][0]) == run.flutter, (series.lines["flutter"], run.flutter)
-    assert int(series.lines["sharp"][0]) == numbers.precision, (series.lines["sharp"], numbers.precision)
+    kind = "beside" if run.arbitrary else "alone"
+    assert series.lines["sharp"][:2] == [str(numbers.precision), kind], (series.lines["sharp"], numbers.precision, kind)
     wanted = [str(len(lost)), str(lost[-1]) if lost else "-", *([str(max(apart)), str(apart.index(max(apart)))] if is_covered else "--")]
     assert told[:4] == wanted, (told, wanted)
     if "bound" in series.columns:
@@ -252,10 +340,10 @@ def hold(run, series, trace=None):
         assert series.lines["sharp synced"][1] == ("on" if lasts is None else str(lasts)), series.lines["sharp synced"]
         end = run.doubles if lasts is None else min(run.doubles, first + lasts)
         # By what is heard from the first double cycle in sync on, which is no more than from the first one of the run on.
-        since, _ = numbers.by(heard[first:])
+        since, _ = numbers.by([one.what for one in heard[first:]])
         assert all(one <= other for one, other in zip(since, apart[first:])), "less by what was heard before, too"
         share = keep(series, first, since[:end - first])
-        count, losing = end - first, sum(not is_heard for is_heard in heard[first:end])
+        count, losing = end - first, sum(one.word != "all" for one in heard[first:end])
         assert trace is None or end < run.doubles or is_active, "a node is not active"
     return is_covered, count, losing, share
 
@@ -272,5 +360,5 @@ def keep(series, first, bounds):
 def hold_columns(series, heard, apart, is_covered):
     """The columns of what is heard, and of the numbers, which are there where the run is covered through losses."""
     for at, row in enumerate(series.cycles):
-        assert (row["heard"] == "all") == heard[at // 2], (at, row["heard"])
+        assert row["heard"] == heard[at // 2].word, (at, row["heard"], heard[at // 2])
         assert row["bound"] == (str(apart[at // 2]) if is_covered else "-"), (at, row["bound"], apart[at // 2], is_covered)

@@ -1,5 +1,5 @@
 """Runs that lose frames keep within the number of each double cycle, which is reckoned by another program from their files alone.
-`bench/losses` tries as many as one likes; FLEXRAY_LOSS_RUNS is how many are tried here (10)."""
+`bench/losses` tries as many as one likes; FLEXRAY_LOSS_RUNS is how many are tried here (14)."""
 import os
 import random
 import subprocess
@@ -7,8 +7,53 @@ import unittest
 
 import losses_peer
 from bench import FLEXRAY, SERIES, Bench, needs_series
+from clocks_peer import PRODUCTION
 
-RUNS = int(os.environ.get("FLEXRAY_LOSS_RUNS", "10"))
+RUNS = int(os.environ.get("FLEXRAY_LOSS_RUNS", "14"))
+DRIFT = "doubles,2,,,,\n"
+EACH = range(1, 9)
+
+
+class Bordering(unittest.TestCase):
+    """How much may be lost until lists meet no longer, or are trusted no longer, by what is reckoned here."""
+
+    def heard(self, count, missed, liars=0, damaged=(), is_even=False):
+        """What is heard of the first double cycle by so many nodes, of which the last ones are arbitrary; each of some receivers misses so
+        many of the others' frames, or has so many of them damaged, in a cycle."""
+        nodes = {node: (node, "A") for node in range(1, count + 1)}
+        traffic = losses_peer.Traffic(nodes, range(count - liars + 1, count + 1))
+        for found, shares in ((traffic.lost, missed), (traffic.damaged, damaged)):
+            for two, share in dict(shares).items():
+                others = [one for one in traffic.senders if one != two]
+                found |= {(int(not is_even), one, two, "A") for one in others[:share]}
+        return traffic.heard(0)
+
+    def test_how_many_may_be_missed(self):
+        for what, wanted in (
+                # Of eight each may miss two: both miss or discard three. With three it is four.
+                (self.heard(8, dict.fromkeys(EACH, 2)), "most"), (self.heard(8, dict.fromkeys(EACH, 3)), "any"),
+                (self.heard(8, {1: 3}), "most"), (self.heard(8, {1: 3, 2: 3}), "any"),
+                # Of four one may miss two of the others, by the two greatest sums; two may not.
+                (self.heard(4, {2: 2}), "most"), (self.heard(4, {2: 2, 3: 2}), "any"), (self.heard(4, {2: 1, 3: 1}), "any"),
+                # A frame that is damaged may come all the same: then its list discards more.
+                (self.heard(8, {}, damaged=dict.fromkeys(EACH, 2)), "any"), (self.heard(8, {}, damaged=dict.fromkeys(EACH, 1)), "most"),
+                # A rate value is of both cycles. Of two nodes neither has the other's, or one has, or both.
+                (self.heard(8, dict.fromkeys(EACH, 3), is_even=True), "any"), (self.heard(2, {1: 1, 2: 1}), "any"),
+                (self.heard(2, {1: 1}), "most"), (self.heard(2, {}), "all"), (self.heard(1, {}), "all")):
+            with self.subTest(what=what, wanted=wanted):
+                self.assertEqual(what, (wanted, {"all": "clean", "most": "meeting", "any": "poor"}[wanted], True))
+
+    def test_beside_arbitrary_nodes(self):
+        """Where all is heard lists meet at best. They are trusted as long as all that may be of arbitrary nodes is discarded."""
+        for what, wanted in (
+                (self.heard(4, {}, 1), ("all", "meeting", True)), (self.heard(4, {1: 1}, 1), ("any", "poor", True)),
+                (self.heard(4, {1: 2}, 1), ("any", "poor", False)), (self.heard(3, {}, 1), ("all", "poor", True)),
+                (self.heard(2, {}, 1), ("all", "meeting", False)), (self.heard(8, {1: 2, 2: 2}, 1), ("most", "meeting", True)),
+                (self.heard(8, {1: 3, 2: 3}, 1), ("any", "poor", True)), (self.heard(8, {}, 2), ("all", "meeting", True)),
+                (self.heard(8, {1: 1}, 2), ("most", "meeting", False)), (self.heard(10, {1: 2, 2: 1}, 2), ("most", "meeting", True)),
+                (self.heard(10, {1: 2, 2: 2}, 2), ("any", "poor", True)), (self.heard(10, {1: 3}, 2), ("most", "meeting", False))):
+            with self.subTest(what=what, wanted=wanted):
+                self.assertEqual(what, wanted)
 
 
 @needs_series
@@ -17,23 +62,47 @@ class Losses(Bench):
         paths = [self.write(f"{name}.csv", text) for name, text in zip(("params", "drift", "script"), texts)]
         return losses_peer.Series(subprocess.run([SERIES, *paths, "sharp"], capture_output=True, text=True, check=True).stdout)
 
+    def flexray_of_run(self, word, *words):
+        paths = [self.path(f"{name}.csv") for name in ("params", "drift", "script")]
+        return subprocess.run([FLEXRAY, word, *paths, *words], capture_output=True, text=True, check=True).stdout
+
     def test_each_double_cycle_keeps_its_number(self):
-        kinds, held, losing, covered = list(losses_peer.KINDS), 0, 0, 0
+        kinds, held, losing, covered, beside = list(losses_peer.KINDS), 0, 0, 0, 0
         for seed in range(RUNS):
             run = losses_peer.Run(random.Random(seed), kinds[seed % len(kinds)], 12)
             with self.subTest(seed=seed):
                 told = self.series(run.params(), run.drift, run.script)
-                trace = subprocess.run([FLEXRAY, "trace", *(self.path(f"{name}.csv") for name in ("params", "drift", "script"))],
-                                       capture_output=True, text=True, check=True).stdout if seed % 5 == 0 else None
-                found = losses_peer.hold(run, told, trace)
+                is_traced = seed % 5 == 0
+                found = losses_peer.hold(run, told, self.flexray_of_run("trace") if is_traced else None)
+                if is_traced:
+                    count, last, bound, place = told.lines["lost"]
+                    self.assertIn(f"\nsharp lost {count} last {last} bound {bound}{'' if bound == '-' else f' double {place}'}\n",
+                                  self.flexray_of_run("run", "sharp"))
                 covered, held, losing = covered + found[0], held + found[1], losing + found[2]
+                beside += found[0] and bool(run.arbitrary)
         self.assertGreater(covered, RUNS // 5)
         self.assertLess(covered, RUNS)
         self.assertGreater(losing, RUNS // 2)
+        self.assertGreater(beside, RUNS // 15)
+
+    def test_words_at_the_border(self):
+        """What the program says of losses that are as many as may be, and of one more."""
+        params = "".join(f"param,{name},{value},,\n" for name, value in PRODUCTION.items())
+        for count, liar, missed, wanted in (
+                (8, False, dict.fromkeys(EACH, 2), "most"), (8, False, dict.fromkeys(EACH, 3), "any"), (4, False, {2: 2}, "most"),
+                (4, False, {2: 2, 3: 2}, "any"), (4, True, {}, "all"), (4, True, {1: 1}, "any"), (8, True, {1: 2, 2: 2}, "most")):
+            nodes = "".join(f"node,{node},{node},A,1\n" for node in range(1, count + 1))
+            script = f"arbitrary,{count},,,,,\n" if liar else ""
+            for two, share in missed.items():
+                others = [one for one in range(1, count + 1 - liar) if one != two]
+                script += "".join(f"lose,3,{one},{two},A,,\n" for one in others[:share])
+            with self.subTest(count=count, liar=liar, missed=missed):
+                told = self.series(params + nodes, DRIFT, script)
+                self.assertEqual([row["heard"] for row in told.cycles], ["all", "all", wanted, wanted])
 
     def test_what_does_not_fit_is_found(self):
         """A skew above a number, and a frame that is lost and not reckoned so."""
-        run = losses_peer.Run(random.Random(5), "bursts", 12)
+        run = losses_peer.Run(random.Random(5), "bursts", 12, 0)
         told = self.series(run.params(), run.drift, run.script)
         losses_peer.hold(run, told)
         losses_peer.keep(told, 0, [told.skew(double) for double in range(run.doubles)])
@@ -49,6 +118,16 @@ class Losses(Bench):
         self.assertEqual(told.lines["lost"][:4], ["20", "19", "-", "-"])
         self.assertEqual(told.lines["sharp covered"][0], "no")
         self.assertGreater(told.skew(19), 20 * int(told.lines["sharp"][0]))
+
+    def test_cliques_that_a_fifth_node_joins(self):
+        """Where a fifth node hears both camps and is heard by them lists meet in each double cycle: the run is covered through losses."""
+        params, drift, script = losses_peer.cliques()
+        told = self.series(params + "node,5,5,A,0\n", drift + "start,5,10000000,0,,\n", script)
+        self.assertEqual({row["heard"] for row in told.cycles}, {"most"})
+        bound = 3 * int(told.lines["sharp"][0])
+        self.assertEqual(told.lines["lost"][:2], ["20", "19"])
+        self.assertLess(int(told.lines["lost"][2]), bound)
+        self.assertLess(max(told.skew(double) for double in range(20)), int(told.lines["lost"][2]))
 
 
 if __name__ == "__main__":

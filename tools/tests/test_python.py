@@ -561,14 +561,14 @@ class Alone(Bench):
         """Where no node runs a skew is told all the same."""
         files = list(map(str, example_call("sharp/walk").files))
         for parse, words, last in ((texts.series, [], flexray.SeriesCycle(179, False, 0, 0)),
-                                   (texts.sharp_series, ["sharp"], flexray.SeriesCycle(179, False, 0, 0, False, True, 96003994))):
+                                   (texts.sharp_series, ["sharp"], flexray.SeriesCycle(179, False, 0, 0, False, "all", 96003994))):
             text = subprocess.run([SERIES, *files, *words], capture_output=True, text=True, check=True).stdout
             told = parse(text)
             self.assertEqual((told.text, len(told.cycles), told.cycles[-1]), (text, 180, last))
             self.assertEqual((told.greatest, told.synced, told.lost), (flexray.Skew(0, 0, 0), False, 3))
 
     HEAD = "cycle,in_sync,skew,macrotick,sharp,heard,bound\n"
-    ROWS = ("0,no,119988000,4999,no,all,40000000\n", "1,no,178800000,4900,no,all,40000000\n", "2,yes,148983950,4999,no,any,50000000\n",
+    ROWS = ("0,no,119988000,4999,no,all,40000000\n", "1,no,178800000,4900,no,all,40000000\n", "2,yes,148983950,4999,no,most,50000000\n",
             "3,yes,181796250,4900,yes,any,50000000\n")
     END = ("greatest,181796250,3,4900,\nsynced,yes,,,\nwithin,yes,,,\nflutter,7,,,\nsharp,150237926,beside,,\nsharp covered,yes,,,\n"
            "sharp synced,-,,,\nsharp greatest,-,-,-,\nsharp within,-,,,\nlost,0,-,-,-\n")
@@ -576,20 +576,20 @@ class Alone(Bench):
     def test_the_cycles_of_a_series(self):
         """One by one, and by their columns."""
         cycles = texts.sharp_series("".join([self.HEAD, *self.ROWS, self.END])).cycles
-        rows = [flexray.SeriesCycle(0, False, 119988000, 4999, False, True, 40000000),
-                flexray.SeriesCycle(1, False, 178800000, 4900, False, True, 40000000),
-                flexray.SeriesCycle(2, True, 148983950, 4999, False, False, 50000000),
-                flexray.SeriesCycle(3, True, 181796250, 4900, True, False, 50000000)]
+        rows = [flexray.SeriesCycle(0, False, 119988000, 4999, False, "all", 40000000),
+                flexray.SeriesCycle(1, False, 178800000, 4900, False, "all", 40000000),
+                flexray.SeriesCycle(2, True, 148983950, 4999, False, "most", 50000000),
+                flexray.SeriesCycle(3, True, 181796250, 4900, True, "any", 50000000)]
         self.assertEqual((list(cycles), len(cycles), cycles[2], cycles[-1], cycles[1:3], cycles[::-2]),
                          (rows, 4, rows[2], rows[3], tuple(rows[1:3]), (rows[3], rows[1])))
         self.assertRaises(IndexError, lambda: cycles[4])
         self.assertEqual((cycles.in_sync, cycles.skews), ((False, False, True, True), (119988000, 178800000, 148983950, 181796250)))
         self.assertEqual((cycles.macroticks, cycles.sharp), ((4999, 4900, 4999, 4900), (False, False, False, True)))
-        self.assertEqual((cycles.heard, cycles.bounds), ((True, True, False, False), (40000000, 40000000, 50000000, 50000000)))
-        without = re.sub(r"(all|any),\d+$", r"\1,-", "".join([self.HEAD, *self.ROWS, self.END]), flags=re.M)
+        self.assertEqual((cycles.heard, cycles.bounds), (("all", "all", "most", "any"), (40000000, 40000000, 50000000, 50000000)))
+        without = re.sub(r"(all|most|any),\d+$", r"\1,-", "".join([self.HEAD, *self.ROWS, self.END]), flags=re.M)
         self.assertEqual(texts.sharp_series(without).cycles.bounds, (None,) * 4)
         plain = "".join([self.HEAD, *self.ROWS, self.END.partition("flutter")[0]]).replace(",sharp,heard,bound", "")
-        plain = texts.series(re.sub(r",(no|yes)?(,(all|any),\d+)?$", "", plain, flags=re.M)).cycles
+        plain = texts.series(re.sub(r",(no|yes)?(,(all|most|any),\d+)?$", "", plain, flags=re.M)).cycles
         self.assertEqual((list(plain)[3], plain[3], plain.sharp), (flexray.SeriesCycle(3, True, 181796250, 4900),) * 2 + ((),))
         self.assertNotEqual(plain, cycles)
         self.assertEqual({pickle.loads(pickle.dumps(cycles))}, {cycles})

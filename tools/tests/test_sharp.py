@@ -600,7 +600,8 @@ class Losses(Case):
 
     def step(self, alone, heard, starts, lengths):
         behind = lengths + alone.pi - alone.lambda_
-        return (behind, alone.lambda_) if heard else (starts + lengths + behind, lengths + alone.lambda_ - self.longest)
+        return {"all": (behind, alone.lambda_), "any": (starts + lengths + behind, lengths + alone.lambda_ - self.longest),
+                "most": ((starts + lengths + 2 * behind + self.longest) // 2, (lengths + 2 * alone.lambda_) // 2)}[heard]
 
     def costs(self, alone, pattern):
         """The numbers of the double cycles of a pattern, and the greatest reach."""
@@ -620,13 +621,13 @@ class Losses(Case):
         self.changes = 2 * (self.p["pMicroPerCycle"] + self.p["pRateCorrectionOut"]) * self.p["xChangeBound"]
         for flutter in (0, 3_000_000, sharp.MOST):
             alone = self.told(flutter)["alone"]
-            seconds = [self.costs(alone, pattern) for pattern in itertools.product((False, True), repeat=8)
-                       if all(one or other for one, other in zip(pattern, pattern[1:]))]
-            longest = next(n for n in itertools.count() if not self.holds(alone, self.costs(alone, [False] * n + [True])[1])) - 1
+            seconds = [self.costs(alone, pattern) for pattern in itertools.product(("any", "all"), repeat=8)
+                       if all("all" in two for two in zip(pattern, pattern[1:]))]
+            longest = next(n for n in itertools.count() if not self.holds(alone, self.costs(alone, ["any"] * n + ["all"])[1])) - 1
             for count in (1, 2, 3, 1000):
                 status, text, _ = self.flexray("bound", "a.lab/params.csv", "sharp", str(flutter), "lost", str(count))
                 told = texts.lost_bound(text)
-                apart, reach = self.costs(alone, [False] * count + [True] * 4)
+                apart, reach = self.costs(alone, ["any"] * count + ["all"] * 4)
                 self.assertEqual((status, told.flutter, told.lost, told.precision), (0, flutter, count, alone.precision))
                 self.assertEqual((list(told.apart), apart[-1], told.back), (apart[:-1], alone.precision, count + 2))
                 self.assertNotIn(alone.precision, apart[:told.back])
@@ -641,24 +642,28 @@ class Losses(Case):
 
     @needs_series
     def test_what_a_run_loses(self):
-        """Its numbers by what is heard in each double cycle, from the first one on, are stepped here too."""
+        """Its numbers by what is heard in each double cycle, from the first one on, are stepped here too. Where node 2 misses node 1
+        alone lists meet all the same; where each node misses three others they do not."""
         self.longest = 1_000_000 + self.p["xRateBound"]
         self.changes = 2 * (self.p["pMicroPerCycle"] + self.p["pRateCorrectionOut"]) * self.p["xChangeBound"]
         folder = os.path.join(REPOSITORY, "examples", "sharp")
         alone = self.told(0)["alone"]
-        for lost in ((), (3,), (3, 4), (0, 9), (3, 4, 5)):
-            script = "".join(f"lose,{2 * double},1,2,{channel},,\n" for double in lost for channel in "AB")
+        three = [(one, two) for two in range(1, 9) for one in [one for one in range(1, 9) if one != two][:3]]
+        for lost, missed, heard in (((), [], "all"), *(((3,), [(1, 2)], "most"), ((0, 9), [(1, 2)], "most"), (range(10), [(1, 2)], "most")),
+                                    *((lost, three, "any") for lost in ((3,), (3, 4), (0, 9), (3, 4, 5)))):
+            script = "".join(f"lose,{2 * double},{one},{two},{channel},,\n" for double in lost for one, two in missed for channel in "AB")
             path = self.write("script.csv", script)
             told = texts.sharp_series(subprocess.run(
                 [SERIES, os.path.join(folder, "params.csv"), os.path.join(folder, "drift.csv"), path, "sharp"],
                 capture_output=True, text=True, check=True).stdout)
             doubles = len(told.cycles) // 2
-            apart, reach = self.costs(alone, [double not in lost for double in range(doubles)])
+            words = [heard if double in lost else "all" for double in range(doubles)]
+            apart, reach = self.costs(alone, words)
             bound = (max(apart), apart.index(max(apart))) if self.holds(alone, reach) else (None, None)
-            with self.subTest(lost=lost):
+            with self.subTest(lost=lost, heard=heard):
                 self.assertEqual(told.losses, (len(lost), max(lost, default=None), *bound))
                 self.assertEqual(told.sharp_covered, not lost)
-                self.assertEqual(told.cycles.heard[::2], tuple(double not in lost for double in range(doubles)))
+                self.assertEqual(told.cycles.heard[::2], tuple(words))
                 self.assertEqual(told.cycles.bounds[1::2], tuple(apart) if bound[0] else (None,) * doubles)
 
 
