@@ -15,7 +15,7 @@ use Rattle.fr_time.specs.Senders.{key_node_of}
 use Rattle.fr_time.proofs.Keys.{key_node_has, key_node_is, key_slot_has, slot_of_index}
 use Rattle.fr_midpoint.specs.Midpoint.{discarded}
 use Rattle.fr_measure.specs.Values.{change_at, change_of, is_own, least_of, mean_of, offset_at, own_value_or, rate_at, values_of}
-use Rattle.fr_precision.specs.Round.{offsets_of, rates_of, sender_at, sender_with, Hearer, IsSender, Round}
+use Rattle.fr_precision.specs.Round.{sender_at, sender_with, Hearer, IsSender, Round}
 use Rattle.fr_precision.specs.Rows.{Sender}
 use Rattle.fr_precision.proofs.Counting.{count_le}
 use Rattle.fr_precision.proofs.Parting.{filter_map_counts}

@@ -9,7 +9,6 @@ use Rattle.std.proofs.lemmas.List.Elements.{All-cons, All-nil}
 use Rattle.fr_base.specs.Within.{IsWithin}
 use Rattle.fr_cluster.specs.Questions.{key_slot_of}
 use Rattle.fr_cluster.specs.Setting.{Setting, correct_nodes, is_correct}
-use Rattle.fr_cluster.specs.declared.names.ParamName.TheVariants as name
 use Rattle.fr_cluster.specs.declared.nodes.NodeSpec.{NodeSpec}
 use Rattle.fr_cluster.proofs.Elements.{kept_filtered}
 use Rattle.fr_midpoint.specs.Receivers.{AreFew}

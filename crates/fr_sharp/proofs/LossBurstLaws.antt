@@ -26,7 +26,7 @@ use Rattle.fr_sharp.proofs.FromLossyFiles.{covered_files_keep_through_losses, no
 use Rattle.fr_promise.proofs.JoinBounds.{near_grows}
 use Rattle.fr_sharp.proofs.LossLemmas.{apart_under, far_grows, far_within, Far}
 use Rattle.fr_sharp.proofs.LossNumbers.{never, never_rises, same_yet}
-use Rattle.fr_promise.proofs.LossOrder.{always_wide, below_itself, calm, later_below, next_below, through, whole_below_lost, whole_falls, IsBelow, IsWide}
+use Rattle.fr_promise.proofs.LossOrder.{always_wide, below_itself, calm, next_below, through, whole_below_lost, whole_falls, IsBelow, IsWide}
 
 module _ (p : Values) (flutter : ℕ) where
   abbrev by_never : ℕ → Spread

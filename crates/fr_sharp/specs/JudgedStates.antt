@@ -1,6 +1,6 @@
 -- A state of what is known that is carried from one double cycle to the next: met with what is seen of each, and stepped where what was
 -- met is judged. What is met is then known of the history, and a judged double cycle goes on so.
-use Rattle.std.specs.Prelude.{◌≡◌, ◌+◌, ◌<◌, ℕ, suc, Option, Some, None}
+use Rattle.std.specs.Prelude.{◌≡◌, ◌+◌, ◌<◌, ℕ, suc, Option, Some}
 use Rattle.fr_cluster.specs.Setting.{Setting}
 use Rattle.fr_cluster.specs.Values.{Values}
 use Rattle.fr_bound.specs.Judged.{known_after, met_with, IsJudgedDouble}

@@ -1,5 +1,5 @@
 -- What a run loses, by its files: in how many double cycles, how far macroticks may then lie apart in each, whether each correct node
--- has some value in each, and whether the run is covered through losses.
+-- trusts its lists in each, and whether the run is covered through losses.
 use Rattle.std.specs.Prelude.{◌≡◌, ◌↔◌, ◌+◌, ◌<◌, ◌≤◌, ℕ, zero, suc, pos, max, nat_lt, Bool, true, false, not, ◌&&◌, ◌||◌, if◌then◌else◌, List, Option, Some, None}
 use Rattle.std.specs.List.{list_all}
 use Rattle.fr_base.specs.declared.channel.Channel.{Channel}

@@ -1,4 +1,4 @@
-use Rattle.std.proofs.Common.{◌≡◌, ◌≤◌, ◌+◌, true, arith, ap₂, sym, ◌∙◌}
+use Rattle.std.proofs.Common.{◌+◌, true, arith, ap₂}
 use Rattle.fr_sharp.specs.Traffic.{has_value, is_correct_sender, traffic_with}
 use Rattle.fr_sharp.proofs.TrafficCounts.{cost_is, no_more}
 use Rattle.fr_sharp.proofs.traffic.cost_of.Goals as goal

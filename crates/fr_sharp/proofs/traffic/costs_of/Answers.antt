@@ -1,4 +1,4 @@
-use Rattle.std.proofs.Common.{◌≡◌, ◌∙◌, ◌+◌, ◌-◌, ◌<◌, ℕ, length, drop, get_or, sym, ap, ap₂, arith}
+use Rattle.std.proofs.Common.{◌≡◌, ◌∙◌, ◌+◌, ◌-◌, ℕ, drop, sym, ap, ap₂, arith}
 use Rattle.std.specs.Prelude.{if◌then◌else◌}
 use Rattle.fr_cluster.specs.declared.nodes.NodeSpec.{NodeSpec}
 use borrow.Author.Tests.{ltb-true}

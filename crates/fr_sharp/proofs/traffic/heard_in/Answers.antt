@@ -1,4 +1,4 @@
-use Rattle.std.proofs.Common.{◌≡◌, ◌∙◌, List, Bool, ap, sym}
+use Rattle.std.proofs.Common.{◌∙◌, ap, sym}
 use Rattle.fr_cluster.specs.Values.{Values}
 use Rattle.fr_sharp.specs.Traffic.{all_linked, traffic_in}
 use Rattle.fr_sharp.proofs.traffic.heard_in.Goals as goal

@@ -1,4 +1,4 @@
-use Rattle.std.proofs.Common.{◌≡◌, ◌∙◌, ◌&&◌, Bool, ap, ap₂, sym}
+use Rattle.std.proofs.Common.{◌∙◌, ◌&&◌, Bool, ap, ap₂, sym}
 use Rattle.fr_sharp.specs.Traffic.{has_value, traffic_with}
 use Rattle.fr_sharp.proofs.traffic.is_heard.Goals as goal
 
