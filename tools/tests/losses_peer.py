@@ -129,7 +129,7 @@ class Traffic:
 
     def outweighs(self):
         """Whether the correct senders are enough for the arbitrary ones."""
-        return dict(enumerate((1, 3, 6))).get(len(self.arbitrary), 1 << 64) <= len(self.senders)
+        return len(self.arbitrary) < 3 and len(self.senders) >= (1, 3, 6)[len(self.arbitrary)]
 
 
 class Run(Traffic):
@@ -218,9 +218,9 @@ class Run(Traffic):
         if self.kind == "one":
             pairs = [draw.choice(self.links)[:2]] if self.links else []
         elif self.kind == "few":
-            most, is_even = draw.choice([1, 1, 2, 2, 3]), draw.random() < 0.5
+            most, are_alike = draw.choice([1, 1, 2, 2, 3]), draw.random() < 0.5
             pairs = [(one, two) for two in self.receivers
-                     for one in draw.sample(self.senders, min(len(self.senders), most if is_even else draw.randint(0, most)))]
+                     for one in draw.sample(self.senders, min(len(self.senders), most if are_alike else draw.randint(0, most)))]
         else:
             pairs = [link[:2] for link in self.links]
         return [(cycle, *link) for link in self.links if link[:2] in pairs for cycle in cycles if share in (0, 1) or draw.random() < share]
