@@ -17,9 +17,9 @@ use fr_cluster::{ParamName, Params};
 pub enum Heard {
     /// All of all, without arbitrary sync nodes.
     Clean,
-    /// All of all, beside arbitrary sync nodes too, whatever these say.
+    /// Of any two nodes enough senders in common, as where all is heard beside arbitrary sync nodes, whatever these say.
     Meeting,
-    /// Of some senders, without arbitrary sync nodes.
+    /// Of some senders, whichever they are.
     Poor,
 }
 
