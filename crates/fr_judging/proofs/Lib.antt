@@ -2,3 +2,4 @@ pub mod Clear
 pub mod Least
 pub mod Rows
 pub mod ZeroTerms
+pub mod Reasons

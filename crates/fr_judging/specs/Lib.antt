@@ -4,3 +4,4 @@ pub mod Obstacles
 pub mod Knowing
 pub mod Missing
 pub mod Zeros
+pub mod Reasons
