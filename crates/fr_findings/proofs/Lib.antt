@@ -1,3 +1,4 @@
 pub mod Missed
 pub mod Printing
 pub mod Gaps
+pub mod Outcomes

@@ -4,5 +4,6 @@ pub mod Verdict
 pub mod Census
 pub mod Text
 pub mod Judged
+pub mod Outcomes
 -- what only functions inside cite
 pub mod Ground

@@ -1,7 +1,20 @@
 ghost use Rattle.fr_findings.specs.Judged.{WithinIsJudged};
+ghost use Rattle.fr_findings.specs.Outcomes.{OpenIsCounted, PartlyIsCounted, StandingsAreTold};
+ghost use Rattle.fr_findings.specs.Outcomes.{SyncIsCounted, WithinIsCounted};
 
 /// The law of judged double cycles: where the verdict of a log is within, each of its double cycles from that of the verdict's
 /// first cycle on is judged.
 pub fn within_is_judged()
     ensures { WithinIsJudged }
+{}
+
+/// The law of what is counted: each double cycle of a log is judged or has a reason. The row `sync` and the verdicts
+/// partly, within and open name the first of those that are judged, and the last; how many they are, how many there are in
+/// all, and what their rows say; and of the reasons the first of those that came farthest.
+pub fn outcomes_are_counted()
+    ensures each { StandingsAreTold }
+    ensures sync { SyncIsCounted }
+    ensures partly { PartlyIsCounted }
+    ensures within { WithinIsCounted }
+    ensures open { OpenIsCounted }
 {}
