@@ -2,3 +2,4 @@ pub mod Missed
 pub mod Printing
 pub mod Gaps
 pub mod Outcomes
+pub mod Within

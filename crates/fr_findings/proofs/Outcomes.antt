@@ -32,7 +32,7 @@ use Rattle.fr_findings.proofs.Gaps.{Reaches, within-reaches}
 
 -- ---- from any numbers on
 
-abbrev spans : Option Reach → List DoubleStands → Option Reach
+abbrev pub spans : Option Reach → List DoubleStands → Option Reach
 spans span [] = span
 spans span (d ∷ ds) = spans (Some (span_to span d.number)) ds
 
@@ -40,7 +40,7 @@ abbrev farther_all : Option Obstacle → List Obstacle → Option Obstacle
 farther_all why [] = why
 farther_all why (other ∷ others) = farther_all (farther why (Some other)) others
 
-abbrev says_in : List DoubleStands → List Says
+abbrev pub says_in : List DoubleStands → List Says
 says_in ds = flat_map (λ d. d.says) ds
 
 -- by the judged ones of some double cycles, by the reasons of the others, and by how many they are
@@ -83,10 +83,10 @@ why_more (Some first) None others = refl
 why_more first (Some why) others = refl
 
 module _ (b : Basis) (seen : List Sighting) (frames : OffendingFrames) where
-  abbrev stood : Progress → ℕ → DoubleStands
+  abbrev pub stood : Progress → ℕ → DoubleStands
   stood q double = stands_at b seen frames double q.known
 
-  abbrev all_stood : Progress → List ℕ → List DoubleStands
+  abbrev pub all_stood : Progress → List ℕ → List DoubleStands
   all_stood q doubles = standings_from b seen frames q.known doubles
 
   abbrev Counted : Progress → Progress → List DoubleStands → Type 0
@@ -114,7 +114,7 @@ module _ (b : Basis) (seen : List Sighting) (frames : OffendingFrames) where
   unfolding progress_told
   known_behind q double = refl
 
-  stood_first : (q : Progress) (double : ℕ) (doubles : List ℕ)
+  pub stood_first : (q : Progress) (double : ℕ) (doubles : List ℕ)
       → stood q double ∷ all_stood (progress_behind b seen frames double q) doubles ≡ all_stood q (double ∷ doubles)
   unfolding standings_from
   stood_first q double doubles = ap (λ (known : Option Known). stood q double ∷ standings_from b seen frames known doubles) (known_behind q double)
@@ -188,7 +188,7 @@ between_by : (first : DoubleStands) (last : Option DoubleStands)
 between_by first None = refl
 between_by first (Some last) = refl
 
-spans_all : (ds : List DoubleStands) → spans None ds ≡ span_of ds
+pub spans_all : (ds : List DoubleStands) → spans None ds ≡ span_of ds
 spans_all [] = refl
 spans_all (d ∷ ds) =
     spans_on (record { from = 2 * d.number; to = 2 * d.number + 1 }) d ds refl ∙ between_by d (slice_get (d ∷ ds) (length (d ∷ ds) - 1))
@@ -307,10 +307,10 @@ none_spanned (d ∷ ds) is =
     absurd (cc (sym (first_on (record { from = 2 * d.number; to = 2 * d.number + 1 }) ds) ∙ ap first_judged is))
 
 module _ (p : Values) (l : LogView) where
-  abbrev behind_all : Progress
+  abbrev pub behind_all : Progress
   behind_all = log_progress (log_basis p l) (sightings_of p l) (offending_frames_of p l)
 
-  abbrev stand : List DoubleStands
+  abbrev pub stand : List DoubleStands
   stand = log_standings p l
 
   all_counted : AreCounted no_progress behind_all (judged_of stand) (reasons_of stand) (length stand)
@@ -320,7 +320,7 @@ module _ (p : Values) (l : LogView) where
   farthest_all : IsFarthest (reasons_of stand) behind_all.obstacle
   farthest_all = subst (IsFarthest (reasons_of stand)) (sym all_counted.why) (farthest_of (reasons_of stand))
 
-  span_all : behind_all.judged.span ≡ span_of (judged_of stand)
+  pub span_all : behind_all.judged.span ≡ span_of (judged_of stand)
   span_all = all_counted.span ∙ spans_all (judged_of stand)
 
 -- ---- which verdict
@@ -339,32 +339,40 @@ why_or (verdict.Over first count) other = other
 why_or (verdict.Partly part) other = other
 why_or (verdict.Within reach) other = other
 
-record IsPartly (q : Progress) (part : Partly) : Type 0 where
-  span : Reach
-  spans : q.judged.span ≡ Some span
-  is : part ≡ partly_of span q
+pub record IsPartly (q : Progress) (part : Partly) : Type 0 where
+  pub span : Reach
+  pub spans : q.judged.span ≡ Some span
+  pub is : part ≡ partly_of span q
+  pub ends : (whole : Reach) → q.reach ≡ Some whole → reaches_end whole span ≡ false
 
 record IsOpen (q : Progress) (why : Obstacle) : Type 0 where
   spans : q.judged.span ≡ None
   is : why ≡ or_none_seen q.obstacle
 
 module _ (q : Progress) (part : Partly) where
-  partly_with : (span : Reach) → q.judged.span ≡ Some span → verdict.Partly (partly_of span q) ≡ verdict.Partly part → IsPartly q part
+  partly_with : (span : Reach) → q.judged.span ≡ Some span → ((whole : Reach) → q.reach ≡ Some whole → reaches_end whole span ≡ false)
+      → verdict.Partly (partly_of span q) ≡ verdict.Partly part → IsPartly q part
   unfolding part_or
-  partly_with span spans is = record { span = span; spans = spans; is = sym (ap (λ (v : Verdict). part_or v part) is) }
+  partly_with span spans ends is = record { span = span; spans = spans; is = sym (ap (λ (v : Verdict). part_or v part) is); ends = ends }
 
-  partly_end : (span whole : Reach) (ends : Bool) → q.judged.span ≡ Some span
+  partly_end : (span whole : Reach) (ends : Bool) → reaches_end whole span ≡ ends → q.reach ≡ Some whole → q.judged.span ≡ Some span
       → (if ends then verdict.Within whole else verdict.Partly (partly_of span q)) ≡ verdict.Partly part → IsPartly q part
-  partly_end span whole true spans is = absurd (cc is)
-  partly_end span whole false spans is = partly_with span spans is
+  partly_end span whole true ends reach spans is = absurd (cc is)
+  partly_end span whole false ends reach spans is =
+      partly_with span spans
+      (λ other reached.
+      let same : Some whole ≡ Some other = sym reach ∙ reached in
+      let one : whole ≡ other = cc same in
+      subst (λ (r : Reach). reaches_end r span ≡ false) one ends)
+      is
 
-  partly_reach : (span : Reach) (o : Option Reach) → q.judged.span ≡ Some span → verdict_within o span q ≡ verdict.Partly part → IsPartly q part
-  partly_reach span None spans is = partly_with span spans is
-  partly_reach span (Some whole) spans is = partly_end span whole (reaches_end whole span) spans is
+  partly_reach : (span : Reach) (o : Option Reach) → q.reach ≡ o → q.judged.span ≡ Some span → verdict_within o span q ≡ verdict.Partly part → IsPartly q part
+  partly_reach span None reach spans is = partly_with span spans (λ other reached. absurd (cc (sym reach ∙ reached))) is
+  partly_reach span (Some whole) reach spans is = partly_end span whole (reaches_end whole span) refl reach spans is
 
   partly_span : (o : Option Reach) → q.judged.span ≡ o → verdict_where o q ≡ verdict.Partly part → IsPartly q part
   partly_span None spans is = absurd (cc is)
-  partly_span (Some span) spans is = partly_reach span q.reach spans is
+  partly_span (Some span) spans is = partly_reach span q.reach refl spans is
 
   partly_over : (o : Option OverRow) → verdict_unless_over o q ≡ verdict.Partly part → IsPartly q part
   partly_over None is = partly_span q.judged.span refl is
@@ -374,7 +382,7 @@ module _ (q : Progress) (part : Partly) where
   partly_first None is = partly_over q.over is
   partly_first (Some fault) is = absurd (cc is)
 
-  partly_by : verdict_by q ≡ verdict.Partly part → IsPartly q part
+  pub partly_by : verdict_by q ≡ verdict.Partly part → IsPartly q part
   unfolding verdict_by
   partly_by is = partly_first q.first is
 

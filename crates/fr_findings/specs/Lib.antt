@@ -5,5 +5,6 @@ pub mod Census
 pub mod Text
 pub mod Judged
 pub mod Outcomes
+pub mod Within
 -- what only functions inside cite
 pub mod Ground

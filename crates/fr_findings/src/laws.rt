@@ -1,6 +1,7 @@
 ghost use Rattle.fr_findings.specs.Judged.{WithinIsJudged};
 ghost use Rattle.fr_findings.specs.Outcomes.{OpenIsCounted, PartlyIsCounted, StandingsAreTold};
 ghost use Rattle.fr_findings.specs.Outcomes.{SyncIsCounted, WithinIsCounted};
+ghost use Rattle.fr_findings.specs.Within.{PartlyIsElse, WithinSaysWithin};
 
 /// The law of judged double cycles: where the verdict of a log is within, each of its double cycles from that of the verdict's
 /// first cycle on is judged.
@@ -17,4 +18,11 @@ pub fn outcomes_are_counted()
     ensures partly { PartlyIsCounted }
     ensures within { WithinIsCounted }
     ensures open { OpenIsCounted }
+{}
+
+/// The law of within: where the verdict of a log is within, each of its double cycles from the first judged one on is judged,
+/// and each of their rows but the last says within; where it is partly, it is not so.
+pub fn within_is_exact()
+    ensures within { WithinSaysWithin }
+    ensures partly { PartlyIsElse }
 {}
