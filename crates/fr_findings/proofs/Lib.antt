@@ -3,3 +3,4 @@ pub mod Printing
 pub mod Gaps
 pub mod Outcomes
 pub mod Within
+pub mod Over

@@ -52,7 +52,7 @@ record AreCounted (q after : Progress) (judged : List DoubleStands) (reasons : L
   span : after.judged.span ≡ spans q.judged.span judged
   why : after.obstacle ≡ farther_all q.obstacle reasons
 
-count_both : (p : Says → Bool) (xs ys : List Says) → count_by p (xs ++ ys) ≡ count_by p xs + count_by p ys
+pub count_both : (p : Says → Bool) (xs ys : List Says) → count_by p (xs ++ ys) ≡ count_by p xs + count_by p ys
 count_both p xs ys = sum_by-append (λ x. cond (p x) 1 0) xs ys
 
 -- one more, judged or not

@@ -12,11 +12,12 @@ use Rattle.fr_observe.specs.declared.says.Says.{Says}
 use Rattle.fr_judging.specs.Obstacles.{obstacle_rank}
 use Rattle.fr_judging.specs.declared.knowing.Standing.{Standing}
 use Rattle.fr_judging.specs.declared.obstacle.Obstacle.{Obstacle}
-use Rattle.fr_findings.specs.Counting.{is_open, is_within}
+use Rattle.fr_findings.specs.Counting.{is_open, is_over, is_within}
 use Rattle.fr_findings.specs.Text.{sync_fields, sync_row, why_unjudged}
 use Rattle.fr_findings.specs.Verdict.{Basis, double_at, known_next_told, log_basis, log_progress, or_none_seen, standing_told, verdict_of}
 use Rattle.fr_findings.specs.declared.progress.Reach.{Reach}
 use Rattle.fr_findings.specs.declared.verdict.Partly.{Partly}
+use Rattle.fr_findings.specs.declared.verdict.Verdict.{Verdict}
 use Rattle.fr_findings.specs.declared.verdict.Verdict.TheVariants as verdict
 
 -- ---- the double cycles of a log
@@ -143,3 +144,15 @@ abbrev pub OpenIsCounted : Type 0
 OpenIsCounted =
     (p : Values) (l : LogView) (why : Obstacle)
     → verdict_of p l ≡ verdict.Open why → OpenNames (log_standings p l) why
+
+-- `over` has how many rows of all double cycles say so, and where it is none of `no` and `over` none does
+abbrev pub OverNames : Verdict → ℕ → Type 0
+OverNames (verdict.No fault) rows = Unit {0}
+OverNames (verdict.Over first count) rows = (count ≡ rows) × (1 ≤ rows)
+OverNames (verdict.Open why) rows = rows ≡ 0
+OverNames (verdict.Within reach) rows = rows ≡ 0
+OverNames (verdict.Partly part) rows = rows ≡ 0
+
+abbrev pub OverIsTold : Type 0
+OverIsTold =
+    (p : Values) (l : LogView) → OverNames (verdict_of p l) (count_by is_over (flat_map (λ d. d.says) (log_standings p l)))

@@ -1,5 +1,5 @@
 ghost use Rattle.fr_findings.specs.Judged.{WithinIsJudged};
-ghost use Rattle.fr_findings.specs.Outcomes.{OpenIsCounted, PartlyIsCounted, StandingsAreTold};
+ghost use Rattle.fr_findings.specs.Outcomes.{OpenIsCounted, OverIsTold, PartlyIsCounted, StandingsAreTold};
 ghost use Rattle.fr_findings.specs.Outcomes.{SyncIsCounted, WithinIsCounted};
 ghost use Rattle.fr_findings.specs.Within.{PartlyIsElse, WithinSaysWithin};
 
@@ -9,9 +9,9 @@ pub fn within_is_judged()
     ensures { WithinIsJudged }
 {}
 
-/// The law of what is counted: each double cycle of a log is judged or has a reason. The row `sync` and the verdicts
-/// partly, within and open name the first of those that are judged, and the last; how many they are, how many there are in
-/// all, and what their rows say; and of the reasons the first of those that came farthest.
+/// The law of what is counted: each double cycle of a log is judged or has a reason. The row `sync` and the
+/// verdicts partly, within and open name the first of those that are judged, and the last; how many they are, how
+/// many there are in all, and what their rows say; and of the reasons the first of those that came farthest.
 pub fn outcomes_are_counted()
     ensures each { StandingsAreTold }
     ensures sync { SyncIsCounted }
@@ -20,9 +20,15 @@ pub fn outcomes_are_counted()
     ensures open { OpenIsCounted }
 {}
 
-/// The law of within: where the verdict of a log is within, each of its double cycles from the first judged one on is judged,
-/// and each of their rows but the last says within; where it is partly, it is not so.
+/// The law of within: where the verdict of a log is within, each of its double cycles from the first judged one on
+/// is judged, and each of their rows but the last says within; where it is partly, it is not so.
 pub fn within_is_exact()
     ensures within { WithinSaysWithin }
     ensures partly { PartlyIsElse }
+{}
+
+/// The law of rows over: the verdict over has how many rows say over, one at least; where it is open, within or partly none
+/// does.
+pub fn over_is_told()
+    ensures { OverIsTold }
 {}
