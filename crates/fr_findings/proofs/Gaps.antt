@@ -1,10 +1,8 @@
 -- Within is said of judged double cycles alone: one that is not judged, behind one that is, is a gap.
-use Rattle.std.proofs.Common.{◌≡◌, ◌∙◌, ℕ, zero, suc, ◌+◌, ◌-◌, ◌*◌, ◌/◌, ◌≤◌, ◌&&◌, Bool, true, false, List, [], ◌∷◌, ◌++◌, drop, get_or, length, slice_get, Option, Some, None, IfSome, refl, sym, ap, subst, arith}
-use Rattle.std.specs.Prelude.{◌==◌, if◌then◌else◌}
+use Rattle.std.proofs.Common.{◌≡◌, ◌∙◌, ℕ, zero, suc, ◌+◌, ◌-◌, ◌*◌, ◌/◌, ◌≤◌, Bool, true, false, List, [], ◌∷◌, ◌++◌, drop, get_or, length, slice_get, Option, Some, None, IfSome, refl, sym, ap, subst, arith}
+use Rattle.std.specs.Prelude.{if◌then◌else◌}
 use Rattle.std.specs.List.{range_with_len}
 use Rattle.std.proofs.lemmas.Bool.Decides.{nat_tests}
-use Rattle.fr_cluster.specs.Values.{Values}
-use Rattle.fr_log.specs.View.{LogView}
 use Rattle.fr_observe.specs.Observing.{both_say, doubles_between, seen_doubles}
 use Rattle.fr_observe.specs.declared.fault.Fault.{Fault}
 use Rattle.fr_observe.specs.declared.says.Says.{Says}
@@ -128,11 +126,12 @@ module _ (b : Basis) (seen : List Sighting) (frames : OffendingFrames) where
 -- ---- a verdict of within
 
 -- rows say within from the first judged cycle on
-record Reaches (q : Progress) (reach : Reach) : Type 0 where
-  span : Reach
-  spans : q.judged.span ≡ Some span
-  reaches : q.reach ≡ Some reach
-  from : reach.from ≡ span.from
+pub record Reaches (q : Progress) (reach : Reach) : Type 0 where
+  pub span : Reach
+  pub spans : q.judged.span ≡ Some span
+  pub reaches : q.reach ≡ Some reach
+  pub from : reach.from ≡ span.from
+  pub to : reach.to + 1 ≡ span.to
 
 abbrev reach_or : Verdict → Reach → Reach
 reach_or (verdict.Within reach) other = reach
@@ -144,6 +143,9 @@ reach_or (verdict.Partly part) other = other
 same-from : (reach span : Reach) → reaches_end reach span ≡ true → reach.from ≡ span.from
 same-from reach span is = grind (arith, nat_tests, is)
 
+same-to : (reach span : Reach) → reaches_end reach span ≡ true → reach.to + 1 ≡ span.to
+same-to reach span is = grind (arith, nat_tests, is)
+
 module _ (q : Progress) (reach : Reach) where
   by-end : (span whole : Reach) (ends : Bool) → q.judged.span ≡ Some span → q.reach ≡ Some whole → reaches_end whole span ≡ ends
       → (if ends then verdict.Within whole else verdict.Partly (partly_of span q)) ≡ verdict.Within reach → Reaches q reach
@@ -154,6 +156,7 @@ module _ (q : Progress) (reach : Reach) where
         spans = spans;
         reaches = reaches ∙ ap Some same;
         from = sym (ap (λ (r : Reach). r.from) same) ∙ same-from whole span ends;
+        to = sym (ap (λ (r : Reach). r.to + 1) same) ∙ same-to whole span ends;
       }
   by-end span whole false spans reaches ends is = absurd (cc is)
 
@@ -173,7 +176,7 @@ module _ (q : Progress) (reach : Reach) where
   by-first None is = by-over q.over is
   by-first (Some fault) is = absurd (cc is)
 
-  within-reaches : verdict_by q ≡ verdict.Within reach → Reaches q reach
+  pub within-reaches : verdict_by q ≡ verdict.Within reach → Reaches q reach
   unfolding verdict_by
   within-reaches is = by-first q.first is
 

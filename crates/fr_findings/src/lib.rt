@@ -14,7 +14,7 @@ mod verdict;
 mod writing;
 
 pub use counts::Counts;
-pub use laws::within_is_judged;
+pub use laws::{outcomes_are_counted, over_is_told, within_is_exact, within_is_judged};
 pub use observing::write_observed;
 pub use progress::{Judged, OverRow, Progress, Reach};
 pub use verdict::{Partly, Verdict};

@@ -4,3 +4,5 @@ pub mod Obstacles
 pub mod Knowing
 pub mod Missing
 pub mod Zeros
+pub mod LeastMissed
+pub mod Reasons

@@ -4,6 +4,7 @@
 
 mod hearing;
 mod knowing;
+mod laws;
 mod missed;
 mod obstacle;
 mod standing_faults;
@@ -13,6 +14,7 @@ mod zeros;
 
 pub use hearing::{heard, yardstick};
 pub use knowing::Standing;
+pub use laws::{missed_is_least, reasons_are_of_unjudged};
 pub use missed::{Missed, put_missed};
 pub use obstacle::{Obstacle, ObstacleKind};
 pub use standing_faults::{put_moving_faults, put_spread, put_term_faults};
