@@ -18,7 +18,7 @@ use Rattle.fr_judging.specs.Obstacles.{farther, obstacle_rank}
 use Rattle.fr_judging.specs.Reasons.{IsJudgedOrTold, ReasonsAreOfUnjudged}
 use Rattle.fr_judging.specs.declared.obstacle.Obstacle.{Obstacle}
 use Rattle.fr_findings.specs.Counting.{is_open, is_within}
-use Rattle.fr_findings.specs.Outcomes.{DoubleStands, IsFarthest, IsFarthestOf, OpenIsCounted, PartlyIsCounted, StandingsAreTold, SyncIsCounted, WithinIsCounted, judged_of, judged_say, log_standings, reasons_of, span_between, span_of, standings_from, stands_at}
+use Rattle.fr_findings.specs.Outcomes.{DoubleStands, IsFarthest, IsFarthestOf, OpenIsCounted, PartlyIsCounted, StandingsAreTold, SyncIsCounted, WithinIsCounted, judged_among, judged_say, log_standings, reasons_of, reach_between, reach_of_doubles, standings_from, stands_at}
 use Rattle.fr_findings.specs.Text.{first_judged, sync_fields, why_unjudged}
 use Rattle.fr_findings.specs.Verdict.{Basis, double_at, judged_by, known_next_told, log_basis, log_progress, no_progress, or_none_seen, partly_of, progress_behind, progress_of, progress_told, reaches_end, span_to, standing_told, verdict_by, verdict_of, verdict_unless_over, verdict_where, verdict_with, verdict_within}
 use Rattle.fr_findings.specs.declared.progress.Judged.{Judged}
@@ -90,7 +90,7 @@ module _ (b : Basis) (seen : List Sighting) (frames : OffendingFrames) where
   all_stood q doubles = standings_from b seen frames q.known doubles
 
   abbrev Counted : Progress → Progress → List DoubleStands → Type 0
-  Counted q after told = AreCounted q after (judged_of told) (reasons_of told) (length told)
+  Counted q after told = AreCounted q after (judged_among told) (reasons_of told) (length told)
 
   -- behind one more
   counted_step : (q after : Progress) (double : ℕ) (rest : List DoubleStands) → Counted (progress_behind b seen frames double q) after rest
@@ -99,7 +99,7 @@ module _ (b : Basis) (seen : List Sighting) (frames : OffendingFrames) where
   counted_step q after double rest is =
       let d : DoubleStands = stood q double in
       let judged : Bool = d.standing.is_judged in
-      let some : List DoubleStands = judged_of rest in
+      let some : List DoubleStands = judged_among rest in
       record {
         doubles = omega (arith, is.doubles);
         judged_doubles = judged_more q.judged d some judged after.judged.doubles is.judged_doubles;
@@ -158,14 +158,14 @@ module _ (b : Basis) (seen : List Sighting) (frames : OffendingFrames) where
   one_each d judged reasons false (Some why) is = omega arith
 
   each_of : ReasonsAreOfUnjudged → (known : Option Known) (doubles : List ℕ)
-      → length (judged_of (standings_from b seen frames known doubles)) + length (reasons_of (standings_from b seen frames known doubles))
+      → length (judged_among (standings_from b seen frames known doubles)) + length (reasons_of (standings_from b seen frames known doubles))
       ≡ length (standings_from b seen frames known doubles)
   unfolding standings_from
   each_of law known [] = refl
   each_of law known (double ∷ doubles) =
       let d : DoubleStands = stands_at b seen frames double known in
       let rest : List DoubleStands = standings_from b seen frames (known_next_told b (double_at b seen frames double) known) doubles in
-      one_each d (judged_of rest) (reasons_of rest) d.standing.is_judged d.standing.obstacle (judged_or_told law double known).reason
+      one_each d (judged_among rest) (reasons_of rest) d.standing.is_judged d.standing.obstacle (judged_or_told law double known).reason
       ∙ ap suc (each_of law (known_next_told b (double_at b seen frames double) known) doubles)
 
 -- ---- the first and the last
@@ -184,11 +184,11 @@ spans_on r d (other ∷ ds) to =
     spans_on (record { from = r.from; to = 2 * other.number + 1 }) other ds refl ∙ ap (option_map last) (sym (last_further d other ds))
 
 between_by : (first : DoubleStands) (last : Option DoubleStands)
-    → option_map (λ (last : DoubleStands). record { from = 2 * first.number; to = 2 * last.number + 1 }) last ≡ span_between (Some first) last
+    → option_map (λ (last : DoubleStands). record { from = 2 * first.number; to = 2 * last.number + 1 }) last ≡ reach_between (Some first) last
 between_by first None = refl
 between_by first (Some last) = refl
 
-pub spans_all : (ds : List DoubleStands) → spans None ds ≡ span_of ds
+pub spans_all : (ds : List DoubleStands) → spans None ds ≡ reach_of_doubles ds
 spans_all [] = refl
 spans_all (d ∷ ds) =
     spans_on (record { from = 2 * d.number; to = 2 * d.number + 1 }) d ds refl ∙ between_by d (slice_get (d ∷ ds) (length (d ∷ ds) - 1))
@@ -313,15 +313,15 @@ module _ (p : Values) (l : LogView) where
   abbrev pub stand : List DoubleStands
   stand = log_standings p l
 
-  all_counted : AreCounted no_progress behind_all (judged_of stand) (reasons_of stand) (length stand)
+  all_counted : AreCounted no_progress behind_all (judged_among stand) (reasons_of stand) (length stand)
   unfolding log_standings
   all_counted = counted_all (log_basis p l) (sightings_of p l) (offending_frames_of p l) no_progress (seen_doubles (sightings_of p l))
 
   farthest_all : IsFarthest (reasons_of stand) behind_all.obstacle
   farthest_all = subst (IsFarthest (reasons_of stand)) (sym all_counted.why) (farthest_of (reasons_of stand))
 
-  pub span_all : behind_all.judged.span ≡ span_of (judged_of stand)
-  span_all = all_counted.span ∙ spans_all (judged_of stand)
+  pub span_all : behind_all.judged.span ≡ reach_of_doubles (judged_among stand)
+  span_all = all_counted.span ∙ spans_all (judged_among stand)
 
 -- ---- which verdict
 
@@ -427,9 +427,9 @@ sync_is_counted_lem p l =
     let q : Progress = behind_all p l in
     let counted = all_counted p l in
     let told : List DoubleStands = log_standings p l in
-    let first : first_judged q.judged.span ≡ option_map (λ d. d.number) (slice_get (judged_of told) 0) =
-    ap first_judged counted.span ∙ first_all (judged_of told) in
-    let judged : q.judged.doubles ≡ length (judged_of told) = omega (arith, counted.judged_doubles) in
+    let first : first_judged q.judged.span ≡ option_map (λ d. d.number) (slice_get (judged_among told) 0) =
+    ap first_judged counted.span ∙ first_all (judged_among told) in
+    let judged : q.judged.doubles ≡ length (judged_among told) = omega (arith, counted.judged_doubles) in
     let doubles : q.doubles ≡ length told = omega (arith, counted.doubles) in
     record {
       reason = q.obstacle;
@@ -446,7 +446,7 @@ partly_is_counted_lem p l part says =
     let partly : IsPartly q part = partly_by q part says in
     let within : q.judged.said.within ≡ count_by is_within (judged_say told) = omega (arith, counted.within) in
     let neither : q.judged.said.neither ≡ count_by is_open (judged_say told) = omega (arith, counted.neither) in
-    let judged : q.judged.doubles ≡ length (judged_of told) = omega (arith, counted.judged_doubles) in
+    let judged : q.judged.doubles ≡ length (judged_among told) = omega (arith, counted.judged_doubles) in
     let doubles : q.doubles ≡ length told = omega (arith, counted.doubles) in
     record {
       span = sym (span_all p l) ∙ partly.spans ∙ ap (λ (x : Partly). Some x.span) (sym partly.is);
@@ -467,7 +467,7 @@ unfolding verdict_of
 open_is_counted_lem p l why says =
     let is : IsOpen (behind_all p l) why = open_by (behind_all p l) why says in
     record {
-      none = none_spanned (judged_of (log_standings p l)) (sym (all_counted p l).span ∙ is.spans);
+      none = none_spanned (judged_among (log_standings p l)) (sym (all_counted p l).span ∙ is.spans);
       reason = (behind_all p l).obstacle;
       farthest = farthest_all p l;
       is = is.is;

@@ -12,7 +12,7 @@ use Rattle.fr_sightings.specs.declared.sighting.Sighting.{Sighting}
 use Rattle.fr_observe.specs.Observing.{both_say, doubles_between, seen_doubles}
 use Rattle.fr_observe.specs.declared.says.Says.{Says}
 use Rattle.fr_observe.specs.declared.says.Says.TheVariants.{Over, Within, Open}
-use Rattle.fr_findings.specs.Outcomes.{DoubleStands, judged_of, log_standings, span_of, standings_from}
+use Rattle.fr_findings.specs.Outcomes.{DoubleStands, judged_among, log_standings, reach_of_doubles, standings_from}
 use Rattle.fr_findings.specs.Verdict.{Basis, double_at, judged_by, known_next_told, log_basis, no_progress, progress_behind, progress_of, progress_told, reach_behind, reach_where, reaches_end, span_to, verdict_of}
 use Rattle.fr_findings.specs.Within.{AllSayWithin, PartlyIsElse, WithinSaysWithin}
 use Rattle.fr_findings.specs.declared.progress.Judged.{Judged}
@@ -171,8 +171,8 @@ first_walked : (span : Option Reach) (state : State) (d : DoubleStands) (ds : Li
     → walked span state (d ∷ ds) ≡ walked (span_by b span d.number) (state_by b span d.number d.says state) ds
 first_walked span state d ds b is = λ i. walked (span_by (is i) span d.number) (state_by (is i) span d.number d.says state) ds
 
-first_judged_of : (d : DoubleStands) (ds : List DoubleStands) (b : Bool) → d.standing.is_judged ≡ b → judged_of (d ∷ ds) ≡ (if b then d ∷ judged_of ds else judged_of ds)
-first_judged_of d ds b is = λ i. if is i then d ∷ judged_of ds else judged_of ds
+first_judged_of : (d : DoubleStands) (ds : List DoubleStands) (b : Bool) → d.standing.is_judged ≡ b → judged_among (d ∷ ds) ≡ (if b then d ∷ judged_among ds else judged_among ds)
+first_judged_of d ds b is = λ i. if is i then d ∷ judged_among ds else judged_among ds
 
 -- behind a judged one either all are, or none says within any more
 all_or_gap : (span : Reach) (state : State) (ds : List DoubleStands) → AreJudged ds ⊎ (walked (Some span) state ds ≡ over_now)
@@ -227,12 +227,12 @@ spans_walked from double (d ∷ ds) on =
     ap (λ (n : ℕ). spans (reach_to from (2 * n + 1)) ds) number ∙ spans_walked from (double + 1) ds on.1.1 ∙ ap (reach_to from) same
 
 span_walked : (double : ℕ) (d : DoubleStands) (ds : List DoubleStands) → AreOn double (d ∷ ds)
-    → span_of (d ∷ ds) ≡ reach_to (2 * double) (2 * (double + length ds) + 1)
+    → reach_of_doubles (d ∷ ds) ≡ reach_to (2 * double) (2 * (double + length ds) + 1)
 span_walked double d ds on =
     let number : d.number ≡ double = on.0 in
     sym (spans_all (d ∷ ds)) ∙ ap (λ (n : ℕ). spans (reach_to (2 * n) (2 * n + 1)) ds) number ∙ spans_walked (2 * double) double ds on.1.1
 
-all_judged : (ds : List DoubleStands) → AreJudged ds → judged_of ds ≡ ds
+all_judged : (ds : List DoubleStands) → AreJudged ds → judged_among ds ≡ ds
 all_judged [] judged = refl
 all_judged (d ∷ ds) judged =
     let P : DoubleStands → Type 0 = λ d. d.standing.is_judged ≡ true in
@@ -244,7 +244,7 @@ abbrev to_or : Option Reach → ℕ
 to_or None = 0
 to_or (Some r) = r.to
 
-judged_first : (d : DoubleStands) (ds : List DoubleStands) → d.standing.is_judged ≡ false → judged_of (d ∷ ds) ≡ judged_of ds
+judged_first : (d : DoubleStands) (ds : List DoubleStands) → d.standing.is_judged ≡ false → judged_among (d ∷ ds) ≡ judged_among ds
 judged_first d ds is = first_judged_of d ds false is
 
 later_within : (d : DoubleStands) (ds : List DoubleStands) → d.standing.is_judged ≡ false → AllSayWithin ds → AllSayWithin (d ∷ ds)
@@ -275,12 +275,12 @@ module _ (double : ℕ) (d : DoubleStands) (ds : List DoubleStands) (on : AreOn 
       omega (arith, is, same, to, long_rows double (d ∷ ds) on)
 
   here_within : (reach : Reach) → AreJudged (d ∷ ds) → (walked None none_yet (d ∷ ds)).0 ≡ Some reach
-      → span_of (judged_of (d ∷ ds)) ≡ Some (record { from = reach.from; to = reach.to + 1 }) → AllSayWithin (d ∷ ds)
+      → reach_of_doubles (judged_among (d ∷ ds)) ≡ Some (record { from = reach.from; to = reach.to + 1 }) → AllSayWithin (d ∷ ds)
   here_within reach judged reached named =
       let rows : walked None none_yet (d ∷ ds) ≡ rows_from none_yet (2 * double) rows_here = rows_walked None none_yet double (d ∷ ds) on judged in
       let first : (rows_from none_yet (2 * double) rows_here).0 ≡ Some reach = ap (λ (s : State). s.0) (sym rows) ∙ reached in
       let to : reach.to + 1 ≡ 2 * (double + length ds) + 1 =
-      ap to_or (sym named ∙ ap span_of (all_judged (d ∷ ds) judged) ∙ span_walked double d ds on) in
+      ap to_or (sym named ∙ ap reach_of_doubles (all_judged (d ∷ ds) judged) ∙ span_walked double d ds on) in
       let parts : ButLast rows_here = but_last rows_here (leading_by reach (leading rows_here) refl first to) in
       record {
         before = [];
@@ -299,23 +299,23 @@ module _ (double : ℕ) (d : DoubleStands) (ds : List DoubleStands) (on : AreOn 
   by_gap : (reach : Reach) → d.standing.is_judged ≡ true
       → AreJudged ds ⊎ (walked (Some (span_to None d.number)) (rows_from none_yet (2 * d.number) d.says) ds ≡ over_now)
       → (walked None none_yet (d ∷ ds)).0 ≡ Some reach
-      → span_of (judged_of (d ∷ ds)) ≡ Some (record { from = reach.from; to = reach.to + 1 }) → AllSayWithin (d ∷ ds)
+      → reach_of_doubles (judged_among (d ∷ ds)) ≡ Some (record { from = reach.from; to = reach.to + 1 }) → AllSayWithin (d ∷ ds)
   by_gap reach is (inl judged) reached named = here_within reach (All-cons (λ d. d.standing.is_judged ≡ true) d ds is judged) reached named
   by_gap reach is (inr gap) reached named =
       absurd (cc (ap (λ (s : State). s.0) (sym (first_walked None none_yet d ds true is ∙ gap)) ∙ reached))
 
   by_first : (reach : Reach) (b : Bool) → d.standing.is_judged ≡ b
-      → ((walked None none_yet ds).0 ≡ Some reach → span_of (judged_of ds) ≡ Some (record { from = reach.from; to = reach.to + 1 }) → AllSayWithin ds)
+      → ((walked None none_yet ds).0 ≡ Some reach → reach_of_doubles (judged_among ds) ≡ Some (record { from = reach.from; to = reach.to + 1 }) → AllSayWithin ds)
       → (walked None none_yet (d ∷ ds)).0 ≡ Some reach
-      → span_of (judged_of (d ∷ ds)) ≡ Some (record { from = reach.from; to = reach.to + 1 }) → AllSayWithin (d ∷ ds)
+      → reach_of_doubles (judged_among (d ∷ ds)) ≡ Some (record { from = reach.from; to = reach.to + 1 }) → AllSayWithin (d ∷ ds)
   by_first reach true is rest reached named =
       by_gap reach is (all_or_gap (span_to None d.number) (rows_from none_yet (2 * d.number) d.says) ds) reached named
   by_first reach false is rest reached named =
       later_within d ds is
-      (rest (ap (λ (s : State). s.0) (sym (first_walked None none_yet d ds false is)) ∙ reached) (ap span_of (sym (judged_first d ds is)) ∙ named))
+      (rest (ap (λ (s : State). s.0) (sym (first_walked None none_yet d ds false is)) ∙ reached) (ap reach_of_doubles (sym (judged_first d ds is)) ∙ named))
 
 say_within : (double : ℕ) (told : List DoubleStands) → AreOn double told → (reach : Reach) → (walked None none_yet told).0 ≡ Some reach
-    → span_of (judged_of told) ≡ Some (record { from = reach.from; to = reach.to + 1 }) → AllSayWithin told
+    → reach_of_doubles (judged_among told) ≡ Some (record { from = reach.from; to = reach.to + 1 }) → AllSayWithin told
 say_within double [] on reach reached named = absurd (cc reached)
 say_within double (d ∷ ds) on reach reached named =
     by_first double d ds on reach d.standing.is_judged refl (λ further span. say_within (double + 1) ds on.1.1 reach further span) reached named
@@ -325,7 +325,7 @@ record IsReached (told : List DoubleStands) : Type 0 where
   whole : Reach
   span : Reach
   reached : (walked None none_yet told).0 ≡ Some whole
-  spanned : span_of (judged_of told) ≡ Some span
+  spanned : reach_of_doubles (judged_among told) ≡ Some span
   ends : reaches_end whole span ≡ true
 
 later_reached : (d : DoubleStands) (ds : List DoubleStands) → d.standing.is_judged ≡ false → IsReached ds → IsReached (d ∷ ds)
@@ -334,7 +334,7 @@ later_reached d ds is rest =
       whole = rest.whole;
       span = rest.span;
       reached = ap (λ (s : State). s.0) (first_walked None none_yet d ds false is) ∙ rest.reached;
-      spanned = ap span_of (judged_first d ds is) ∙ rest.spanned;
+      spanned = ap reach_of_doubles (judged_first d ds is) ∙ rest.spanned;
       ends = rest.ends;
     }
 
@@ -352,7 +352,7 @@ reached_here double d ds on judged front last parts within untold =
       span = record { from = 2 * double; to = 2 * (double + length ds) + 1 };
       reached =
           ap (λ (s : State). s.0) (rows_walked None none_yet double (d ∷ ds) on judged) ∙ rows_some (2 * double) (2 * length ds) (says_in (d ∷ ds)) k;
-      spanned = ap span_of (all_judged (d ∷ ds) judged) ∙ span_walked double d ds on;
+      spanned = ap reach_of_doubles (all_judged (d ∷ ds) judged) ∙ span_walked double d ds on;
       ends = ends_at double (length ds);
     }
 

@@ -49,8 +49,8 @@ log_standings p l =
     standings_from (log_basis p l) (sightings_of p l) (offending_frames_of p l) None (seen_doubles (sightings_of p l))
 
 -- those of them that are judged, and why others are not
-abbrev pub judged_of : List DoubleStands → List DoubleStands
-judged_of told = filter (λ d. d.standing.is_judged) told
+abbrev pub judged_among : List DoubleStands → List DoubleStands
+judged_among told = filter (λ d. d.standing.is_judged) told
 
 abbrev pub reasons_of : List DoubleStands → List Obstacle
 reasons_of told = filter_map (λ d. d.standing.obstacle) told
@@ -58,17 +58,17 @@ reasons_of told = filter_map (λ d. d.standing.obstacle) told
 -- ---- what is named
 
 -- the even cycle of the first of some double cycles and the odd one of the last
-abbrev pub span_between : Option DoubleStands → Option DoubleStands → Option Reach
-span_between None last = None
-span_between (Some first) None = None
-span_between (Some first) (Some last) = Some (record { from = 2 * first.number; to = 2 * last.number + 1 })
+abbrev pub reach_between : Option DoubleStands → Option DoubleStands → Option Reach
+reach_between None last = None
+reach_between (Some first) None = None
+reach_between (Some first) (Some last) = Some (record { from = 2 * first.number; to = 2 * last.number + 1 })
 
-abbrev pub span_of : List DoubleStands → Option Reach
-span_of told = span_between (slice_get told 0) (slice_get told (length told - 1))
+abbrev pub reach_of_doubles : List DoubleStands → Option Reach
+reach_of_doubles told = reach_between (slice_get told 0) (slice_get told (length told - 1))
 
 -- what the rows of judged double cycles say
 abbrev pub judged_say : List DoubleStands → List Says
-judged_say told = flat_map (λ d. d.says) (judged_of told)
+judged_say told = flat_map (λ d. d.says) (judged_among told)
 
 -- one of some reasons: no other came farther, and none before it as far
 pub record IsFarthestOf (reasons : List Obstacle) (why : Obstacle) : Type 0 where
@@ -90,27 +90,27 @@ pub record SyncNames (told : List DoubleStands) (text : List ℕ) : Type 0 where
   pub reason : Option Obstacle
   pub farthest : IsFarthest (reasons_of told) reason
   pub shown :
-      text ≡ sync_fields (option_map (λ d. d.number) (slice_get (judged_of told) 0)) (length (judged_of told)) (length told)
-      (why_unjudged (option_map (λ d. d.number) (slice_get (judged_of told) 0)) reason)
+      text ≡ sync_fields (option_map (λ d. d.number) (slice_get (judged_among told) 0)) (length (judged_among told)) (length told)
+      (why_unjudged (option_map (λ d. d.number) (slice_get (judged_among told) 0)) reason)
 
 -- ---- the verdict
 
 -- `partly`: the first judged cycle and the last, how many rows of judged double cycles say what, how many double
 -- cycles are judged, and how many there are
 pub record PartlyNames (told : List DoubleStands) (part : Partly) : Type 0 where
-  pub span : span_of (judged_of told) ≡ Some part.span
+  pub span : reach_of_doubles (judged_among told) ≡ Some part.span
   pub within : part.within ≡ count_by is_within (judged_say told)
   pub neither : part.neither ≡ count_by is_open (judged_say told)
-  pub judged : part.judged ≡ length (judged_of told)
+  pub judged : part.judged ≡ length (judged_among told)
   pub doubles : part.doubles ≡ length told
 
 -- `within`: the first judged cycle and the last but one
 abbrev pub WithinNames : List DoubleStands → Reach → Type 0
-WithinNames told reach = span_of (judged_of told) ≡ Some (record { from = reach.from; to = reach.to + 1 })
+WithinNames told reach = reach_of_doubles (judged_among told) ≡ Some (record { from = reach.from; to = reach.to + 1 })
 
 -- `open`: none is judged, and why the one that came farthest is not
 pub record OpenNames (told : List DoubleStands) (why : Obstacle) : Type 0 where
-  pub none : judged_of told ≡ []
+  pub none : judged_among told ≡ []
   pub reason : Option Obstacle
   pub farthest : IsFarthest (reasons_of told) reason
   pub is : why ≡ or_none_seen reason
@@ -120,7 +120,7 @@ pub record OpenNames (told : List DoubleStands) (why : Obstacle) : Type 0 where
 -- the list has each double cycle of the log once, in their order, and each is judged or has a reason
 pub record AreStandings (p : Values) (l : LogView) (told : List DoubleStands) : Type 0 where
   pub numbers : map (λ d. d.number) told ≡ seen_doubles (sightings_of p l)
-  pub each : length (judged_of told) + length (reasons_of told) ≡ length told
+  pub each : length (judged_among told) + length (reasons_of told) ≡ length told
 
 abbrev pub StandingsAreTold : Type 0
 StandingsAreTold = (p : Values) (l : LogView) → AreStandings p l (log_standings p l)
