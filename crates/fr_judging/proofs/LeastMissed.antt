@@ -1,23 +1,27 @@
 -- Where more may have been missed the middle is at least as wide at both ends, whether or not a number lies in it: so what lies beside it
 -- lies beside that of fewer.
-use Rattle.std.proofs.Common.{◌≡◌, ◌∙◌, ℕ, zero, suc, ◌+◌, ◌<◌, ◌≤◌, Bool, true, false, cond, ℤ, List, length, Option, Some, None, is_none, is_some, refl, sym, subst, arith}
-use Rattle.std.specs.Prelude.{◌≤ℤ◌, ◌||◌, int_lt, nat_le, nat_lt, if◌then◌else◌}
+use Rattle.std.proofs.Common.{map, ◌≡◌, ◌∙◌, ℕ, zero, suc, ◌+◌, ◌*◌, [], ◌∷◌, ◌<◌, ◌≤◌, Bool, true, false, cond, ℤ, List, length, Option, Some, None, is_none, is_some, refl, sym, ap, subst, arith}
+use Rattle.std.specs.Prelude.{◌==◌, not, filter, Contains, ◌≤ℤ◌, ◌||◌, int_lt, nat_le, nat_lt, if◌then◌else◌}
 use Rattle.std.specs.List.{find, range_with_len}
 use Rattle.std.specs.Option.{option_map}
 use Rattle.std.proofs.lemmas.Bool.Decides.{nat_tests}
 use Rattle.std.proofs.lemmas.Int.{ints, clamps}
+use Rattle.std.proofs.lemmas.List.Sums.{count_by-le-length, length-filter}
 use Rattle.fr_cluster.specs.Values.{Values}
 use Rattle.fr_log.specs.View.{LogView}
-use Rattle.fr_course.specs.Computed.{further_by, measuring_of}
+use Rattle.fr_course.specs.Computed.{further_by, measuring_of, own_value, rate_value_seen}
 use Rattle.fr_course.specs.Middles.{hull, middle, middle_missing}
+use Rattle.fr_course.specs.Terms.{rate_step_seen}
+use Rattle.fr_course.specs.declared.courses.Course.{Course}
 use Rattle.fr_course.specs.declared.intervals.Interval.{Interval}
 use Rattle.fr_course.specs.declared.scales.Scale.{Scale}
 use Rattle.fr_sightings.specs.declared.sender.Sender.{Sender}
-use Rattle.fr_observe.specs.Faults.{offset_due, rate_due, stated_flutter, unlike_fault, unlike_with}
+use Rattle.fr_observe.specs.Observing.{terms_of}
+use Rattle.fr_observe.specs.Faults.{other_courses, offset_due, rate_due, stated_flutter, unlike_fault, unlike_with}
 use Rattle.fr_observe.specs.declared.fault.Fault.{Fault}
 use Rattle.fr_observe.specs.declared.term.Term.{Term}
 use Rattle.fr_observe.specs.declared.term.Term.TheVariants as term
-use Rattle.fr_judging.specs.LeastMissed.{FewerMissedContradict, MissedIsLeast, NoneMissedSuffices}
+use Rattle.fr_judging.specs.LeastMissed.{FewerMissedContradict, MissedIsLeast, NoneMissedSuffices, WhateverMissedContradicts}
 use Rattle.fr_judging.specs.Missing.{unlike_term}
 
 -- ---- wider
@@ -228,3 +232,95 @@ none_missed_suffices_lem what p l scale double senders s =
       (λ is lost few. some_or_none (unlike_term what p l scale double senders s lost) (none test 0 (length senders) is lost (omega arith) (omega (arith, few)))),
       (λ all. none_back test 0 (length senders) (λ lost from to. not_true (test lost) (λ passes. none_or_some (unlike_term what p l scale double senders s lost) passes (all lost (omega (arith, to)))))),
     )
+
+-- ---- more than all others
+
+module _ (further : ℕ) (known : List Interval) (most : ℕ) (few : length known ≤ suc most) where
+  stays_by : (lost : ℕ) (b : Bool) → nat_lt (suc lost) (length known) ≡ b → most ≤ lost
+      → (if b then hull (middle further lost known) (middle_missing further (suc lost) known) else middle further lost known) ≡ middle further lost known
+  stays_by lost true more le =
+      let less : suc lost < length known = grind (arith, nat_tests) in
+      absurd (omega (arith, less, few, le))
+  stays_by lost false more le = refl
+
+  one_more : (lost : ℕ) → most ≤ lost → middle further (suc lost) known ≡ middle further lost known
+  unfolding middle
+  one_more lost le = stays_by lost (nat_lt (suc lost) (length known)) refl le
+
+  stays_on : (lost : ℕ) (b : Bool) → nat_le most lost ≡ b → most ≤ suc lost → (most ≤ lost → middle further lost known ≡ middle further most known)
+      → middle further (suc lost) known ≡ middle further most known
+  stays_on lost true fewer le rest =
+      let at : most ≤ lost = grind (arith, nat_tests) in
+      one_more lost at ∙ rest at
+  stays_on lost false not_fewer le rest =
+      let last : most ≡ suc lost = last_of most lost le (grind (arith, nat_tests)) in
+      sym (ap (λ (n : ℕ). middle further n known) last)
+
+  stays : (lost : ℕ) → most ≤ lost → middle further lost known ≡ middle further most known
+  stays zero le = sym (ap (λ (n : ℕ). middle further n known) (no_less most le))
+  stays (suc lost) le = stays_on lost (nat_le most lost) refl le (λ fewer. stays lost fewer)
+
+long_map : {X Y : Type 0} (f : X → Y) (xs : List X) → length (map f xs) ≡ length xs
+long_map f [] = refl
+long_map f (x ∷ xs) = ap suc (long_map f xs)
+
+same_number : (n : ℕ) → (n == n) ≡ true
+same_number n = grind (arith, nat_tests)
+
+-- one of the senders is none of the others
+module _ (s : Sender) where
+  abbrev is_other : Sender → Bool
+  is_other other = not (other.node == s.node)
+
+  fewer_by : (b : Bool) (other : Sender) (others : List Sender) → is_other other ≡ b
+      → suc (length (filter is_other others)) ≤ length others → suc (length (if b then other ∷ filter is_other others else filter is_other others)) ≤ suc (length others)
+  fewer_by true other others is rest = omega (arith, rest)
+  fewer_by false other others is rest = omega (arith, rest)
+
+  no_more : (others : List Sender) → length (filter is_other others) ≤ length others
+  no_more others = subst (λ n. n ≤ length others) (sym (length-filter is_other others)) (count_by-le-length is_other others)
+
+  none_here : (other : Sender) (others : List Sender) (b : Bool) → is_other other ≡ b → b ≡ false
+      → suc (length (if b then other ∷ filter is_other others else filter is_other others)) ≤ suc (length others)
+  none_here other others true is not = absurd (cc not)
+  none_here other others false is not = omega (arith, no_more others)
+
+  fewer_others : (senders : List Sender) → Contains senders s → suc (length (filter is_other senders)) ≤ length senders
+  fewer_others [] among = absurd (omega (arith, among.1))
+  fewer_others (other ∷ others) (zero, lt, is) =
+      let node : (other.node == s.node) ≡ true = ap (λ (x : Sender). x.node == s.node) is ∙ same_number s.node in
+      none_here other others (is_other other) refl (ap not node)
+  fewer_others (other ∷ others) (suc k, lt, is) =
+      fewer_by (is_other other) other others refl (fewer_others others (k, omega (arith, lt), is))
+
+module _ (p : Values) (l : LogView) (scale : Scale) (double : ℕ) (senders : List Sender) (s : Sender) (most : ℕ) (is_most : length senders ≡ suc most)
+    (among : Contains senders s) where
+  few_known : (f : Course → Interval) → length (own_value ∷ map f (other_courses senders s.node)) ≤ suc most
+  few_known f =
+      let one : length (map f (other_courses senders s.node)) ≡ length (other_courses senders s.node) = long_map f (other_courses senders s.node) in
+      let two : length (other_courses senders s.node) ≡ length (filter (is_other s) senders) = long_map (λ (x : Sender). x.course) (filter (is_other s) senders) in
+      omega (arith, one, two, is_most, fewer_others s senders among)
+
+  whatever : (what : Term) (lost : ℕ) → most ≤ lost → is_some (unlike_term what p l scale double senders s most) ≡ true
+      → is_some (unlike_term what p l scale double senders s lost) ≡ true
+  whatever term.Offset lost le is =
+      let same : offset_due p l scale senders lost s ≡ offset_due p l scale senders most s = stays _ _ most (few_known _) lost le in
+      ap (λ (o : Option Interval). is_some (unlike_fault term.Offset (2 * double + 1) s.node (terms_of scale s) o)) same ∙ is
+  whatever term.Rate lost le is =
+      let m = measuring_of p (stated_flutter p l) in
+      let same : rate_due p l scale senders lost s ≡ rate_due p l scale senders most s =
+      ap (option_map (further_by m.damping)) (stays _ _ most (few_known (rate_value_seen scale m s.course)) lost le) in
+      ap (λ (o : Option Interval). is_some (unlike_fault term.Rate (2 * double + 1) s.node (option_map (rate_step_seen scale s.course) s.next) o)) same ∙ is
+
+pub whatever_missed_contradicts_lem : WhateverMissedContradicts
+whatever_missed_contradicts_lem what p l scale double senders s lost among is = by (length senders) refl (nat_lt lost (length senders)) refl
+  where
+    all : (k : ℕ) → k < length senders → is_some (unlike_term what p l scale double senders s k) ≡ true
+    all k lt = (none_missed_suffices_lem what p l scale double senders s).0 is k lt
+
+    by : (n : ℕ) → length senders ≡ n → (b : Bool) → nat_lt lost (length senders) ≡ b → is_some (unlike_term what p l scale double senders s lost) ≡ true
+    by n long true fewer = all lost (grind (arith, nat_tests))
+    by zero long false more = absurd (omega (arith, long, fewer_others s senders among))
+    by (suc most) long false more =
+        let few : length senders ≤ lost = grind (arith, nat_tests) in
+        whatever p l scale double senders s most long among what lost (omega (arith, long, few)) (all most (omega (arith, long)))

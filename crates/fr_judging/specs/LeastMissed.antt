@@ -1,6 +1,6 @@
 -- The law of what was missed: where a term contradicts a node that missed at most so many senders, it contradicts one that missed at most
 -- fewer; so the number that is told is the least that nothing contradicts, and from it on nothing does.
-use Rattle.std.specs.Prelude.{◌≡◌, ◌≤◌, ◌<◌, ◌↔◌, ℕ, true, List, length, Some, None, is_none, is_some}
+use Rattle.std.specs.Prelude.{◌≡◌, ◌≤◌, ◌<◌, ◌↔◌, ℕ, true, List, length, Contains, Some, None, is_none, is_some}
 use Rattle.fr_cluster.specs.Values.{Values}
 use Rattle.fr_log.specs.View.{LogView}
 use Rattle.fr_course.specs.declared.scales.Scale.{Scale}
@@ -28,3 +28,10 @@ NoneMissedSuffices =
     (what : Term) (p : Values) (l : LogView) (scale : Scale) (double : ℕ) (senders : List Sender) (s : Sender)
     → (least_missed what p l scale double senders s ≡ None)
     ↔ ((lost : ℕ) → lost < length senders → is_some (unlike_term what p l scale double senders s lost) ≡ true)
+
+-- so is each number at all for one of the senders: it can't have missed more than all others
+abbrev pub WhateverMissedContradicts : Type 0
+WhateverMissedContradicts =
+    (what : Term) (p : Values) (l : LogView) (scale : Scale) (double : ℕ) (senders : List Sender) (s : Sender) (lost : ℕ)
+    → Contains senders s → least_missed what p l scale double senders s ≡ None
+    → is_some (unlike_term what p l scale double senders s lost) ≡ true
