@@ -36,6 +36,10 @@ const NAMES = ["gMacroPerCycle", "pMicroPerCycle", "gNumberOfStaticSlots", "gdSt
   "pAllowHaltDueToClock", "pAllowPassiveToActive", "pClusterDriftDamping", "pOffsetCorrectionOut", "pRateCorrectionOut",
   "pDelayCompensation", "pDelayCompensationA", "pDelayCompensationB", "xRateBound", "xChangeBound", "xDelayError"];
 
+// Rows of a script about frames on their way, and those of a bit.
+const isOfFrames = (kind) => (FORMS.script[1].get(kind) || []).some((field) => field.kind === "channel");
+const hasBit = (kind) => (FORMS.script[1].get(kind) || []).some((field) => field.kind === "bit");
+
 // No file of flexray has more bytes, and the shortest record of a file for frames or clocks has 15: more are none.
 const MOST_BYTES = 16777216, MOST_RECORDS = 1118481;
 
@@ -222,7 +226,7 @@ function readCluster(files, microtick, names = new Map()) {
     else if (kind === "join" && node(two) && whole(one) && whole(three)) {
       node(two).double = one;
       node(two).reference = three;
-    } else if (["say", "lose", "flip"].includes(kind) && whole(one) && node(two) && node(three) && four && "AB".includes(four)) {
+    } else if (isOfFrames(kind) && whole(one) && node(two) && node(three) && four && "AB".includes(four)) {
       if (kind === "say" && !whole(five)) return no("script", record);
       const key = [kind, five, six].join(",");
       if (!frames.has(key)) frames.set(key, []);
@@ -264,10 +268,10 @@ function stepsShown(id, steps, before) {
 // A row of the form as {first, last, begin, end}, with ppm as exact fractions, or null; a ramp is linear in ppm.
 function rampOf(row) {
   const first = Number(row.first), begin = lengthOf(row.from) !== null && decimal(row.from), is_step = row.last === "" && row.to === "";
-  if (!/^\d{1,6}$/.test(row.first) || first > 199999 || !begin) return null;
+  if (!/^\d{1,6}$/.test(row.first) || first > LAST_CYCLE || !begin) return null;
   if (is_step) return { first, last: first, begin, end: begin };
   const end = lengthOf(row.to) !== null && decimal(row.to), last = Number(row.last);
-  return end && /^\d{1,6}$/.test(row.last) && last > first && last <= 199999 ? { first, last, begin, end } : null;
+  return end && /^\d{1,6}$/.test(row.last) && last > first && last <= LAST_CYCLE ? { first, last, begin, end } : null;
 }
 
 // [cycle, ticks] at which the length changes, from one cycle until before another, where it was so before. Lengths of a ramp go
@@ -453,7 +457,7 @@ function writeCluster(cluster) {
   const delays = new Map();
   cluster.delays.forEach((row, at) => {
     const ticks = ticksOf(row.ns, "ns", cluster.microtick), links = linksOf(row, cluster);
-    const cycles = listOf(row.cycles, 0, 199999);
+    const cycles = listOf(row.cycles, 0, LAST_CYCLE);
     if (ticks === null) bad("delays", at, "ns", "a number of nanoseconds is wanted");
     if (!links || !links.length) bad("delays", at, "to", "nodes are wanted that have a common channel of these, as 1-4,6 or all");
     if (!cycles) bad("delays", at, "cycles", "cycles are wanted, as 0 or 10-20,30");
@@ -466,11 +470,11 @@ function writeCluster(cluster) {
     if (node.double.trim() !== "") script.push(`join,${node.double.trim()},${node.id},${node.reference.trim()},,,`);
   }
   const frames = new Map();
-  const least = Math.min(200000, 2 * Number(cluster.doubles) || 2);
+  const least = Math.min(LAST_CYCLE + 1, 2 * Number(cluster.doubles) || 2);
   cluster.faults.forEach((row, at) => {
     const links = linksOf(row, cluster);
-    const cycles = listOf(row.cycles.trim() === "all" ? `0-${least - 1}` : row.cycles, 0, 199999);
-    const value = row.kind === "say" ? ticksOf(row.value, "us", cluster.microtick) : row.kind === "flip" ? row.value.trim() : "";
+    const cycles = listOf(row.cycles.trim() === "all" ? `0-${least - 1}` : row.cycles, 0, LAST_CYCLE);
+    const value = row.kind === "say" ? ticksOf(row.value, "us", cluster.microtick) : hasBit(row.kind) ? row.value.trim() : "";
     if (value === null) bad("faults", at, "value", "a number of microseconds is wanted, above 0 late");
     if (!links || !links.length) bad("faults", at, "to", "nodes are wanted that have a common channel of these, as 1-4,6 or all");
     if (!cycles) bad("faults", at, "cycles", "cycles are wanted, as 0-399, 10-20,30 or all");

@@ -91,43 +91,6 @@ const ppmShort = (length) => {
 const msOfCycle = (cycle, known) => ((cycle * known.pMicroPerCycle * Number(page.microtick)) / 1e6).toFixed(3).replace(/\.?0+$/, "");
 const percent = (part, whole) => (whole > 0 ? `${((100 * Number(part)) / Number(whole)).toFixed(1)} %` : "");
 
-function readReport(text) {
-  const found = Object.assign(Object.create(null), { ends: [] });
-  for (const line of text.split("\n")) {
-    const words = line.split(" ");
-    if (words[0] === "nodes") found.counts = { nodes: +words[1], sync: +words[3], arbitrary: +words[5], doubles: +words[7] };
-    if (words[0] === "precision") found.precision = words[1];
-    if (words[0] === "covered") [found.covered, found.gap] = [words[1] === "yes", words.slice(2).join(" ")];
-    if (words[0] === "in") found.inSync = words[2] === "never" ? null : +words[2];
-    if (words[0] === "greatest") found.greatest = { ticks: words[2], cycle: +words[4], macrotick: +words[6] };
-    if (words[0] === "sent") found["sent" + words[1]] = words[2];
-    if (words[0] === "heard") found.heard = line.slice(6);
-    if (words[0] === "cut") found.cut = words[1];
-    if (words[0] === "node") found.ends.push({ node: words[1], state: words[2], rate: words[6], offset: words[8] });
-  }
-  return found;
-}
-
-function readSeries(text) {
-  const found = { skew: [], last: Object.create(null) };
-  for (const line of text.split("\n")) {
-    const fields = line.split(",");
-    if (/^\d/.test(line)) found.skew.push(Number(fields[2]));
-    else if (fields.length > 1) found.last[fields[0]] = fields.slice(1);
-  }
-  return found;
-}
-
-function readBounds(text) {
-  const found = Object.assign(Object.create(null), { checks: [] });
-  for (const line of text.split("\n")) {
-    const check = /^(?:(alone|beside) )?C(\d) (holds|fails) (\d+) (\d+)$/.exec(line), words = line.split(" ");
-    if (check) found.checks.push({ side: check[1] || "", number: +check[2], holds: check[3] === "holds", left: check[4], right: check[5] });
-    else if (words.length > 1) found[words.slice(0, -1).join(" ")] = words[words.length - 1];
-  }
-  return found;
-}
-
 // Of the checks that are asked where nodes join, which fail: {holds, text}. Some are of one side alone, without arbitrary nodes
 // or beside them.
 function ofJoins({ checks }, side) {
@@ -426,7 +389,9 @@ const RESULTS = {
     add("In sync at the end, by the classical bound", last.synced[0] === "yes" ? "yes" : `no: from double cycle ${last.synced[1]} on none is`);
     add("Within the precision", within(last["sharp within"]));
     add("Within the classical bound", within(last.within));
-    add("Delays flutter by", `${show.ns(last.flutter[0])} ns at most within a double cycle`);
+    const place = /^delay (\d+) (\d+) ([AB]) (\d+)$/.exec(last.flutter[3]), since = Number(last["sharp synced"][0]) || 0;
+    add("Delays flutter by", `${show.ns(last.flutter[0])} ns at most within a double cycle${since ? `, from double cycle ${since} on` : ""}${
+      place ? `: the delay of node ${place[1]}'s frames at node ${place[2]} on channel ${place[3]}, last in double cycle ${place[4]}` : ""}`);
     add("Frames sent", `${run.sentA} on channel A, ${run.sentB} on B`);
     add("Heard", run.heard);
     add("Terms cut to their limit", run.cut);

@@ -1,5 +1,5 @@
 "use strict";
-// Reads files into the form and writes the form into files, in a worker of its own, behind keys.js, cluster.js, toml.js and words.js; and says
+// Reads files into the form and writes the form into files, in a worker of its own, behind the scripts that tools/page calls shared; and says
 // what a refusal means.
 const JOBS = new Map([
   ["read", ({ files, microtick, names }) => ({ cluster: readCluster(files, microtick, names) })],

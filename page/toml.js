@@ -346,14 +346,14 @@ class Table {
 
   // The first and the last cycle: one number, "all", "FROM-TO" or "FROM-". They may lie behind the end of the run.
   cycles() {
-    const wanted = 'a cycle from 0 to 199999, "all", "FROM-TO" or "FROM-"', value = this.take("cycles", wanted), end = this.source.cycles - 1;
+    const wanted = `a cycle from 0 to ${LAST_CYCLE}, "all", "FROM-TO" or "FROM-"`, value = this.take("cycles", wanted), end = this.source.cycles - 1;
     if (value === "all") return [0, end];
     const text = typeof value === "string" ? value : value && value.whole ? value.text : "";
     const span = /^(\d{1,6})(\s*-\s*(\d{1,6})?)?$/.exec(text);
     if (!span) this.refuse("cycles", `${shownValue(value)} is not ${wanted}`);
     const first = Number(span[1]), last = !span[2] ? first : Number(span[3] ?? Math.max(first, end));
     if (last < first) this.refuse("cycles", `${shownValue(value)} runs backward`);
-    return last > 199999 ? this.refuse("cycles", `${shownValue(value)} is not ${wanted}`) : [first, last];
+    return last > LAST_CYCLE ? this.refuse("cycles", `${shownValue(value)} is not ${wanted}`) : [first, last];
   }
 }
 
@@ -524,10 +524,10 @@ function framesOf(source) {
     if (!groups.size) table.refuse(null, "it wants receivers: `early`, `late` or `on_time`");
     for (const [receiver, shift] of groups) put(table, source.links(table, [node], [receiver], channels, "channels"), span, "say", shift, "");
   }
-  for (const kind of ["lose", "flip"]) {
+  for (const kind of [...FORMS.script[1].keys()].filter((one) => isOfFrames(one) && one !== "say")) {
     for (const table of source.many(kind)) {
       const senders = source.correctOnly(table, "from", "says only what [[say]] says"), receivers = source.correctOnly(table, "to", "hears nothing");
-      const span = table.cycles(), channels = table.channels("channels"), bit = kind === "flip" ? table.whole("bit", 0, 8 * (8 + 2 * words) - 1) : "";
+      const span = table.cycles(), channels = table.channels("channels"), bit = hasBit(kind) ? table.whole("bit", 0, 8 * (8 + 2 * words) - 1) : "";
       put(table, source.links(table, senders, receivers, channels, "channels"), span, kind, bit, "");
     }
   }
@@ -706,12 +706,12 @@ function tomlOf(cluster) {
     }
   }
   for (const row of cluster.delays) {
-    for (const cycle of listOf(row.cycles, 0, 199999)) {
+    for (const cycle of listOf(row.cycles, 0, LAST_CYCLE)) {
       table("[[delay]]", [["from", quoted(row.from)], ["to", quoted(row.to)], ["channels", `"${row.channels}"`], ["from_cycle", cycle || null], ["ns", clean(row.ns)]]);
     }
   }
   for (const row of cluster.faults) {
-    const spans = row.cycles.trim() === "all" ? ["all"] : listOf(row.cycles, 0, 199999).reduce((known, cycle) => {
+    const spans = row.cycles.trim() === "all" ? ["all"] : listOf(row.cycles, 0, LAST_CYCLE).reduce((known, cycle) => {
       const last = known[known.length - 1];
       if (last && last[1] === cycle - 1) last[1] = cycle;
       else known.push([cycle, cycle]);
@@ -723,7 +723,7 @@ function tomlOf(cluster) {
         for (const sender of row.from.trim() === "all" ? [] : listOf(row.from, 1, 64)) {
           table("[[say]]", [["node", sender], ...of, ["us", clean(row.value)], ["frame", row.bytes.trim() ? `"${row.bytes.trim()}"` : null]]);
         }
-      } else table(`[[${row.kind}]]`, [["from", quoted(row.from)], ...of, ["bit", row.kind === "flip" ? row.value.trim() : null]]);
+      } else table(`[[${row.kind}]]`, [["from", quoted(row.from)], ...of, ["bit", hasBit(row.kind) ? row.value.trim() : null]]);
     }
   }
   if (count > MOST_TABLES) throw new NoToml(`it would have ${count} tables, and ${MOST_TABLES} are the most that this page writes`);

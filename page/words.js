@@ -1,37 +1,8 @@
 "use strict";
-// What lines of the program say, in plain words: refusals with the record and the field, gaps, checks.
+// What lines of the program say, in plain words: refusals with the record and the field, by the forms of records, FORMS, which
+// tools/forms writes; gaps, checks.
 
 const kindsOf = (kinds) => new Map(Object.entries(kinds));
-const empty = { kind: "empty" }, channel = { name: "CHANNEL", kind: "channel" };
-const number = (name, least, most, unit = "") => ({ name, kind: "number", least, most, unit });
-const nodeField = (name = "NODE") => ({ ...number(name, 1, 64), node: true });
-const CYCLES = [0, 199999], SHIFTS = [-1e12, 1e12];
-// What the first field of a record says is of a stranger, so these are Maps: a record may begin with constructor.
-const FORMS = {
-  params: [5, kindsOf({
-    version: [number("VERSION", 2, 2), empty, empty, empty],
-    param: [{ name: "NAME", kind: "name" }, { name: "VALUE", kind: "value" }, empty, empty],
-    node: [number("ID", 1, 64), { ...number("KEY", 1, 1023), optional: true }, { name: "CHANNELS", kind: "channels" },
-      number("COLD", 0, 1)],
-    slot: [number("SLOT", 1, 1023), { ...nodeField(), earlier: true }, number("BASE", 0, 63), number("REPETITION", 1, 64)],
-  })],
-  drift: [6, kindsOf({
-    doubles: [number("COUNT", 1, 100000, "double cycles"), empty, empty, empty, empty],
-    start: [nodeField(), number("TICKS", 0, 1e12, "ticks"), { name: "RATE", kind: "rate" }, empty, empty],
-    length: [nodeField(), number("FROM", ...CYCLES, "(a cycle)"),
-      number("TICKS", 500000, 1500000, "ticks: the length of a microtick, 1000000 where the oscillator is right"), empty, empty],
-    delay: [nodeField("SENDER"), nodeField("RECEIVER"), channel, number("FROM", ...CYCLES, "(a cycle)"),
-      number("TICKS", 0, 1e9, "ticks")],
-  })],
-  script: [7, kindsOf({
-    arbitrary: [nodeField(), empty, empty, empty, empty, empty],
-    join: [number("DOUBLE", 0, 99999, "(a double cycle)"), nodeField(), nodeField("REFERENCE"), empty, empty, empty],
-    say: [number("CYCLE", ...CYCLES), nodeField("SENDER"), nodeField("RECEIVER"), channel, number("SHIFT", ...SHIFTS, "ticks"),
-      { name: "BYTES", kind: "hex" }],
-    lose: [number("CYCLE", ...CYCLES), nodeField("SENDER"), nodeField("RECEIVER"), channel, empty, empty],
-    flip: [number("CYCLE", ...CYCLES), nodeField("SENDER"), nodeField("RECEIVER"), channel, { name: "BIT", kind: "bit" }, empty],
-  })],
-};
 const REASONS = {
   Shape: "The record has not as many fields as a record of this file, or a field that has to be empty is not.",
   UnknownName: "The first field is no kind of record of this file, or no parameter has this name.",
@@ -44,7 +15,7 @@ const REASONS = {
   NotHex: "The bytes are no hexadecimal digits, two for each byte.",
   Repeated: "There is such a record already.",
 };
-// Where no single field is at fault.
+// Where no single field is at fault; of the other kinds of a file at last.
 const RULES = kindsOf({
   "params node Role": "A coldstart node needs a key slot.",
   "params version Role": "This record has to be the first one.",
@@ -54,8 +25,7 @@ const RULES = kindsOf({
   "script join Role": "A node cannot be its own reference, neither of both may be arbitrary, and the reference needs a key slot and "
     + "does not join itself.",
   "script say Role": "The sender has to be an arbitrary node, the receiver a correct one, and not the same.",
-  "script lose Role": "Sender and receiver are two correct nodes.",
-  "script flip Role": "Sender and receiver are two correct nodes.",
+  "script Role": "Sender and receiver are two correct nodes.",
 });
 const CONSTRAINTS = [
   null,
@@ -82,17 +52,12 @@ const CONSTRAINTS = [
   (p) => [`each further slot is at most gNumberOfStaticSlots (${p.gNumberOfStaticSlots}), and none is a key slot`,
     p.slots.filter((slot) => slot > p.gNumberOfStaticSlots || p.keys.some((key) => key[1] === slot)).map((slot) => `slot ${slot} is not so`).join(", ")],
 ];
-// Of which fields there may be one record, by the places of these.
-const KEYS = kindsOf({ param: [1], node: [1], slot: [1], doubles: [], start: [1], length: [1, 2], delay: [1, 2, 3, 4], arbitrary: [1], join: [2] });
-
 // An earlier record that is of the same, or undefined.
-function earlierOf(record, records) {
-  const key = ({ fields }) => {
-    const places = KEYS.get(fields[0]) || [1, 2, 3, 4];
-    const parts = places.map((at) => (/^-?\d+$/.test(fields[at]) ? Number(fields[at]) : fields[at]));
-    return [KEYS.has(fields[0]) ? fields[0] : "frame", ...parts].join();
-  };
-  return records.find((other) => other.number < record.number && key(other) === key(record));
+function earlierOf(role, record, records) {
+  const [, kinds, once] = FORMS[role];
+  const key = ({ fields: [kind, ...texts] }) => once.has(kind) && JSON.stringify([isOfFrames(kind) || kind, ...kinds.get(kind).map(
+    ({ name }, at) => (!once.get(kind).includes(name) ? "" : /^-?\d+$/.test(texts[at]) ? Number(texts[at]) : texts[at]))]);
+  return once.has(record.fields[0]) ? records.find((other) => other.number < record.number && key(other) === key(record)) : undefined;
 }
 
 // The values of parameters by their names; a name that is none of flexray's is left out.
@@ -102,30 +67,41 @@ function parametersOf(text) {
   return found;
 }
 
-function fieldFault(reason, field, text, record, known) {
-  const whole = /^-?\d{1,18}$/.test(text);
-  const numeric = ["number", "rate", "bit", "value"].includes(field.kind) && !(field.optional && text === "");
+// The range of a numeric field as [least, most, unit]; parameters decide some.
+function rangeOf(field, record, known) {
+  if (field.kind === "value") {
+    const row = PARAMETERS.find((one) => one[0] === record.fields[1]);
+    return row ? [row[1], row[2], row[0].startsWith("x") ? "ticks" : row[3]] : [-Infinity, Infinity, ""];
+  }
+  const unit = field.unit || "";
+  if (field.kind === "bit") return [...decided(field, known), `${unit} of a frame`];
+  if (field.limit) return [...decided(field, known), `${unit} (${field.limit[0]})`];
+  const told = record.fields[0] === "length" && field.name === "TICKS" ? ": the length of a microtick, 1000000 where the oscillator is right" : "";
+  return [field.least, field.most, unit + told];
+}
+
+function decided({ limit: [name, times, and, timesMost, andMost] }, known) {
+  return [times * known[name] + and, timesMost * known[name] + andMost];
+}
+
+function fieldFault(reason, role, field, text, record, known) {
+  const whole = /^-?\d{1,18}$/.test(text), numeric = NUMERIC.includes(field.kind) && !(field.kind === "key" && text === "");
   if (reason === "Shape" && field.kind === "empty" && text !== "") return "has to be empty";
   if (reason === "UnknownName" && field.kind === "name") return "is no parameter of a file of this version, spelt exactly";
   if (reason === "NotNumber" && numeric && !whole) {
     return text === "" ? "is empty, and a number is wanted" : "is no whole number: an optional - and 1 to 18 digits, without blanks";
   }
   if (reason === "OutOfRange" && numeric && whole) {
-    let { least, most, unit } = field;
-    if (field.kind === "value") {
-      const row = PARAMETERS.find((one) => one[0] === record.fields[1]);
-      [least, most, unit] = row ? [row[1], row[2], row[0].startsWith("x") ? "ticks" : row[3]] : [-Infinity, Infinity, ""];
-    }
-    if (field.kind === "rate") [least, most, unit] = [-known.pRateCorrectionOut, +known.pRateCorrectionOut, "microticks (pRateCorrectionOut)"];
-    if (field.kind === "bit") [least, most, unit] = [0, 63 + 16 * known.gPayloadLengthStatic, "(the bits of a frame)"];
+    const [least, most, unit] = rangeOf(field, record, known);
     if (Number(text) < least || Number(text) > most) return `is not from ${least} to ${most} ${unit}`.trimEnd();
   }
-  if (reason === "OutOfRange" && field.kind === "hex" && text.length > 524) return "has more than 524 bytes";
-  if (reason === "UnknownNode" && field.node && whole && !known.nodes.includes(Number(text))) {
-    return field.earlier ? "is a node that no earlier record is of" : `is none of the nodes ${known.nodes.join(", ")}`;
+  if (reason === "OutOfRange" && field.kind === "hex" && new TextEncoder().encode(text).length > FRAME_DIGITS) return `has more than ${FRAME_DIGITS} bytes`;
+  if (reason === "UnknownNode" && field.kind === "node" && whole && (role === "params" || !known.nodes.includes(Number(text)))) {
+    return role === "params" ? "is a node that no earlier record is of" : `is none of the nodes ${known.nodes.join(", ")}`;
   }
-  if (reason === "BadChannel" && field.kind === "channel" && !["A", "B"].includes(text)) return "has to be A or B";
-  if (reason === "BadChannel" && field.kind === "channels" && !["A", "B", "AB"].includes(text)) return "has to be A, B or AB";
+  if (reason === "BadChannel" && field.words && !field.words.includes(text)) {
+    return `has to be ${field.words.slice(0, -1).join(", ")} or ${field.words.at(-1)}`;
+  }
   if (reason === "NotHex" && field.kind === "hex") return "has an odd number of digits, or one that is none";
   return null;
 }
@@ -146,12 +122,12 @@ function explain(line, files) {
     }
     if (reason === "UnknownName" && !kinds.has(kind)) lines.push(`“${cut(kind)}” is none of ${[...kinds.keys()].join(", ")}.`);
     (kinds.get(kind) || []).forEach((field, at) => {
-      const text = record.fields[at + 1], why = text === undefined ? null : fieldFault(reason, field, text, record, known);
+      const text = record.fields[at + 1], why = text === undefined ? null : fieldFault(reason, role, field, text, record, known);
       if (why) lines.push(`${field.kind === "value" ? cut(record.fields[1]) : field.name || "Field " + (at + 2)} “${cut(text)}” ${why}.`);
     });
-    const same = reason === "Repeated" ? earlierOf(record, recordsOf(files[role])) : undefined;
+    const same = reason === "Repeated" ? earlierOf(role, record, recordsOf(files[role])) : undefined;
     if (same) lines.push(`Record ${same.number} is of the same: ${cut(same.text, 200)}`);
-    const rule = RULES.get(`${role} ${kind} ${reason}`);
+    const rule = RULES.get(`${role} ${kind} ${reason}`) || RULES.get(`${role} ${reason}`);
     if (!lines.length && rule) lines.push(rule);
     return { title, lines: [REASONS[reason], ...lines], role, record };
   }

@@ -7,7 +7,7 @@ from dataclasses import dataclass, field
 from typing import NamedTuple, overload
 
 __all__ = ["Check", "Bound", "SharpSide", "SharpBound", "LostBound", "Skew", "Sent", "Heard", "NodeEnd", "Report", "Losses",
-           "SharpReport", "SeriesCycle", "SeriesCycles", "Series", "SharpSeries", "CycleRow", "Deviation", "Join", "Trace",
+           "Fluttering", "SharpReport", "SeriesCycle", "SeriesCycles", "Series", "SharpSeries", "CycleRow", "Deviation", "Join", "Trace",
            "Verdict", "Failing", "Failure", "ObservedCycle", "ObservedNode", "ObservedFault", "ObservedMissed", "ObservedSender",
            "ObservedSpread", "LogCounts", "Observation", "FailedCheck", "Settled", "SharpWay", "SharpSettled", "PowerOn", "Lead", "Startup",
            "Frame", "CapturedFrame", "Capture", "Vector", "Vectors", "Upgraded"]
@@ -164,9 +164,10 @@ class Report:
 
 
 class Losses(NamedTuple):
-    """What a run loses: in how many double cycles, and the last one. `bound` is the greatest bound of a double cycle, and `double`
-    the first with it: in the `lasts` double cycles from the first in sharp sync on no skew is above the bound of its own. Both are
-    None where the run is not covered through losses. (`lost` of a series is something else: where sync is lost.)"""
+    """What a run loses from its first double cycle in sharp sync on, and in all of it where there is none: in how many double cycles,
+    and the last one. `bound` is the greatest bound of a double cycle, and `double` the first with it: in the `lasts` double cycles from
+    the first in sharp sync on no skew is above the bound of its own. Both are None where the run is not covered through losses. (`lost`
+    of a series is something else: where sync is lost.)"""
 
     doubles: int
     last: int | None
@@ -174,12 +175,23 @@ class Losses(NamedTuple):
     double: int | None
 
 
+class Fluttering(NamedTuple):
+    """Where delays flutter most: the delay of the `sender`'s frames at the `receiver` on a `channel`, and `double`, the last double cycle
+    in which one flutters so; of several delays in it the first."""
+
+    sender: int
+    receiver: int
+    channel: str
+    double: int
+
+
 @dataclass(frozen=True)
 class SharpReport:
-    """What the sharper bounds say of a run, and its report. `kind` is `alone` or `beside`. `gaps` has the words of each gap that is
-    told, and is empty where the run is covered. `in_sync` is the first double cycle in sync, None where none is; `lasts` for how
-    many double cycles from there on it is proved, None where to the end. `greatest` is the greatest skew since then, `within`
-    whether none was above the precision, None where none is in sync, and `beyond` the first that was."""
+    """What the sharper bounds say of a run, and its report. `kind` is `alone` or `beside`. `in_sync` is the first double cycle in sync,
+    by the bounds for the flutter from itself on, None where none is. All else is of the double cycles from that one on, and of the whole
+    run where there is none: `flutter`, with its place `fluttering`, None where it is 0; `gaps`, with the words of each gap that is told,
+    and empty where the run is covered; `lasts`, for how many double cycles it is proved, None where to the end. `greatest` is the greatest
+    skew since then, `within` whether none was above the precision, None where none is in sync, and `beyond` the first that was."""
 
     text: str = field(repr=False)
     flutter: int
@@ -194,14 +206,15 @@ class SharpReport:
     beyond: Skew | None
     losses: Losses
     report: Report
+    fluttering: Fluttering | None = None
 
 
 class SeriesCycle(NamedTuple):
     """A cycle of a series: whether its double cycle is in sync, and its greatest skew, which is 0 at macrotick 0 where no node
     runs. `sharp` is whether it is in sharp sync; `heard` is `all` if from each sync node to each other node one channel carries those of
     both cycles, `most` if lists meet all the same, else `any`; `bound` its number in ticks where the run is covered through losses: in
-    the double cycles that are promised no skew is above it, before the first one in sharp sync it may be. None in a series that was not
-    asked for them."""
+    the double cycles that are promised no skew is above it. It is None before the first one in sharp sync. All three are None in a
+    series that was not asked for them."""
 
     cycle: int
     in_sync: bool
@@ -279,7 +292,8 @@ class Series:
 @dataclass(frozen=True)
 class SharpSeries(Series):
     """A series held against the sharper precision too. `kind` is `alone` or `beside`; `sharp_synced` the first double cycle in
-    sharp sync; `lasts` for how many double cycles from there on it is proved, None where to the end."""
+    sharp sync. `flutter` with its place `fluttering`, gaps, losses and figures are of the double cycles from there on, as in a
+    `SharpReport`; `lasts` is for how many of them it is proved, None where to the end."""
 
     flutter: int
     precision: int
@@ -292,6 +306,7 @@ class SharpSeries(Series):
     sharp_within: bool | None
     sharp_beyond: tuple[int, int] | None
     losses: Losses
+    fluttering: Fluttering | None = None
 
 
 class CycleRow(NamedTuple):

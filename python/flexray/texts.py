@@ -5,7 +5,7 @@ import functools
 import re
 from collections.abc import Iterable, Iterator
 
-from .results import (Bound, Capture, CapturedFrame, Check, CycleRow, Deviation, FailedCheck, Failing, Failure, Frame, Heard,
+from .results import (Bound, Capture, CapturedFrame, Check, CycleRow, Deviation, FailedCheck, Failing, Failure, Fluttering, Frame, Heard,
                       Join, Lead, LogCounts, Losses, LostBound, NodeEnd, Observation, ObservedCycle, ObservedFault, ObservedMissed,
                       ObservedNode, ObservedSender, ObservedSpread, PowerOn, Report, Sent, Series, SeriesCycles, Settled, SharpBound,
                       SharpReport, SharpSeries, SharpSettled, SharpSide, SharpWay, Skew, Startup, Trace, Upgraded, Vector, Vectors, Verdict)
@@ -144,11 +144,22 @@ def report(text: str) -> Report:
 
 
 PLACE = r"(\d+) cycle (\d+) macrotick (\d+)"
+# Where delays flutter most, as it stands behind a flutter above 0.
+FLUTTERING = r"delay (\d+) (\d+) ([AB]) (\d+)"
+
+
+def _flutter(lines: _Lines, before: str, between: str) -> tuple[int, Fluttering | None]:
+    """The flutter of a run and its place, which there is where it is above 0."""
+    none, ticks, *place = lines.take(rf"{before}(?:(0){between.strip()}|([1-9]\d*){between}{FLUTTERING})")
+    if none:
+        return 0, None
+    sender, receiver, channel, double = place
+    return int(ticks), Fluttering(int(sender), int(receiver), channel, int(double))
 
 
 def sharp_report(text: str) -> SharpReport:
     lines = _Lines(text)
-    flutter = lines.one(r"sharp flutter (\d+)")
+    flutter, fluttering = _flutter(lines, "sharp flutter ", " ")
     precision, kind = lines.take(r"sharp precision (\d+) (alone|beside)")
     gaps = tuple(tuple(gap.split()) for (gap,) in lines.every(r"sharp covered no (.+)"))
     if not gaps:
@@ -160,7 +171,7 @@ def sharp_report(text: str) -> SharpReport:
     below = "".join(f"{line}\n" for line in lines.lines[lines.at:])
     return SharpReport(text, flutter, int(precision), kind, not gaps, gaps, int(synced) if synced else None,
                        int(lasts) if lasts and lasts.isdigit() else None, greatest, None if within == "-" else within == "yes",
-                       Skew(*map(int, beyond)) if beyond[0] else None, losses, report(below))
+                       Skew(*map(int, beyond)) if beyond[0] else None, losses, report(below), fluttering)
 
 
 def _losses(doubles: str, last: str, bound: str, double: str) -> Losses:
@@ -200,15 +211,13 @@ def _cycles(text: str, head: str, width: int) -> tuple[SeriesCycles, _Lines]:
     numbers, in_sync, skews, macroticks = columns[:4]
     without: list[list[str]] = [[], [], []]
     (sharp, heard, bounds), feeds = columns[4:width] or without, columns[width]
-    # A run that is not covered through losses has no number in any double cycle.
-    unbound = bounds == ["-"] * len(bounds)
+    # Double cycles before the first in sharp sync have no number, and none has one where the run is not covered through losses.
+    unbound = next((at for at, word in enumerate(bounds) if word != "-"), len(bounds))
     if (words[-1] or len(words) != (width + 1) * len(numbers) + 1 or set(feeds) - {"\n"} or not TRUTHS.issuperset(in_sync + sharp)
             or not HEARD.issuperset(heard) or numbers != _numbers_to(len(numbers))
-            or not (_are_digits(skews) and _are_digits(macroticks) and (unbound or _are_digits(bounds)))):
+            or not (_are_digits(skews) and _are_digits(macroticks) and _are_digits(bounds[unbound:]))):
         raise Strange(_strange_row(rows, width))
-    ticks: tuple[int | None, ...] = (None,) * len(bounds)
-    if not unbound:
-        ticks = tuple(map(int, bounds))
+    ticks: tuple[int | None, ...] = (None,) * unbound + tuple(map(int, bounds[unbound:]))
     return (SeriesCycles(tuple([word == "yes" for word in in_sync]), tuple(map(int, skews)), tuple(map(int, macroticks)),
                          tuple([word == "yes" for word in sharp]), tuple(heard), ticks), _Lines(text[end:]))
 
@@ -226,11 +235,17 @@ def _are_digits(column: list[str]) -> bool:
 
 
 def _strange_row(rows: str, width: int) -> str:
-    """The first of these rows that has not its form."""
+    """The first of these rows that has not its form, or no number behind one that has."""
     form = r"(\d+),(?:yes|no),\d+,\d+" + (r",(?:yes|no),(?:all|most|any),(?:-|\d+)" if width > 4 else "")
     lines = rows.split("\n")
     matches = (re.fullmatch(form, line, re.ASCII) for line in lines)
-    return next((line for at, (line, found) in enumerate(zip(lines, matches)) if not found or found[1] != str(at)), lines[-1])
+    is_bound = False
+    for at, (line, found) in enumerate(zip(lines, matches)):
+        # Behind a row with a number none is without.
+        if not found or found[1] != str(at) or is_bound and line.endswith(",-"):
+            return line
+        is_bound = width > 4 and not line.endswith(",-")
+    return lines[-1]
 
 
 def _ends(lines: _Lines, comma: str) -> tuple[Skew | None, bool, int | None, bool | None, tuple[int, int] | None]:
@@ -243,7 +258,7 @@ def _ends(lines: _Lines, comma: str) -> tuple[Skew | None, bool, int | None, boo
 def sharp_series(text: str) -> SharpSeries:
     cycles, lines = _cycles(text, "cycle,in_sync,skew,macrotick,sharp,heard,bound\n", 7)
     ends = _ends(lines, ",")
-    flutter = lines.one(r"flutter,(\d+),,,")
+    flutter, fluttering = _flutter(lines, "flutter,", ",,,")
     precision, kind = lines.take(r"sharp,(\d+),(alone|beside),,")
     covered, gap = lines.take(rf"sharp covered,(?:(yes),,,|no,,,({GAP}))")
     synced, lasts = lines.take(r"sharp synced,(?:-,|(\d+),(on|\d+)),,")
@@ -251,7 +266,8 @@ def sharp_series(text: str) -> SharpSeries:
     within, beyond = _within(lines, "sharp within", ",")
     losses = _losses(*lines.take(r"lost,(\d+),(-|\d+),(?:-,-|(\d+),(\d+))"))
     return SharpSeries(text, cycles, *ends, flutter, int(precision), kind, covered == "yes", tuple(gap.split()) if gap else (),
-                       int(synced) if synced else None, None if lasts in (None, "on") else int(lasts), greatest, within, beyond, losses)
+                       int(synced) if synced else None, None if lasts in (None, "on") else int(lasts), greatest, within, beyond, losses,
+                       fluttering)
 
 
 def _cycle_row(line: str) -> CycleRow:

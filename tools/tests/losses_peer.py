@@ -90,18 +90,25 @@ class Numbers:
 
 
 class Heard(NamedTuple):
-    """What is heard in a double cycle: the word of its column, how its numbers go on, and whether each correct node trusts its lists."""
+    """What is heard in a double cycle: the word of its column, how its numbers go on, and whether each correct node trusts its lists, or
+    nothing at all can reach it."""
     word: str
     what: str
     is_trusted: bool
 
 
+def lists_of(double):
+    """The cycles of a double cycle by which an offset value comes, and those of a rate value."""
+    return (2 * double + 1,), (2 * double, 2 * double + 1)
+
+
 class Traffic:
     """What becomes of the frames of correct nodes: of each node its key slot, if it has one, and its channels; which are arbitrary; and
-    the passages (cycle, sender, receiver, channel) that are lost, or come damaged."""
+    the passages (cycle, sender, receiver, channel) that are lost, or come damaged, or in which an arbitrary node says something."""
 
-    def __init__(self, nodes, arbitrary=(), lost=(), damaged=()):
+    def __init__(self, nodes, arbitrary=(), lost=(), damaged=(), said=()):
         self.nodes, self.arbitrary, self.lost, self.damaged = nodes, frozenset(arbitrary), set(lost), set(damaged)
+        self.said = set(said)
         self.receivers = [node for node in nodes if node not in self.arbitrary]
         self.senders = [node for node in self.receivers if nodes[node][0]]
 
@@ -115,9 +122,37 @@ class Traffic:
         """Of each receiver how many senders it surely has a value of, and of how many perhaps."""
         return [[sum(self.has(surely, cycles, one, two) for one in self.senders) for surely in (True, False)] for two in self.receivers]
 
+    def may_reach(self, cycles, one, two):
+        """Whether something may come of a node with a key slot, on one channel in each of these cycles."""
+        if one not in self.arbitrary:
+            return self.has(False, cycles, one, two)
+        return any(all((cycle, one, two, channel) in self.said for cycle in cycles) for channel in "AB")
+
+    def is_deaf(self, cycles, two):
+        """Whether a receiver has no key slot, and nothing can reach it."""
+        return not self.nodes[two][0] and not any(slot and self.may_reach(cycles, one, two) for one, (slot, _) in self.nodes.items())
+
+    def lacking(self, double):
+        """The receivers that are deaf in a double cycle for offset values or for rate values."""
+        return {two for two in self.receivers for cycles in lists_of(double) if self.is_deaf(cycles, two)}
+
+    def bears(self, since):
+        """Whether each correct node trusts its lists in each double cycle from one on, or is deaf: not in that one, not while oscillators
+        may change, and in fewer double cycles in a row than make it passive."""
+        lacking = {}
+        for double in range(self.doubles):
+            lacking = {node: lacking.get(node, 0) + 1 for node in self.lacking(double)}
+            if double < since:
+                continue
+            most = max(lacking.values(), default=0)
+            if not self.heard(double).is_trusted or most and (
+                    double == since or self.values[CHANGE] or most >= self.values["gMaxWithoutClockCorrectionPassive"]):
+                return False
+        return True
+
     def heard(self, double):
         """An offset value is of the odd cycle, a rate value of both."""
-        lists = [self.counts(cycles) for cycles in ((2 * double + 1,), (2 * double, 2 * double + 1))]
+        lists = [self.counts(cycles) for cycles in lists_of(double)]
         liars, senders = len(self.arbitrary), len(self.senders)
         is_whole = all(sure == senders for sure, _ in lists[1])
         meets = True
@@ -125,7 +160,8 @@ class Traffic:
             costs = sorted(senders - sure + discarded(perhaps + liars) for sure, perhaps in counts)
             meets = meets and sum(costs[-2:]) < senders
         return Heard("all" if is_whole else "most" if meets else "any", CLEAN if is_whole and not liars else MEETING if meets else POOR,
-                     all(sure and liars <= discarded(sure + liars) for counts in lists for sure, _ in counts))
+                     all(sure and liars <= discarded(sure + liars) or self.is_deaf(cycles, two)
+                         for cycles, counts in zip(lists_of(double), lists) for two, (sure, _) in zip(self.receivers, counts)))
 
     def outweighs(self):
         """Whether the correct senders are enough for the arbitrary ones."""
@@ -158,9 +194,18 @@ class Run(Traffic):
                  for node in range(1, count + 1 + (draw.random() < 0.3))}
         super().__init__(nodes, draw.sample(range(1, count + 1), liars))
         self.links = [link for one in self.senders for link in self.links_of(one)]
-        self.flutter = 0
+        # Of each double cycle how far a delay differs in it, at most.
+        self.differs = [0] * self.doubles
         self.clocks(change)
         self.losses()
+
+    def flutter(self, since):
+        """That of the double cycles from one on."""
+        return max(self.differs[since:])
+
+    def numbers(self, since):
+        """Those for the flutter from a double cycle on."""
+        return Numbers(self.values, max(slot for slot, _ in self.nodes.values() if slot), self.flutter(since), bool(self.arbitrary))
 
     def links_of(self, one):
         return [(one, two, channel) for two in self.receivers if two != one for channel in "AB"
@@ -189,7 +234,7 @@ class Run(Traffic):
             lines.append(f"delay,{one},{two},{channel},0,{delay}\n")
             for double in range(self.doubles) if most and draw.random() < 0.3 else ():
                 other = max(0, middle - error, min(middle + error, delay + draw.randint(-most, most)))
-                self.flutter = max(self.flutter, abs(other - delay))
+                self.differs[double] = max(self.differs[double], abs(other - delay))
                 lines += [f"delay,{one},{two},{channel},{2 * double + 1},{other}\n"]
                 lines += [f"delay,{one},{two},{channel},{2 * double + 2},{delay}\n"] if double + 1 < self.doubles else []
         self.drift = "".join(lines)
@@ -206,7 +251,9 @@ class Run(Traffic):
         self.script += "".join(
             f"{DAMAGED},{cycle},{one},{two},{channel},{draw.randrange(64)},\n" if (cycle, one, two, channel) in self.damaged
             else f"lose,{cycle},{one},{two},{channel},,\n" for cycle, one, two, channel in rows)
-        self.script += "".join(row for node in sorted(self.arbitrary) for row in self.said_by(node))
+        rows = [row for node in sorted(self.arbitrary) for row in self.said_by(node)]
+        self.said = {(int(cycle), int(one), int(two), channel) for _, cycle, one, two, channel, *_ in (row.split(",") for row in rows)}
+        self.script += "".join(rows)
 
     def lost_in(self, double):
         """What is lost in a double cycle."""
@@ -287,64 +334,80 @@ class Series:
         return None if found == "-" else int(found)
 
 
-def exact_skews(run, trace):
-    """The skew of each cycle over all its macroticks, by the rows of `flexray trace`, of the nodes that run; and whether every node is
-    always active."""
-    macros, turn, micros = (run.values[name] for name in ("gMacroPerCycle", "gOffsetCorrectionStart", "pMicroPerCycle"))
-    rows, is_active = {}, True
+def rows_of(run, trace):
+    """The rows of `flexray trace` by cycle: start, length, rate and offset term, and state, of each node."""
+    rows = [[] for _ in range(2 * run.doubles)]
     for line in trace.splitlines():
         kind, *fields = line.split(",")
         if kind == "cycle":
-            cycle, _, start, length, rate, offset = map(int, fields[:6])
-            is_active = is_active and fields[6] == "active"
-            rows.setdefault(cycle, [])
-            if fields[6] != "halt":
-                rows[cycle].append((start, length, rate, offset))
+            rows[int(fields[0])].append((*map(int, fields[2:6]), fields[6]))
+    return rows
+
+
+def first_in_sharp_sync(run, rows):
+    """The first double cycle in sharp sync by the numbers for the flutter from it on, or None; no node follows in these runs."""
+    micros, bound = run.values["pMicroPerCycle"], run.values["xRateBound"]
+    for double in range(run.doubles):
+        numbers, (even, odd) = run.numbers(double), rows[2 * double:2 * double + 2]
+        starts, lengths = [row[0] for row in even], [(micros + row[2]) * row[1] for row in even]
+        if (all(row[4] == "active" for row in even + odd) and max(starts) - min(starts) <= numbers.starts
+                and max(lengths) - min(lengths) <= numbers.lengths
+                and all(abs(length - micros * MILLION) <= micros * bound for length in lengths)):
+            return double
+    return None
+
+
+def exact_skews(run, rows):
+    """The skew of each cycle over all its macroticks, by the rows of its trace, of the nodes that run."""
+    macros, turn, micros = (run.values[name] for name in ("gMacroPerCycle", "gOffsetCorrectionStart", "pMicroPerCycle"))
     found = []
-    for cycle, nodes in sorted(rows.items()):
+    for cycle, nodes in enumerate(rows):
         instants = []
-        for start, length, rate, offset in nodes:
+        for start, length, rate, offset, state in nodes:
+            if state == "halt":
+                continue
             long, last = micros + rate, turn if cycle % 2 else macros - 1
             base = turn * long // macros
             instants.append([start + length * (at * long // macros if at <= last else
                                                base + (at - turn) * (long + offset - base) // (macros - turn)) for at in range(macros)])
         found.append(max((max(at) - min(at) for at in zip(*instants)), default=0))
-    return found, is_active
+    return found
 
 
-def hold(run, series, trace=None):
-    """Holds what the series of a run tells against what is reckoned here, and each double cycle's skew against its number. What does not
-    fit ends in AssertionError. Hands back whether the run is covered through losses, how many double cycles were held, in how many of
-    them frames are lost, and the greatest share of its number that a skew had."""
-    heard = [run.heard(double) for double in range(run.doubles)]
-    numbers = Numbers(run.values, max(slot for slot, _ in run.nodes.values() if slot), run.flutter, bool(run.arbitrary))
-    apart, reach = numbers.by([one.what for one in heard])
-    is_covered = run.outweighs() and all(one.is_trusted for one in heard) and numbers.hold(reach)
-    lost = [double for double, one in enumerate(heard) if one.word != "all"]
+def hold(run, series, trace, is_exact=False):
+    """Holds what the series of a run tells against what is reckoned here, and each double cycle's skew against its number. All is of the
+    double cycles from the first in sharp sync on, and of the whole run where there is none. What does not fit ends in AssertionError.
+    Hands back whether the run is covered through losses, how many double cycles were held, in how many of them frames are lost, and the
+    greatest share of its number that a skew had."""
+    rows, heard = rows_of(run, trace), [run.heard(double) for double in range(run.doubles)]
+    first = first_in_sharp_sync(run, rows)
+    assert series.synced == first, (series.synced, first)
+    since = first or 0
+    numbers, later = run.numbers(since), heard[since:]
+    apart, reach = numbers.by([one.what for one in later])
+    is_covered = run.outweighs() and run.bears(since) and numbers.hold(reach)
+    lost = [double for double, one in enumerate(later, since) if one.word != "all"]
     told = series.lines["lost"]
-    assert int(series.lines["flutter"][0]) == run.flutter, (series.lines["flutter"], run.flutter)
+    assert int(series.lines["flutter"][0]) == numbers.flutter, (series.lines["flutter"], numbers.flutter)
     kind = "beside" if run.arbitrary else "alone"
     assert series.lines["sharp"][:2] == [str(numbers.precision), kind], (series.lines["sharp"], numbers.precision, kind)
-    wanted = [str(len(lost)), str(lost[-1]) if lost else "-", *([str(max(apart)), str(apart.index(max(apart)))] if is_covered else "--")]
+    wanted = [str(len(lost)), str(lost[-1]) if lost else "-",
+              *([str(max(apart)), str(since + apart.index(max(apart)))] if is_covered else "--")]
     assert told[:4] == wanted, (told, wanted)
     if "bound" in series.columns:
-        hold_columns(series, heard, apart, is_covered)
-    if trace is not None:
-        skews, is_active = exact_skews(run, trace)
+        hold_columns(series, heard, {double: bound for double, bound in enumerate(apart, since) if is_covered and first is not None})
+    if is_exact:
+        skews = exact_skews(run, rows)
         assert skews == [int(row["skew"]) for row in series.cycles], "the skew of the trace is another one"
     count = losing = 0
     share = 0.0
-    if is_covered and series.synced is not None:
-        first = series.synced
+    if is_covered and first is not None:
         lasts = None if numbers.is_held and not lost else numbers.lasts
         assert series.lines["sharp synced"][1] == ("on" if lasts is None else str(lasts)), series.lines["sharp synced"]
         end = run.doubles if lasts is None else min(run.doubles, first + lasts)
-        # By what is heard from the first double cycle in sync on, which is no more than from the first one of the run on.
-        since, _ = numbers.by([one.what for one in heard[first:]])
-        assert all(one <= other for one, other in zip(since, apart[first:])), "less by what was heard before, too"
-        share = keep(series, first, since[:end - first])
+        share = keep(series, first, apart[:end - first])
         count, losing = end - first, sum(one.word != "all" for one in heard[first:end])
-        assert trace is None or end < run.doubles or is_active, "a node is not active"
+        assert end < run.doubles or all(row[4] == "active" for cycle in rows[2 * first:] for row in cycle), "a node is not active"
     return is_covered, count, losing, share
 
 
@@ -357,8 +420,8 @@ def keep(series, first, bounds):
     return share
 
 
-def hold_columns(series, heard, apart, is_covered):
-    """The columns of what is heard, and of the numbers, which are there where the run is covered through losses."""
+def hold_columns(series, heard, bounds):
+    """The columns of what is heard, and of the numbers, of the double cycles that have one."""
     for at, row in enumerate(series.cycles):
         assert row["heard"] == heard[at // 2].word, (at, row["heard"], heard[at // 2])
-        assert row["bound"] == (str(apart[at // 2]) if is_covered else "-"), (at, row["bound"], apart[at // 2], is_covered)
+        assert row["bound"] == str(bounds.get(at // 2, "-")), (at, row["bound"], bounds)

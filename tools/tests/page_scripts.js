@@ -4,10 +4,10 @@
 const fs = require("fs"), path = require("path"), readline = require("readline"), vm = require("vm");
 
 const PAGE = path.join(__dirname, "..", "..", "page");
-const names = ["keys.js", "cluster.js", "toml.js", "words.js"];
+const names = /^SHARED = \((.*)\)$/m.exec(fs.readFileSync(path.join(__dirname, "..", "page"), "utf8"))[1].match(/\w+\.js/g);
 const context = vm.createContext({ TextEncoder, structuredClone });
 vm.runInContext(`${names.map((name) => fs.readFileSync(path.join(PAGE, name), "utf8").replace('"use strict";', "")).join("\n")}
-globalThis.page = { tables: Object.fromEntries([...TABLES].map(([name, { keys }]) => [name, [...keys.keys()]])), single: SINGLE, parameters: PARAMETERS, filesOfToml, readCluster, writeCluster, tomlOf, explain, listOf, NoToml,
+globalThis.page = { tables: Object.fromEntries([...TABLES].map(([name, { keys }]) => [name, [...keys.keys()]])), single: SINGLE, parameters: PARAMETERS, filesOfToml, readCluster, writeCluster, tomlOf, explain, listOf, NoToml, texts: { run: readReport, series: readSeries, bound: readBounds },
   left: () => [Object.getOwnPropertyNames(Object.prototype).length, Object.keys(Object.prototype).length, Object.getOwnPropertyNames(Array.prototype).length].join() };`, context);
 const { page } = context, untouched = page.left();
 
@@ -28,6 +28,8 @@ const TASKS = new Map([
     const { files: written, wrong } = typeof cluster === "string" ? {} : page.writeCluster(structuredClone(cluster));
     return { form: typeof cluster, why: typeof cluster === "string" ? cluster : "", written, wrong, told: told && [told.title, ...told.lines] };
   }],
+  // A printed text of a kind, taken apart.
+  ["printed", ({ kind, text }) => page.texts[kind](text)],
   // A form as a person may fill it.
   ["form", ({ cluster }) => ({ wrong: page.writeCluster(cluster).wrong, toml: again(cluster) })],
 ]);

@@ -72,9 +72,9 @@ class Losses(Bench):
             run = losses_peer.Run(random.Random(seed), kinds[seed % len(kinds)], 12)
             with self.subTest(seed=seed):
                 told = self.series(run.params(), run.drift, run.script)
-                is_traced = seed % 5 == 0
-                found = losses_peer.hold(run, told, self.flexray_of_run("trace") if is_traced else None)
-                if is_traced:
+                is_exact = seed % 5 == 0
+                found = losses_peer.hold(run, told, self.flexray_of_run("trace"), is_exact)
+                if is_exact:
                     count, last, bound, place = told.lines["lost"]
                     self.assertIn(f"\nsharp lost {count} last {last} bound {bound}{'' if bound == '-' else f' double {place}'}\n",
                                   self.flexray_of_run("run", "sharp"))
@@ -104,13 +104,14 @@ class Losses(Bench):
         """A skew above a number, and a frame that is lost and not reckoned so."""
         run = losses_peer.Run(random.Random(5), "bursts", 12, 0)
         told = self.series(run.params(), run.drift, run.script)
-        losses_peer.hold(run, told)
+        trace = self.flexray_of_run("trace")
+        losses_peer.hold(run, told, trace)
         losses_peer.keep(told, 0, [told.skew(double) for double in range(run.doubles)])
         with self.assertRaisesRegex(AssertionError, r"double cycle \d+: \d+ is above \d+"):
             losses_peer.keep(told, 0, [told.skew(double) - (double == 3) for double in range(run.doubles)])
         run.lost = set()
         with self.assertRaises(AssertionError):
-            losses_peer.hold(run, told)
+            losses_peer.hold(run, told, trace)
 
     def test_cliques_are_not_covered(self):
         """Two camps of four nodes, of which nobody is deaf, come apart further than any number; the run is not covered through losses."""

@@ -12,6 +12,7 @@ import shutil
 import subprocess
 import time
 import unittest
+from collections.abc import Callable, Sequence
 from pathlib import Path
 from typing import Any
 
@@ -22,6 +23,7 @@ from flexlab.base import files as flexlab_files, ranges
 from flexlab.base.ending import Stop
 from flexlab.toml.cluster import read_cluster
 from flexlab.toml.source import KEYS, SINGLE
+from flexray import results, texts
 
 EXAMPLES = Path(REPOSITORY, "examples")
 FILES = ("params", "drift", "script")
@@ -32,6 +34,71 @@ SECONDS = 20
 REASONS = ("Shape", "UnknownName", "NotNumber", "OutOfRange", "UnknownNode", "BadChannel", "Role", "Link", "NotHex", "Repeated")
 # What flexlab alone reads: a fault there is none of what the page has.
 OF_FLEXLAB = ("power[", "power:", "observer", "asc")
+
+
+def checks_of(side: str, checks: Sequence[results.Check]) -> list[dict[str, Any]]:
+    return [{"side": side, "number": one.number, "holds": one.holds, "left": str(one.left), "right": str(one.right)} for one in checks]
+
+
+def run_taken(text: str) -> dict[str, Any]:
+    told = texts.report(text)
+    ends = [{"node": str(end.node), "state": end.state, "rate": str(end.rate), "offset": str(end.offset)} for end in told.ends]
+    skew = told.greatest
+    return {"counts": {"nodes": told.nodes, "sync": told.sync, "arbitrary": told.arbitrary, "doubles": told.doubles},
+            "precision": str(told.precision), "covered": told.covered, "gap": " ".join(told.gap), "inSync": told.in_sync,
+            "greatest": {"ticks": str(skew.ticks), "cycle": skew.cycle, "macrotick": skew.macrotick}, "sentA": str(told.sent_a.frames),
+            "sentB": str(told.sent_b.frames), "heard": " ".join(f"{name} {count}" for name, count in vars(told.heard).items()),
+            "cut": str(told.cut), "ends": ends}
+
+
+def bound_taken(text: str) -> dict[str, Any]:
+    told = texts.bound(text)
+    return {"checks": checks_of("", told.checks), "y1": str(told.y1), "lambda": str(told.lambda_), "pi": str(told.pi),
+            "precision": str(told.precision), **({} if told.reach is None else {"reach": str(told.reach)})}
+
+
+SIDES = ("alone", "beside")
+
+
+def sharp_bound_taken(text: str) -> dict[str, Any]:
+    told = texts.sharp_bound(text)
+    found: dict[str, Any] = {"flutter": str(told.flutter), "lasts": "on" if told.lasts is None else str(told.lasts)}
+    for side, bounds in zip(SIDES, (told.alone, told.beside)):
+        found.update({f"{side} lambda": str(bounds.lambda_), f"{side} pi": str(bounds.pi), f"{side} precision": str(bounds.precision),
+                      side: [{**one, "side": ""} for one in checks_of("", bounds.checks)]})
+        if told.joins:
+            found[f"{side} reach"] = str(bounds.reach)
+            found["first rates last"] = "on" if told.first_rates_last is None else str(told.first_rates_last)
+    return found
+
+
+def sharp_bound_shown(taken: dict[str, Any]) -> dict[str, Any]:
+    """The checks by side: those of no side are of both."""
+    checks = taken.pop("checks")
+    return {**taken, **{side: [{**one, "side": ""} for one in checks if one["side"] in ("", side)] for side in SIDES}}
+
+
+def series_taken(text: str) -> dict[str, Any]:
+    told = texts.sharp_series(text)
+    first, skew, sharp = told.sharp_synced, told.greatest, told.sharp_greatest
+    return {"skew": list(told.cycles.skews), "flutter": [str(told.flutter)], "sharp": [str(told.precision), told.kind],
+            "sharp covered": ["yes" if told.sharp_covered else "no"], "sharp synced": ["-" if first is None else str(first)],
+            "greatest": [str(skew.ticks) if skew else "-"], "sharp greatest": [str(sharp.ticks) if sharp else "-"],
+            "synced": ["yes" if told.synced else "no"]}
+
+
+def series_shown(taken: dict[str, Any]) -> dict[str, Any]:
+    """What the page shows of the lines below the cycles: their first words."""
+    counts = {"sharp": 2}
+    names = ("flutter", "sharp", "sharp covered", "sharp synced", "greatest", "sharp greatest", "synced")
+    return {"skew": taken["skew"], **{name: taken["last"][name][:counts.get(name, 1)] for name in names}}
+
+
+# Of each kind of text what the package says of it, and of some what of the page's answer that is held against.
+TAKEN: dict[str, Callable[[str], dict[str, Any]]] = {
+    "run": run_taken, "bound": bound_taken, "bound join": bound_taken, "bound sharp": sharp_bound_taken,
+    "bound sharp join": sharp_bound_taken, "series by both": series_taken}
+SHOWN = {"bound sharp": sharp_bound_shown, "bound sharp join": sharp_bound_shown, "series by both": series_shown}
 
 
 def runs() -> list[ExampleCall]:
@@ -92,6 +159,20 @@ class Scripts(Bench):
         told = re.sub(r"^line \d+: ", "", self.ask("toml", text=beside)["no"])
         self.assertEqual(told, "limits.delay_error_us: `xDelayError` (ticks) stands beside it: it wants one of both")
         self.assertIn(told, self.by_flexlab(beside))
+
+    def test_printed_texts_are_taken_apart_as_by_the_package(self) -> None:
+        """Of each example whose text the page shows, what it shows is what the package flexray says of that text."""
+        tried = dict.fromkeys(TAKEN, 0)
+        for call in example_calls():
+            words = [word for word in (call.words[0], *call.words[2:]) if word in ("run", "bound", "sharp", "join", "lost")]
+            kind = " ".join(["series"] * call.is_series + words).replace("series sharp", "series by both")
+            if call.status == 0 and kind in TAKEN:
+                with self.subTest(call.name):
+                    tried[kind] += 1
+                    taken = self.ask("printed", kind=kind.partition(" ")[0], text=call.text.decode())
+                    shown = SHOWN.get(kind, dict)({name: taken[name] for name in taken if name not in ("seconds", "clean")})
+                    self.assertEqual(shown, TAKEN[kind](call.text.decode()))
+        self.assertTrue(all(tried.values()), tried)
 
     def by_flexlab(self, text: str) -> Any:
         """{file: its lines in an order of their own}, or the line of the refusal."""

@@ -200,7 +200,25 @@ class Calls(Bench):
                          (series.flutter, series.precision, series.kind, series.sharp_covered, (), series.sharp_synced, series.lasts,
                           series.sharp_greatest, series.sharp_within, series.sharp_beyond))
         self.assertEqual((found.in_sync, found.lasts, found.greatest.ticks), (2, None, 18_760_436))
-        self.assertEqual((found.losses, series.losses), ((0, None, 36_003_994, 0),) * 2)
+        self.assertEqual((found.losses, series.losses), ((0, None, 36_003_994, 2),) * 2)
+        self.assertEqual((found.flutter, found.fluttering, series.fluttering), (0, None, None))
+        # Of this one a delay flutters, and it says which and until when.
+        files = example_call("sharp/report-walk").files
+        found, series = flexray.sharp_run(*files), flexray.sharp_series(*files)
+        self.assertEqual((found.flutter, found.fluttering), (10_000_000, flexray.Fluttering(1, 2, "A", 89)))
+        self.assertEqual((series.flutter, series.fluttering), (found.flutter, found.fluttering))
+
+    REPORT = ("sharp flutter 7 delay 3 12 B 4\nsharp precision 36003994 alone\nsharp covered yes\nsharp in sync no\nsharp within -\n"
+              "sharp lost 0 last - bound -\n")
+
+    def test_where_a_report_says_that_delays_flutter(self):
+        below = Path(EXAMPLES, "offset", "run", "printed.txt").read_text()
+        found = texts.sharp_report(self.REPORT + below)
+        self.assertEqual((found.flutter, found.fluttering, found.in_sync), (7, flexray.Fluttering(3, 12, "B", 4), None))
+        self.assertIsNone(texts.sharp_report(self.REPORT.replace("7 delay 3 12 B 4", "0") + below).fluttering)
+        for told in ("7", "0 delay 3 12 B 4", "07 delay 3 12 B 4", "7 delay 3 12 4", "7 delay 3 12 C 4", "7 delay 3 12 B", "7 delay 3 12 B 4 5"):
+            with self.subTest(told=told), self.assertRaises(texts.Strange):
+                texts.sharp_report(self.REPORT.replace("7 delay 3 12 B 4", told) + below)
 
     def test_what_a_report_says(self):
         report = flexray.run(*OFFSET)
@@ -570,7 +588,7 @@ class Alone(Bench):
     HEAD = "cycle,in_sync,skew,macrotick,sharp,heard,bound\n"
     ROWS = ("0,no,119988000,4999,no,all,40000000\n", "1,no,178800000,4900,no,all,40000000\n", "2,yes,148983950,4999,no,most,50000000\n",
             "3,yes,181796250,4900,yes,any,50000000\n")
-    END = ("greatest,181796250,3,4900,\nsynced,yes,,,\nwithin,yes,,,\nflutter,7,,,\nsharp,150237926,beside,,\nsharp covered,yes,,,\n"
+    END = ("greatest,181796250,3,4900,\nsynced,yes,,,\nwithin,yes,,,\nflutter,7,,,delay 3 12 B 4\nsharp,150237926,beside,,\nsharp covered,yes,,,\n"
            "sharp synced,-,,,\nsharp greatest,-,-,-,\nsharp within,-,,,\nlost,0,-,-,-\n")
 
     def test_the_cycles_of_a_series(self):
@@ -588,6 +606,9 @@ class Alone(Bench):
         self.assertEqual((cycles.heard, cycles.bounds), (("all", "all", "most", "any"), (40000000, 40000000, 50000000, 50000000)))
         without = re.sub(r"(all|most|any),\d+$", r"\1,-", "".join([self.HEAD, *self.ROWS, self.END]), flags=re.M)
         self.assertEqual(texts.sharp_series(without).cycles.bounds, (None,) * 4)
+        # Before the first double cycle in sharp sync none has a number.
+        later = "".join([self.HEAD, *(row.replace("40000000", "-") for row in self.ROWS), self.END])
+        self.assertEqual(texts.sharp_series(later).cycles.bounds, (None, None, 50000000, 50000000))
         plain = "".join([self.HEAD, *self.ROWS, self.END.partition("flutter")[0]]).replace(",sharp,heard,bound", "")
         plain = texts.series(re.sub(r",(no|yes)?(,(all|most|any),\d+)?$", "", plain, flags=re.M)).cycles
         self.assertEqual((list(plain)[3], plain[3], plain.sharp), (flexray.SeriesCycle(3, True, 181796250, 4900),) * 2 + ((),))
@@ -602,6 +623,7 @@ class Alone(Bench):
         self.assertEqual((found.flutter, found.precision, found.kind, found.sharp_covered, found.sharp_gap, found.sharp_synced, found.lasts,
                           found.sharp_greatest, found.sharp_within, found.sharp_beyond),
                          (7, 150237926, "beside", True, (), None, None, None, None, None))
+        self.assertEqual(found.fluttering, flexray.Fluttering(sender=3, receiver=12, channel="B", double=4))
         self.assertEqual(found.losses, (0, None, None, None))
         end = ("greatest,-,-,-,\nsynced,no,0,,\nwithin,-,,,\nflutter,0,,,\nsharp,39007594,alone,,\nsharp covered,no,,,check 3 5 6\n"
                "sharp synced,1,62,,\nsharp greatest,56495900,3,4687,\nsharp within,no,3,4687,\n"
@@ -611,10 +633,12 @@ class Alone(Bench):
         self.assertEqual((found.flutter, found.precision, found.kind, found.sharp_covered, found.sharp_gap, found.sharp_synced, found.lasts,
                           found.sharp_greatest, found.sharp_within, found.sharp_beyond),
                          (0, 39007594, "alone", False, ("check", "3", "5", "6"), 1, 62, flexray.Skew(56495900, 3, 4687), False, (3, 4687)))
-        self.assertEqual(found.losses, (2, 5, 75011786, 1))
+        self.assertEqual((found.losses, found.fluttering), ((2, 5, 75011786, 1), None))
         self.assertIsNone(texts.sharp_series(self.HEAD + end.replace("1,62", "1,on")).lasts)
         for old, new in (("greatest,-,-,-,", "greatest,-,-,7,"), ("synced,no,0,,", "synced,no,,,"), ("synced,no,0,,", "synced,yes,0,,"),
                          ("within,-,,,", "within,maybe,,,"), ("flutter,0,,,", "flutter,-,,,"), ("39007594,alone", "1,both"),
+                         ("flutter,0,,,", "flutter,7,,,"), ("flutter,0,,,", "flutter,0,,,delay 1 2 A 3"),
+                         ("flutter,0,,,", "flutter,7,,,delay 1 2 3"), ("flutter,0,,,", "flutter,7,delay 1 2 A 3,,"),
                          ("check 3 5 6", "check 3 5"), ("no,,,check 3 5 6", "no,,,"), ("no,,,check 3 5 6", "yes,,,check 3 5 6"),
                          ("synced,1,62", "synced,-,62"), ("synced,1,62", "synced,1,"), ("sharp within,", "sharp inside,"),
                          ("lost,2,5", "lost,-,5"), ("75011786,1", "75011786,-"), ("lost,2,5,75011786,1\n", "")):
@@ -629,7 +653,7 @@ class Alone(Bench):
                     f"2,yes,148983950,4999,no{kept},", f"2,yes,148983950,\n4999,no{kept}\n", f"2,yes,\xb2,4999,no{kept}\n",
                     f"2,yes,-5,4999,no{kept}\n", f"2,yes,,4999,no{kept}\n", f"4,yes,148983950,4999,no{kept}\n", f"2,yes,1 ,4999,no{kept}\n",
                     f"02,yes,148983950,4999,no{kept}\n", f"2,yes,148983950,4999,no{kept}\r\n", f"2,yes,1_0,4999,no{kept}\n",
-                    "2,yes,148983950,4999,no,some,40000000\n", "2,yes,148983950,4999,no,all,many\n"):
+                    "2,yes,148983950,4999,no,some,40000000\n", "2,yes,148983950,4999,no,all,many\n", "2,yes,148983950,4999,no,all,-\n"):
             for rows in (self.ROWS[:2] + (row,), self.ROWS[:2] + (row, self.ROWS[3])):
                 with self.subTest(row=row), self.assertRaises(texts.Strange) as strange:
                     texts.sharp_series("".join([self.HEAD, *rows, self.END]))

@@ -9,6 +9,7 @@ import unittest
 
 from bench import EXAMPLE, FLEXRAY, REPOSITORY, SERIES, Bench, edited, needs, needs_series
 from flexlab.runs import least, sharp
+from flexlab.runs.every_gap import every_gap
 from flexlab.base import ranges
 from flexlab.program import report
 from flexlab.toml.cluster import read_cluster
@@ -248,17 +249,30 @@ class Flutter(Case):
         self.assertEqual(self.flutter((5, 7000009), text=edited(("key_slot = 1\n", ""), ("coldstart = true", "coldstart = false"),
                                                                 text=without)), 0)
 
-    def test_its_place_is_the_first_row_that_differs_most(self):
-        def place(text):
-            return sharp.greatest_turn(self.cluster(text))
+    def test_its_place_is_the_last_double_cycle_and_the_first_delay_in_it(self):
+        def place(text, since=0):
+            return sharp.greatest_turn(self.cluster(text), since)
 
-        steps = "".join(f"[[delay]]\nfrom = {sender}\nto = {to}\nticks = {ticks}\nfrom_cycle = {cycle}\n"
-                        for sender, to, cycle, ticks in ((3, 1, 7, 6999000), (2, 4, 8, 2000000), (2, 4, 9, 2001000), (1, 2, 11, 11999999)))
-        found = place(PRODUCTION + steps)
-        self.assertEqual(found[:3] + found[4:], (1000, 2, 4, 9))
-        self.assertEqual(place(PRODUCTION + steps + TWO_FACED)[:3], (1000, 3, 1))
+        def steps(*rows):
+            return "".join(f"[[delay]]\nfrom = {sender}\nto = {to}\nticks = {ticks}\nfrom_cycle = {cycle}\n" for sender, to, cycle, ticks in rows)
+
+        text = PRODUCTION + steps((3, 1, 7, 6999000), (3, 1, 9, 6998000), (2, 4, 8, 2000000), (2, 4, 9, 2001000), (1, 2, 11, 11999999))
+        self.assertEqual(place(text)[:3] + place(text)[4:], (1000, 2, 4, 4))
+        self.assertEqual(place(text + TWO_FACED)[:3], (1000, 3, 1))
+        self.assertEqual(place(text, 5), (1, 1, 2, "A", 5))
+        self.assertIsNone(place(text, 6))
+        self.assertEqual(place(text + steps((5, 6, 13, 6999000), (5, 6, 14, 7000000)))[:3], (1000, 5, 6))
         self.assertIsNone(place(PRODUCTION))
+        self.assertEqual(sharp.flutters_of(self.cluster(text))[:7], [1000] * 5 + [1, 0])
 
+    def test_from_a_double_cycle_on(self):
+        """Gaps of the double cycles from one on: each with the value that holds there."""
+        cluster = self.cluster(PRODUCTION + '[[oscillator]]\nnodes = 1\ncycles = "2-5"\nppm = 300\n'
+                               '[[lose]]\nfrom = 1\nto = 2\ncycles = "4-5"\n[[delay]]\nfrom = 3\nto = 1\nns = 900\nfrom_cycle = 4\n')
+        self.assertEqual([[gap[0] for gap in every_gap(cluster, since)] for since in range(5)],
+                         [["length", "change", "delay", "link"]] * 3 + [["delay"]] * 2)
+        self.assertEqual([gap[2] for gap in every_gap(cluster, 2)[:2]], ["4", "6"])
+        self.assertEqual([every_gap(cluster, since)[-1][-2:] for since in (3, 4)], [["6", "36000000"], ["8", "36000000"]])
 
     def test_of_which_bounds_a_run_is(self):
         self.assertEqual(sharp.kind_of(self.cluster(PRODUCTION), 5), least.Kind(False, 5, 8))
@@ -331,8 +345,8 @@ class Pages(Case):
         self.assertIn("turn pClusterDriftDamping: it is 0, and with all else as it is C1 asks for 1 at least", page)
         self.assertIn("1. all checks hold with pClusterDriftDamping = 1. Precision 0.750 us; covered yes", page)
         page = self.page(produced(*WALK, ("double_cycles = 60", "double_cycles = 70")) + EVEN_AND_ODD)
-        self.assertRegex(page, r"for delays that flutter by 0.250 us by so much the delay from node \d+ to node \d+ on channel A changes "
-                               "within double cycle 0, at cycle 1; a change at an even cycle is no flutter")
+        self.assertIn("for delays that flutter by 0.250 us the delay of frames of node 1 at node 2 on channel A flutters by 250 ns, last in "
+                      "double cycle 69, at cycle 139; a change at an even cycle is no flutter", page)
         first = int(re.search(r"In sync yes, from double cycle (\d+) on", page)[1])
         self.assertRegex(page, r"but for lengths that leave their range from double cycle \d+ on")
         self.assertIn("PROVED IN PART, of 62 double cycles from there (620.000 ms), since C1 fails and the walk is not held: "
@@ -423,14 +437,13 @@ class Pages(Case):
         self.assertIn("Covered NO: nothing is promised of this run's precision check C7 fails, see below", page)
         self.assertIn("Checks check C7 fails: 126987300 against 136866544; the offset limit has to suffice for the reach of a node that "
                       "joins turn pOffsetCorrectionOut: it is 127, and with all else as it is C7 asks for 137 at least", page)
-        page = self.page(produced(SHORT) + JOINS, series=False)
-        self.assertIn("Covered not known: a check of the classical bound fails", page)
 
-    def test_what_is_known_without_the_second_program(self):
-        page = self.page(produced(SHORT), series=False)
-        self.assertIn("Covered not known: a check of the classical bound fails", page)
-        self.assertIn("Precision 0.900 us", page)
-        self.assertIn("Skew in sync not known: flexray-series tells it, which is not installed", page)
+    def test_without_the_second_program_the_same_is_known(self):
+        for text in (produced(SHORT), produced(SHORT) + JOINS):
+            page = self.page(text, series=False)
+            self.assertIn("Covered yes: while in sync no macroticks of correct nodes lie further apart than the precision", page)
+            self.assertIn("Precision 0.900 us", page)
+            self.assertRegex(page, r"Skew in sync [\d.]+ us at most since it was first in sync")
         page = self.page(produced(SHORT, *WALK), series=False)
         self.assertIn("Skew in sync 0.400 us at most since it was first in sync", page)
         page = self.page(EXAMPLE, series=False)
@@ -439,7 +452,7 @@ class Pages(Case):
         page = self.page(produced(SHORT, ("pOffsetCorrectionOut = 127", "pOffsetCorrectionOut = 9")), series=False)
         self.assertIn("Covered NO: nothing is promised of this run's precision check C3 fails, see below", page)
         page = self.page(edited(("microticks = 0.3", "microticks = 0.7")), series=False)
-        self.assertIn("Covered NO: nothing is promised of this run's precision in cycle 0 frames of node 1 travel", page)
+        self.assertIn("Covered NO: nothing is promised of this run's precision in cycle 4 frames of node 1 travel", page)
 
     @needs_series
     def test_delays_that_flutter_more_than_any_limit_allows(self):
@@ -454,6 +467,35 @@ class Pages(Case):
                       "bound takes", page)
         self.assertIn("nothing is proved of this run, whose delays flutter by 1.700 us", page)
 
+    EARLY = ("[[delay]]\nfrom = 1\nto = 2\nns = 700\nfrom_cycle = 0\n[[delay]]\nfrom = 1\nto = 2\nns = 300\nfrom_cycle = 2\n"
+             "[[delay]]\nfrom = 5\nto = 6\nns = 200\nfrom_cycle = 3\n[[delay]]\nfrom = 5\nto = 6\nns = 175\nfrom_cycle = 4\n"
+             '[[lose]]\nfrom = 3\nto = 4\ncycles = "0-1"\n')
+    LATE = ("[[delay]]\nfrom = 2\nto = 1\nns = 180\nfrom_cycle = 8\n[[delay]]\nfrom = 2\nto = 1\nns = 190\nfrom_cycle = 11\n"
+            '[[delay]]\nfrom = 2\nto = 1\nns = 180\nfrom_cycle = 12\n')
+
+    @needs_series
+    def test_what_lies_before_sync_does_not_count(self):
+        """A delay outside its limit, one that flutters more, and frames that are lost, all before double cycle 2."""
+        for series in (True, False):
+            page = self.page(produced(SHORT) + self.EARLY + self.LATE, series=series)
+            self.assertIn("Verdict proved: from cycle 4 on no macroticks of correct nodes lie further apart than 0.960 us", page)
+            self.assertIn("gaps before double cycle 2, the first in sync, do not count; there are some, see below", page)
+            self.assertIn("for delays that flutter by 0.010 us the delay of frames of node 2 at node 1 on channel A flutters by 10 ns, last "
+                          "in double cycle 5, at cycle 11; a change at an even cycle is no flutter before double cycle 2, the first in sync, "
+                          "delays flutter by up to 25 ns: that does not count", page)
+            self.assertIn("Gaps in cycle 0 frames of node 1 travel 0.700 us to node 2 on channel A", page)
+            self.assertEqual(page.count("that is before double cycle 2, the first in sync: for the precision it is no gap"), 2)
+            self.assertNotIn("Losses", page)
+            self.assertNotIn("Ways", page)
+        found = json.loads(self.flexlab("run", "--json", "--require", "sharply-covered", "a.toml", env={"FLEXRAY_SERIES": SERIES})[0])
+        self.assertEqual((found["sharp"]["covered"], found["sharp"]["gaps"], found["gaps"]), (True, [], ["delay 1 2 A 0 28000000", "link 3 4 0"]))
+        self.assertEqual(found["sharp"]["flutter"], {"ticks": 400000, "us": 0.01, "delay": {
+            "sender": 2, "receiver": 1, "channel": "A", "last_in_double_cycle": 5}})
+        page = self.page(produced(SHORT) + self.EARLY + self.LATE + '[[lose]]\nfrom = 3\nto = 4\ncycles = "10-11"\n')
+        self.assertIn("Verdict NOT PROVED: in double cycle 5 no channel carries the frames of node 3 to node 4 in both its cycles (cycles 10 and "
+                      "11) Cluster", page)
+        self.assertIn("frames are lost in 1 of 18 double cycles from double cycle 2 on, the last is double cycle 5", page)
+
     def test_never_in_sharp_sync(self):
         page = self.page(produced(("double_cycles = 60", "double_cycles = 1")))
         self.assertIn("In sync NEVER: no double cycle of the run is in sync", page)
@@ -464,7 +506,7 @@ class Pages(Case):
         self.write("a.toml", produced(SHORT))
         self.flexlab("run", "a.toml", env={"FLEXRAY_SERIES": SERIES})
         text = self.read("a.lab", "series.csv")
-        for old, new, told in (("\nflutter,0,", "\nflutter,5,", "delays flutter by 5 ticks, and by the file it is 0"),
+        for old, new, told in (("\nflutter,0,,,", "\nflutter,5,,,delay 1 2 A 3", "delays flutter by 5 ticks, and by the file it is 0"),
                                ("\nsharp,36003994,alone", "\nsharp,36003993,alone", "tells another sharper precision"),
                                ("\nsharp,36003994,alone", "\nsharp,36003994,beside", "tells another sharper precision"),
                                (",on,,\n", ",7,,\n", "tells another number of double cycles for which sharp sync lasts"),
@@ -555,7 +597,7 @@ class Machines(Case):
             self.assertEqual(found["covered"], False)
             self.assertIn(told, " ".join(found["gap_told"]))
         self.write("a.toml", produced(SHORT))
-        self.assertIn("is not known", self.flexlab("run", "--require", "sharply-covered", "a.toml", status=7)[1])
+        self.flexlab("run", "--require", "sharply-covered", "a.toml")
 
     @needs_series
     def test_a_study(self):
@@ -642,7 +684,7 @@ class Losses(Case):
 
     @needs_series
     def test_what_a_run_loses(self):
-        """Its numbers by what is heard in each double cycle, from the first one on, are stepped here too. Where node 2 misses node 1
+        """Its numbers by what is heard in each double cycle, from the first one in sync on, are stepped here too. Where node 2 misses node 1
         alone lists meet all the same; where each node misses three others they do not."""
         self.longest = 1_000_000 + self.p["xRateBound"]
         self.changes = 2 * (self.p["pMicroPerCycle"] + self.p["pRateCorrectionOut"]) * self.p["xChangeBound"]
@@ -656,15 +698,18 @@ class Losses(Case):
             told = texts.sharp_series(subprocess.run(
                 [SERIES, os.path.join(folder, "params.csv"), os.path.join(folder, "drift.csv"), path, "sharp"],
                 capture_output=True, text=True, check=True).stdout)
-            doubles = len(told.cycles) // 2
+            doubles, since = len(told.cycles) // 2, 2
             words = [heard if double in lost else "all" for double in range(doubles)]
-            apart, reach = self.costs(alone, words)
-            bound = (max(apart), apart.index(max(apart))) if self.holds(alone, reach) else (None, None)
+            counted = [double for double in lost if double >= since]
+            apart, reach = self.costs(alone, words[since:])
+            bound = (max(apart), since + apart.index(max(apart))) if self.holds(alone, reach) else (None, None)
             with self.subTest(lost=lost, heard=heard):
-                self.assertEqual(told.losses, (len(lost), max(lost, default=None), *bound))
-                self.assertEqual(told.sharp_covered, not lost)
+                self.assertEqual(told.sharp_synced, since)
+                self.assertEqual(told.losses, (len(counted), max(counted, default=None), *bound))
+                self.assertEqual(told.sharp_covered, not counted)
                 self.assertEqual(told.cycles.heard[::2], tuple(words))
-                self.assertEqual(told.cycles.bounds[1::2], tuple(apart) if bound[0] else (None,) * doubles)
+                self.assertEqual(told.cycles.bounds[1::2],
+                                 (None,) * since + (tuple(apart) if bound[0] else (None,) * (doubles - since)))
 
 
 class Reading(unittest.TestCase):

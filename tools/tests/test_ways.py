@@ -49,8 +49,8 @@ class Ways(Bench):
         """Of a cluster that nodes join they are by the checks of the precision, C6 to C9 among them."""
         text = edited(("delay_error_us = 0.0125", "delay_error_ns = 125")) + JOINS
         page = self.page(text)
-        ways = re.findall(r"all checks hold with (.*?)\. Precision ([\d.]+) us; simulated starts ([\d.]+) us at most from cycle "
-                          r"(\d+) on", page)
+        ways = re.findall(r"all checks hold with (.*?)\. Precision ([\d.]+) us; covered yes; simulated starts ([\d.]+) us at most "
+                          r"from cycle (\d+) on", page)
         self.assertEqual(len(ways), 4)
         self.assertEqual([float(way[2]) for way in ways], sorted(float(way[2]) for way in ways))
         tried = 0

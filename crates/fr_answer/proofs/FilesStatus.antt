@@ -26,9 +26,10 @@ kept_defined keep joined lost shown defined p d s sane fits script proper =
     let report = defined p d s sane fits script proper in
     record {
       report = report;
-      sharply = λ flutter double covered synced. keep p d s flutter report.cycles double sane covered report.run synced;
-      joined = λ flutter double covered synced. joined p d s flutter report.cycles double sane fits script covered report.run synced;
-      through_losses = λ flutter reach double covered synced. lost p d s flutter reach report.cycles double sane covered report.run synced;
+      sharply = λ from flutter double covered low synced. keep p d s from flutter report.cycles double sane covered report.run low synced;
+      joined = λ from flutter double covered low synced. joined p d s from flutter report.cycles double sane fits script covered report.run low synced;
+      through_losses = λ from flutter reach double covered low synced awake.
+          lost p d s from flutter reach report.cycles double sane covered report.run low synced awake;
     }
 
 -- ---- a startup

@@ -22,9 +22,10 @@ kept_text : CoveredFilesKeepSharply → CoveredFilesKeepSharplyJoined → Covere
     → IsKeptRunText p d s text
 kept_text keep joined lost p d s text sane drift_fits script_fits report = record {
   report = report;
-  sharply = λ flutter double covered synced. keep p d s flutter report.cycles double sane covered report.run synced;
-  joined = λ flutter double covered synced. joined p d s flutter report.cycles double sane drift_fits script_fits covered report.run synced;
-  through_losses = λ flutter reach double covered synced. lost p d s flutter reach report.cycles double sane covered report.run synced;
+  sharply = λ from flutter double covered low synced. keep p d s from flutter report.cycles double sane covered report.run low synced;
+  joined = λ from flutter double covered low synced. joined p d s from flutter report.cycles double sane drift_fits script_fits covered report.run low synced;
+  through_losses = λ from flutter reach double covered low synced awake.
+      lost p d s from flutter reach report.cycles double sane covered report.run low synced awake;
 }
 
 kept_written : CoveredFilesKeepSharply → CoveredFilesKeepSharplyJoined → CoveredFilesKeepThroughLosses → (names : RunNames) (before after : Shelved) (text : List ℕ)

@@ -1,20 +1,18 @@
 ghost use Rattle.std.specs.Prelude.{◌≡◌, ◌≢◌, ◌<◌, ◌≤◌, ◌∷◌, [], ℕ, All, List, length};
 ghost use Rattle.fr_base.specs.Rows.{AreAscendingRows};
 ghost use Rattle.fr_base.specs.declared.dev.Dev.{Dev};
-ghost use Rattle.fr_cluster.specs.Sane.{IsSane};
 ghost use Rattle.fr_cluster.specs.Values.{Values};
 ghost use Rattle.fr_history.specs.History.{History};
 ghost use Rattle.fr_history.specs.Terms.{status_in};
 ghost use Rattle.fr_poc.specs.Control.{first_status, after_double, ArePocLimits};
-ghost use Rattle.fr_poc.specs.Limits.{limits_of};
 ghost use Rattle.fr_trace.specs.Cycles.{history_by, kept_of};
 ghost use Rattle.fr_check.specs.Controls.{control_at, HasStepped, Hold, ControlStands};
 ghost use Rattle.fr_check.specs.Corrections.{AreCorrections, IsCorrection, correction_at};
 
 use crate::corrections::Corrections;
 use fr_base::{NodeId, NodeRow, Outcome, State};
-use fr_cluster::{ParamName, Params};
-use fr_poc::{Poc, PocLimits};
+use fr_cluster::Params;
+use fr_poc::{Poc, PocLimits, poc_limits};
 use fr_trace::TracedCycle;
 use std::array;
 use std::marker::Model;
@@ -34,20 +32,6 @@ impl Model for Controls {
     ghost view = { λ controls. controls.by_node };
 
     ghost invariant = { λ controls. length controls.by_node ≡ 65 };
-}
-
-// The limits of operation control.
-fn poc_limits(params: &Params) -> PocLimits
-    ensures value { result ≡ limits_of params.now }
-    ensures proper { ArePocLimits result }
-    ensures sane { IsSane params.now }
-{
-    PocLimits {
-        passive: params.value(ParamName::gMaxWithoutClockCorrectionPassive) as u8,
-        fatal: params.natural(ParamName::gMaxWithoutClockCorrectionFatal) as u8,
-        halt_allowed: params.natural(ParamName::pAllowHaltDueToClock) == 1,
-        to_active: params.natural(ParamName::pAllowPassiveToActive) as u8,
-    }
 }
 
 // A control under some limits.

@@ -1,4 +1,4 @@
-ghost use Rattle.std.specs.Prelude.{◌≡◌, length, map};
+ghost use Rattle.std.specs.Prelude.{◌≡◌, ◌<◌, Some, length, map, slice_get};
 ghost use Rattle.std.specs.List.{range_with_len};
 ghost use Rattle.std.specs.Option.{option_copied};
 ghost use Rattle.std.specs.Slice.{IsItemAt};
@@ -92,6 +92,17 @@ impl NodeList {
         ensures { IsItemAt self.now place result }
     {
         self.nodes.get(place)
+    }
+
+    /// The node at a place where there is one.
+    pub fn node_at(&self, place: usize) -> &NodeSpec
+        requires { place < length self.now }
+        ensures { slice_get self.now place ≡ Some result.now }
+    {
+        match self.get(place) {
+            Some(node) => node,
+            None => unreachable!(),
+        }
     }
 }
 

@@ -1,4 +1,4 @@
-ghost use Rattle.std.specs.Prelude.{pos, ◌≤ℤ◌, ◌≡◌, ◌≤◌, ◌<◌, ◌+◌, ◌*◌, IfSome};
+ghost use Rattle.std.specs.Prelude.{pos, ◌≤ℤ◌, ◌≡◌, ◌≤◌, ◌<◌, ◌+◌, ◌*◌, IfSome, Some, length, slice_get};
 ghost use Rattle.std.specs.Option.{option_copied};
 ghost use Rattle.fr_cluster.specs.Ranges.{greatest, least, InRange, IsProperSlot};
 ghost use Rattle.fr_cluster.specs.Values.{amount, figure};
@@ -6,7 +6,7 @@ ghost use Rattle.fr_cluster.specs.Numbers.{AreInRange, amount_in, number_in};
 ghost use Rattle.fr_cluster.specs.Constraints.{AllHold, key_slots};
 ghost use Rattle.fr_cluster.specs.Sane.{AreSaneLists, IsSane};
 ghost use Rattle.fr_cluster.specs.Searches.{key_node_in, slot_in};
-ghost use Rattle.fr_cluster.specs.Questions.{compensation_of, has_channel, is_common, key_index_of, node_of, widest_compensation_of};
+ghost use Rattle.fr_cluster.specs.Questions.{compensation_of, has_channel, is_common, key_index_of, node_of, own_index, widest_compensation_of};
 ghost use Rattle.fr_cluster.specs.declared.names.ParamName.{ParamName as Name};
 ghost use Rattle.fr_cluster.specs.declared.names.ParamName.TheVariants as name;
 
@@ -222,12 +222,51 @@ impl Params {
         self.slots.with_number(slot)
     }
 
+    /// The place of a node's own key slot among the key slots, if it has one.
+    pub fn own_key_index(&self, id: NodeId) -> Option<usize>
+        ensures { result ≡ own_index self.now id }
+    {
+        match self.node(id) {
+            None => None,
+            Some(node) => match node.key {
+                None => None,
+                Some(slot) => self.key_index(slot),
+            },
+        }
+    }
+
+    /// How many nodes there are.
+    pub fn node_count(&self) -> usize
+        ensures value { result ≡ length self.now.nodes }
+        ensures few { result ≤ 64 }
+    {
+        self.nodes.len()
+    }
+
+    /// The node at a place, of so many.
+    pub fn node_at(&self, place: usize) -> &NodeSpec
+        requires { place < length self.now.nodes }
+        ensures { slice_get self.now.nodes place ≡ Some result.now }
+    {
+        self.nodes.node_at(place)
+    }
+
+    /// Whether the node is there and has the channel. It reads a place of a table, in constant time.
+    pub fn has_channel(&self, node: NodeId, channel: Channel) -> bool
+        ensures { result ≡ has_channel (node_of self.now node) channel }
+    {
+        match self.node(node) {
+            None => false,
+            Some(node) => node.has_channel(channel),
+        }
+    }
+
     /// Whether both nodes are there and have the channel. It reads a place of a table for each, in
     /// constant time and without memory.
     pub fn common(&self, a: NodeId, b: NodeId, channel: Channel) -> bool
         ensures { result ≡ is_common self.now a b channel }
     {
-        has(self.node(a), channel) && has(self.node(b), channel)
+        self.has_channel(a, channel) && self.has_channel(b, channel)
     }
 
     /// How many bytes a frame of the cluster has: 5 header bytes, 3 trailer bytes and the payload.
@@ -264,17 +303,5 @@ impl Params {
             ParamName::xChangeBound => self.change_bound,
             ParamName::xDelayError => self.delay_error,
         }
-    }
-}
-
-fn has(node: Option<&NodeSpec>, channel: Channel) -> bool
-    ensures { result ≡ has_channel (option_copied node.entry) channel }
-{
-    match node {
-        None => false,
-        Some(node) => match channel {
-            Channel::A => node.on_a,
-            Channel::B => node.on_b,
-        },
     }
 }

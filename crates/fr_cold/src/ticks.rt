@@ -82,7 +82,7 @@ fn is_sending_on(
         (sends (macroticks_of_cycle params.now) (action_of params.now node) tick state &&
         has_channel (node_of params.now node) channel) }
 {
-    is_sending(params, tick, state, node) && has_channel(params, node, channel)
+    is_sending(params, tick, state, node) && params.has_channel(node, channel)
 }
 
 fn is_sending(params: &Params, tick: u32, state: ColdState, node: NodeId) -> bool
@@ -90,18 +90,6 @@ fn is_sending(params: &Params, tick: u32, state: ColdState, node: NodeId) -> boo
     ensures { result ≡ sends (macroticks_of_cycle params.now) (action_of params.now node) tick state }
 {
     sends(cycle_length(params), action(params, node), tick, state)
-}
-
-fn has_channel(params: &Params, node: NodeId, channel: Channel) -> bool
-    ensures { result ≡ has_channel (node_of params.now node) channel }
-{
-    match params.node(node) {
-        None => false,
-        Some(spec) => match channel {
-            Channel::A => spec.on_a,
-            Channel::B => spec.on_b,
-        },
-    }
 }
 
 // Whether a node in a state hears something, by which channels are busy.
@@ -117,8 +105,8 @@ fn is_hearing(
     ensures { result ≡ hears_by params.now tick state busy_a busy_b node }
 {
     !is_sending(params, tick, state, node)
-        && ((has_channel(params, node, Channel::A) && busy_a)
-            || (has_channel(params, node, Channel::B) && busy_b))
+        && ((params.has_channel(node, Channel::A) && busy_a)
+            || (params.has_channel(node, Channel::B) && busy_b))
 }
 
 // The last two parts of a macrotick, for all nodes: each hears what was sent before any of them moved.

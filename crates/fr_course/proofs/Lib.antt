@@ -8,6 +8,7 @@ pub mod Meets
 pub mod MiddleLaws
 pub mod Middling
 pub mod Ranked
+pub mod Numbers
 pub mod Spreads
 pub mod ValueLaws
 mod MiddleRows

@@ -11,7 +11,7 @@ use Rattle.fr_bound.specs.SharpBounds.{steady_error}
 use Rattle.fr_course.specs.Readings.{ceiling_of, least_ticks, most_ticks, Interval, Scale}
 use Rattle.fr_course.specs.Course.{between, odd_macrotick, Course}
 use Rattle.fr_course.specs.Middles.{middle}
-pub use Rattle.fr_course.specs.declared.measuring.Measuring.{Measuring}
+pub use Rattle.fr_course.specs.Measures.{Measuring}
 
 -- how nodes of a cluster measure, where delays flutter by no more than so many ticks
 abbrev pub measuring_of : Values → ℕ → Measuring

@@ -1,4 +1,6 @@
 -- what the public contract cites
+pub mod Scales
+pub mod Measures
 pub mod Readings
 pub mod Course
 pub mod Spread

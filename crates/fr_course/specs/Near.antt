@@ -2,8 +2,9 @@
 use Rattle.std.specs.Prelude.{◌≤◌, ℤ, pos, neg_ℤ, ◌≤ℤ◌}
 use Rattle.fr_base.specs.Within.{IsBetween, IsWithin}
 use Rattle.fr_course.specs.Readings.{Interval, Scale}
+pub use Rattle.fr_course.specs.Measures.{IsMeasuring}
+pub use Rattle.fr_course.specs.Scales.{IsReadingScale}
 use Rattle.fr_course.specs.Course.{Course, Delays, Observer}
-use Rattle.fr_course.specs.declared.measuring.Measuring.{Measuring}
 
 -- the numbers of a log's head, and those of a delay
 pub record IsObserver (observer : Observer) : Type 0 where
@@ -15,19 +16,6 @@ pub record AreDelays (delays : Delays) : Type 0 where
   pub least : delays.least ≤ 1_000_000_000
   pub most : delays.most ≤ 1_000_000_000
   pub jitter : delays.jitter ≤ 1_000_000_000
-
--- the numbers of a cluster as readings
-pub record IsReadingScale (scale : Scale) : Type 0 where
-  pub drift : scale.drift ≤ 1000
-  pub macros_from : pos 1 ≤ℤ scale.macros
-  pub macros_to : scale.macros ≤ℤ pos 16_000
-  pub correction_from : pos 0 ≤ℤ scale.correction
-  pub correction_to : scale.correction ≤ℤ scale.macros
-  pub length_from : IsWithin (pos 1_001_000_000_000) scale.length_from
-  pub length_to : IsWithin (pos 1_001_000_000_000) scale.length_to
-  pub change : IsWithin (pos 1_001_000_000_000) scale.change
-  pub micro_from : IsBetween (pos 1) (pos 1_001_000_000_000) scale.micro_from
-  pub micro_to : IsBetween (pos 1) (pos 1_001_000_000_000) scale.micro_to
 
 -- both ends of an interval lie between two numbers
 pub record EndBetween (least greatest : ℤ) (interval : Interval) : Type 0 where
@@ -56,11 +44,3 @@ pub record IsNearCourse (scale : Scale) (course : Course) : Type 0 where
   pub odd : EndWithin (pos 1_900_000_000_000_000_000) course.odd
   pub apart : EndWithin (pos 920_000_000_000_000_000) course.apart
   pub length : EndWithin (pos 930_000_000_000_000_000) course.length
-
--- how nodes of a cluster measure
-pub record IsMeasuring (m : Measuring) : Type 0 where
-  pub arrival_error : IsBetween (pos 0) (pos 10_000_000_000_000_000_000) m.arrival_error
-  pub rate_error : IsBetween (pos 0) (pos 10_000_000_000_000_000_000) m.rate_error
-  pub shortest : IsBetween (pos 998_500) (pos 1_001_500) m.shortest
-  pub longest : IsBetween (pos 998_500) (pos 1_001_500) m.longest
-  pub damping : IsBetween (pos 0) (pos 1_000_000) m.damping

@@ -10,7 +10,7 @@ use Rattle.fr_time.specs.Position.{floor_of}
 use Rattle.fr_bound.specs.Bounds.{cycle_change, longest_micro, nominal, shortest_micro}
 use Rattle.fr_bound.specs.Checks.{least_cycle}
 pub use Rattle.fr_course.specs.declared.intervals.Interval.{Interval}
-pub use Rattle.fr_course.specs.declared.scales.Scale.{Scale}
+pub use Rattle.fr_course.specs.Scales.{Scale}
 
 -- a quotient rounded up; the divisor is above 0
 abbrev pub ceiling_of : ℤ → ℤ → ℤ

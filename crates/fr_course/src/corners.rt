@@ -1,7 +1,7 @@
 ghost use Rattle.std.specs.Prelude.{◌≡◌, pos, neg_ℤ, ◌+ℤ◌, ◌-ℤ◌};
 ghost use Rattle.fr_base.specs.Within.{IsBetween, IsWithin};
 ghost use Rattle.fr_course.specs.Course.{even_start, even_turn, mean_from, mean_to, odd_macrotick, odd_start, odd_turn, share_from, share_to};
-ghost use Rattle.fr_course.specs.Near.{IsNearCourse, IsReadingScale, EndWithin};
+ghost use Rattle.fr_course.specs.Near.{IsNearCourse, EndWithin};
 
 use crate::courses::Course;
 use crate::intervals::Interval;
@@ -10,7 +10,6 @@ use crate::shares::{mean_from, mean_to, share_from, share_to};
 
 /// Where the start of the even cycle can lie.
 pub fn even_start(scale: &Scale, course: &Course) -> Interval
-    requires scale { IsReadingScale scale.now }
     requires course { IsNearCourse scale.now course.now }
     ensures value { result ≡ even_start scale.now course.now }
     ensures near { EndWithin (pos 3_000_000_000_000_000_000) result }
@@ -23,7 +22,6 @@ pub fn even_start(scale: &Scale, course: &Course) -> Interval
 
 /// Where the start of the odd cycle can lie.
 pub fn odd_start(scale: &Scale, course: &Course) -> Interval
-    requires scale { IsReadingScale scale.now }
     requires course { IsNearCourse scale.now course.now }
     ensures value { result ≡ odd_start scale.now course.now }
     ensures near { EndWithin (pos 3_000_000_000_000_000_000) result }
@@ -37,7 +35,6 @@ pub fn odd_start(scale: &Scale, course: &Course) -> Interval
 /// Where the point of the even cycle can lie at which an offset correction would start, before it is rounded down to
 /// microticks.
 pub fn even_turn(scale: &Scale, course: &Course) -> Interval
-    requires scale { IsReadingScale scale.now }
     requires course { IsNearCourse scale.now course.now }
     ensures value { result ≡ even_turn scale.now course.now }
     ensures near { EndWithin (pos 3_000_000_000_000_000_000) result }
@@ -51,7 +48,6 @@ pub fn even_turn(scale: &Scale, course: &Course) -> Interval
 /// Where the point of the odd cycle can lie at which its offset correction starts, before it is rounded down to
 /// microticks.
 pub fn odd_turn(scale: &Scale, course: &Course) -> Interval
-    requires scale { IsReadingScale scale.now }
     requires course { IsNearCourse scale.now course.now }
     ensures value { result ≡ odd_turn scale.now course.now }
     ensures near { EndWithin (pos 3_000_000_000_000_000_000) result }
@@ -64,12 +60,12 @@ pub fn odd_turn(scale: &Scale, course: &Course) -> Interval
 
 // Where a macrotick of the odd cycle can lie, up to the start of its offset correction.
 pub(crate) fn odd_macrotick(scale: &Scale, course: &Course, macrotick: i128) -> Interval
-    requires scale { IsReadingScale scale.now }
     requires course { IsNearCourse scale.now course.now }
     requires macrotick { IsBetween (pos 0) scale.now.correction macrotick }
     ensures value { result ≡ odd_macrotick scale.now course.now macrotick }
     ensures near { EndWithin (pos 3_000_000_000_000_000_000) result }
 {
+    let _of_cycle = scale.macros;
     let ahead = macrotick - course.action;
     if ahead >= 0 {
         macrotick_behind(scale, course, ahead)
@@ -80,7 +76,6 @@ pub(crate) fn odd_macrotick(scale: &Scale, course: &Course, macrotick: i128) -> 
 
 // One so many macroticks behind the action point.
 fn macrotick_behind(scale: &Scale, course: &Course, ahead: i128) -> Interval
-    requires scale { IsReadingScale scale.now }
     requires course { IsNearCourse scale.now course.now }
     requires ahead { IsBetween (pos 0) scale.now.macros ahead }
     ensures low { result.low ≡
@@ -97,7 +92,6 @@ fn macrotick_behind(scale: &Scale, course: &Course, ahead: i128) -> Interval
 
 // One so many macroticks before it: a number below 0.
 fn macrotick_before(scale: &Scale, course: &Course, ahead: i128) -> Interval
-    requires scale { IsReadingScale scale.now }
     requires course { IsNearCourse scale.now course.now }
     requires ahead { IsBetween (neg_ℤ scale.now.macros) (pos 0) ahead }
     ensures low { result.low ≡
@@ -106,34 +100,34 @@ fn macrotick_before(scale: &Scale, course: &Course, ahead: i128) -> Interval
         (course.now.odd.high +ℤ share_to scale.now ahead course.now.length.low) +ℤ scale.now.micro_to }
     ensures near { EndWithin (pos 3_000_000_000_000_000_000) result }
 {
+    let micro = scale.micro_to;
     Interval {
-        low: course.odd.low - share_to(scale, -ahead, course.length.high) - scale.micro_to,
-        high: course.odd.high - share_from(scale, -ahead, course.length.low) + scale.micro_to,
+        low: course.odd.low - share_to(scale, -ahead, course.length.high) - micro,
+        high: course.odd.high - share_from(scale, -ahead, course.length.low) + micro,
     }
 }
 
 // How long the macroticks before the action point last, at least and at most.
 fn action_from(scale: &Scale, course: &Course) -> i128
-    requires scale { IsReadingScale scale.now }
     requires course { IsNearCourse scale.now course.now }
     ensures value { result ≡ share_from scale.now course.now.action course.now.length.low }
     ensures within { IsWithin (pos 930_000_000_000_000_000) result }
 {
+    let _of_cycle = scale.macros;
     share_from(scale, course.action, course.length.low)
 }
 
 fn action_to(scale: &Scale, course: &Course) -> i128
-    requires scale { IsReadingScale scale.now }
     requires course { IsNearCourse scale.now course.now }
     ensures value { result ≡ share_to scale.now course.now.action course.now.length.high }
     ensures within { IsWithin (pos 930_000_000_000_000_000) result }
 {
+    let _of_cycle = scale.macros;
     share_to(scale, course.action, course.length.high)
 }
 
 // How long those behind it last.
 pub(crate) fn rest_from(scale: &Scale, course: &Course) -> i128
-    requires scale { IsReadingScale scale.now }
     requires course { IsNearCourse scale.now course.now }
     ensures value { result ≡
         share_from scale.now (scale.now.macros -ℤ course.now.action) course.now.length.low }
@@ -144,7 +138,6 @@ pub(crate) fn rest_from(scale: &Scale, course: &Course) -> i128
 }
 
 pub(crate) fn rest_to(scale: &Scale, course: &Course) -> i128
-    requires scale { IsReadingScale scale.now }
     requires course { IsNearCourse scale.now course.now }
     ensures value { result ≡
         share_to scale.now (scale.now.macros -ℤ course.now.action) course.now.length.high }
@@ -156,7 +149,6 @@ pub(crate) fn rest_to(scale: &Scale, course: &Course) -> i128
 
 // How long those between it and the start of the offset correction last.
 fn ahead_from(scale: &Scale, course: &Course) -> i128
-    requires scale { IsReadingScale scale.now }
     requires course { IsNearCourse scale.now course.now }
     ensures value { result ≡
         share_from scale.now (scale.now.correction -ℤ course.now.action) course.now.length.low }
@@ -167,7 +159,6 @@ fn ahead_from(scale: &Scale, course: &Course) -> i128
 }
 
 fn ahead_to(scale: &Scale, course: &Course) -> i128
-    requires scale { IsReadingScale scale.now }
     requires course { IsNearCourse scale.now course.now }
     ensures value { result ≡
         share_to scale.now (scale.now.correction -ℤ course.now.action) course.now.length.high }
@@ -179,7 +170,6 @@ fn ahead_to(scale: &Scale, course: &Course) -> i128
 
 // The start of the odd cycle: by the action point before it, by that behind it, and between both.
 fn odd_start_from(scale: &Scale, course: &Course) -> i128
-    requires scale { IsReadingScale scale.now }
     requires course { IsNearCourse scale.now course.now }
     ensures value { result ≡ (odd_start scale.now course.now).low }
     ensures within { IsWithin (pos 2_900_000_000_000_000_000) result }
@@ -190,7 +180,6 @@ fn odd_start_from(scale: &Scale, course: &Course) -> i128
 }
 
 fn odd_start_to(scale: &Scale, course: &Course) -> i128
-    requires scale { IsReadingScale scale.now }
     requires course { IsNearCourse scale.now course.now }
     ensures value { result ≡ (odd_start scale.now course.now).high }
     ensures within { IsWithin (pos 3_000_000_000_000_000_000) result }
@@ -202,31 +191,30 @@ fn odd_start_to(scale: &Scale, course: &Course) -> i128
 
 // Between both action points, so that they lie a cycle apart.
 fn between_from(scale: &Scale, course: &Course) -> i128
-    requires scale { IsReadingScale scale.now }
     requires course { IsNearCourse scale.now course.now }
     ensures value { result ≡
         mean_from scale.now course.now.action course.now.even.low course.now.odd.low
         -ℤ scale.now.change }
     ensures within { IsWithin (pos 2_000_000_000_000_000_000) result }
 {
-    mean_from(scale, course.action, course.even.low, course.odd.low) - scale.change
+    let change = scale.change;
+    mean_from(scale, course.action, course.even.low, course.odd.low) - change
 }
 
 fn between_to(scale: &Scale, course: &Course) -> i128
-    requires scale { IsReadingScale scale.now }
     requires course { IsNearCourse scale.now course.now }
     ensures value { result ≡
         mean_to scale.now course.now.action course.now.even.high course.now.odd.high
         +ℤ scale.now.change }
     ensures within { IsWithin (pos 2_000_000_000_000_000_000) result }
 {
-    mean_to(scale, course.action, course.even.high, course.odd.high) + scale.change
+    let change = scale.change;
+    mean_to(scale, course.action, course.even.high, course.odd.high) + change
 }
 
 // The point of the even cycle at which an offset correction would start: by the action point before it, and between
 // both.
 fn even_turn_from(scale: &Scale, course: &Course) -> i128
-    requires scale { IsReadingScale scale.now }
     requires course { IsNearCourse scale.now course.now }
     ensures value { result ≡ (even_turn scale.now course.now).low }
     ensures within { IsWithin (pos 2_900_000_000_000_000_000) result }
@@ -236,7 +224,6 @@ fn even_turn_from(scale: &Scale, course: &Course) -> i128
 }
 
 fn even_turn_to(scale: &Scale, course: &Course) -> i128
-    requires scale { IsReadingScale scale.now }
     requires course { IsNearCourse scale.now course.now }
     ensures value { result ≡ (even_turn scale.now course.now).high }
     ensures within { IsWithin (pos 3_000_000_000_000_000_000) result }
@@ -247,7 +234,6 @@ fn even_turn_to(scale: &Scale, course: &Course) -> i128
 
 // Between both action points.
 fn turn_from(scale: &Scale, course: &Course) -> i128
-    requires scale { IsReadingScale scale.now }
     requires course { IsNearCourse scale.now course.now }
     ensures value { result ≡
         mean_from scale.now (scale.now.macros -ℤ (scale.now.correction -ℤ course.now.action))
@@ -261,7 +247,6 @@ fn turn_from(scale: &Scale, course: &Course) -> i128
 }
 
 fn turn_to(scale: &Scale, course: &Course) -> i128
-    requires scale { IsReadingScale scale.now }
     requires course { IsNearCourse scale.now course.now }
     ensures value { result ≡
         mean_to scale.now (scale.now.macros -ℤ (scale.now.correction -ℤ course.now.action))

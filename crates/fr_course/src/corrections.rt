@@ -1,7 +1,7 @@
 ghost use Rattle.std.specs.Prelude.{◌≡◌, pos, int_lt, if◌then◌else◌, IfSome};
 ghost use Rattle.fr_base.specs.Within.{IsBetween, IsWithin};
 ghost use Rattle.fr_course.specs.Course.{share_from, share_to};
-ghost use Rattle.fr_course.specs.Near.{IsNearCourse, IsReadingScale, IsSpan, EndWithin};
+ghost use Rattle.fr_course.specs.Near.{IsNearCourse, IsSpan, EndWithin};
 ghost use Rattle.fr_course.specs.Readings.{micros_from, micros_in, micros_to};
 ghost use Rattle.fr_course.specs.Terms.{offset_reading, offset_seen, onward, rate_step_seen, step_reading};
 
@@ -20,7 +20,6 @@ pub fn offset_seen(
     next: &Course,
     span: Option<Interval>,
 ) -> Interval
-    requires scale { IsReadingScale scale.now }
     requires course { IsNearCourse scale.now course.now }
     requires next { IsNearCourse scale.now next.now }
     requires span { IfSome span IsSpan }
@@ -33,7 +32,6 @@ pub fn offset_seen(
 /// Which differences a node's next rate term can have to that of a double cycle, by its courses in both; in
 /// microticks, from the least to the greatest.
 pub fn rate_step_seen(scale: &Scale, course: &Course, next: &Course) -> Interval
-    requires scale { IsReadingScale scale.now }
     requires course { IsNearCourse scale.now course.now }
     requires next { IsNearCourse scale.now next.now }
     ensures value { result ≡ rate_step_seen scale.now course.now next.now }
@@ -55,7 +53,6 @@ fn onward(course: &Course, next: &Course, span: Option<Interval>) -> Interval
 
 // How long the offset term can be, as a reading.
 fn offset_reading(scale: &Scale, course: &Course, next: &Course, span: Option<Interval>) -> Interval
-    requires scale { IsReadingScale scale.now }
     requires course { IsNearCourse scale.now course.now }
     requires next { IsNearCourse scale.now next.now }
     requires span { IfSome span IsSpan }
@@ -72,28 +69,27 @@ fn offset_reading(scale: &Scale, course: &Course, next: &Course, span: Option<In
 
 // How long the macroticks before the action point of the next even cycle last.
 fn begun_from(scale: &Scale, course: &Course, next: &Course) -> i128
-    requires scale { IsReadingScale scale.now }
     requires course { IsNearCourse scale.now course.now }
     requires next { IsNearCourse scale.now next.now }
     ensures value { result ≡ share_from scale.now course.now.action next.now.length.low }
     ensures within { IsWithin (pos 930_000_000_000_000_000) result }
 {
+    let _of_cycle = scale.macros;
     share_from(scale, course.action, next.length.low)
 }
 
 fn begun_to(scale: &Scale, course: &Course, next: &Course) -> i128
-    requires scale { IsReadingScale scale.now }
     requires course { IsNearCourse scale.now course.now }
     requires next { IsNearCourse scale.now next.now }
     ensures value { result ≡ share_to scale.now course.now.action next.now.length.high }
     ensures within { IsWithin (pos 930_000_000_000_000_000) result }
 {
+    let _of_cycle = scale.macros;
     share_to(scale, course.action, next.length.high)
 }
 
 // How much longer the next cycles can be, as a reading, but for the change of the microtick.
 fn step_reading(scale: &Scale, course: &Course, next: &Course) -> Interval
-    requires scale { IsReadingScale scale.now }
     requires course { IsNearCourse scale.now course.now }
     requires next { IsNearCourse scale.now next.now }
     ensures value { result ≡ step_reading scale.now course.now next.now }
@@ -107,7 +103,6 @@ fn step_reading(scale: &Scale, course: &Course, next: &Course) -> Interval
 
 // The least and the greatest number of microticks that so long can be, in readings.
 fn micros_in(scale: &Scale, long: &Interval) -> Interval
-    requires scale { IsReadingScale scale.now }
     requires long { EndWithin (pos 6_000_000_000_000_000_000) long.now }
     ensures value { result ≡ micros_in scale.now long.now }
     ensures near { EndWithin (pos 6_000_000_000_000_000_000) result }
@@ -119,7 +114,6 @@ fn micros_in(scale: &Scale, long: &Interval) -> Interval
 }
 
 fn micros_from(scale: &Scale, long: i128) -> i128
-    requires scale { IsReadingScale scale.now }
     requires long { IsWithin (pos 6_000_000_000_000_000_000) long }
     ensures value { result ≡ micros_from scale.now long }
     ensures within { IsWithin (pos 6_000_000_000_000_000_000) result }
@@ -128,7 +122,6 @@ fn micros_from(scale: &Scale, long: i128) -> i128
 }
 
 fn micros_to(scale: &Scale, long: i128) -> i128
-    requires scale { IsReadingScale scale.now }
     requires long { IsWithin (pos 6_000_000_000_000_000_000) long }
     ensures value { result ≡ micros_to scale.now long }
     ensures within { IsWithin (pos 6_000_000_000_000_000_000) result }
@@ -138,7 +131,6 @@ fn micros_to(scale: &Scale, long: i128) -> i128
 
 // The microtick of which a length is the least number.
 fn inner_micro(scale: &Scale, long: i128) -> i128
-    requires { IsReadingScale scale.now }
     ensures value { result ≡
         (if int_lt long (pos 0) then scale.now.micro_from else scale.now.micro_to) }
     ensures within { IsBetween (pos 1) (pos 1_001_000_000_000) result }
@@ -152,7 +144,6 @@ fn inner_micro(scale: &Scale, long: i128) -> i128
 
 // The microtick of which a length is the greatest number.
 fn outer_micro(scale: &Scale, long: i128) -> i128
-    requires { IsReadingScale scale.now }
     ensures value { result ≡
         (if int_lt long (pos 0) then scale.now.micro_to else scale.now.micro_from) }
     ensures within { IsBetween (pos 1) (pos 1_001_000_000_000) result }

@@ -2,7 +2,7 @@ ghost use Rattle.std.specs.Prelude.{◌≡◌, pos, ◌+ℤ◌, ◌-ℤ◌, IfSo
 ghost use Rattle.std.specs.Int.{int_max, int_min};
 ghost use Rattle.fr_base.specs.Within.{IsBetween};
 ghost use Rattle.fr_course.specs.Course.{allowed, apart_by, between, course_back, course_by, course_from, course_on, is_there, length_seen, seen_apart};
-ghost use Rattle.fr_course.specs.Near.{IsBox, IsNearCourse, IsReadingScale, IsSpan, EndBetween, EndWithin};
+ghost use Rattle.fr_course.specs.Near.{IsBox, IsNearCourse, IsSpan, EndBetween, EndWithin};
 
 use crate::intervals::{Interval, is_empty, meet, meet_if};
 use crate::scales::Scale;
@@ -31,7 +31,6 @@ pub fn course_from(
     odd: Option<Interval>,
     span: Option<Interval>,
 ) -> Option<Course>
-    requires scale { IsReadingScale scale.now }
     requires action { IsBetween (pos 0) scale.now.correction action }
     requires even { IfSome even IsBox }
     requires odd { IfSome odd IsBox }
@@ -59,7 +58,6 @@ pub fn is_there(course: &Course) -> bool
 
 // With a frame in the even cycle alone.
 fn course_on(scale: &Scale, action: i128, even: &Interval) -> Course
-    requires scale { IsReadingScale scale.now }
     requires action { IsBetween (pos 0) scale.now.correction action }
     requires even { IsBox even.now }
     ensures value { result ≡ course_on scale.now action even.now }
@@ -79,7 +77,6 @@ fn course_on(scale: &Scale, action: i128, even: &Interval) -> Course
 
 // With a frame in the odd cycle alone.
 fn course_back(scale: &Scale, action: i128, odd: &Interval) -> Course
-    requires scale { IsReadingScale scale.now }
     requires action { IsBetween (pos 0) scale.now.correction action }
     requires odd { IsBox odd.now }
     ensures value { result ≡ course_back scale.now action odd.now }
@@ -105,7 +102,6 @@ fn course_of_both(
     odd: &Interval,
     span: Option<Interval>,
 ) -> Course
-    requires scale { IsReadingScale scale.now }
     requires action { IsBetween (pos 0) scale.now.correction action }
     requires even { IsBox even.now }
     requires odd { IsBox odd.now }
@@ -125,7 +121,6 @@ fn course_by(
     odd: &Interval,
     apart: &Interval,
 ) -> Course
-    requires scale { IsReadingScale scale.now }
     requires action { IsBetween (pos 0) scale.now.correction action }
     requires even { IsBox even.now }
     requires odd { IsBox odd.now }
@@ -174,7 +169,6 @@ fn behind(even: &Interval, odd: &Interval, apart: &Interval) -> Interval
 
 /// The lengths of cycles, before their offset correction, that a cluster allows, as readings.
 pub fn allowed(scale: &Scale) -> Interval
-    requires { IsReadingScale scale.now }
     ensures value { result ≡ allowed scale.now }
     ensures near { EndWithin (pos 1_001_000_000_000) result }
 {
@@ -216,7 +210,6 @@ pub fn seen_apart(even: &Interval, odd: &Interval, span: Option<Interval>) -> In
 
 // How far apart two action points can be by what is known of each, and by the spans.
 fn apart_by(scale: &Scale, even: &Interval, odd: &Interval, span: Option<Interval>) -> Interval
-    requires scale { IsReadingScale scale.now }
     requires even { IsBox even.now }
     requires odd { IsBox odd.now }
     requires span { IfSome span IsSpan }
@@ -228,7 +221,6 @@ fn apart_by(scale: &Scale, even: &Interval, odd: &Interval, span: Option<Interva
 
 // How long cycles can be whose action points lie so far apart.
 fn length_seen(scale: &Scale, apart: &Interval) -> Interval
-    requires scale { IsReadingScale scale.now }
     requires apart { EndWithin (pos 920_000_000_000_000_000) apart.now }
     ensures value { result ≡ length_seen scale.now apart.now }
     ensures near { EndWithin (pos 930_000_000_000_000_000) result }

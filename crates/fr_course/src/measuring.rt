@@ -3,13 +3,14 @@ ghost use Rattle.std.specs.Option.{option_map};
 ghost use Rattle.fr_base.specs.Within.{IsBetween, IsWithin};
 ghost use Rattle.fr_bound.specs.SharpBounds.{most_flutter};
 ghost use Rattle.fr_course.specs.Computed.{further_by, measuring_of, placed_from, placed_in, values_from, counted_in, values_to};
-ghost use Rattle.fr_course.specs.Near.{EndWithin, IsMeasuring};
+ghost use Rattle.fr_course.specs.Near.{EndWithin};
 
 use crate::intervals::Interval;
 use crate::quotients::{ceiling, floor};
 use crate::scales::{longest_micro, shortest_micro};
 use fr_bound::{arrival_error, steady_error};
 use fr_cluster::{ParamName, Params};
+use std::marker::Model;
 
 /// How the nodes of a cluster measure.
 #[derive(Clone, Copy, Debug, PartialEq, Eq)]
@@ -26,13 +27,24 @@ pub struct Measuring {
     pub damping: i128,
 }
 
+impl Model for Measuring {
+    ghost use Rattle.fr_course.specs.Measures.{Measuring, IsMeasuring};
+
+    ghost Value = { Measuring };
+
+    ghost view = { λ m. record { arrival_error = m.arrival_error; rate_error = m.rate_error; shortest = m.shortest; longest = m.longest; damping = m.damping } };
+
+    ghost invariant = { λ m. IsMeasuring (record { arrival_error = m.arrival_error; rate_error = m.rate_error; shortest = m.shortest; longest = m.longest; damping = m.damping }) };
+
+    ghost inverse = { λ m. record { arrival_error = m.arrival_error; rate_error = m.rate_error; shortest = m.shortest; longest = m.longest; damping = m.damping } };
+}
+
 impl Measuring {
     /// How the nodes of these parameters measure, where delays flutter by no more than so many ticks, 0 to
     /// 1,000,000,000.
     pub fn of(params: &Params, flutter: u64) -> Measuring
         requires { flutter ≤ most_flutter }
         ensures value { result ≡ measuring_of params.now flutter }
-        ensures sane { IsMeasuring result }
     {
         Measuring {
             arrival_error: arrival_error(params) as i128,
@@ -46,7 +58,6 @@ impl Measuring {
 
 // What a receiver can have counted of so many ticks with an error, in microticks: from the least to the greatest.
 pub(crate) fn counted_in(measuring: &Measuring, error: i128, ticks: &Interval) -> Interval
-    requires measuring { IsMeasuring measuring.now }
     requires error { IsBetween (pos 0) (pos 10_000_000_000_000_000_000) error }
     requires ticks { EndWithin (pos 6_200_000_000_000_000_000) ticks.now }
     ensures value { result ≡ counted_in measuring.now error ticks.now }
@@ -61,7 +72,6 @@ pub(crate) fn counted_in(measuring: &Measuring, error: i128, ticks: &Interval) -
 
 // How many of a receiver's microticks can give so many ticks, with an error: from the least to the greatest number.
 pub(crate) fn placed_in(measuring: &Measuring, error: i128, ticks: &Interval) -> Interval
-    requires measuring { IsMeasuring measuring.now }
     requires error { IsBetween (pos 0) (pos 10_000_000_000_000_000_000) error }
     requires ticks { EndWithin (pos 6_200_000_000_000_000_000) ticks.now }
     ensures value { result ≡ placed_in measuring.now error ticks.now }
@@ -89,7 +99,6 @@ pub(crate) fn further_by(more: i128, interval: &Interval) -> Interval
 
 /// The numbers that a damped one of these numbers (section 8.6.3) can have been, in microticks; none where it has no limits.
 pub fn undamped(measuring: &Measuring, damped: Option<Interval>) -> Option<Interval>
-    requires measuring { IsMeasuring measuring.now }
     requires damped { IfSome damped (EndWithin (pos 21_000_000_000_000)) }
     ensures value { result ≡ option_map (further_by measuring.now.damping) damped }
     ensures near { IfSome result (EndWithin (pos 22_000_000_000_000)) }
@@ -102,7 +111,6 @@ pub fn undamped(measuring: &Measuring, damped: Option<Interval>) -> Option<Inter
 
 // The least number of a receiver's microticks that so many ticks are, rounded down.
 fn values_from(measuring: &Measuring, ticks: i128) -> i128
-    requires measuring { IsMeasuring measuring.now }
     requires ticks { IsWithin (pos 20_000_000_000_000_000_000) ticks }
     ensures value { result ≡ values_from measuring.now ticks }
     ensures within { IsWithin (pos 21_000_000_000_000) result }
@@ -112,7 +120,6 @@ fn values_from(measuring: &Measuring, ticks: i128) -> i128
 
 // The greatest number of them.
 fn values_to(measuring: &Measuring, ticks: i128) -> i128
-    requires measuring { IsMeasuring measuring.now }
     requires ticks { IsWithin (pos 20_000_000_000_000_000_000) ticks }
     ensures value { result ≡ values_to measuring.now ticks }
     ensures within { IsWithin (pos 21_000_000_000_000) result }
@@ -122,7 +129,6 @@ fn values_to(measuring: &Measuring, ticks: i128) -> i128
 
 // The least number of them that gives so many ticks, rounded up.
 fn placed_from(measuring: &Measuring, ticks: i128) -> i128
-    requires measuring { IsMeasuring measuring.now }
     requires ticks { IsWithin (pos 20_000_000_000_000_000_000) ticks }
     ensures value { result ≡ placed_from measuring.now ticks }
     ensures within { IsWithin (pos 21_000_000_000_000) result }
@@ -132,7 +138,6 @@ fn placed_from(measuring: &Measuring, ticks: i128) -> i128
 
 // The microtick of which so many ticks are the least number.
 fn outer_measure(measuring: &Measuring, ticks: i128) -> i128
-    requires { IsMeasuring measuring.now }
     ensures value { result ≡
         (if int_lt ticks (pos 0) then measuring.now.shortest else measuring.now.longest) }
     ensures within { IsBetween (pos 998_500) (pos 1_001_500) result }
@@ -146,7 +151,6 @@ fn outer_measure(measuring: &Measuring, ticks: i128) -> i128
 
 // The microtick of which they are the greatest number.
 fn inner_measure(measuring: &Measuring, ticks: i128) -> i128
-    requires { IsMeasuring measuring.now }
     ensures value { result ≡
         (if int_lt ticks (pos 0) then measuring.now.longest else measuring.now.shortest) }
     ensures within { IsBetween (pos 998_500) (pos 1_001_500) result }

@@ -1,12 +1,13 @@
 ghost use Rattle.std.specs.Prelude.{◌≡◌, ◌≤◌, ◌<◌, ◌-◌, ◌∷◌, [], ◌++◌, min, if◌then◌else◌, List, ℤ, pos, All, IfSome, length, map};
 ghost use Rattle.fr_base.specs.Within.{IsWithin};
-ghost use Rattle.fr_midpoint.specs.Midpoint.{discarded, half_of_sum};
+ghost use Rattle.fr_midpoint.specs.Midpoint.{half_of_sum};
 ghost use Rattle.fr_course.specs.Ends.{interval_end, AreRanked};
 ghost use Rattle.fr_course.specs.Middles.{greatest_left, highs_of, hull, joined, least_left, lows_of, middle, middle_missing, middle_where, middle_with};
 ghost use Rattle.fr_course.specs.Near.{EndWithin};
 ghost use Rattle.fr_course.specs.Readings.{Interval as Known};
 
 use crate::intervals::Interval;
+use fr_midpoint::discarded_of;
 use std::marker::Model;
 
 // An end of an interval.
@@ -200,20 +201,6 @@ fn middle_where(
             greatest_left(highs, ends - further),
         ),
     })
-}
-
-// How many values of so many are discarded at each end.
-fn discarded_of(count: usize) -> usize
-    ensures value { result ≡ discarded count }
-    ensures few { result ≤ 2 }
-{
-    if count < 3 {
-        0
-    } else if count < 8 {
-        1
-    } else {
-        2
-    }
 }
 
 // Half of the sum of two values, truncated toward zero.

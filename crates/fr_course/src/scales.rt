@@ -2,13 +2,13 @@ ghost use Rattle.std.specs.Prelude.{◌≡◌, ◌≤◌, ◌*◌, ◌≤ℤ◌,
 ghost use Rattle.fr_base.specs.Within.{IsBetween};
 ghost use Rattle.fr_bound.specs.Bounds.{cycle_change, longest_micro, shortest_micro};
 ghost use Rattle.fr_bound.specs.Checks.{least_cycle};
-ghost use Rattle.fr_course.specs.Near.{IsReadingScale};
 ghost use Rattle.fr_course.specs.Readings.{most_cycle, reading_scale};
 
 use crate::readings::{least_reading, most_reading};
 use fr_bound::{cycle_change, longest_microtick, shortest_microtick};
 use fr_cluster::{ParamName, Params};
 use fr_time::grid_of;
+use std::marker::Model;
 
 /// The numbers of a cluster as readings of an observer's clock.
 #[derive(Clone, Copy, Debug, PartialEq, Eq)]
@@ -31,12 +31,23 @@ pub struct Scale {
     pub micro_to: i128,
 }
 
+impl Model for Scale {
+    ghost use Rattle.fr_course.specs.Scales.{Scale, IsReadingScale};
+
+    ghost Value = { Scale };
+
+    ghost view = { λ s. record { drift = s.drift; macros = s.macros; correction = s.correction; length_from = s.length_from; length_to = s.length_to; change = s.change; micro_from = s.micro_from; micro_to = s.micro_to } };
+
+    ghost invariant = { λ s. IsReadingScale (record { drift = s.drift; macros = s.macros; correction = s.correction; length_from = s.length_from; length_to = s.length_to; change = s.change; micro_from = s.micro_from; micro_to = s.micro_to }) };
+
+    ghost inverse = { λ s. record { drift = s.drift; macros = s.macros; correction = s.correction; length_from = s.length_from; length_to = s.length_to; change = s.change; micro_from = s.micro_from; micro_to = s.micro_to } };
+}
+
 impl Scale {
     /// The numbers of these parameters, where the observer's clock drifts by at most so many parts per million.
     pub fn of(params: &Params, drift: u64) -> Scale
         requires { drift ≤ 1000 }
         ensures value { result ≡ reading_scale drift params.now }
-        ensures sane { IsReadingScale result }
     {
         let grid = grid_of(params);
         Scale {

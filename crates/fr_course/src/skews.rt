@@ -2,7 +2,7 @@ ghost use Rattle.std.specs.Prelude.{◌≡◌, pos, All};
 ghost use Rattle.fr_base.specs.Within.{IsBetween, IsWithin};
 ghost use Rattle.fr_course.specs.Corners.{corner_place};
 ghost use Rattle.fr_course.specs.Extremes.{join};
-ghost use Rattle.fr_course.specs.Near.{IsNearCourse, IsReadingScale, EndWithin};
+ghost use Rattle.fr_course.specs.Near.{IsNearCourse, EndWithin};
 ghost use Rattle.fr_course.specs.Spread.{least_at, least_distance, least_even_skew, least_odd_skew, lengths_apart, most_at, most_distance, most_even_skew, most_odd_skew, starts_apart};
 
 use crate::corners::{even_start, even_turn, odd_start, odd_turn};
@@ -23,7 +23,6 @@ pub(crate) enum Corner {
 
 /// The skew of the even cycle of nodes with these courses is no less, in ticks; 0 of none.
 pub fn least_even_skew(scale: &Scale, courses: &[Course]) -> i64
-    requires scale { IsReadingScale scale.now }
     requires courses { All (IsNearCourse scale.now) courses.now }
     ensures value { result ≡ least_even_skew scale.now courses.now }
 {
@@ -34,7 +33,6 @@ pub fn least_even_skew(scale: &Scale, courses: &[Course]) -> i64
 
 /// The skew of the even cycle of nodes with these courses is no greater, in ticks.
 pub fn most_even_skew(scale: &Scale, courses: &[Course]) -> i64
-    requires scale { IsReadingScale scale.now }
     requires courses { All (IsNearCourse scale.now) courses.now }
     ensures value { result ≡ most_even_skew scale.now courses.now }
 {
@@ -45,7 +43,6 @@ pub fn most_even_skew(scale: &Scale, courses: &[Course]) -> i64
 
 /// The skew of the odd cycle of nodes with these courses is no less, in ticks; 0 of none.
 pub fn least_odd_skew(scale: &Scale, courses: &[Course]) -> i64
-    requires scale { IsReadingScale scale.now }
     requires courses { All (IsNearCourse scale.now) courses.now }
     ensures value { result ≡ least_odd_skew scale.now courses.now }
 {
@@ -57,7 +54,6 @@ pub fn least_odd_skew(scale: &Scale, courses: &[Course]) -> i64
 /// The skew of the odd cycle of nodes with these courses is no greater, in ticks; `next` are the courses of the same
 /// nodes in the next double cycle.
 pub fn most_odd_skew(scale: &Scale, courses: &[Course], next: &[Course]) -> i64
-    requires scale { IsReadingScale scale.now }
     requires courses { All (IsNearCourse scale.now) courses.now }
     requires next { All (IsNearCourse scale.now) next.now }
     ensures value { result ≡ most_odd_skew scale.now courses.now next.now }
@@ -71,7 +67,6 @@ pub fn most_odd_skew(scale: &Scale, courses: &[Course], next: &[Course]) -> i64
 /// How far apart the even starts of nodes with these courses lie, in ticks: the greatest distance of two, from the least
 /// to the greatest number that it can be; 0 of one alone and of none.
 pub fn starts_apart(scale: &Scale, courses: &[Course]) -> Interval
-    requires scale { IsReadingScale scale.now }
     requires courses { All (IsNearCourse scale.now) courses.now }
     ensures value { result ≡ starts_apart scale.now courses.now }
     ensures near { EndWithin (pos 6_200_000_000_000_000_000) result }
@@ -84,7 +79,6 @@ pub fn starts_apart(scale: &Scale, courses: &[Course]) -> Interval
 
 /// How far apart the lengths of their cycles lie, in ticks.
 pub fn lengths_apart(scale: &Scale, courses: &[Course]) -> Interval
-    requires scale { IsReadingScale scale.now }
     requires courses { All (IsNearCourse scale.now) courses.now }
     ensures value { result ≡ lengths_apart scale.now courses.now }
     ensures near { EndWithin (pos 6_200_000_000_000_000_000) result }
@@ -97,7 +91,6 @@ pub fn lengths_apart(scale: &Scale, courses: &[Course]) -> Interval
 
 // How far apart a corner of any two courses lies at least: 0 of one alone and of none.
 fn least_at(scale: &Scale, corner: Corner, courses: &[Course]) -> i128
-    requires scale { IsReadingScale scale.now }
     requires courses { All (IsNearCourse scale.now) courses.now }
     ensures value { result ≡ least_at scale.now (corner_place corner) courses.now }
     ensures within { IsBetween (pos 0) (pos 6_000_000_000_000_000_000) result }
@@ -117,7 +110,6 @@ fn least_at(scale: &Scale, corner: Corner, courses: &[Course]) -> i128
 
 // The same at most.
 fn most_at(scale: &Scale, corner: Corner, courses: &[Course]) -> i128
-    requires scale { IsReadingScale scale.now }
     requires courses { All (IsNearCourse scale.now) courses.now }
     ensures value { result ≡ most_at scale.now (corner_place corner) courses.now }
     ensures within { IsBetween (pos 0) (pos 6_000_000_000_000_000_000) result }
@@ -137,7 +129,6 @@ fn most_at(scale: &Scale, corner: Corner, courses: &[Course]) -> i128
 
 // Where a corner of a course can lie, or how long its cycles can be.
 fn corner_place(scale: &Scale, corner: Corner, course: &Course) -> Interval
-    requires scale { IsReadingScale scale.now }
     requires course { IsNearCourse scale.now course.now }
     ensures value { result ≡ corner_place corner scale.now course.now }
     ensures near { EndWithin (pos 3_000_000_000_000_000_000) result }

@@ -1,6 +1,6 @@
 ghost use Rattle.std.specs.Prelude.{◌≡◌, pos};
 ghost use Rattle.fr_course.specs.Computed.{deviation_seen, length_ticks, rate_value_seen, ticks_in};
-ghost use Rattle.fr_course.specs.Near.{EndWithin, IsMeasuring, IsNearCourse, IsReadingScale};
+ghost use Rattle.fr_course.specs.Near.{EndWithin, IsNearCourse};
 
 use crate::corners::odd_macrotick;
 use crate::courses::{Course, between};
@@ -11,7 +11,6 @@ use crate::scales::Scale;
 
 /// The length of the cycles of a node with this course, before their offset correction, in ticks.
 pub fn length_ticks(scale: &Scale, course: &Course) -> Interval
-    requires scale { IsReadingScale scale.now }
     requires course { IsNearCourse scale.now course.now }
     ensures value { result ≡ length_ticks scale.now course.now }
     ensures near { EndWithin (pos 6_200_000_000_000_000_000) result }
@@ -26,8 +25,6 @@ pub fn deviation_seen(
     receiver: &Course,
     sender: &Course,
 ) -> Interval
-    requires scale { IsReadingScale scale.now }
-    requires measuring { IsMeasuring measuring.now }
     requires receiver { IsNearCourse scale.now receiver.now }
     requires sender { IsNearCourse scale.now sender.now }
     ensures value { result ≡ deviation_seen scale.now measuring.now receiver.now sender.now }
@@ -46,8 +43,6 @@ pub fn rate_value_seen(
     receiver: &Course,
     sender: &Course,
 ) -> Interval
-    requires scale { IsReadingScale scale.now }
-    requires measuring { IsMeasuring measuring.now }
     requires receiver { IsNearCourse scale.now receiver.now }
     requires sender { IsNearCourse scale.now sender.now }
     ensures value { result ≡ rate_value_seen scale.now measuring.now receiver.now sender.now }
@@ -59,7 +54,6 @@ pub fn rate_value_seen(
 
 // Readings as ticks.
 pub(crate) fn ticks_in(scale: &Scale, readings: &Interval) -> Interval
-    requires scale { IsReadingScale scale.now }
     requires readings { EndWithin (pos 6_100_000_000_000_000_000) readings.now }
     ensures value { result ≡ ticks_in scale.now readings.now }
     ensures near { EndWithin (pos 6_200_000_000_000_000_000) result }

@@ -1,9 +1,10 @@
 -- What is found first, one step further.
-use Rattle.std.proofs.Common.{◌≡◌, ℕ, zero, suc, ◌<◌, ◌≤◌, List, [], ◌∷◌, length, Option, Some, None, take, ap, sym, ◌∙◌, refl, arith, ◌⊎◌, inl, inr, subst}
-use Rattle.std.specs.Prelude.{slice_index_or}
+use Rattle.std.proofs.Common.{◌≡◌, ℕ, zero, suc, ◌<◌, ◌≤◌, Bool, true, false, List, [], ◌∷◌, length, Option, Some, None, take, ap, sym, ◌∙◌, refl, arith, ◌⊎◌, inl, inr, subst}
+use Rattle.std.specs.Prelude.{nat_le, slice_index_or, if◌then◌else◌}
 use Rattle.std.specs.Option.{option_or}
 use Rattle.std.proofs.lemmas.Bool.{cases_eq}
-use Rattle.fr_coverage.specs.First.{first_below, first_in}
+use Rattle.std.proofs.lemmas.Bool.Decides.{nat_tests}
+use Rattle.fr_coverage.specs.First.{first_below, first_in, from_on}
 
 or-first : {A : Type 0} (a b : Option A) → option_or a b ≡ None → a ≡ None
 or-first None b h = refl
@@ -49,6 +50,36 @@ below-found f n (suc m) x h e lt = by (cases_eq n m) (λ below. below-found f n 
     by : (n ≡ m) ⊎ (n ≡ m → ⊥) → (n < m → first_below f m ≡ Some x) → first_below f (suc m) ≡ Some x
     by (inl same) rest = or-some (first_below f m) (f m) x (rw (← same) h) (rw (← same) e)
     by (inr ne) rest = or-kept (first_below f m) (f m) x (rest (omega arith))
+
+-- from a number on what is given stays, and before it there is nothing
+pub from-before : {A : Type 0} (f : ℕ → Option A) (from n : ℕ) → n < from → from_on from f n ≡ None
+from-before f from n lt =
+    let e : nat_le from n ≡ false = grind (arith, nat_tests) in ap (λ (b : Bool). if b then f n else None) e
+
+pub from-behind : {A : Type 0} (f : ℕ → Option A) (from n : ℕ) → from ≤ n → from_on from f n ≡ f n
+from-behind f from n le =
+    let e : nat_le from n ≡ true = grind (arith, nat_tests) in ap (λ (b : Bool). if b then f n else None) e
+
+pub from-none : {A : Type 0} (f : ℕ → Option A) (from n : ℕ) → f n ≡ None → from_on from f n ≡ None
+from-none f from n e = by (nat_le from n)
+  where
+    by : (b : Bool) → (if b then f n else None) ≡ None
+    by true = e
+    by false = refl
+
+-- nothing is found where the search begins
+pub from-start : {A : Type 0} (f : ℕ → Option A) (from start : ℕ) → start ≤ from → first_below (from_on from f) start ≡ None
+from-start f from start le =
+    below-skip (from_on from f) 0 start (below-zero (from_on from f)) (omega arith) (λ k low high. from-before f from k (omega arith))
+
+-- further on, and what is found
+pub from-skip : {A : Type 0} (f : ℕ → Option A) (from n m : ℕ) → first_below (from_on from f) n ≡ None → n ≤ m → ((k : ℕ) → n ≤ k → k < m → f k ≡ None)
+    → first_below (from_on from f) m ≡ None
+from-skip f from n m h le none = below-skip (from_on from f) n m h le (λ k low high. from-none f from k (none k low high))
+
+pub from-found : {A : Type 0} (f : ℕ → Option A) (from n m : ℕ) (x : A) → first_below (from_on from f) n ≡ None → from ≤ n → f n ≡ Some x → n < m
+    → first_below (from_on from f) m ≡ Some x
+from-found f from n m x h le e lt = below-found (from_on from f) n m x h (from-behind f from n le ∙ e) lt
 
 pub in-nil : {A B : Type 0} (f : A → Option B) → first_in f [] ≡ None
 unfolding first_in

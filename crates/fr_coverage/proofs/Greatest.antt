@@ -1,6 +1,7 @@
 -- The greatest of several numbers: one step further along numbers and lists, and what it is.
 use Rattle.std.proofs.Common.{◌≡◌, ℕ, zero, suc, ◌<◌, ◌≤◌, Bool, true, false, List, [], ◌∷◌, length, take, ap, sym, ◌∙◌, refl, arith, ◌⊎◌, inl, inr, subst}
-use Rattle.std.specs.Prelude.{max, Contains, slice_index_or, if◌then◌else◌}
+use Rattle.std.specs.Prelude.{max, nat_le, Contains, slice_index_or, if◌then◌else◌}
+use Rattle.std.proofs.lemmas.Bool.Decides.{nat_tests}
 use Rattle.std.proofs.lemmas.Bool.{cases_eq}
 use Rattle.fr_cluster.specs.declared.nodes.NodeSpec.{NodeSpec}
 use Rattle.fr_coverage.specs.Flutter.{greatest_below, greatest_in}
@@ -113,6 +114,18 @@ most-below G f (suc n) l =
 
     from : (t : ℕ) → Under G (suc n) t → Under G n t ⊎ G n t
     from t w = cut t w (cases_eq w.0 n)
+
+-- and of one of those from a number on
+pub most-from : (G : ℕ → ℕ → Type 0) (f : ℕ → ℕ) (from : ℕ) → ((k : ℕ) → IsMost (G k) (f k)) → (k : ℕ) → IsMost (λ t. (from ≤ k) × G k t) (if nat_le from k then f k else 0)
+most-from G f from l k = by (nat_le from k) refl
+  where
+    by : (b : Bool) → nat_le from k ≡ b → IsMost (λ t. (from ≤ k) × G k t) (if b then f k else 0)
+    by true e =
+        let le : from ≤ k = grind (arith, nat_tests) in
+        most-same (G k) (λ t. (from ≤ k) × G k t) (f k) (l k) (λ t g. (le, g)) (λ t g. g.1)
+    by false e =
+        let lt : k < from = grind (arith, nat_tests) in
+        most-none (λ t. (from ≤ k) × G k t) (λ t w. let le = w.0 in omega arith)
 
 -- that of one of the nodes of a list
 abbrev pub OfOne : (NodeSpec → ℕ → Type 0) → List NodeSpec → ℕ → Type 0

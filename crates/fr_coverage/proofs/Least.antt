@@ -1,6 +1,6 @@
 -- The first of the gaps of several parts, where no gap of a later part comes before one of an earlier part.
-use Rattle.std.proofs.Common.{◌≡◌, ℕ, zero, suc, ◌<◌, Bool, true, false, List, [], ◌∷◌, length, Option, Some, None, ap, sym, ◌∙◌, refl, arith, ◌⊎◌, inl, inr, subst}
-use Rattle.std.specs.Prelude.{if◌then◌else◌, Contains, AllPairs, slice_index_or}
+use Rattle.std.proofs.Common.{◌≡◌, ℕ, zero, suc, ◌<◌, ◌≤◌, Bool, true, false, List, [], ◌∷◌, length, Option, Some, None, ap, sym, ◌∙◌, refl, arith, ◌⊎◌, inl, inr, subst}
+use Rattle.std.specs.Prelude.{nat_le, if◌then◌else◌, Contains, AllPairs, slice_index_or}
 use Rattle.std.specs.Option.{option_or}
 use Rattle.std.specs.declared.cmp.Ordering.{Ordering}
 use Rattle.std.specs.declared.cmp.Ordering.TheVariants.{Less, Equal, Greater}
@@ -10,7 +10,7 @@ use Rattle.std.proofs.lemmas.Cmp.{tied_itself, nat_list_cmp_total}
 use Rattle.std.proofs.lemmas.Bool.{cases_eq}
 use Rattle.std.proofs.lemmas.Bool.Decides.{nat_tests}
 use Rattle.fr_cluster.specs.declared.nodes.NodeSpec.{NodeSpec}
-use Rattle.fr_coverage.specs.First.{first_below, first_in}
+use Rattle.fr_coverage.specs.First.{first_below, first_in, from_on}
 use Rattle.fr_coverage.specs.Order.{place_of_gap, IsEarlierGap}
 use Rattle.fr_coverage.specs.declared.gap.Gap.{Gap}
 
@@ -116,6 +116,26 @@ least-below G f (suc n) l apart =
 
     from : (g : Gap) → Below G (suc n) g → Below G n g ⊎ G n g
     from g w = cut g w (cases_eq w.0 n)
+
+-- and at one of those from a number on
+abbrev pub Between : (ℕ → Gap → Type 0) → ℕ → ℕ → Gap → Type 0
+Between G from n = Below (λ k g. (from ≤ k) × G k g) n
+
+least-from : (G : ℕ → Gap → Type 0) (f : ℕ → Option Gap) (from : ℕ) → ((k : ℕ) → IsLeast (G k) (f k)) → (k : ℕ) → IsLeast (λ g. (from ≤ k) × G k g) (from_on from f k)
+least-from G f from l k = by (nat_le from k) refl
+  where
+    by : (b : Bool) → nat_le from k ≡ b → IsLeast (λ g. (from ≤ k) × G k g) (if b then f k else None)
+    by true e =
+        let le : from ≤ k = grind (arith, nat_tests) in
+        least-same (G k) (λ g. (from ≤ k) × G k g) (f k) (l k) (λ g x. (le, x)) (λ g x. x.1)
+    by false e =
+        let lt : k < from = grind (arith, nat_tests) in
+        record { some = λ g e. cc e; least = λ g h e w before. cc e; none = λ e h w. let le = w.0 in omega arith }
+
+pub least-between : (G : ℕ → Gap → Type 0) (f : ℕ → Option Gap) (from n : ℕ) → ((k : ℕ) → IsLeast (G k) (f k)) → ((j k : ℕ) → j < k → AreApart (G j) (G k))
+    → IsLeast (Between G from n) (first_below (from_on from f) n)
+least-between G f from n l apart =
+    least-below (λ k g. (from ≤ k) × G k g) (from_on from f) n (λ k. least-from G f from l k) (λ j k lt g h w x before. apart j k lt g h w.1 x.1 before)
 
 -- a gap of one of the nodes of a list
 abbrev pub Among : (NodeSpec → Gap → Type 0) → List NodeSpec → Gap → Type 0

@@ -8,4 +8,6 @@ pub mod Least
 pub mod GapParts
 pub mod OneGap
 pub mod Greatest
+pub mod Told
 pub mod Flutters
+pub mod Placed

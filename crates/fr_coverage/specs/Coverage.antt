@@ -14,7 +14,7 @@ use Rattle.fr_drift.specs.View.{DriftView}
 use Rattle.fr_drift.specs.Questions.{doubles_of, length_of, delay_of}
 use Rattle.fr_script.specs.View.{ScriptView, is_arbitrary, join_of}
 use Rattle.fr_coverage.specs.Links.{is_sync, is_link, shares, link_gap}
-use Rattle.fr_coverage.specs.First.{first_below, first_in}
+use Rattle.fr_coverage.specs.First.{first_below, first_between, first_in}
 use Rattle.fr_coverage.specs.declared.gap.Gap.{Gap}
 use Rattle.fr_coverage.specs.declared.gap.Gap.TheVariants as gap
 
@@ -68,6 +68,8 @@ weighed nodes s =
 abbrev pub count_gap : Values → ScriptView → Option Gap
 count_gap p s = weighed p.nodes s
 
+-- the next four are asked of the double cycles from one of them on, and of the run where this is the first
+
 -- 3: a microtick is shorter than the shortest or longer than the longest
 abbrev pub is_off : Values → ℤ → Bool
 is_off p ticks = int_lt ticks (pos (shortest_micro p)) || int_lt (pos (longest_micro p)) ticks
@@ -75,10 +77,11 @@ is_off p ticks = int_lt ticks (pos (shortest_micro p)) || int_lt (pos (longest_m
 abbrev pub length_gap : Values → DriftView → ℕ → ℕ → Option Gap
 length_gap p d node cycle = if is_off p (length_of d node cycle) then Some (gap.Length node cycle (length_of d node cycle)) else None
 
-abbrev pub lengths_gap : Values → DriftView → ScriptView → NodeSpec → Option Gap
-lengths_gap p d s node = if is_arbitrary s node.id then None else first_below (length_gap p d node.id) (how_many_cycles d)
+abbrev pub lengths_gap : Values → DriftView → ScriptView → ℕ → NodeSpec → Option Gap
+lengths_gap p d s from node =
+    if is_arbitrary s node.id then None else first_between (length_gap p d node.id) (2 * from) (how_many_cycles d)
 
--- 4: a microtick differs by too much from that of the cycle before; before cycle 0 there is none, so it is compared with itself
+-- 4: a microtick differs by too much from that of the cycle before, which is one of those that are asked of too
 abbrev pub has_jumped : Values → ℤ → ℤ → Bool
 has_jumped p before ticks =
     int_lt (before +ℤ pos (amount p name.xChangeBound)) ticks || int_lt (ticks +ℤ pos (amount p name.xChangeBound)) before
@@ -89,8 +92,9 @@ change_gap p d node cycle =
     then Some (gap.Change node cycle (length_of d node cycle -ℤ length_of d node (cycle - 1)))
     else None
 
-abbrev pub changes_gap : Values → DriftView → ScriptView → NodeSpec → Option Gap
-changes_gap p d s node = if is_arbitrary s node.id then None else first_below (change_gap p d node.id) (how_many_cycles d)
+abbrev pub changes_gap : Values → DriftView → ScriptView → ℕ → NodeSpec → Option Gap
+changes_gap p d s from node =
+    if is_arbitrary s node.id then None else first_between (change_gap p d node.id) (suc (2 * from)) (how_many_cycles d)
 
 -- 5: a delay lies too far from what is taken off each arrival on its channel
 abbrev pub expected_delay : Values → Channel → ℤ
@@ -104,15 +108,16 @@ abbrev pub delay_gap : Values → DriftView → ℕ → ℕ → Channel → ℕ 
 delay_gap p d sender receiver ch cycle =
     if is_wrong p ch (delay_of d sender receiver ch cycle) then Some (gap.Delay sender receiver ch cycle (delay_of d sender receiver ch cycle)) else None
 
-abbrev pub channel_gap : Values → DriftView → NodeSpec → NodeSpec → Channel → Option Gap
-channel_gap p d a b ch = if shares a b ch then first_below (delay_gap p d a.id b.id ch) (how_many_cycles d) else None
+abbrev pub channel_gap : Values → DriftView → ℕ → NodeSpec → NodeSpec → Channel → Option Gap
+channel_gap p d from a b ch = if shares a b ch then first_between (delay_gap p d a.id b.id ch) (2 * from) (how_many_cycles d) else None
 
-abbrev pub delays_gap : Values → DriftView → ScriptView → NodeSpec → NodeSpec → Option Gap
-delays_gap p d s a b = if is_link s a b then option_or (channel_gap p d a b channel.A) (channel_gap p d a b channel.B) else None
+abbrev pub delays_gap : Values → DriftView → ScriptView → ℕ → NodeSpec → NodeSpec → Option Gap
+delays_gap p d s from a b =
+    if is_link s a b then option_or (channel_gap p d from a b channel.A) (channel_gap p d from a b channel.B) else None
 
 -- 6: in a double cycle no channel that both have carries the regular frames of both cycles
-abbrev pub links_gap : DriftView → ScriptView → NodeSpec → NodeSpec → Option Gap
-links_gap d s a b = if is_link s a b then first_below (link_gap s a b) (doubles_of d) else None
+abbrev pub links_gap : DriftView → ScriptView → ℕ → NodeSpec → NodeSpec → Option Gap
+links_gap d s from a b = if is_link s a b then first_between (link_gap s a b) from (doubles_of d) else None
 
 -- the first gap of the nodes, and that of the pairs of nodes
 abbrev pub first_of_nodes : Values → (NodeSpec → Option Gap) → Option Gap
@@ -121,15 +126,19 @@ first_of_nodes p what = first_in what p.nodes
 abbrev pub first_of_pairs : Values → (NodeSpec → NodeSpec → Option Gap) → Option Gap
 first_of_pairs p what = first_in (λ a. first_in (what a) p.nodes) p.nodes
 
-abbrev pub pairs_gap : Values → DriftView → ScriptView → Option Gap
-pairs_gap p d s = option_or (first_of_pairs p (delays_gap p d s)) (first_of_pairs p (links_gap d s))
+abbrev pub pairs_gap : Values → DriftView → ScriptView → ℕ → Option Gap
+pairs_gap p d s from = option_or (first_of_pairs p (delays_gap p d s from)) (first_of_pairs p (links_gap d s from))
 
--- the first gap of the run itself, whatever the checks of its parameters say: counts, lengths, changes, delays, links
-abbrev pub gap_of_run : Values → DriftView → ScriptView → Option Gap
-gap_of_run p d s =
+-- the first gap of the double cycles from one on, whatever the checks of the parameters say: counts, lengths, changes, delays, links
+abbrev pub gap_from : Values → DriftView → ScriptView → ℕ → Option Gap
+gap_from p d s from =
     option_or (count_gap p s)
-    (option_or (first_of_nodes p (lengths_gap p d s))
-    (option_or (first_of_nodes p (changes_gap p d s)) (pairs_gap p d s)))
+    (option_or (first_of_nodes p (lengths_gap p d s from))
+    (option_or (first_of_nodes p (changes_gap p d s from)) (pairs_gap p d s from)))
+
+-- and that of the run itself
+abbrev pub gap_of_run : Values → DriftView → ScriptView → Option Gap
+gap_of_run p d s = gap_from p d s 0
 
 -- the first gap in the stated order, if there is one: checks, and then those of the run itself
 unfoldable pub first_gap : Values → DriftView → ScriptView → Option Gap

@@ -1,5 +1,5 @@
 -- What a gap is, and the order in which gaps are looked for: facts about the files, beside the function that finds the first.
-use Rattle.std.specs.Prelude.{ℕ, pos, ◌-ℤ◌, ◌≡◌, ◌<◌, ◌≤◌, ◌-◌, ◌⊎◌, true, false, List, [], ◌∷◌, Some, None, Contains}
+use Rattle.std.specs.Prelude.{ℕ, pos, ◌-ℤ◌, ◌*◌, ◌↔◌, ◌≡◌, ◌<◌, ◌≤◌, ◌-◌, ◌⊎◌, true, false, List, [], ◌∷◌, Some, None, Contains}
 use Rattle.std.specs.declared.cmp.Ordering.TheVariants.{Less}
 use Rattle.std.specs.Ordering.{nat_cmp}
 use Rattle.std.specs.Cmp.Lexicographic.{slice_cmp}
@@ -12,7 +12,7 @@ use Rattle.fr_drift.specs.View.{DriftView}
 use Rattle.fr_drift.specs.Questions.{doubles_of, length_of, delay_of}
 use Rattle.fr_script.specs.View.{ScriptView, is_arbitrary}
 use Rattle.fr_coverage.specs.Links.{is_link, shares, is_carried}
-use Rattle.fr_coverage.specs.Coverage.{asked_checks, how_many_cycles, count_of, outweighs, is_off, has_jumped, is_wrong, first_gap, gap_of_run}
+use Rattle.fr_coverage.specs.Coverage.{asked_checks, how_many_cycles, count_of, outweighs, is_off, has_jumped, is_wrong, first_gap, gap_from, gap_of_run}
 use Rattle.fr_coverage.specs.declared.gap.Gap.{Gap}
 use Rattle.fr_coverage.specs.declared.gap.Gap.TheVariants as gap
 
@@ -131,3 +131,33 @@ HasNoGapOfRun p d s = (g : Gap) → IsGapOfRun p d s g → ⊥
 abbrev pub FindsGapOfRun : Values → DriftView → ScriptView → Type 0
 FindsGapOfRun p d s =
     (gap_of_run p d s ≡ None → HasNoGapOfRun p d s) × ((g : Gap) → gap_of_run p d s ≡ Some g → IsFirstGapOfRun p d s g)
+
+-- ---- from a double cycle on
+
+-- what a gap speaks of lies from a double cycle on: a check and a count speak of none, and a change of two cycles
+abbrev pub IsBehind : ℕ → Gap → Type 0
+IsBehind from (gap.Check number left right) = Unit {0}
+IsBehind from (gap.Count correct arbitrary) = Unit {0}
+IsBehind from (gap.Length node cycle ticks) = 2 * from ≤ cycle
+IsBehind from (gap.Change node cycle ticks) = 2 * from < cycle
+IsBehind from (gap.Delay sender receiver ch cycle ticks) = 2 * from ≤ cycle
+IsBehind from (gap.Link sender receiver double) = from ≤ double
+
+-- the run has none from there on
+abbrev pub HasNoGapFrom : Values → DriftView → ScriptView → ℕ → Type 0
+HasNoGapFrom p d s from = (g : Gap) → IsGapOfRun p d s g → IsBehind from g → ⊥
+
+-- it is one from there on, and none of these is looked for before it
+pub record IsFirstGapFrom (p : Values) (d : DriftView) (s : ScriptView) (from : ℕ) (g : Gap) : Type 0 where
+  pub is_gap : IsGapOfRun p d s g
+  pub behind : IsBehind from g
+  pub first : (h : Gap) → IsGapOfRun p d s h → IsBehind from h → IsEarlierGap h g → ⊥
+
+-- what is found from there on is the first of these, and none is found exactly where there is none
+pub record FindsGapFrom (p : Values) (d : DriftView) (s : ScriptView) (from : ℕ) : Type 0 where
+  pub none : (gap_from p d s from ≡ None) ↔ HasNoGapFrom p d s from
+  pub first : (g : Gap) → gap_from p d s from ≡ Some g → IsFirstGapFrom p d s from g
+
+-- from the first double cycle on these are the gaps of the run
+abbrev pub AllGapsAreBehind : Values → DriftView → ScriptView → Type 0
+AllGapsAreBehind p d s = (g : Gap) → IsGapOfRun p d s g → IsBehind 0 g

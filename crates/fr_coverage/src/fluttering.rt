@@ -1,59 +1,95 @@
-ghost use Rattle.std.specs.Prelude.{◌≡◌, ◌≤◌, ◌<◌, ◌/◌, ◌%◌, ◌-ℤ◌, ◌≤ℤ◌, ℕ, pos, nat_abs};
+ghost use Rattle.std.specs.Prelude.{◌≡◌, ◌≤◌, ◌<◌, ◌/◌, ◌%◌, ◌-ℤ◌, ◌≤ℤ◌, ℕ, Option, Some, None, IfSome, pos, nat_abs};
 ghost use Rattle.fr_cluster.specs.declared.nodes.NodeSpec.{NodeSpec as Node};
 ghost use Rattle.fr_drift.specs.Questions.{doubles_of};
 ghost use Rattle.fr_coverage.specs.Coverage.{how_many_cycles};
-ghost use Rattle.fr_coverage.specs.Flutter.{flutter_between, flutter_in, flutter_of, flutter_on, greatest_below, greatest_in};
+ghost use Rattle.fr_coverage.specs.First.{from_on};
+ghost use Rattle.fr_coverage.specs.declared.gap.Fluttering.{Fluttering as Found};
+ghost use Rattle.fr_coverage.specs.Flutter.{fluttering_between, fluttering_from, fluttering_in, fluttering_on, outdoes, ticks_of, told_below, told_in, told_of_two, TellsFluttering};
 
+use crate::gap::Fluttering;
 use crate::gaps::Run;
 use crate::linking::{is_link, shares};
-use crate::spans::cycles;
+use crate::spans::{cycles, first_cycle};
 use fr_base::{Channel, NodeId};
 use fr_cluster::{NodeList, NodeSpec, Params};
 use fr_drift::Drift;
 use fr_script::Script;
 
-/// The flutter of a run, in ticks, 0 to 1,000,000,000: the greatest difference of the delay of a correct node's sync frames
-/// at another correct node, on a channel that both have, between the two cycles of a double cycle of the run. It is 0
-/// where no delay of such frames differs so, and where there are none.
+/// The flutter of a run from a double cycle on, with its place: where the delay of a correct node's sync frames at another
+/// correct node, on a channel that both have, differs most between the two cycles of a double cycle of the run. Of several
+/// that differ as much it is the last double cycle, and in it the first sender, receiver and channel. It is none where no
+/// delay of such frames differs so, and where there are none.
 ///
 /// It takes no memory, and time as there are rows and links, not as there are cycles.
-#[tactic(auto, unfolding(crate::specs::Flutter::flutter_of))]
-pub fn flutter(params: &Params, drift: &Drift, script: &Script) -> u64
-    ensures value { result ≡ flutter_of params.now drift.now script.now }
-    ensures most { result ≤ 1_000_000_000 }
+#[tactic(auto, unfolding(crate::specs::Flutter::fluttering_from))]
+pub fn flutter(params: &Params, drift: &Drift, script: &Script, from: u32) -> Option<Fluttering>
+    ensures value { result ≡ fluttering_from params.now drift.now script.now from }
+    ensures told { TellsFluttering params.now drift.now script.now from result }
+    ensures most { IfSome result (λ place. place.ticks ≤ 1_000_000_000) }
 {
     let nodes = &params.nodes;
     let run = Run {
         params,
         drift,
         script,
+        from,
     };
-    greatest_among(nodes, &Flutters(run))
+    told_among(nodes, &Flutters(run))
 }
 
-// What gives a number of ticks for a node.
-trait Gauge {
-    /// The number that it gives.
-    ghost gauged: { Self → Node → ℕ };
-
-    fn gauge(&self, node: &NodeSpec) -> u64
-        ensures value { result ≡ gauged self.now node.now }
-        ensures most { result ≤ 1_000_000_000 };
-}
-
-// The greatest number of the nodes.
-fn greatest_among<G: Gauge>(nodes: &NodeList, gauge: &G) -> u64
-    ensures value { result ≡ greatest_in (G.gauged gauge.now) nodes.now }
-    ensures most { result ≤ 1_000_000_000 }
+/// By how many ticks, 0 where no delay flutters.
+pub fn ticks_of(place: &Option<Fluttering>) -> u64
+    ensures { result ≡ ticks_of place.now }
 {
-    let mut most: u64 = 0;
+    match place {
+        None => 0,
+        Some(place) => place.ticks,
+    }
+}
+
+// What gives the flutter of a node.
+trait Gauge {
+    /// That which it gives.
+    ghost gauged: { Self → Node → Option Found };
+
+    fn gauge(&self, node: &NodeSpec) -> Option<Fluttering>
+        ensures value { result ≡ gauged self.now node.now }
+        ensures most { IfSome result (λ place. place.ticks ≤ 1_000_000_000) };
+}
+
+// That which is told of those of the nodes.
+fn told_among<G: Gauge>(nodes: &NodeList, gauge: &G) -> Option<Fluttering>
+    ensures value { result ≡ told_in (G.gauged gauge.now) nodes.now }
+    ensures most { IfSome result (λ place. place.ticks ≤ 1_000_000_000) }
+{
+    let mut told: Option<Fluttering> = None;
     for place in 0..nodes.len() {
         match nodes.get(place) {
-            Some(node) => most = most.max(gauge.gauge(node)),
+            Some(node) => told = told_of_two(told, gauge.gauge(node)),
             None => {}
         }
     }
-    most
+    told
+}
+
+// Of two that of more ticks, of two alike that of the later double cycle, and of two of one double cycle the former.
+fn told_of_two(one: Option<Fluttering>, other: Option<Fluttering>) -> Option<Fluttering>
+    requires one_most { IfSome one (λ place. place.ticks ≤ 1_000_000_000) }
+    requires other_most { IfSome other (λ place. place.ticks ≤ 1_000_000_000) }
+    ensures value { result ≡ told_of_two one other }
+    ensures most { IfSome result (λ place. place.ticks ≤ 1_000_000_000) }
+{
+    match (one, other) {
+        (None, _) => other,
+        (Some(_), None) => one,
+        (Some(former), Some(latter)) => { if outdoes(latter, former) { other } else { one } }
+    }
+}
+
+fn outdoes(one: Fluttering, other: Fluttering) -> bool
+    ensures { result ≡ outdoes one other }
+{
+    other.ticks < one.ticks || (one.ticks == other.ticks && other.double < one.double)
 }
 
 // Gives the flutter of the frames of a sender.
@@ -61,12 +97,12 @@ fn greatest_among<G: Gauge>(nodes: &NodeList, gauge: &G) -> u64
 struct Flutters<'a>(Run<'a>);
 
 impl Gauge for Flutters<'_> {
-    ghost gauged = { λ a node. greatest_in (flutter_between a.0.drift.now a.0.script.now node) a.0.params.now.nodes };
+    ghost gauged = { λ a node. told_in (fluttering_between a.0.drift.now a.0.script.now a.0.from node) a.0.params.now.nodes };
 
-    fn gauge(&self, node: &NodeSpec) -> u64 {
+    fn gauge(&self, node: &NodeSpec) -> Option<Fluttering> {
         let run = self.0;
         let params = run.params;
-        greatest_among(&params.nodes, &FluttersFrom { run, sender: node })
+        told_among(&params.nodes, &FluttersFrom { run, sender: node })
     }
 }
 
@@ -78,56 +114,84 @@ struct FluttersFrom<'a> {
 }
 
 impl Gauge for FluttersFrom<'_> {
-    ghost gauged = { λ a. flutter_between a.run.drift.now a.run.script.now a.sender.now };
+    ghost gauged = { λ a. fluttering_between a.run.drift.now a.run.script.now a.run.from a.sender.now };
 
-    fn gauge(&self, node: &NodeSpec) -> u64 {
+    fn gauge(&self, node: &NodeSpec) -> Option<Fluttering> {
         let run = self.run;
         if !is_link(run.script, self.sender, node) {
-            return 0;
+            return None;
         }
-        let on_a = flutter_on(run.drift, self.sender, node, Channel::A);
-        let on_b = flutter_on(run.drift, self.sender, node, Channel::B);
-        on_a.max(on_b)
+        let on_a = fluttering_on(run, self.sender, node, Channel::A);
+        let on_b = fluttering_on(run, self.sender, node, Channel::B);
+        told_of_two(on_a, on_b)
     }
 }
 
-fn flutter_on(drift: &Drift, sender: &NodeSpec, receiver: &NodeSpec, channel: Channel) -> u64
-    ensures value { result ≡ flutter_on drift.now sender.now receiver.now channel }
-    ensures most { result ≤ 1_000_000_000 }
+fn fluttering_on(
+    run: Run<'_>,
+    sender: &NodeSpec,
+    receiver: &NodeSpec,
+    channel: Channel,
+) -> Option<Fluttering>
+    ensures value { result ≡ fluttering_on run.entry.drift.now run.entry.from sender.now receiver.now channel }
+    ensures most { IfSome result (λ place. place.ticks ≤ 1_000_000_000) }
 {
     if !shares(sender, receiver, channel) {
-        return 0;
+        return None;
     }
-    greatest_turn(drift, sender.id, receiver.id, channel)
+    told_turn(run.drift, sender.id, receiver.id, channel, run.from)
 }
 
-// The greatest difference between the two cycles of a double cycle, by the rows of the link: a delay stays from one row to
-// the next, so the two differ only where a row begins at the odd one.
-fn greatest_turn(drift: &Drift, sender: NodeId, receiver: NodeId, channel: Channel) -> u64
-    ensures value { result ≡ greatest_below (flutter_in drift.now sender receiver channel) (doubles_of drift.now) }
-    ensures most { result ≤ 1_000_000_000 }
+// What is told of the double cycles of a link from one on, by its rows: a delay stays from one row to the next, so the two
+// cycles of a double cycle differ only where a row begins at the odd one.
+fn told_turn(
+    drift: &Drift,
+    sender: NodeId,
+    receiver: NodeId,
+    channel: Channel,
+    from: u32,
+) -> Option<Fluttering>
+    ensures value { result ≡
+        told_below (from_on from (fluttering_in drift.now sender receiver channel)) (doubles_of drift.now) }
+    ensures most { IfSome result (λ place. place.ticks ≤ 1_000_000_000) }
 {
     let end = cycles(drift);
-    let mut most: u64 = 0;
-    let mut cycle = 0;
+    let mut told: Option<Fluttering> = None;
+    let mut cycle = first_cycle(drift, from);
     while cycle < end {
-        most = most.max(turn(drift, sender, receiver, channel, cycle));
+        told = told_of_two(told, turn(drift, sender, receiver, channel, cycle));
         cycle = drift.next_delay(sender, receiver, channel, cycle, end);
     }
-    most
+    told
 }
 
-// By how many ticks the delay of an odd cycle differs from that of the even one before it; 0 for an even cycle.
-fn turn(drift: &Drift, sender: NodeId, receiver: NodeId, channel: Channel, cycle: u32) -> u64
-    ensures odd { cycle % 2 ≡ 1 → result ≡ flutter_in drift.now sender receiver channel (cycle / 2) }
-    ensures even { cycle % 2 ≡ 0 → result ≡ 0 }
-    ensures most { result ≤ 1_000_000_000 }
+// Where the delay of an odd cycle differs from that of the even one before it; none for an even cycle.
+fn turn(
+    drift: &Drift,
+    sender: NodeId,
+    receiver: NodeId,
+    channel: Channel,
+    cycle: u32,
+) -> Option<Fluttering>
+    ensures odd { cycle % 2 ≡ 1 → result ≡ fluttering_in drift.now sender receiver channel (cycle / 2) }
+    ensures even { cycle % 2 ≡ 0 → result ≡ None }
+    ensures most { IfSome result (λ place. place.ticks ≤ 1_000_000_000) }
 {
     if cycle % 2 == 0 {
-        return 0;
+        return None;
     }
     let before = drift.delay(sender, receiver, channel, cycle - 1);
-    apart(drift.delay(sender, receiver, channel, cycle), before)
+    let ticks = apart(drift.delay(sender, receiver, channel, cycle), before);
+    if ticks == 0 {
+        return None;
+    }
+    Some(Fluttering {
+        ticks,
+        sender,
+        receiver,
+        channel,
+        double: cycle / 2,
+    })
 }
 
 fn apart(one: i64, other: i64) -> u64

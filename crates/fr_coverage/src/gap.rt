@@ -45,6 +45,22 @@ pub enum Gap {
     },
 }
 
+/// Where the delay of a correct node's sync frames at another correct node flutters: on a channel that both have it differs
+/// by so many ticks between the two cycles of a double cycle.
+#[derive(Clone, Copy, Debug, PartialEq, Eq)]
+pub struct Fluttering {
+    /// The ticks, 1 to 1,000,000,000.
+    pub ticks: u64,
+    /// The node whose frames they are.
+    pub sender: NodeId,
+    /// The node at which they arrive.
+    pub receiver: NodeId,
+    /// The channel.
+    pub channel: Channel,
+    /// The double cycle.
+    pub double: u32,
+}
+
 /// The first gap of a run of each kind but the checks, in the order in which they are looked for.
 #[derive(Clone, Copy, Debug, PartialEq, Eq)]
 pub struct RunGaps {

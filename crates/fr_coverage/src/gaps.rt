@@ -3,7 +3,7 @@ ghost use Rattle.fr_bound.specs.Checks.{AllChecksHold, IsCheck, left_of, right_o
 ghost use Rattle.fr_coverage.specs.First.{first_below, first_in};
 ghost use Rattle.fr_coverage.specs.declared.gap.Gap.TheVariants as gap;
 ghost use Rattle.fr_coverage.specs.Kinds.{gaps_by_kind};
-ghost use Rattle.fr_coverage.specs.Coverage.{asked_where, channel_gap, changes_gap, check_gap, count_of, delays_gap, first_gap, gap_of_run, lengths_gap, links_gap, outweighs, pairs_gap, weighed};
+ghost use Rattle.fr_coverage.specs.Coverage.{asked_where, channel_gap, changes_gap, check_gap, count_of, delays_gap, first_gap, gap_from, lengths_gap, links_gap, outweighs, pairs_gap, weighed};
 
 use crate::gap::{Gap, RunGaps};
 use crate::joining::{is_counted, some_join};
@@ -39,33 +39,35 @@ pub fn covered(params: &Params, drift: &Drift, script: &Script) -> Result<(), Ga
     }
 }
 
-/// Whether a run is covered whatever the checks of its parameters say: whether there is none of the other gaps,
-/// which are looked for in the same order, or else the first.
-pub fn run_covered(params: &Params, drift: &Drift, script: &Script) -> Result<(), Gap>
-    ensures whole { OnOk result (gap_of_run params.now drift.now script.now ≡ None) }
-    ensures gap { IfErr result (λ gap. gap_of_run params.now drift.now script.now ≡ Some gap) }
+/// Whether a run is covered from a double cycle on, whatever the checks of its parameters say: whether there is none of the
+/// other gaps in the cycles from there on, which are looked for in the same order, or else the first.
+pub fn run_covered(params: &Params, drift: &Drift, script: &Script, from: u32) -> Result<(), Gap>
+    ensures whole { OnOk result (gap_from params.now drift.now script.now from ≡ None) }
+    ensures gap { IfErr result (λ gap. gap_from params.now drift.now script.now from ≡ Some gap) }
 {
     let run = Run {
         params,
         drift,
         script,
+        from,
     };
-    match gap_of_run(run) {
+    match gap_from(run) {
         Some(gap) => Err(gap),
         None => Ok(()),
     }
 }
 
-/// The first gap of a run of each kind, whatever the checks of its parameters say. The first of these is the gap that
-/// `run_covered` answers.
-pub fn gaps_by_kind(params: &Params, drift: &Drift, script: &Script) -> RunGaps
-    ensures { result ≡ gaps_by_kind params.now drift.now script.now }
+/// The first gap of a run of each kind from a double cycle on, whatever the checks of its parameters say. The first of
+/// these is the gap that `run_covered` answers.
+pub fn gaps_by_kind(params: &Params, drift: &Drift, script: &Script, from: u32) -> RunGaps
+    ensures { result ≡ gaps_by_kind params.now drift.now script.now from }
 {
     let nodes = &params.nodes;
     let run = Run {
         params,
         drift,
         script,
+        from,
     };
     RunGaps {
         count: outweighed(nodes, script),
@@ -85,16 +87,17 @@ fn first_gap(params: &Params, drift: &Drift, script: &Script) -> Option<Gap>
         params,
         drift,
         script,
+        from: 0,
     };
     if let Some(gap) = failing_check(params, some_join(nodes, script)) {
         return Some(gap);
     }
-    gap_of_run(run)
+    gap_from(run)
 }
 
-// The first gap of the run itself.
-fn gap_of_run(run: Run<'_>) -> Option<Gap>
-    ensures { result ≡ gap_of_run run.entry.params.now run.entry.drift.now run.entry.script.now }
+// The first gap of the run itself, from its double cycle on.
+fn gap_from(run: Run<'_>) -> Option<Gap>
+    ensures { result ≡ gap_from run.entry.params.now run.entry.drift.now run.entry.script.now run.entry.from }
 {
     let params = run.params;
     let nodes = &params.nodes;
@@ -111,7 +114,7 @@ fn gap_of_run(run: Run<'_>) -> Option<Gap>
 }
 
 fn first_of_pairs(run: Run<'_>) -> Option<Gap>
-    ensures { result ≡ pairs_gap run.entry.params.now run.entry.drift.now run.entry.script.now }
+    ensures { result ≡ pairs_gap run.entry.params.now run.entry.drift.now run.entry.script.now run.entry.from }
 {
     let params = run.params;
     let nodes = &params.nodes;
@@ -174,7 +177,8 @@ fn outweighed(nodes: &NodeList, script: &Script) -> Option<Gap>
     }
 }
 
-fn outweighs(correct: u32, arbitrary: u32) -> bool
+/// Whether so many correct nodes outweigh so many arbitrary ones: one none, three one, six two.
+pub fn outweighs(correct: u32, arbitrary: u32) -> bool
     ensures { result ≡ outweighs correct arbitrary }
 {
     match arbitrary {
@@ -204,12 +208,13 @@ fn count(nodes: &NodeList, script: &Script, arbitrary: bool) -> u32
     sum
 }
 
-// What a run is made of.
+// What a run is made of, and the double cycle from which on it is asked of.
 #[derive(Clone, Copy)]
 pub(crate) struct Run<'a> {
     pub(crate) params: &'a Params,
     pub(crate) drift: &'a Drift,
     pub(crate) script: &'a Script,
+    pub(crate) from: u32,
 }
 
 // Looks for lengths.
@@ -217,14 +222,14 @@ pub(crate) struct Run<'a> {
 struct Lengths<'a>(Run<'a>);
 
 impl Search for Lengths<'_> {
-    ghost found = { λ a. lengths_gap a.0.params.now a.0.drift.now a.0.script.now };
+    ghost found = { λ a. lengths_gap a.0.params.now a.0.drift.now a.0.script.now a.0.from };
 
     fn find(&self, node: &NodeSpec) -> Option<Gap> {
         let run = self.0;
         if run.script.arbitrary(node.id) {
             return None;
         }
-        first_length(run.params, run.drift, node.id)
+        first_length(run.params, run.drift, node.id, run.from)
     }
 }
 
@@ -233,14 +238,14 @@ impl Search for Lengths<'_> {
 struct Changes<'a>(Run<'a>);
 
 impl Search for Changes<'_> {
-    ghost found = { λ a. changes_gap a.0.params.now a.0.drift.now a.0.script.now };
+    ghost found = { λ a. changes_gap a.0.params.now a.0.drift.now a.0.script.now a.0.from };
 
     fn find(&self, node: &NodeSpec) -> Option<Gap> {
         let run = self.0;
         if run.script.arbitrary(node.id) {
             return None;
         }
-        first_change(run.params, run.drift, node.id)
+        first_change(run.params, run.drift, node.id, run.from)
     }
 }
 
@@ -249,7 +254,7 @@ impl Search for Changes<'_> {
 struct Delays<'a>(Run<'a>);
 
 impl Search for Delays<'_> {
-    ghost found = { λ a node. first_in (delays_gap a.0.params.now a.0.drift.now a.0.script.now node) a.0.params.now.nodes };
+    ghost found = { λ a node. first_in (delays_gap a.0.params.now a.0.drift.now a.0.script.now a.0.from node) a.0.params.now.nodes };
 
     fn find(&self, node: &NodeSpec) -> Option<Gap> {
         let run = self.0;
@@ -266,33 +271,35 @@ struct DelaysFrom<'a> {
 }
 
 impl Search for DelaysFrom<'_> {
-    ghost found = { λ a. delays_gap a.run.params.now a.run.drift.now a.run.script.now a.sender.now };
+    ghost found = { λ a. delays_gap a.run.params.now a.run.drift.now a.run.script.now a.run.from a.sender.now };
 
     fn find(&self, node: &NodeSpec) -> Option<Gap> {
         let run = self.run;
         if !is_link(run.script, self.sender, node) {
             return None;
         }
-        if let Some(gap) = delay_on(run.params, run.drift, self.sender, node, Channel::A) {
+        if let Some(gap) = delay_on(run, self.sender, node, Channel::A) {
             return Some(gap);
         }
-        delay_on(run.params, run.drift, self.sender, node, Channel::B)
+        delay_on(run, self.sender, node, Channel::B)
     }
 }
 
-fn delay_on(
-    params: &Params,
-    drift: &Drift,
-    sender: &NodeSpec,
-    receiver: &NodeSpec,
-    channel: Channel,
-) -> Option<Gap>
-    ensures { result ≡ channel_gap params.now drift.now sender.now receiver.now channel }
+fn delay_on(run: Run<'_>, sender: &NodeSpec, receiver: &NodeSpec, channel: Channel) -> Option<Gap>
+    ensures { result ≡
+        channel_gap run.entry.params.now run.entry.drift.now run.entry.from sender.now receiver.now channel }
 {
     if !shares(sender, receiver, channel) {
         return None;
     }
-    first_delay(params, drift, sender.id, receiver.id, channel)
+    first_delay(
+        run.params,
+        run.drift,
+        sender.id,
+        receiver.id,
+        channel,
+        run.from,
+    )
 }
 
 // Looks for broken links of a sender.
@@ -300,7 +307,7 @@ fn delay_on(
 struct Links<'a>(Run<'a>);
 
 impl Search for Links<'_> {
-    ghost found = { λ a node. first_in (links_gap a.0.drift.now a.0.script.now node) a.0.params.now.nodes };
+    ghost found = { λ a node. first_in (links_gap a.0.drift.now a.0.script.now a.0.from node) a.0.params.now.nodes };
 
     fn find(&self, node: &NodeSpec) -> Option<Gap> {
         let run = self.0;
@@ -317,13 +324,13 @@ struct LinksFrom<'a> {
 }
 
 impl Search for LinksFrom<'_> {
-    ghost found = { λ a. links_gap a.run.drift.now a.run.script.now a.sender.now };
+    ghost found = { λ a. links_gap a.run.drift.now a.run.script.now a.run.from a.sender.now };
 
     fn find(&self, node: &NodeSpec) -> Option<Gap> {
         let run = self.run;
         if !is_link(run.script, self.sender, node) {
             return None;
         }
-        first_break(run.script, self.sender, node, run.drift.doubles())
+        first_break(run.script, self.sender, node, run.from, run.drift.doubles())
     }
 }

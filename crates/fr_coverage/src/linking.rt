@@ -1,7 +1,7 @@
 ghost use Rattle.std.specs.Prelude.{◌≡◌, ◌≤◌, ◌*◌, ◌||◌, ◌&&◌, Option, None, Some, true, false, if◌then◌else◌};
 ghost use Rattle.fr_cluster.specs.Questions.{has_channel};
 ghost use Rattle.fr_script.specs.View.{is_arbitrary};
-ghost use Rattle.fr_coverage.specs.First.{first_below};
+ghost use Rattle.fr_coverage.specs.First.{first_between};
 ghost use Rattle.fr_coverage.specs.Links.{is_carried, is_carried_on, is_free, is_link, link_gap, shares};
 
 use crate::gap::Gap;
@@ -29,18 +29,19 @@ pub fn shares(a: &NodeSpec, b: &NodeSpec, channel: Channel) -> bool
     }
 }
 
-// The first of so many double cycles in which no common channel carries the frames of both cycles.
+// The first double cycle from one on, of so many, in which no common channel carries the frames of both cycles.
 pub(crate) fn first_break(
     script: &Script,
     sender: &NodeSpec,
     receiver: &NodeSpec,
+    from: u32,
     doubles: u32,
 ) -> Option<Gap>
     requires few { doubles ≤ 100_000 }
     requires correct { is_arbitrary script.now sender.now.id ≡ false }
-    ensures { result ≡ first_below (link_gap script.now sender.now receiver.now) doubles }
+    ensures { result ≡ first_between (link_gap script.now sender.now receiver.now) from doubles }
 {
-    let mut double = 0;
+    let mut double = from.min(doubles);
     while double < doubles {
         if !is_carried(script, sender, receiver, double) {
             return Some(Gap::Link {

@@ -1,5 +1,5 @@
-ghost use Rattle.std.specs.Prelude.{◌≡◌, ◌≤◌, ◌≤ℤ◌, pos, neg_ℤ};
-ghost use Rattle.fr_coverage.specs.First.{first_below};
+ghost use Rattle.std.specs.Prelude.{◌≡◌, ◌≤◌, ◌<◌, ◌*◌, ◌≤ℤ◌, pos, neg_ℤ, suc};
+ghost use Rattle.fr_coverage.specs.First.{first_between};
 ghost use Rattle.fr_coverage.specs.Coverage.{change_gap, delay_gap, has_jumped, how_many_cycles, is_off, is_wrong, length_gap};
 
 use crate::gap::Gap;
@@ -10,13 +10,13 @@ use fr_drift::Drift;
 // The ticks of a nominal microtick.
 const NOMINAL: i64 = 1_000_000;
 
-// The first cycle of the run in which the microtick of a node is too short or too long. It takes time as the
-// node has rows of lengths.
-pub(crate) fn first_length(params: &Params, drift: &Drift, node: NodeId) -> Option<Gap>
-    ensures { result ≡ first_below (length_gap params.now drift.now node) (how_many_cycles drift.now) }
+// The first cycle, from a double cycle of the run on, in which the microtick of a node is too short or too long. It
+// takes time as the node has rows of lengths.
+pub(crate) fn first_length(params: &Params, drift: &Drift, node: NodeId, from: u32) -> Option<Gap>
+    ensures { result ≡ first_between (length_gap params.now drift.now node) (2 * from) (how_many_cycles drift.now) }
 {
     let end = cycles(drift);
-    let mut cycle = 0;
+    let mut cycle = first_cycle(drift, from);
     while cycle < end {
         let ticks = drift.length(node, cycle);
         if is_off(params, ticks) {
@@ -27,13 +27,14 @@ pub(crate) fn first_length(params: &Params, drift: &Drift, node: NodeId) -> Opti
     None
 }
 
-// The first cycle of the run in which the microtick of a node has changed by too much. It takes time as the
-// node has rows of lengths.
-pub(crate) fn first_change(params: &Params, drift: &Drift, node: NodeId) -> Option<Gap>
-    ensures { result ≡ first_below (change_gap params.now drift.now node) (how_many_cycles drift.now) }
+// The first cycle, behind the first one from a double cycle of the run on, in which the microtick of a node has changed by
+// too much. It takes time as the node has rows of lengths.
+pub(crate) fn first_change(params: &Params, drift: &Drift, node: NodeId, from: u32) -> Option<Gap>
+    ensures { result ≡
+        first_between (change_gap params.now drift.now node) (suc (2 * from)) (how_many_cycles drift.now) }
 {
     let end = cycles(drift);
-    let mut cycle: u32 = 0;
+    let mut cycle = end.min(first_cycle(drift, from) + 1);
     while cycle < end {
         let before = drift.length(node, cycle.saturating_sub(1));
         let ticks = drift.length(node, cycle);
@@ -49,20 +50,21 @@ pub(crate) fn first_change(params: &Params, drift: &Drift, node: NodeId) -> Opti
     None
 }
 
-// The first cycle of the run in which frames travel for too short or too long a time over a link on a channel.
-// It takes time as the link has rows of delays there.
+// The first cycle, from a double cycle of the run on, in which frames travel for too short or too long a time over a link
+// on a channel. It takes time as the link has rows of delays there.
 pub(crate) fn first_delay(
     params: &Params,
     drift: &Drift,
     sender: NodeId,
     receiver: NodeId,
     channel: Channel,
+    from: u32,
 ) -> Option<Gap>
     ensures { result ≡
-        first_below (delay_gap params.now drift.now sender receiver channel) (how_many_cycles drift.now) }
+        first_between (delay_gap params.now drift.now sender receiver channel) (2 * from) (how_many_cycles drift.now) }
 {
     let end = cycles(drift);
-    let mut cycle = 0;
+    let mut cycle = first_cycle(drift, from);
     while cycle < end {
         let ticks = drift.delay(sender, receiver, channel, cycle);
         if is_wrong(params, channel, ticks) {
@@ -85,6 +87,16 @@ pub(crate) fn cycles(drift: &Drift) -> u32
     ensures few { result ≤ 200_000 }
 {
     2 * drift.doubles()
+}
+
+// The first cycle of a double cycle, or the end of the run where there is none.
+pub(crate) fn first_cycle(drift: &Drift, from: u32) -> u32
+    ensures least { result ≤ 2 * from }
+    ensures most { result ≤ how_many_cycles drift.now }
+    ensures is { result < how_many_cycles drift.now → 2 * from ≤ result }
+    ensures few { result ≤ 200_000 }
+{
+    2 * from.min(drift.doubles())
 }
 
 fn is_off(params: &Params, ticks: i64) -> bool

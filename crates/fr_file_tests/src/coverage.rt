@@ -3,8 +3,9 @@
 use crate::drift::drift_of;
 use crate::params::params_of;
 use crate::script::script_of;
+use fr_base::Channel;
 use fr_cluster::Params;
-use fr_coverage::{covered, flutter, gap_line};
+use fr_coverage::{Fluttering, covered, flutter, gap_line};
 use fr_drift::Drift;
 use fr_script::Script;
 use std::alloc::Global;
@@ -25,33 +26,55 @@ const LARGEST: &[(&str, &str, &str)] = &[
     ),
 ];
 
-// Rows of a drift file and a script, and the flutter of the run in ticks. Nothing is taken off a delay, so it is 0 where no row
-// says it.
-const FLUTTERS: &[(&str, &str, u64)] = &[
-    ("doubles,100000,,,,\n", "", 0),
+// Of two rows the later one flutters by less.
+const RISES: &str = "doubles,5,,,,\ndelay,2,1,A,5,300\ndelay,2,1,A,7,100\ndelay,15,64,B,9,50";
+
+// As much as the first in an earlier double cycle, and in one double cycle with it on another link.
+const ALIKE: &str =
+    "doubles,5,,,,\ndelay,2,1,A,3,300\ndelay,2,1,A,4,0\ndelay,2,1,B,7,300\ndelay,2,3,A,7,300";
+
+// Rows of a drift file and a script, a double cycle, and the flutter of the run from there on: its ticks, sender, receiver,
+// channel and double cycle. Nothing is taken off a delay, so it is none where no row says it.
+type Flutter = (
+    &'static str,
+    &'static str,
+    u32,
+    Option<(u64, u8, u8, Channel, u32)>,
+);
+
+const FLUTTERS: &[Flutter] = &[
+    ("doubles,100000,,,,\n", "", 0, None),
     (
         "doubles,100000,,,,\ndelay,15,64,B,199999,1000000000",
         "",
-        1_000_000_000,
+        99999,
+        Some((1_000_000_000, 15, 64, Channel::B, 99999)),
     ),
-    ("doubles,100000,,,,\ndelay,15,64,B,199998,7", "", 0),
-    ("doubles,99999,,,,\ndelay,15,64,B,199999,7", "", 0),
     (
-        "doubles,5,,,,\ndelay,2,1,A,5,300\ndelay,2,1,A,7,100\ndelay,15,64,B,9,50",
+        "doubles,100000,,,,\ndelay,15,64,B,199999,1000000000",
         "",
-        300,
+        100_000,
+        None,
     ),
+    ("doubles,100000,,,,\ndelay,15,64,B,199998,7", "", 0, None),
+    ("doubles,99999,,,,\ndelay,15,64,B,199999,7", "", 0, None),
+    (RISES, "", 2, Some((300, 2, 1, Channel::A, 2))),
+    (RISES, "", 3, Some((200, 2, 1, Channel::A, 3))),
+    (RISES, "", 4, Some((50, 15, 64, Channel::B, 4))),
     (
-        "doubles,5,,,,\ndelay,2,1,A,5,300\ndelay,2,1,A,7,100\ndelay,15,64,B,9,50",
+        RISES,
         "arbitrary,1,,,,,",
-        50,
+        0,
+        Some((50, 15, 64, Channel::B, 4)),
     ),
     (
-        "doubles,5,,,,\ndelay,2,1,A,5,300\ndelay,2,1,A,7,100\ndelay,15,64,B,9,50",
+        RISES,
         "arbitrary,2,,,,,",
-        50,
+        0,
+        Some((50, 15, 64, Channel::B, 4)),
     ),
-    ("doubles,5,,,,\ndelay,16,1,A,5,300", "", 0),
+    (ALIKE, "", 0, Some((300, 2, 1, Channel::B, 3))),
+    ("doubles,5,,,,\ndelay,16,1,A,5,300", "", 0, None),
 ];
 
 // As many nodes as a cluster may have, each on both channels, those from 1 to 15 with a key slot.
@@ -88,13 +111,27 @@ fn first_wrong(alloc: Global) -> Result<Option<usize>, Fail> {
     Ok(None)
 }
 
+fn is_told(found: &Option<Fluttering>, wanted: &Option<(u64, u8, u8, Channel, u32)>) -> bool {
+    match (found, wanted) {
+        (None, None) => true,
+        (Some(found), Some((ticks, sender, receiver, channel, double))) => {
+            found.ticks == *ticks
+                && found.sender.0 == *sender
+                && found.receiver.0 == *receiver
+                && found.channel == *channel
+                && found.double == *double
+        }
+        _ => false,
+    }
+}
+
 // The place of the first row of which another flutter is told.
 fn first_wrong_flutter(alloc: Global) -> Result<Option<usize>, Fail> {
     let params = params_of(alloc, &[], NODES, &[])?;
-    for (place, (rows, script, ticks)) in FLUTTERS.iter().enumerate() {
+    for (place, (rows, script, from, wanted)) in FLUTTERS.iter().enumerate() {
         let drift = drift_of(alloc, &params, rows)?;
         let script = script_of(alloc, &params, script)?;
-        if flutter(&params, &drift, &script) != *ticks {
+        if !is_told(&flutter(&params, &drift, &script, *from), wanted) {
             return Ok(Some(place));
         }
     }

@@ -13,7 +13,7 @@ use Rattle.fr_bound.specs.declared.judging.Heard.{Heard}
 use Rattle.fr_bound.specs.declared.judging.Known.{Known}
 use Rattle.fr_cluster.specs.Values.{Values}
 use Rattle.fr_log.specs.View.{LogView}
-use Rattle.fr_course.specs.declared.scales.Scale.{Scale}
+use Rattle.fr_course.specs.Scales.{Scale}
 use Rattle.fr_observe.specs.Faults.{fault_row, first_of_faults, own_faults}
 use Rattle.fr_judging.specs.Knowing.{moving_faults, spread_told, standing_faults, term_faults}
 use Rattle.fr_judging.specs.Missing.{missed_told}

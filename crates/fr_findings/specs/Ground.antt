@@ -16,7 +16,7 @@ use Rattle.fr_findings.specs.declared.progress.Progress.{Progress}
 use Rattle.fr_findings.specs.declared.progress.Reach.{Reach}
 use Rattle.fr_observe.specs.declared.says.Says.{Says}
 use Rattle.fr_observe.specs.declared.scene.Scene.{Scene}
-use Rattle.fr_sightings.specs.Ranges.{AreLogStamps, AreNumbered, AreSeenFrom, DoublesAscend, IsProperSender, IsScaleOf}
+use Rattle.fr_sightings.specs.Ranges.{AreLogStamps, AreNumbered, AreSeenFrom, DoublesAscend, IsProperSender}
 use Rattle.fr_sightings.specs.Sightings.{OffendingFrames}
 use Rattle.fr_sightings.specs.declared.sighting.Sighting.{Sighting}
 
@@ -61,10 +61,6 @@ scene_in g d =
 
 abbrev pub double_around : Ground → Around → ℕ → DoubleCycle
 double_around g a double = double_with (basis_in g) double a.before.now a.here.now a.next.now (offending_given a.offending)
-
--- the scale is that of the parameters
-abbrev pub IsGround : Ground → Type 0
-IsGround g = IsScaleOf g.params.now g.scale.now
 
 -- stamps lie within the limits of the log
 pub record AreOffending (l : LogView) (frames : OffendingFrames) : Type 0 where

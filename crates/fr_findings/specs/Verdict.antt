@@ -8,7 +8,7 @@ use Rattle.fr_bound.specs.declared.judging.Known.{Known}
 use Rattle.fr_cluster.specs.Values.{Values}
 use Rattle.fr_log.specs.View.{LogView}
 use Rattle.fr_course.specs.Readings.{reading_scale}
-use Rattle.fr_course.specs.declared.scales.Scale.{Scale}
+use Rattle.fr_course.specs.Scales.{Scale}
 use Rattle.fr_judging.specs.Hearing.{log_heard, yardstick}
 use Rattle.fr_observe.specs.Faults.{fault_row, first_of_faults, is_nil, own_faults, slot_faults}
 use Rattle.fr_judging.specs.Knowing.{known_next, moving_faults, spread_told, standing_faults, standing_of}

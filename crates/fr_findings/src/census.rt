@@ -15,7 +15,7 @@ use fr_base::{Channel, NodeId, PutFault, Sink, Slot};
 use fr_cluster::{NodeSpec, Params};
 use fr_log::Log;
 use fr_observe::LogSpan;
-use fr_sightings::{Sighting, first_stamp, look_at, node_at, node_count};
+use fr_sightings::{Sighting, first_stamp, look_at};
 use fr_text::Piece::{Natural, Word};
 use fr_text::{Line, Piece, letter_of, put_line, row_of};
 
@@ -266,8 +266,8 @@ pub(crate) fn put_census<O: Sink>(
     requires numbered { AreNumbered seen.now }
     ensures { Puts result (O.state out.old) (O.state out.new) (census_text params.now log.now seen.now) }
 {
-    for place in 0..node_count(params) {
-        put_sender(log, seen, node_at(params, place), out)?;
+    for place in 0..params.node_count() {
+        put_sender(log, seen, params.node_at(place), out)?;
     }
     Ok(())
 }

@@ -7,7 +7,7 @@ ghost use Rattle.fr_observe.specs.Scenes.{IsScene};
 ghost use Rattle.fr_observe.specs.Telling.{TellsFaults};
 ghost use Rattle.fr_judging.specs.Knowing.{JudgedBySmall, spread_told, standing_faults};
 ghost use Rattle.fr_judging.specs.Missing.{missed_told};
-ghost use Rattle.fr_findings.specs.Ground.{IsDouble, IsGround, basis_in, double_in, scene_in, with_faults};
+ghost use Rattle.fr_findings.specs.Ground.{IsDouble, basis_in, double_in, scene_in, with_faults};
 ghost use Rattle.fr_findings.specs.Verdict.{known_told, own_told, standing_told};
 
 use crate::ground::{Double, Ground, Offending};
@@ -28,7 +28,6 @@ pub(crate) fn put_own<'a, O: Sink>(
     first: &mut Option<Fault>,
     out: &mut O,
 ) -> Result<(), PutFault>
-    requires ground { IsGround ground.now }
     requires double { IsDouble ground.now double.now }
     ensures { TellsFaults result (O.state out.old) (O.state out.new) first.old first.new
         (own_told (basis_in ground.now) (double_in double.now)) }
@@ -53,7 +52,6 @@ pub(crate) fn earlier(first: Option<Fault>, told: Option<Fault>) -> Option<Fault
 
 // What a double cycle is looked at with.
 fn scene_of<'a>(ground: &'a Ground<'a>, double: &'a Double<'a>) -> Scene<'a>
-    requires ground { IsGround ground.now }
     requires double { IsDouble ground.now double.now }
     ensures value { result ≡ scene_in ground.now double.now }
     ensures proper { IsScene result }
@@ -79,7 +77,6 @@ pub(crate) fn standing_of<'a>(
     known: Option<Known>,
     told: &Option<Fault>,
 ) -> Standing
-    requires ground { IsGround ground.now }
     requires double { IsDouble ground.now double.now }
     requires told { told.now ≡ first_of_faults (own_told (basis_in ground.now) (double_in double.now)) }
     ensures value { result ≡ standing_told (basis_in ground.now) (double_in double.now) known }
@@ -96,7 +93,6 @@ pub(crate) fn put_faults<'a, O: Sink>(
     progress: &mut Progress,
     out: &mut O,
 ) -> Result<(), PutFault>
-    requires ground { IsGround ground.now }
     requires double { IsDouble ground.now double.now }
     requires standing { standing.now ≡ standing_told (basis_in ground.now) (double_in double.now) progress.old.known }
     requires small { JudgedBySmall standing.now }
@@ -125,7 +121,6 @@ pub(crate) fn put_numbers<'a, O: Sink>(
     against: &Option<Fault>,
     out: &mut O,
 ) -> Result<(), PutFault>
-    requires ground { IsGround ground.now }
     requires double { IsDouble ground.now double.now }
     requires small { JudgedBySmall standing.now }
     requires against { against.now ≡ first_of_faults (standing_faults ground.now.params.now ground.now.scale.now

@@ -1,3 +1,5 @@
+ghost use Rattle.fr_sightings.specs.Ranges.{IsScaleOf};
+
 use fr_bound::Heard;
 use fr_cluster::Params;
 use fr_course::Scale;
@@ -15,6 +17,7 @@ pub(crate) struct Ground<'a> {
     pub(crate) log: &'a Log,
     pub(crate) span: LogSpan,
     pub(crate) heard: Option<Heard>,
+    ghost of_cluster: { IsScaleOf params.now scale.now },
 }
 
 // The offending frames of a log, or of a double cycle: those that do not come in time, and irregular ones.

@@ -4,7 +4,7 @@ ghost use Rattle.fr_base.specs.Device.{Puts};
 ghost use Rattle.fr_course.specs.Readings.{reading_scale};
 ghost use Rattle.fr_text.specs.Lines.{joined_lines};
 ghost use Rattle.fr_findings.specs.Census.{census_text};
-ghost use Rattle.fr_findings.specs.Ground.{ComeInOrder, IsGround, OffendInOrder, basis_in, offending_given};
+ghost use Rattle.fr_findings.specs.Ground.{ComeInOrder, OffendInOrder, basis_in, offending_given};
 ghost use Rattle.fr_observe.specs.Observing.{seen_doubles};
 ghost use Rattle.fr_sightings.specs.Sure.{are_numbers_sure};
 ghost use Rattle.fr_findings.specs.Text.{AreGathered, all_told, end_told, observe_text, text_with, whole_told};
@@ -61,7 +61,6 @@ fn put_all<O: Sink>(
     progress: &mut Progress,
     out: &mut O,
 ) -> Result<(), PutFault>
-    requires ground { IsGround ground.now }
     requires seen { ComeInOrder ground.now.log.now frames.now.seen.now }
     requires offending { OffendInOrder ground.now.log.now (offending_given frames.now.offending) }
     requires progress { progress.old ≡ no_progress }
@@ -127,7 +126,6 @@ fn put_rest<O: Sink>(
     tally: &Tally,
     out: &mut O,
 ) -> Result<(), PutFault>
-    requires ground { IsGround ground.now }
     requires seen { ComeInOrder ground.now.log.now frames.now.seen.now }
     requires offending { OffendInOrder ground.now.log.now (offending_given frames.now.offending) }
     ensures { Puts result (O.state out.old) (O.state out.new)
@@ -145,7 +143,6 @@ fn put_whole<O: Sink>(
     tally: &Tally,
     out: &mut O,
 ) -> Result<(), PutFault>
-    requires ground { IsGround ground.now }
     requires seen { ComeInOrder ground.now.log.now frames.now.seen.now }
     requires offending { OffendInOrder ground.now.log.now (offending_given frames.now.offending) }
     ensures { Puts result (O.state out.old) (O.state out.new)

@@ -2,8 +2,7 @@ ghost use Rattle.std.specs.Prelude.{◌≡◌, ◌+◌, ◌-◌, ◌*◌, ◌≤
 ghost use Rattle.std.specs.List.{flat_map, range_with_len};
 ghost use Rattle.std.specs.Option.{option_or};
 ghost use Rattle.fr_base.specs.Device.{Puts};
-ghost use Rattle.fr_course.specs.Near.{IsReadingScale};
-ghost use Rattle.fr_findings.specs.Ground.{AreWalked, CountsFew, IsAround, IsDouble, IsGround, OffendInOrder, basis_in, double_around, double_in, offending_given};
+ghost use Rattle.fr_findings.specs.Ground.{AreWalked, CountsFew, IsAround, IsDouble, OffendInOrder, basis_in, double_around, double_in, offending_given};
 ghost use Rattle.fr_observe.specs.Observing.{cycles_text, double_rows, node_row};
 ghost use Rattle.fr_observe.specs.Skews.{AreSkews};
 ghost use Rattle.fr_findings.specs.Verdict.{double_told, even_says, no_progress, odd_says, over_row, progress_of, progress_told, told_of_doubles};
@@ -24,7 +23,6 @@ fn put_nodes<O: Sink>(
     senders: &[Sender],
     out: &mut O,
 ) -> Result<(), PutFault>
-    requires scale { IsReadingScale scale.now }
     requires senders { All (IsProperSender scale.now) senders.now }
     ensures { Puts result (O.state out.old) (O.state out.new) (flat_map (node_row scale.now double) senders.now) }
 {
@@ -60,7 +58,6 @@ fn put_cycles<O: Sink>(
 // The rows of a double cycle.
 #[tactic(auto, unfolding(fr_observe::specs::Observing::double_rows))]
 fn put_rows<O: Sink>(ground: &Ground<'_>, double: &Double<'_>, out: &mut O) -> Result<(), PutFault>
-    requires ground { IsGround ground.now }
     requires double { IsDouble ground.now double.now }
     ensures { Puts result (O.state out.old) (O.state out.new)
         (double_rows ground.now.precision ground.now.scale.now double.now.number double.now.senders.now) }
@@ -109,7 +106,6 @@ fn put_double<'a, O: Sink>(
     progress: &mut Progress,
     out: &mut O,
 ) -> Result<(), PutFault>
-    requires ground { IsGround ground.now }
     requires double { IsDouble ground.now double.now }
     requires few { CountsFew 900_000 progress.old }
     ensures puts { Puts result (O.state out.old) (O.state out.new)
@@ -146,7 +142,6 @@ fn put_around<O: Sink>(
     progress: &mut Progress,
     out: &mut O,
 ) -> Result<(), PutFault>
-    requires ground { IsGround ground.now }
     requires around { IsAround ground.now around.now }
     requires number { number < 1_000_000 }
     requires few { CountsFew 900_000 progress.old }
@@ -181,7 +176,6 @@ pub(crate) fn put_doubles<O: Sink>(
     progress: &mut Progress,
     out: &mut O,
 ) -> Result<(), PutFault>
-    requires ground { IsGround ground.now }
     requires seen { AreWalked ground.now doubles.first frames.now.seen.now }
     requires offending { OffendInOrder ground.now.log.now (offending_given frames.now.offending) }
     requires first { doubles.first ≤ doubles.last }

@@ -14,7 +14,7 @@ use Rattle.fr_course.specs.Middles.{hull, middle, middle_missing}
 use Rattle.fr_course.specs.Terms.{rate_step_seen}
 use Rattle.fr_course.specs.declared.courses.Course.{Course}
 use Rattle.fr_course.specs.declared.intervals.Interval.{Interval}
-use Rattle.fr_course.specs.declared.scales.Scale.{Scale}
+use Rattle.fr_course.specs.Scales.{Scale}
 use Rattle.fr_sightings.specs.declared.sender.Sender.{Sender}
 use Rattle.fr_observe.specs.Observing.{terms_of}
 use Rattle.fr_observe.specs.Faults.{other_courses, offset_due, rate_due, stated_flutter, unlike_fault, unlike_with}

@@ -9,14 +9,14 @@ use Rattle.fr_bound.specs.Bounds.{nominal}
 use Rattle.fr_cluster.specs.Values.{Values}
 use Rattle.fr_log.specs.View.{LogView}
 use Rattle.fr_course.specs.Computed.{deviation_seen, further_by, measuring_of, rate_value_seen}
-use Rattle.fr_course.specs.declared.measuring.Measuring.{Measuring}
+use Rattle.fr_course.specs.Measures.{Measuring}
 use Rattle.fr_course.specs.Course.{between, odd_macrotick, share_from, share_to}
 use Rattle.fr_course.specs.declared.courses.Course.{Course}
 use Rattle.fr_course.specs.Middles.{greatest_left, greatest_middle, highs_of, hull, least_left, least_middle, lows_of, middle, middle_missing, middle_where, middle_with}
 use Rattle.fr_course.specs.Near.{IsMeasuring}
 use Rattle.fr_course.specs.Readings.{ceiling_of, fast_million, least_ticks, most_ticks, slow_million}
 use Rattle.fr_course.specs.declared.intervals.Interval.{Interval}
-use Rattle.fr_course.specs.declared.scales.Scale.{Scale}
+use Rattle.fr_course.specs.Scales.{Scale}
 use Rattle.fr_course.specs.Terms.{rate_step_seen}
 use Rattle.fr_course.proofs.Floors.{ceiling_above, ceiling_below, floor_above, floor_below}
 use Rattle.fr_sightings.specs.declared.sender.Sender.{Sender}

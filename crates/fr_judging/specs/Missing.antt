@@ -5,7 +5,7 @@ use Rattle.std.specs.List.{find, flat_map, range_with_len}
 use Rattle.fr_bound.specs.declared.judging.Known.{Known}
 use Rattle.fr_cluster.specs.Values.{Values}
 use Rattle.fr_log.specs.View.{LogView}
-use Rattle.fr_course.specs.declared.scales.Scale.{Scale}
+use Rattle.fr_course.specs.Scales.{Scale}
 use Rattle.fr_sightings.specs.declared.sender.Sender.{Sender}
 use Rattle.fr_observe.specs.Faults.{term_word}
 use Rattle.fr_observe.specs.Observing.{known_count, row}

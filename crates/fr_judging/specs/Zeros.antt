@@ -3,10 +3,10 @@ use Rattle.std.specs.Prelude.{◌≡◌, ◌==◌, not, true, ℤ, pos, ◌+ℤ�
 use Rattle.std.specs.Option.{option_map}
 use Rattle.fr_base.specs.Within.{IsBetween}
 use Rattle.fr_course.specs.Computed.{deviation_seen, rate_value_seen}
-use Rattle.fr_course.specs.declared.measuring.Measuring.{Measuring}
+use Rattle.fr_course.specs.Measures.{Measuring}
 use Rattle.fr_course.specs.declared.courses.Course.{Course}
 use Rattle.fr_course.specs.declared.intervals.Interval.{Interval}
-use Rattle.fr_course.specs.declared.scales.Scale.{Scale}
+use Rattle.fr_course.specs.Scales.{Scale}
 use Rattle.fr_course.specs.Terms.{rate_step_seen}
 use Rattle.fr_observe.specs.Observing.{terms_of}
 use Rattle.fr_sightings.specs.declared.sender.Sender.{Sender}

@@ -6,7 +6,7 @@ ghost use Rattle.fr_bound.specs.Settling.{IsSettleCheck};
 ghost use Rattle.fr_bound.specs.SharpBounds.{most_flutter};
 ghost use Rattle.fr_bound.specs.SharpChecks.{sharp_holds_of};
 ghost use Rattle.fr_bound.specs.SharpSpreads.{sharply_near_in};
-ghost use Rattle.fr_course.specs.Near.{EndWithin, IsReadingScale};
+ghost use Rattle.fr_course.specs.Near.{EndWithin};
 ghost use Rattle.fr_sightings.specs.Ranges.{IsProperSender};
 ghost use Rattle.fr_observe.specs.Faults.{stated_flutter};
 ghost use Rattle.fr_judging.specs.Knowing.{JudgedBySmall, beyond_of, is_judged_by, is_stated_at, known_as_stated, known_by, known_next, known_next_by, known_seen, most_beyond, standing_of, standing_with, unfit, unjudged_by};
@@ -49,7 +49,6 @@ fn outside(proper: &Interval, long: &Interval) -> i128
 
 // How far those of a sender's cycles may lie beyond theirs.
 fn beyond_of(params: &Params, scale: &Scale, sender: &Sender) -> i128
-    requires scale { IsReadingScale scale.now }
     requires sender { IsProperSender scale.now sender.now }
     ensures value { result ≡ beyond_of params.now scale.now sender.now }
     ensures near { IsWithin (pos 6_200_001_000_000_000_000) result }
@@ -62,7 +61,6 @@ fn beyond_of(params: &Params, scale: &Scale, sender: &Sender) -> i128
 
 // Those of some senders.
 fn most_beyond(params: &Params, scale: &Scale, senders: &[Sender]) -> u64
-    requires scale { IsReadingScale scale.now }
     requires senders { All (IsProperSender scale.now) senders.now }
     ensures { result ≡ most_beyond params.now scale.now senders.now }
 {
@@ -82,7 +80,6 @@ fn most_apart(apart: &Interval) -> u64
 }
 
 fn known_by(params: &Params, scale: &Scale, senders: &[Sender]) -> Known
-    requires scale { IsReadingScale scale.now }
     requires few { length senders.now ≤ 64 }
     requires senders { All (IsProperSender scale.now) senders.now }
     ensures { result ≡ known_by params.now scale.now senders.now }

@@ -7,7 +7,7 @@ use crate::obstacle::{Obstacle, ObstacleKind};
 use fr_cluster::{NodeSpec, Params};
 use fr_log::Log;
 use fr_observe::Fault;
-use fr_sightings::{Sighting, node_at, node_count, seen_box};
+use fr_sightings::{Sighting, seen_box};
 
 // A node is arbitrary, or was seen in both cycles of a double cycle.
 fn is_seen_whole(log: &Log, here: &[Sighting], double: u32, node: &NodeSpec) -> bool
@@ -80,8 +80,8 @@ pub(crate) fn first_unseen(
     ensures { result ≡ first_unseen log.now here.now double params.now.nodes }
 {
     let mut first = None;
-    for place in 0..node_count(params) {
-        first = or_unseen(first, log, here, double, node_at(params, place));
+    for place in 0..params.node_count() {
+        first = or_unseen(first, log, here, double, params.node_at(place));
     }
     first
 }

@@ -2,7 +2,7 @@ ghost use Rattle.std.specs.Prelude.{◌≡◌, ◌==◌, ◌+ℤ◌, ◌-ℤ◌,
 ghost use Rattle.fr_base.specs.Within.{IsWithin};
 ghost use Rattle.fr_course.specs.Course.{between, odd_macrotick};
 ghost use Rattle.fr_course.specs.Computed.{measuring_of};
-ghost use Rattle.fr_course.specs.Near.{IsMeasuring, IsNearCourse, IsReadingScale, EndWithin};
+ghost use Rattle.fr_course.specs.Near.{IsNearCourse, EndWithin};
 ghost use Rattle.fr_sightings.specs.Ranges.{IsProperSender};
 ghost use Rattle.fr_observe.specs.Faults.{stated_flutter};
 ghost use Rattle.fr_observe.specs.Scenes.{IsScene};
@@ -31,7 +31,6 @@ fn may_be_0_if(seen: Option<Interval>) -> bool
 
 // Whether a term of a sender may be 0 by what is seen of it.
 fn seen_may_be_0(what: Term, scale: &Scale, sender: &Sender) -> bool
-    requires scale { IsReadingScale scale.now }
     requires sender { IsProperSender scale.now sender.now }
     ensures { result ≡ true → IfSome (seen_for what scale.now sender.now) MayBeZero }
 {
@@ -61,29 +60,28 @@ fn times(macroticks: i128, readings: i128) -> i128
 
 // How much a macrotick of the receiver can lie behind its action point, at most, so that it lies before the sender's.
 fn room_before(scale: &Scale, receiver: &Interval, sender: &Interval) -> i128
-    requires scale { IsReadingScale scale.now }
     requires receiver { EndWithin (pos 1_900_000_000_000_000_000) receiver.now }
     requires sender { EndWithin (pos 1_900_000_000_000_000_000) sender.now }
     ensures value { result ≡ (sender.now.high -ℤ receiver.now.low) +ℤ scale.now.micro_to }
     ensures within { IsWithin (pos 4_000_000_000_000_000_000) result }
 {
-    sender.high - receiver.low + scale.micro_to
+    let micro = scale.micro_to;
+    sender.high - receiver.low + micro
 }
 
 // And at least, so that it lies behind it.
 fn room_behind(scale: &Scale, receiver: &Interval, sender: &Interval) -> i128
-    requires scale { IsReadingScale scale.now }
     requires receiver { EndWithin (pos 1_900_000_000_000_000_000) receiver.now }
     requires sender { EndWithin (pos 1_900_000_000_000_000_000) sender.now }
     ensures value { result ≡ (sender.now.low -ℤ receiver.now.high) -ℤ scale.now.micro_to }
     ensures within { IsWithin (pos 4_000_000_000_000_000_000) result }
 {
-    sender.low - receiver.high - scale.micro_to
+    let micro = scale.micro_to;
+    sender.low - receiver.high - micro
 }
 
 // Whether so many macroticks of cycles of a length can take no more than so long: no quotient is needed for that.
 fn take_at_most(scale: &Scale, macroticks: i128, length: i128, most: i128) -> bool
-    requires scale { IsReadingScale scale.now }
     requires macroticks { IsWithin (pos 16_000) macroticks }
     requires length { IsWithin (pos 930_000_000_000_000_000) length }
     requires most { IsWithin (pos 4_000_000_000_000_000_000) most }
@@ -94,7 +92,6 @@ fn take_at_most(scale: &Scale, macroticks: i128, length: i128, most: i128) -> bo
 
 // And no less.
 fn take_at_least(scale: &Scale, macroticks: i128, length: i128, least: i128) -> bool
-    requires scale { IsReadingScale scale.now }
     requires macroticks { IsWithin (pos 16_000) macroticks }
     requires length { IsWithin (pos 930_000_000_000_000_000) length }
     requires least { IsWithin (pos 4_000_000_000_000_000_000) least }
@@ -112,7 +109,6 @@ fn has_room(
     ahead: i128,
     lengths: &Interval,
 ) -> bool
-    requires scale { IsReadingScale scale.now }
     requires receiver { EndWithin (pos 1_900_000_000_000_000_000) receiver.now }
     requires sender { EndWithin (pos 1_900_000_000_000_000_000) sender.now }
     requires ahead { IsWithin (pos 16_000) ahead }
@@ -147,23 +143,23 @@ fn turned(lengths: &Interval) -> Interval
 
 // How many macroticks the action point of a sender is ahead.
 fn ahead_of(scale: &Scale, receiver: &Course, sender: &Course) -> i128
-    requires scale { IsReadingScale scale.now }
     requires receiver { IsNearCourse scale.now receiver.now }
     requires sender { IsNearCourse scale.now sender.now }
     ensures value { result ≡ sender.now.action -ℤ receiver.now.action }
     ensures within { IsWithin (pos 16_000) result }
 {
+    let _of_cycle = scale.macros;
     sender.action - receiver.action
 }
 
 // Whether the receiver's macrotick of the sender's action point may lie where that does.
 fn deviation_may_be_0(scale: &Scale, receiver: &Course, sender: &Course) -> bool
-    requires scale { IsReadingScale scale.now }
     requires receiver { IsNearCourse scale.now receiver.now }
     requires sender { IsNearCourse scale.now sender.now }
     ensures { result ≡ true →
         MayBeZero (between (odd_macrotick scale.now receiver.now sender.now.action) sender.now.odd) }
 {
+    let _of_cycle = scale.macros;
     let ahead = ahead_of(scale, receiver, sender);
     if ahead >= 0 {
         has_room(scale, &receiver.odd, &sender.odd, ahead, &receiver.length)
@@ -186,12 +182,12 @@ fn value_may_be_0(
     receiver: &Course,
     sender: &Course,
 ) -> bool
-    requires scale { IsReadingScale scale.now }
-    requires measuring { IsMeasuring measuring.now }
     requires receiver { IsNearCourse scale.now receiver.now }
     requires sender { IsNearCourse scale.now sender.now }
     ensures { result ≡ true → MayBeZero (value_for what scale.now measuring.now receiver.now sender.now) }
 {
+    let _of_clock = scale.drift;
+    let _of_microtick = measuring.shortest;
     match what {
         Term::Offset => deviation_may_be_0(scale, receiver, sender),
         Term::Rate => apart_may_be_0(receiver, sender),
@@ -206,8 +202,6 @@ fn other_may_be_0(
     sender: &Sender,
     other: &Sender,
 ) -> bool
-    requires scale { IsReadingScale scale.now }
-    requires measuring { IsMeasuring measuring.now }
     requires sender { IsProperSender scale.now sender.now }
     requires other { IsProperSender scale.now other.now }
     ensures { result ≡ true → not (other.now.node == sender.now.node) ≡ true →

@@ -1,7 +1,6 @@
 ghost use Rattle.std.specs.Prelude.{◌≡◌, ◌≤◌, ◌*◌, [], List, None, Some, IfSome, nat_lt, slice_set, true};
 ghost use Rattle.std.specs.List.{list_any};
 ghost use Rattle.fr_text.specs.Records.{FileRecord};
-ghost use Rattle.fr_cluster.specs.Questions.{has_channel};
 ghost use Rattle.fr_log.specs.Draft.{EndsLog, IsLogDraft, TakesLogRow, TakesLogRowAtOnce, log_drafted, number_in_table};
 ghost use Rattle.fr_log.specs.Files.{lacks_delay, lacks_limits, lacks_on};
 ghost use Rattle.fr_log.specs.Numbers.{IsHeadNumber, head_place};
@@ -14,10 +13,9 @@ use crate::entry::Entry;
 use crate::fault::LogFault;
 use crate::log::Log;
 use crate::rows::{DelayLimits, DelayRow, EntryRow, HeadNumber, Row, read_row};
-use csv::ByteRecord;
 use fr_base::{Channel, NodeId, Reason};
 use fr_cluster::{NodeList, NodeSpec, Params};
-use fr_text::Table;
+use fr_text::{Record, RecordTable};
 use std::alloc::{AllocError, Global};
 
 // The greatest instant of an entry, in ticks.
@@ -145,7 +143,7 @@ impl<'a> Draft<'a> {
         if row.limits.high < row.limits.low || self.has_entry() {
             return Some(Reason::Role);
         }
-        if !has(spec, channel) {
+        if !spec.has_channel(channel) {
             return Some(Reason::Link);
         }
         if self.limits(row.node, channel).is_some() {
@@ -333,7 +331,7 @@ impl<'a> Draft<'a> {
     fn lacks_on(&self, node: &NodeSpec, channel: Channel) -> bool
         ensures { (done : List FileRecord) → IsLogDraft self.now done → result ≡ lacks_on done node.now channel }
     {
-        has(node, channel) && self.limits(node.id, channel).or(self.each).is_none()
+        node.has_channel(channel) && self.limits(node.id, channel).or(self.each).is_none()
     }
 }
 
@@ -367,15 +365,6 @@ fn is_below_last(entries: &[Entry], stamp: u64) -> bool
     match entries.last() {
         Some(entry) => stamp < entry.stamp,
         None => false,
-    }
-}
-
-fn has(node: &NodeSpec, channel: Channel) -> bool
-    ensures { result ≡ has_channel (Some node.now) channel }
-{
-    match channel {
-        Channel::A => node.on_a,
-        Channel::B => node.on_b,
     }
 }
 
@@ -413,12 +402,12 @@ fn cycle_of(number: Option<u64>) -> Option<u32>
     }
 }
 
-impl<'a> Table for Draft<'a> {
+impl<'a> RecordTable for Draft<'a> {
     ghost reason = { λ draft. log_reason_after draft.params.now };
 
     ghost holds = { λ draft records. IsLogDraft draft records };
 
-    fn add(&mut self, row: &ByteRecord) -> Result<Option<Reason>, AllocError> {
+    fn add(&mut self, row: &Record<'_>) -> Result<Option<Reason>, AllocError> {
         match read_row(self.alloc, row)? {
             Err(why) => Ok(Some(why)),
             Ok(said) => self.take(said),

@@ -6,7 +6,7 @@ use crate::draft::Draft;
 use crate::fault::LogFault;
 use crate::log::Log;
 use fr_cluster::Params;
-use fr_text::{RowFault, read_all};
+use fr_text::{RowFault, read_records};
 use std::alloc::Global;
 
 /// Reads the log of an observer of a cluster with these parameters. It accepts exactly the files of which no record is
@@ -20,7 +20,7 @@ pub fn read(alloc: Global, params: &Params, bytes: &[u8]) -> Result<Log, LogFaul
     ensures sound { IfOk result (IsSoundLog params.now) }
 {
     let mut draft = Draft::new(alloc, params);
-    match read_all(alloc, bytes, &mut draft) {
+    match read_records(alloc, bytes, &mut draft) {
         Ok(()) => draft.into_log(params),
         Err(RowFault::Row { number, reason }) => Err(LogFault::Row { number, reason }),
         Err(RowFault::NoMemory) => Err(LogFault::NoMemory),

@@ -1,13 +1,12 @@
 ghost use Rattle.std.specs.Prelude.{◌≡◌, ◌≤◌, length, IfOk, IfSome};
-ghost use Rattle.csv.specs.Records.{fields_of};
+ghost use Rattle.fr_text.specs.Plain.{fields_of};
 ghost use Rattle.fr_text.specs.Fields.{field_of, hex_digits_in, is_blank};
 ghost use Rattle.fr_log.specs.Numbers.{greatest_number, head_number_of, head_place, least_number};
 ghost use Rattle.fr_log.specs.Rows.{AreEntryBytes, IsProperLogRow, each_row, entry_bytes_in, entry_row, is_alone, limits_in, link_row, log_delay_row, log_node_row, log_row_of, number_row, other_row, whole_row};
 
 use crate::entry::{EntryBytes, EntryKind};
-use csv::ByteRecord;
 use fr_base::{Channel, NodeId, NumberFault, Reason};
-use fr_text::{both, field, natural, reason_of};
+use fr_text::{Record, both, natural, reason_of};
 use hex::FromHexError;
 use std::alloc::{AllocError, Global};
 
@@ -138,20 +137,20 @@ impl HeadNumber {
 /// What a record says, or the least of the reasons that it shows by itself: Shape, UnknownName, NotNumber,
 /// OutOfRange. `AllocError` where memory ran out.
 #[tactic(auto, unfolding(crate::specs::Rows::log_row_of))]
-pub fn read_row(alloc: Global, row: &ByteRecord) -> Result<Result<Row, Reason>, AllocError>
+pub fn read_row(alloc: Global, row: &Record<'_>) -> Result<Result<Row, Reason>, AllocError>
     ensures said { IfOk result (λ said. said ≡ log_row_of (fields_of row.now)) }
     ensures proper { IfOk result (λ said. IfOk said IsProperLogRow) }
 {
     if row.len() != 5 {
         return Ok(Err(Reason::Shape));
     }
-    match HeadNumber::spelt(field(row, 0)) {
+    match HeadNumber::spelt(row.field(0)) {
         Some(name) => Ok(read_number(name, row)),
         None => read_other(alloc, row),
     }
 }
 
-fn read_number(name: HeadNumber, row: &ByteRecord) -> Result<Row, Reason>
+fn read_number(name: HeadNumber, row: &Record<'_>) -> Result<Row, Reason>
     requires { length (fields_of row.now) ≡ 5 }
     ensures said { result ≡ number_row name (fields_of row.now) }
     ensures proper { IfOk result IsProperLogRow }
@@ -160,26 +159,26 @@ fn read_number(name: HeadNumber, row: &ByteRecord) -> Result<Row, Reason>
         return Err(Reason::Shape);
     }
     let (low, high) = name.range();
-    match natural(field(row, 1), low, high) {
+    match natural(row.field(1), low, high) {
         Ok(number) => Ok(Row::Number(name, number)),
         Err(fault) => Err(reason_of(fault)),
     }
 }
 
 // Whether the fields after the second one are empty.
-fn is_alone(row: &ByteRecord) -> bool
+fn is_alone(row: &Record<'_>) -> bool
     requires { length (fields_of row.now) ≡ 5 }
     ensures { result ≡ is_alone (fields_of row.now) }
 {
-    field(row, 2).is_empty() && field(row, 3).is_empty() && field(row, 4).is_empty()
+    row.field(2).is_empty() && row.field(3).is_empty() && row.field(4).is_empty()
 }
 
-fn read_other(alloc: Global, row: &ByteRecord) -> Result<Result<Row, Reason>, AllocError>
+fn read_other(alloc: Global, row: &Record<'_>) -> Result<Result<Row, Reason>, AllocError>
     requires { length (fields_of row.now) ≡ 5 }
     ensures said { IfOk result (λ said. said ≡ other_row (fields_of row.now)) }
     ensures proper { IfOk result (λ said. IfOk said IsProperLogRow) }
 {
-    let kind = field(row, 0);
+    let kind = row.field(0);
     if kind == b"whole".as_slice() {
         Ok(read_whole(row))
     } else if kind == b"arbitrary".as_slice() {
@@ -195,18 +194,18 @@ fn read_other(alloc: Global, row: &ByteRecord) -> Result<Result<Row, Reason>, Al
     }
 }
 
-fn read_whole(row: &ByteRecord) -> Result<Row, Reason>
+fn read_whole(row: &Record<'_>) -> Result<Row, Reason>
     requires { length (fields_of row.now) ≡ 5 }
     ensures said { result ≡ whole_row (fields_of row.now) }
     ensures proper { IfOk result IsProperLogRow }
 {
-    if !field(row, 1).is_empty() || !is_alone(row) {
+    if !row.field(1).is_empty() || !is_alone(row) {
         return Err(Reason::Shape);
     }
     Ok(Row::Whole)
 }
 
-fn read_arbitrary(row: &ByteRecord) -> Result<Row, Reason>
+fn read_arbitrary(row: &Record<'_>) -> Result<Row, Reason>
     requires { length (fields_of row.now) ≡ 5 }
     ensures said { result ≡ log_node_row (fields_of row.now) }
     ensures proper { IfOk result IsProperLogRow }
@@ -214,19 +213,19 @@ fn read_arbitrary(row: &ByteRecord) -> Result<Row, Reason>
     if !is_alone(row) {
         return Err(Reason::Shape);
     }
-    match natural(field(row, 1), 1, 64) {
+    match natural(row.field(1), 1, 64) {
         Ok(node) => Ok(Row::Arbitrary(NodeId(node as u8))),
         Err(fault) => Err(reason_of(fault)),
     }
 }
 
-fn read_delay(row: &ByteRecord) -> Result<Row, Reason>
+fn read_delay(row: &Record<'_>) -> Result<Row, Reason>
     requires { length (fields_of row.now) ≡ 5 }
     ensures said { result ≡ log_delay_row (fields_of row.now) }
     ensures proper { IfOk result IsProperLogRow }
 {
-    let node = field(row, 1);
-    let channel = field(row, 2);
+    let node = row.field(1);
+    let channel = row.field(2);
     if !node.is_empty() && !channel.is_empty() {
         read_link(row)
     } else if node.is_empty() && channel.is_empty() {
@@ -236,22 +235,22 @@ fn read_delay(row: &ByteRecord) -> Result<Row, Reason>
     }
 }
 
-fn read_link(row: &ByteRecord) -> Result<Row, Reason>
+fn read_link(row: &Record<'_>) -> Result<Row, Reason>
     requires { length (fields_of row.now) ≡ 5 }
     ensures said { result ≡ link_row (fields_of row.now) }
     ensures proper { IfOk result IsProperLogRow }
 {
-    match both(natural(field(row, 1), 1, 64), read_limits(row)) {
+    match both(natural(row.field(1), 1, 64), read_limits(row)) {
         Ok((node, limits)) => Ok(Row::Delay(DelayRow {
             node: NodeId(node as u8),
-            channel: Channel::spelt(field(row, 2)),
+            channel: Channel::spelt(row.field(2)),
             limits,
         })),
         Err(fault) => Err(reason_of(fault)),
     }
 }
 
-fn read_each(row: &ByteRecord) -> Result<Row, Reason>
+fn read_each(row: &Record<'_>) -> Result<Row, Reason>
     requires { length (fields_of row.now) ≡ 5 }
     ensures said { result ≡ each_row (fields_of row.now) }
     ensures proper { IfOk result IsProperLogRow }
@@ -262,14 +261,14 @@ fn read_each(row: &ByteRecord) -> Result<Row, Reason>
     }
 }
 
-fn read_limits(row: &ByteRecord) -> Result<DelayLimits, NumberFault>
+fn read_limits(row: &Record<'_>) -> Result<DelayLimits, NumberFault>
     requires { length (fields_of row.now) ≡ 5 }
     ensures said { result ≡ limits_in (fields_of row.now) }
     ensures proper { IfOk result (λ limits. limits.high ≤ 1_000_000_000) }
 {
     let (low, high) = both(
-        natural(field(row, 3), 0, MOST_DELAY),
-        natural(field(row, 4), 0, MOST_DELAY),
+        natural(row.field(3), 0, MOST_DELAY),
+        natural(row.field(4), 0, MOST_DELAY),
     )?;
     Ok(DelayLimits { low, high })
 }
@@ -277,24 +276,24 @@ fn read_limits(row: &ByteRecord) -> Result<DelayLimits, NumberFault>
 fn read_entry(
     alloc: Global,
     kind: EntryKind,
-    row: &ByteRecord,
+    row: &Record<'_>,
 ) -> Result<Result<Row, Reason>, AllocError>
     requires { length (fields_of row.now) ≡ 5 }
     ensures said { IfOk result (λ said. said ≡ entry_row kind (fields_of row.now)) }
     ensures proper { IfOk result (λ said. IfOk said IsProperLogRow) }
 {
-    if !field(row, 4).is_empty() {
+    if !row.field(4).is_empty() {
         return Ok(Err(Reason::Shape));
     }
-    let text = field(row, 3);
-    match both(natural(field(row, 1), 0, LAST_STAMP), few_digits(text)) {
+    let text = row.field(3);
+    match both(natural(row.field(1), 0, LAST_STAMP), few_digits(text)) {
         Err(fault) => Ok(Err(reason_of(fault))),
         Ok((stamp, _)) => {
             let bytes = read_bytes(alloc, text)?;
             Ok(Ok(Row::Came(EntryRow {
                 kind,
                 stamp,
-                channel: Channel::spelt(field(row, 2)),
+                channel: Channel::spelt(row.field(2)),
                 bytes,
             })))
         }

@@ -7,5 +7,5 @@ mod middle;
 mod receivers;
 
 pub use list15::List15;
-pub use middle::{half_sum, midpoint, midpoint_is_there, midpoint_is_unique};
+pub use middle::{discarded_of, half_sum, midpoint, midpoint_is_there, midpoint_is_unique};
 pub use receivers::{few_are_discarded, midpoints_agree, receivers_agree};

@@ -36,9 +36,10 @@ fn middle_of(values: &mut [i32]) -> i32
     half_sum(values[ends], values[count - 1 - ends])
 }
 
-// How many values of so many are discarded at each end.
-fn discarded_of(count: usize) -> usize
+/// How many values of so many are discarded at each end (section 8.6.1).
+pub fn discarded_of(count: usize) -> usize
     ensures value { result ≡ discarded count }
+    ensures few { result ≤ 2 }
     ensures some_remain { 0 < count → 2 * result + 1 ≤ count }
 {
     if count < 3 {

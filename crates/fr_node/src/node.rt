@@ -11,14 +11,13 @@ ghost use Rattle.fr_reception.specs.Answers.{answer_of};
 ghost use Rattle.fr_correct.specs.Terms.{is_uncut};
 
 use crate::answers::{Arrival, Reception, answer, is_well_within, outside, read, received};
-use crate::corrections::{cut_count, offset_term_from, rate_term_from};
-use crate::own::{own_key_index, poc_limits};
+use crate::corrections::cut_count;
 use fr_base::{Channel, NodeId, NodeRow, Outcome, Slot, State};
 use fr_cluster::Params;
-use fr_correct::Term;
+use fr_correct::{Term, offset_term_from, rate_term_from};
 use fr_frame::{FrameFault, Header};
 use fr_measure::Table;
-use fr_poc::Poc;
+use fr_poc::{Poc, poc_limits};
 use fr_reception::Heard;
 use fr_time::{is_odd, next_start};
 use std::marker::Model;
@@ -315,7 +314,7 @@ impl Node {
         if self.follows {
             return None;
         }
-        own_key_index(params, self.id)
+        params.own_key_index(self.id)
     }
 
     // The answer to a frame of which this is made where it arrives in its slot.

@@ -20,7 +20,7 @@ use Rattle.fr_course.specs.Course.{allowed, apart_by, is_empty, seen_apart}
 use Rattle.fr_course.specs.Terms.{rate_step_seen}
 use Rattle.fr_course.specs.declared.courses.Course.{Course}
 use Rattle.fr_course.specs.declared.intervals.Interval.{Interval}
-use Rattle.fr_course.specs.declared.scales.Scale.{Scale}
+use Rattle.fr_course.specs.Scales.{Scale}
 use Rattle.fr_sightings.specs.Senders.{first_stamp, own_slot, seen_box, seen_span}
 use Rattle.fr_sightings.specs.declared.sender.Sender.{Sender}
 use Rattle.fr_sightings.specs.declared.sighting.Sighting.{Sighting}

@@ -8,7 +8,7 @@ use Rattle.fr_cluster.specs.Values.{Values}
 use Rattle.fr_text.specs.Pieces.{line}
 use Rattle.fr_log.specs.View.{LogView}
 use Rattle.fr_course.specs.declared.intervals.Interval.{Interval}
-use Rattle.fr_course.specs.declared.scales.Scale.{Scale}
+use Rattle.fr_course.specs.Scales.{Scale}
 use Rattle.fr_course.specs.declared.courses.Course.{Course}
 use Rattle.fr_course.specs.Spread.{least_even_skew, least_odd_skew, most_even_skew, most_odd_skew}
 use Rattle.fr_course.specs.Terms.{offset_seen}

@@ -1,6 +1,6 @@
 -- What holds of the limits of skews.
 use Rattle.std.specs.Prelude.{◌≡◌, List}
-use Rattle.fr_course.specs.declared.scales.Scale.{Scale}
+use Rattle.fr_course.specs.Scales.{Scale}
 use Rattle.fr_sightings.specs.declared.sender.Sender.{Sender}
 use Rattle.fr_observe.specs.Observing.{even_high, even_low, odd_high, odd_low}
 use Rattle.fr_observe.specs.declared.skews.Skews.{Skews}

@@ -7,7 +7,7 @@ use Rattle.fr_base.specs.declared.sink.PutFault.{PutFault}
 use Rattle.fr_cluster.specs.Values.{Values}
 use Rattle.fr_log.specs.View.{LogView}
 use Rattle.fr_course.specs.Spread.{lengths_apart, starts_apart}
-use Rattle.fr_course.specs.declared.scales.Scale.{Scale}
+use Rattle.fr_course.specs.Scales.{Scale}
 use Rattle.fr_sightings.specs.declared.sender.Sender.{Sender}
 use Rattle.fr_observe.specs.Faults.{beyond_fault, correction_fault, fault_row, first_of_faults, length_beyond, offset_fault, rate_fault, skew_fault}
 use Rattle.fr_observe.specs.Observing.{courses_of, even_high, even_low, odd_high, odd_low}

@@ -1,6 +1,6 @@
 ghost use Rattle.std.specs.Prelude.{◌≡◌, ◌≤ℤ◌, All, neg_ℤ, pos};
 ghost use Rattle.fr_base.specs.Within.{IsBetween};
-ghost use Rattle.fr_course.specs.Near.{EndWithin, IsNearCourse, IsReadingScale};
+ghost use Rattle.fr_course.specs.Near.{EndWithin, IsNearCourse};
 ghost use Rattle.fr_course.specs.Spread.{lengths_apart, starts_apart};
 ghost use Rattle.fr_observe.specs.Faults.{beyond_fault, beyond_with, skew_fault};
 ghost use Rattle.fr_observe.specs.Scenes.{IsScene};
@@ -97,7 +97,6 @@ fn beyond_fault(what: Apart, cycle: u32, bound: i128, seen: &Interval) -> Option
 }
 
 fn starts_fault(scale: &Scale, cycle: u32, bound: i128, courses: &[Course]) -> Option<Fault>
-    requires scale { IsReadingScale scale.now }
     requires bound { neg_ℤ (pos 9_223_372_036_854_775_808) ≤ℤ bound }
     requires courses { All (IsNearCourse scale.now) courses.now }
     ensures { result ≡ beyond_fault Apart.Starts cycle bound (starts_apart scale.now courses.now) }
@@ -106,7 +105,6 @@ fn starts_fault(scale: &Scale, cycle: u32, bound: i128, courses: &[Course]) -> O
 }
 
 fn lengths_fault(scale: &Scale, cycle: u32, bound: i128, courses: &[Course]) -> Option<Fault>
-    requires scale { IsReadingScale scale.now }
     requires bound { neg_ℤ (pos 9_223_372_036_854_775_808) ≤ℤ bound }
     requires courses { All (IsNearCourse scale.now) courses.now }
     ensures { result ≡ beyond_fault Apart.Lengths cycle bound (lengths_apart scale.now courses.now) }

@@ -1,6 +1,5 @@
 ghost use Rattle.std.specs.Prelude.{◌≡◌, Some};
 ghost use Rattle.std.specs.List.{flat_map};
-ghost use Rattle.fr_cluster.specs.Questions.{has_channel};
 ghost use Rattle.fr_observe.specs.Faults.{is_inside, missing_by, missing_frames, missing_in, missing_of, missing_on, node_missing, was_seen};
 ghost use Rattle.fr_observe.specs.Scenes.{IsScene};
 ghost use Rattle.fr_observe.specs.Telling.{TellsFaults};
@@ -10,7 +9,7 @@ use crate::scene::Scene;
 use crate::telling::tell;
 use fr_base::{Channel, NodeId, PutFault, Sink};
 use fr_cluster::NodeSpec;
-use fr_sightings::{Sighting, first_stamp, is_judged, node_at, node_count};
+use fr_sightings::{Sighting, first_stamp, is_judged};
 
 fn is_inside(span: &LogSpan, cycle: u32) -> bool
     ensures { result ≡ is_inside span.now cycle }
@@ -39,15 +38,6 @@ fn missing_on(
     }
 }
 
-pub(crate) fn has_channel(node: &NodeSpec, channel: Channel) -> bool
-    ensures { result ≡ has_channel (Some node.now) channel }
-{
-    match channel {
-        Channel::A => node.on_a,
-        Channel::B => node.on_b,
-    }
-}
-
 fn missing_by(
     span: &LogSpan,
     here: &[Sighting],
@@ -57,7 +47,7 @@ fn missing_by(
 ) -> Option<Fault>
     ensures { result ≡ missing_by span.now here.now cycle node.now channel }
 {
-    if has_channel(node, channel) {
+    if node.has_channel(channel) {
         missing_on(span, here, cycle, node.id, channel)
     } else {
         None
@@ -131,8 +121,8 @@ fn put_all_missing<O: Sink>(
         (flat_map (node_missing scene.now.log.now scene.now.span scene.now.before.now scene.now.here.now
         scene.now.number) scene.now.params.now.nodes) }
 {
-    for place in 0..node_count(scene.params) {
-        put_node_missing(scene, node_at(scene.params, place), first, out)?;
+    for place in 0..scene.params.node_count() {
+        put_node_missing(scene, scene.params.node_at(place), first, out)?;
     }
     Ok(())
 }

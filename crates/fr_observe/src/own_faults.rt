@@ -1,7 +1,7 @@
 ghost use Rattle.std.specs.Prelude.{◌≡◌, ◌+◌, ◌*◌, ◌≤◌, ◌<◌, Some, All, IfSome, filter_map, length, map, pos};
 ghost use Rattle.std.specs.List.{flat_map};
 ghost use Rattle.fr_course.specs.Course.{apart_by};
-ghost use Rattle.fr_course.specs.Near.{EndWithin, IsBox, IsReadingScale, IsSpan};
+ghost use Rattle.fr_course.specs.Near.{EndWithin, IsBox, IsSpan};
 ghost use Rattle.fr_log.specs.Rows.{last_stamp};
 ghost use Rattle.fr_sightings.specs.Ranges.{AreLogStamps};
 ghost use Rattle.fr_sightings.specs.Senders.{first_stamp, seen_span};
@@ -17,10 +17,7 @@ use fr_base::{NodeId, PutFault, Sink};
 use fr_cluster::NodeSpec;
 use fr_course::{Interval, Scale, allowed, between, is_empty, meet, meet_if, seen_apart};
 use fr_log::Log;
-use fr_sightings::{
-    FirstList, SeenCycle, Sighting, first_stamp, is_judged, node_at, node_count, seen_box,
-    seen_span,
-};
+use fr_sightings::{FirstList, SeenCycle, Sighting, first_stamp, is_judged, seen_box, seen_span};
 
 // By its frames on both channels an action point of a node lies nowhere.
 fn box_fault(cycle: u32, node: NodeId, place: Option<Interval>) -> Option<Fault>
@@ -45,7 +42,6 @@ fn box_fault(cycle: u32, node: NodeId, place: Option<Interval>) -> Option<Fault>
 
 // How far apart both action points of a double cycle can be.
 fn apart_by(scale: &Scale, even: &Interval, odd: &Interval, span: Option<Interval>) -> Interval
-    requires scale { IsReadingScale scale.now }
     requires even { IsBox even.now }
     requires odd { IsBox odd.now }
     ensures { result ≡ apart_by scale.now even.now odd.now span }
@@ -55,7 +51,6 @@ fn apart_by(scale: &Scale, even: &Interval, odd: &Interval, span: Option<Interva
 
 // They lie so far apart as no cycle is long.
 fn limit_with(scale: &Scale, cycle: u32, node: NodeId, apart: &Interval) -> Fault
-    requires scale { IsReadingScale scale.now }
     requires apart { EndWithin (pos 920_000_000_000_000_000) apart.now }
     ensures { result ≡ limit_with scale.now cycle node apart.now }
 {
@@ -181,8 +176,8 @@ fn put_clocks<O: Sink>(
         (flat_map (node_faults scene.now.scale.now scene.now.log.now scene.now.here.now scene.now.number)
         scene.now.params.now.nodes) }
 {
-    for place in 0..node_count(scene.params) {
-        put_node(scene, node_at(scene.params, place), first, out)?;
+    for place in 0..scene.params.node_count() {
+        put_node(scene, scene.params.node_at(place), first, out)?;
     }
     Ok(())
 }

@@ -2,7 +2,7 @@ ghost use Rattle.std.specs.Prelude.{◌≡◌, pos, IfSome};
 ghost use Rattle.std.specs.Fmt.{decimal, signed_decimal};
 ghost use Rattle.std.specs.Option.{option_map};
 ghost use Rattle.fr_base.specs.Within.{IsWithin};
-ghost use Rattle.fr_course.specs.Near.{IsReadingScale, EndWithin};
+ghost use Rattle.fr_course.specs.Near.{EndWithin};
 ghost use Rattle.fr_text.specs.Pieces.{Spells};
 ghost use Rattle.fr_observe.specs.Observing.{cycle_row, known, node_row, precision_row, terms_of};
 ghost use Rattle.fr_sightings.specs.Ranges.{IsProperSender};
@@ -64,7 +64,6 @@ pub fn cycle_row(precision: i64, cycle: u32, senders: usize, low: i64, high: Opt
 /// The limits of the offset term of a sender, in microticks.
 #[tactic(auto, unfolding(crate::specs::Observing::terms_of))]
 pub fn terms_of(scale: &Scale, sender: &Sender) -> Option<Interval>
-    requires scale { IsReadingScale scale.now }
     requires sender { IsProperSender scale.now sender.now }
     ensures value { result ≡ terms_of scale.now sender.now }
     ensures near { IfSome result (EndWithin (pos 6_000_000_000_000_000_000)) }
@@ -128,7 +127,6 @@ fn natural(value: u64) -> Piece<'static>
 /// in microticks.
 #[tactic(auto, unfolding(crate::specs::Observing::node_row))]
 pub fn node_row(scale: &Scale, double: u32, sender: &Sender) -> Line
-    requires scale { IsReadingScale scale.now }
     requires sender { IsProperSender scale.now sender.now }
     ensures { result ≡ node_row scale.now double sender.now }
 {

@@ -5,7 +5,7 @@ ghost use Rattle.fr_base.specs.Within.{IsBetween};
 ghost use Rattle.fr_course.specs.Computed.{measuring_of};
 ghost use Rattle.fr_course.specs.Course.{is_empty};
 ghost use Rattle.fr_bound.specs.SharpBounds.{most_flutter};
-ghost use Rattle.fr_course.specs.Near.{EndWithin, IsMeasuring, IsReadingScale};
+ghost use Rattle.fr_course.specs.Near.{EndWithin};
 ghost use Rattle.fr_course.specs.Terms.{rate_step_seen};
 ghost use Rattle.fr_sightings.specs.Ranges.{IsProperSender};
 ghost use Rattle.fr_observe.specs.Faults.{correction_fault, further_of, length_beyond, length_fault_by, longest_cycle_of, offset_due, offset_fault, rate_due, rate_fault, shortest_cycle_of, stated_flutter, term_fault, unlike_fault, unlike_with};
@@ -83,7 +83,6 @@ fn term_fault(params: &Params, cycle: u32, node: NodeId, term: &Interval) -> Opt
 }
 
 fn correction_fault(params: &Params, scale: &Scale, double: u32, sender: &Sender) -> Option<Fault>
-    requires scale { IsReadingScale scale.now }
     requires double { double < 1_000_000 }
     requires sender { IsProperSender scale.now sender.now }
     ensures { result ≡ correction_fault params.now scale.now double sender.now }
@@ -160,7 +159,6 @@ fn length_beyond(
     double: u32,
     sender: &Sender,
 ) -> Option<Fault>
-    requires scale { IsReadingScale scale.now }
     requires double { double < 1_000_000 }
     requires sender { IsProperSender scale.now sender.now }
     ensures { result ≡ length_beyond params.now scale.now beyond double sender.now }
@@ -258,7 +256,6 @@ pub fn stated_flutter(params: &Params, log: &Log) -> u64
 // How the nodes measure where delays flutter by no more.
 fn measuring_of(scene: &Scene<'_>) -> Measuring
     ensures value { result ≡ measuring_of scene.now.params.now (stated_flutter scene.now.params.now scene.now.log.now) }
-    ensures sane { IsMeasuring result }
 {
     Measuring::of(scene.params, stated_flutter(scene.params, scene.log))
 }
@@ -334,7 +331,6 @@ fn offset_fault(scene: &Scene<'_>, lost: usize, sender: &Sender) -> Option<Fault
 
 /// By how much the rate term of a sender grew, in microticks.
 pub fn step_of(scale: &Scale, sender: &Sender) -> Option<Interval>
-    requires scale { IsReadingScale scale.now }
     requires sender { IsProperSender scale.now sender.now }
     ensures value { result ≡ option_map (rate_step_seen scale.now sender.now.course) sender.now.next }
     ensures near { IfSome result (EndWithin (pos 6_000_000_000_000_000_000)) }

@@ -1,6 +1,6 @@
 ghost use Rattle.std.specs.Prelude.{◌≡◌, ◌≤◌, All, IfSome, length};
 ghost use Rattle.std.specs.Option.{option_map};
-ghost use Rattle.fr_course.specs.Near.{IsNearCourse, IsReadingScale};
+ghost use Rattle.fr_course.specs.Near.{IsNearCourse};
 ghost use Rattle.fr_course.specs.Spread.{most_odd_skew};
 ghost use Rattle.fr_observe.specs.Observing.{courses_of, next_courses, with_senders};
 ghost use Rattle.fr_sightings.specs.Ranges.{IsProperSender};
@@ -59,7 +59,6 @@ fn with_senders(senders: &[Sender], high: Option<i64>) -> Option<i64>
 }
 
 fn next_skew(scale: &Scale, courses: &[Course], senders: &[Sender]) -> Option<i64>
-    requires scale { IsReadingScale scale.now }
     requires courses { All (IsNearCourse scale.now) courses.now }
     requires few { length senders.now ≤ 64 }
     requires senders { All (IsProperSender scale.now) senders.now }
@@ -74,7 +73,6 @@ fn next_skew(scale: &Scale, courses: &[Course], senders: &[Sender]) -> Option<i6
 /// The limits of the skew of these senders.
 #[tactic(auto, unfolding(crate::specs::Observing::even_low, crate::specs::Observing::even_high, crate::specs::Observing::odd_low, crate::specs::Observing::odd_high))]
 pub fn skews_of(scale: &Scale, senders: &[Sender]) -> Skews
-    requires scale { IsReadingScale scale.now }
     requires few { length senders.now ≤ 64 }
     requires senders { All (IsProperSender scale.now) senders.now }
     ensures { AreSkews scale.now senders.now result }

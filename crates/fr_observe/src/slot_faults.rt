@@ -6,7 +6,6 @@ ghost use Rattle.fr_observe.specs.Telling.{TellsFaults};
 ghost use Rattle.fr_sightings.specs.Ranges.{AreLogStamps};
 
 use crate::fault::Fault;
-use crate::missing::has_channel;
 use crate::own_faults::stamp_number;
 use crate::telling::tell_one;
 use fr_base::{PutFault, Sink};
@@ -18,10 +17,7 @@ use fr_sightings::Sighting;
 fn is_on_channel(params: &Params, sighting: &Sighting) -> bool
     ensures { result ≡ has_channel (node_of params.now sighting.now.node) sighting.now.channel }
 {
-    match params.node(sighting.node) {
-        None => false,
-        Some(node) => has_channel(node, sighting.channel),
-    }
+    params.has_channel(sighting.node, sighting.channel)
 }
 
 // A frame is in the slot of a node that does not send it: what is on the node's channels is of another form.

@@ -75,7 +75,7 @@ fn put_nodes<O: Sink>(nodes: &NodeList, place: usize, out: &mut O) -> Result<(),
     if place >= nodes.len() {
         return Ok(());
     }
-    put_node(node_at(nodes, place), out)?;
+    put_node(nodes.node_at(place), out)?;
     put_nodes(nodes, place + 1, out)
 }
 
@@ -123,16 +123,6 @@ fn coldstart_field(coldstart: bool) -> Piece<'static>
     ensures { Spells result (coldstart_text coldstart) 1 }
 {
     if coldstart { Word(b"1") } else { Word(b"0") }
-}
-
-fn node_at(nodes: &NodeList, place: usize) -> &NodeSpec
-    requires { place < length nodes.now }
-    ensures { slice_get nodes.now place ≡ Some result.now }
-{
-    match nodes.get(place) {
-        Some(node) => node,
-        None => unreachable!(),
-    }
 }
 
 // The records of the further slots from a place on.

@@ -3,5 +3,7 @@
 #![tactic(auto)]
 
 mod control;
+mod limiting;
 
 pub use control::{Poc, PocLimits, control_steps_along};
+pub use limiting::poc_limits;

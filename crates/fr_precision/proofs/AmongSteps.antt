@@ -1,13 +1,15 @@
 -- The step of a double cycle in which anything may be lost.
-use Rattle.std.proofs.Common.{◌≡◌, ℕ, ◌+◌, ◌*◌, ◌≤◌, ℤ, pos, true, false, List, All, refl, arith}
-use Rattle.std.specs.Prelude.{◌+ℤ◌, ◌-ℤ◌, Contains}
+use Rattle.std.proofs.Common.{◌≡◌, ℕ, ◌+◌, ◌*◌, ◌≤◌, ℤ, pos, true, false, List, All, length, inl, inr, refl, sym, ap₂, ◌∙◌, subst, arith}
+use Rattle.std.specs.Prelude.{◌+ℤ◌, ◌-ℤ◌, ◌*ℤ◌, ◌≤ℤ◌, Contains}
 use Rattle.std.proofs.lemmas.Int.{ints}
+use Rattle.fr_base.specs.declared.node_row.NodeRow.{NodeRow}
+use Rattle.fr_base.specs.declared.state.Outcome.TheVariants.{Within}
 use Rattle.fr_base.specs.Within.{IsBetween, IsWithin}
 use Rattle.fr_cluster.specs.Values.{Values, amount}
 use Rattle.fr_cluster.specs.declared.names.ParamName.TheVariants as name
 use Rattle.fr_bound.specs.Bounds.{arrival_error, cycle_change, longest_micro}
 use Rattle.fr_bound.specs.Sync.{cycle_length_of}
-use Rattle.fr_precision.specs.Rows.{corrected_end_of, Sender}
+use Rattle.fr_precision.specs.Rows.{corrected_end_of, longest_cycle, shortest_cycle, Sender}
 use Rattle.fr_precision.specs.Instants.{gap_of, LieNear}
 use Rattle.fr_precision.specs.Offsets.{IsOffsetRound, IsSending, NearAll}
 use Rattle.fr_precision.specs.Placement.{IsRegular}
@@ -15,18 +17,27 @@ use Rattle.fr_precision.specs.Step.{IsAmong, Member}
 use Rattle.fr_precision.proofs.OffsetLaws.{micro_lasts, offset_terms_are_uncut}
 use Rattle.fr_precision.proofs.Senders.{All-along}
 use Rattle.fr_bound.specs.SharpBounds.{odd_spread, sharp_lambda, steady_error}
+use Rattle.fr_bound.specs.SharpSpreads.{lost_lengths, lost_starts}
 use Rattle.fr_precision.specs.Ends.{TakesOffsets}
 use Rattle.fr_precision.specs.SharpStep.{ActInReach, IsSharpLimit}
-use Rattle.fr_precision.specs.Among.{ComputesOwn, LieAcross, LostSpreadsGrow, OneLossCosts}
+use Rattle.fr_precision.specs.Among.{ComputesOrKeeps, ComputesOwn, DeafSpreadsGrow, KeepsRate, LieAcross, LostSpreadsGrow, OneLossCosts, most_change}
+use Rattle.fr_precision.specs.Lengths.{next_length_error, IsAboutCycle, IsNextEven, WalksOn}
 use Rattle.fr_precision.proofs.EndLemmas.{ends_come_among_lem}
-use Rattle.fr_precision.proofs.LengthLemmas.{lengths_come_among_lem, range_walks}
-use Rattle.fr_precision.proofs.StepLemmas.{acts_in_cycle, among_rows, nodes_near, sender_near, senders_about, senders_near, turned, Double}
+use Rattle.fr_precision.proofs.LengthLemmas.{lengths_come_among_lem, near_length, range_walks}
+use Rattle.fr_precision.proofs.StepLemmas.{acts_in_cycle, among_rows, node_about, nodes_near, sender_near, senders_about, senders_near, turned, Double}
 
 widen : (a b : ℕ) (x : ℤ) → a ≤ b → IsWithin (pos a) x → IsWithin (pos b) x
 widen a b x le near = record { low = omega (arith, ints, near.low); high = omega (arith, ints, near.high) }
 
 starts_sum : (s l o e q n : ℕ) (x : ℤ) → s + l + o + 2 * e + 3 * q ≤ n → IsWithin (pos s +ℤ pos l +ℤ pos o +ℤ pos (2 * e + 3 * q)) x → IsWithin (pos n) x
 starts_sum s l o e q n x le near = record { low = omega (arith, ints, near.low); high = omega (arith, ints, near.high) }
+
+-- with one error less, and with none
+less_sum : (l e c j n : ℕ) (x : ℤ) → l + (2 * e + 2 * c + 2 * j) ≤ n → IsWithin (pos l +ℤ pos (e + c + j)) x → IsWithin (pos n) x
+less_sum l e c j n x le near = record { low = omega (arith, ints, near.low); high = omega (arith, ints, near.high) }
+
+none_sum : (l m n : ℕ) (x : ℤ) → l + m ≤ n → IsWithin (pos l) x → IsWithin (pos n) x
+none_sum l m n x le near = record { low = omega (arith, ints, near.low); high = omega (arith, ints, near.high) }
 
 lengths_sum : (l m n : ℕ) (x : ℤ) → l + m ≤ n → IsWithin (pos l +ℤ pos m) x → IsWithin (pos n) x
 lengths_sum l m n x le near = record { low = omega (arith, ints, near.low); high = omega (arith, ints, near.high) }
@@ -61,9 +72,6 @@ module _
     round = round;
   }
 
-  takes : (node : Member) → Contains nodes node → (own : ComputesOwn p flutter nodes last node) → TakesOffsets p own.offset_senders reach (pos (odd_spread p lengths)) node.odd node.offsets node.offset_term
-  takes node here own = takes_of node here own.offset_senders own.offsets_among own.acts own.by_offset
-
   across : (number : Sender → ℤ) (bound : ℤ) (senders other_senders : List Sender) → All (IsAmong nodes) senders → All (IsAmong nodes) other_senders
       → ((one other : Sender) → IsAmong nodes one → IsAmong nodes other → IsWithin bound (number one -ℤ number other)) → LieAcross number bound senders other_senders
   across number bound senders other_senders among also near =
@@ -73,50 +81,180 @@ module _
   pub two : (one other : Sender) → IsAmong nodes one → IsAmong nodes other → LieNear p (pos starts) (pos lengths) (pos (odd_spread p lengths)) one.even one.odd other.even other.odd
   two one other among also = senders_near p starts lengths beyond nodes double one other among also
 
+-- what a node has of offsets, whichever way it comes to its rate
+record HasOffsets (p : Values) (nodes : List Member) (last : ℤ) (node : Member) : Type 0 where
+  senders : List Sender
+  some : 1 ≤ length senders
+  among : All (IsAmong nodes) senders
+  acts : All (λ sender. IsBetween (pos 0) last sender.action) senders
+  round : IsOffsetRound p senders node.odd node.offsets node.offset_term
+
+offsets_own : (p : Values) (flutter : ℕ) (nodes : List Member) (last : ℤ) (node : Member) → ComputesOwn p flutter nodes last node → HasOffsets p nodes last node
+offsets_own p flutter nodes last node own = record { senders = own.offset_senders; some = own.some_offsets; among = own.offsets_among; acts = own.acts; round = own.by_offset }
+
+offsets_of : (p : Values) (flutter : ℕ) (nodes : List Member) (last : ℤ) (node : Member) → ComputesOrKeeps p flutter nodes last node → HasOffsets p nodes last node
+offsets_of p flutter nodes last node (inl own) = offsets_own p flutter nodes last node own
+offsets_of p flutter nodes last node (inr keeps) = record { senders = keeps.offset_senders; some = keeps.some_offsets; among = keeps.offsets_among; acts = keeps.acts; round = keeps.by_offset }
+
+pub regular_or : (p : Values) (flutter : ℕ) (nodes : List Member) (last : ℤ) (node : Member) → ComputesOrKeeps p flutter nodes last node → IsRegular p node.even node.odd
+regular_or p flutter nodes last node (inl own) = own.regular
+regular_or p flutter nodes last node (inr keeps) = keeps.regular
+
+module _
+    (p : Values) (flutter : ℕ) (nodes : List Member) (starts lengths : ℕ) (beyond walk reach last : ℤ)
+    (is : IsSharpLimit p flutter beyond walk reach last) (acting : ActInReach p reach last nodes) (double : Double p starts lengths beyond nodes) where
+  takes_own : (node : Member) → Contains nodes node → (own : HasOffsets p nodes last node) → TakesOffsets p own.senders reach (pos (odd_spread p lengths)) node.odd node.offsets node.offset_term
+  takes_own node here own = takes_of p flutter nodes starts lengths beyond walk reach last is acting double node here own.senders own.among own.acts own.round
+
+  uncut_by : (one : Member) → Contains nodes one → HasOffsets p nodes last one → one.offset_term.outcome ≡ Within
+  uncut_by one here own =
+      let takes = takes_own one here own in
+      offset_terms_are_uncut p own.senders reach one.odd one.offsets one.offset_term is.sane is.suffices own.some takes.reached own.round
+
+  sends_all : (node : Member) (own : HasOffsets p nodes last node) → All (IsSending p) own.senders
+  sends_all node own i d short = sends p flutter nodes starts lengths beyond walk reach last is acting double _ (own.among i d short) (own.acts i d short)
+
+  ends_by : (one other : Member) → Contains nodes one → Contains nodes other → HasOffsets p nodes last one → HasOffsets p nodes last other
+      → IsWithin (pos starts +ℤ pos lengths +ℤ pos (odd_spread p lengths) +ℤ pos (2 * arrival_error p + 3 * longest_micro p)) (corrected_end_of p one.odd -ℤ corrected_end_of p other.odd)
+  ends_by one other here there own also =
+      let o = odd_spread p lengths in
+      ends_come_among_lem p own.senders also.senders (pos starts) (pos lengths) (pos o) reach reach one.odd other.odd one.offsets other.offsets one.offset_term other.offset_term
+      is.sane own.some also.some (sends_all one own) (sends_all other also)
+      (across p flutter nodes starts lengths beyond walk reach last is acting double (λ sender. sender.even.start) (pos starts) own.senders also.senders own.among also.among
+      (λ x y among also_among. (two p flutter nodes starts lengths beyond walk reach last is acting double x y among also_among).by_start))
+      (across p flutter nodes starts lengths beyond walk reach last is acting double (λ sender. cycle_length_of p sender.even) (pos lengths) own.senders also.senders own.among also.among
+      (λ x y among also_among. (two p flutter nodes starts lengths beyond walk reach last is acting double x y among also_among).by_even))
+      (across p flutter nodes starts lengths beyond walk reach last is acting double (λ sender. cycle_length_of p sender.odd) (pos o) own.senders also.senders own.among also.among
+      (λ x y among also_among. (two p flutter nodes starts lengths beyond walk reach last is acting double x y among also_among).by_odd))
+      (takes_own one here own) (takes_own other there also)
+      (near_all p flutter nodes starts lengths beyond walk reach last is acting double one here also.senders also.among)
+      (near_all p flutter nodes starts lengths beyond walk reach last is acting double other there own.senders own.among)
+      (nodes_near p starts lengths beyond nodes double one other here there).by_odd
+
+  range_own : (next : ℤ) (one : Member) → ComputesOwn p flutter nodes last one → pos 0 ≤ℤ next → (beyond +ℤ walk) ≤ℤ next → WalksOn p next one.odd one.rate_term
+  range_own next one own next_from to_next =
+      range_walks p flutter own.rate_senders beyond walk next one.odd one.rates one.rate_term is.sane is.walks own.some_rates
+      (senders_about p starts lengths beyond nodes own.rate_senders double own.rates_among) own.by_rate next_from to_next
+
+  lengths_own : (one other : Member) → ComputesOwn p flutter nodes last one → ComputesOwn p flutter nodes last other → (even other_even : NodeRow)
+      → IsNextEven p one.odd one.rate_term even → IsNextEven p other.odd other.rate_term other_even
+      → IsWithin (pos lengths +ℤ pos (2 * steady_error p flutter + 2 * (amount p name.pClusterDriftDamping * longest_micro p) + 2 * cycle_change p)) (cycle_length_of p even -ℤ cycle_length_of p other_even)
+  lengths_own one other own also even other_even after other_after =
+      lengths_come_among_lem p flutter own.rate_senders also.rate_senders (pos lengths) beyond walk one.odd other.odd one.rates other.rates one.rate_term other.rate_term even other_even is.sane is.walks
+      own.some_rates also.some_rates
+      (senders_about p starts lengths beyond nodes own.rate_senders double own.rates_among)
+      (senders_about p starts lengths beyond nodes also.rate_senders double also.rates_among)
+      (across p flutter nodes starts lengths beyond walk reach last is acting double (λ sender. cycle_length_of p sender.even) (pos lengths) own.rate_senders also.rate_senders own.rates_among also.rates_among
+      (λ x y among also_among. (two p flutter nodes starts lengths beyond walk reach last is acting double x y among also_among).by_even))
+      own.by_rate also.by_rate after other_after
+
+  -- the next even cycle of a node that keeps its rate is as long as this one
+  kept_length : (node : Member) (even : NodeRow) → KeepsRate p nodes last node → IsNextEven p node.odd node.rate_term even → cycle_length_of p even ≡ cycle_length_of p node.even
+  kept_length node even keeps after =
+      let early : node.odd.length ≡ node.even.length = still (most_change p) node.odd.length node.even.length keeps.unchanged keeps.regular.steady in
+      let late : even.length ≡ node.odd.length = still (most_change p) even.length node.odd.length keeps.unchanged after.steady in
+      ap₂ (λ (rate length : ℤ). (p.micros +ℤ rate) *ℤ length) (after.rate ∙ keeps.kept ∙ keeps.regular.double.same_rate) (late ∙ early)
+    where
+      still : (w : ℕ) (x y : ℤ) → w ≡ 0 → IsWithin (pos w) (x -ℤ y) → x ≡ y
+      still w x y none near = omega (arith, ints, none, near.low, near.high)
+
+  range_kept : (next : ℤ) (one : Member) → Contains nodes one → KeepsRate p nodes last one → beyond ≤ℤ next → WalksOn p next one.odd one.rate_term
+  range_kept next one here keeps further = record {
+    uncut = keeps.within;
+    limit =
+        (
+        let Limited : ℤ → Type 0 = λ rate. IsWithin p.rate_limit rate in
+        subst Limited (sym (keeps.kept ∙ keeps.regular.double.same_rate)) keeps.regular.rate_within
+        );
+    range = λ even after.
+        let About : ℤ → Type 0 = λ long. IsAboutCycle p next long in
+        subst About (sym (kept_length one even keeps after)) (beside (pos (shortest_cycle p)) (pos (longest_cycle p)) beyond next (cycle_length_of p one.even) further (node_about p starts lengths beyond nodes double one here));
+  }
+    where
+      beside : (least most b n x : ℤ) → b ≤ℤ n → IsBetween (least -ℤ b) (most +ℤ b) x → IsBetween (least -ℤ n) (most +ℤ n) x
+      beside least most b n x le about = record { low = omega (arith, ints, le, about.low); high = omega (arith, ints, le, about.high) }
+
+  -- a node's even length lies near those of some senders
+  lies_near : (node : Member) → Contains nodes node → (senders : List Sender) → All (IsAmong nodes) senders
+      → All (λ (sender : Sender). IsWithin (pos lengths) (cycle_length_of p node.even -ℤ cycle_length_of p sender.even)) senders
+  lies_near node here senders among =
+      All-along (IsAmong nodes) (λ (sender : Sender). IsWithin (pos lengths) (cycle_length_of p node.even -ℤ cycle_length_of p sender.even)) senders
+      (λ sender is_among. turned (pos lengths) (cycle_length_of p sender.even) (cycle_length_of p node.even) (sender_near p starts lengths beyond nodes double sender node is_among here).by_even) among
+
+  own_and_kept : (one other : Member) → Contains nodes other → ComputesOwn p flutter nodes last one → KeepsRate p nodes last other → (even other_even : NodeRow)
+      → IsNextEven p one.odd one.rate_term even → IsNextEven p other.odd other.rate_term other_even
+      → IsWithin (pos lengths +ℤ pos (next_length_error p flutter)) (cycle_length_of p even -ℤ cycle_length_of p other_even)
+  own_and_kept one other there own keeps even other_even after other_after =
+      let Near : ℤ → Type 0 = λ long. IsWithin (pos lengths +ℤ pos (next_length_error p flutter)) (cycle_length_of p even -ℤ long) in
+      subst Near (sym (kept_length other other_even keeps other_after))
+      (
+      near_length p flutter own.rate_senders (pos lengths) beyond walk (cycle_length_of p other.even) one.odd one.rates one.rate_term even is.sane is.walks own.some_rates
+      (senders_about p starts lengths beyond nodes own.rate_senders double own.rates_among) (lies_near other there own.rate_senders own.rates_among) own.by_rate after
+      )
+
+  lengths_by : (next_lengths : ℕ) (one other : Member) → Contains nodes one → Contains nodes other → lost_lengths p flutter lengths ≤ next_lengths
+      → ComputesOrKeeps p flutter nodes last one → ComputesOrKeeps p flutter nodes last other → (even other_even : NodeRow)
+      → IsNextEven p one.odd one.rate_term even → IsNextEven p other.odd other.rate_term other_even → IsWithin (pos next_lengths) (cycle_length_of p even -ℤ cycle_length_of p other_even)
+  lengths_by next_lengths one other here there longer (inl own) (inl also) even other_even after other_after =
+      lengths_sum lengths (2 * steady_error p flutter + 2 * (amount p name.pClusterDriftDamping * longest_micro p) + 2 * cycle_change p) next_lengths (cycle_length_of p even -ℤ cycle_length_of p other_even) longer
+      (lengths_own one other own also even other_even after other_after)
+  lengths_by next_lengths one other here there longer (inl own) (inr keeps) even other_even after other_after =
+      less_sum lengths (steady_error p flutter) (amount p name.pClusterDriftDamping * longest_micro p) (cycle_change p) next_lengths (cycle_length_of p even -ℤ cycle_length_of p other_even) longer
+      (own_and_kept one other there own keeps even other_even after other_after)
+  lengths_by next_lengths one other here there longer (inr keeps) (inl also) even other_even after other_after =
+      turned (pos next_lengths) (cycle_length_of p other_even) (cycle_length_of p even)
+      (
+      less_sum lengths (steady_error p flutter) (amount p name.pClusterDriftDamping * longest_micro p) (cycle_change p) next_lengths (cycle_length_of p other_even -ℤ cycle_length_of p even) longer
+      (own_and_kept other one here also keeps other_even even other_after after)
+      )
+  lengths_by next_lengths one other here there longer (inr keeps) (inr also) even other_even after other_after =
+      let Near : ℤ → ℤ → Type 0 = λ long short. IsWithin (pos next_lengths) (long -ℤ short) in
+      let First : ℤ → Type 0 = λ long. Near long (cycle_length_of p other_even) in
+      let Second : ℤ → Type 0 = λ short. Near (cycle_length_of p one.even) short in
+      subst First (sym (kept_length one even keeps after))
+      (
+      subst Second (sym (kept_length other other_even also other_after))
+      (
+      none_sum lengths (2 * steady_error p flutter + 2 * (amount p name.pClusterDriftDamping * longest_micro p) + 2 * cycle_change p) next_lengths (cycle_length_of p one.even -ℤ cycle_length_of p other.even) longer
+      (nodes_near p starts lengths beyond nodes double one other here there).by_even
+      )
+      )
+
 pub lost_spreads_grow : LostSpreadsGrow
 lost_spreads_grow p flutter nodes starts lengths next_starts next_lengths beyond walk next reach last one other is acting next_from to_next grows longer sharp computes here there =
-    let own = computes one here in
-    let also = computes other there in
     let double : Double p starts lengths beyond nodes = record { sane = is.sane; sharp = sharp; regular = λ node at. (computes node at).regular } in
-    let one_takes = takes p flutter nodes starts lengths beyond walk reach last is acting double one here own in
-    let other_takes = takes p flutter nodes starts lengths beyond walk reach last is acting double other there also in
-    let near = nodes_near p starts lengths beyond nodes double one other here there in
+    let own = offsets_own p flutter nodes last one (computes one here) in
+    let also = offsets_own p flutter nodes last other (computes other there) in
     record {
-      uncut = offset_terms_are_uncut p own.offset_senders reach one.odd one.offsets one.offset_term is.sane is.suffices own.some_offsets one_takes.reached own.by_offset;
-      range =
-          range_walks p flutter own.rate_senders beyond walk next one.odd one.rates one.rate_term is.sane is.walks own.some_rates
-          (senders_about p starts lengths beyond nodes own.rate_senders double own.rates_among) own.by_rate next_from to_next;
+      uncut = uncut_by p flutter nodes starts lengths beyond walk reach last is acting double one here own;
+      range = range_own p flutter nodes starts lengths beyond walk reach last is acting double next one (computes one here) next_from to_next;
       ends =
           starts_sum starts lengths (odd_spread p lengths) (arrival_error p) (longest_micro p) next_starts (corrected_end_of p one.odd -ℤ corrected_end_of p other.odd) grows
-          (
-          ends_come_among_lem p own.offset_senders also.offset_senders (pos starts) (pos lengths) (pos (odd_spread p lengths)) reach reach one.odd other.odd one.offsets other.offsets one.offset_term other.offset_term
-          is.sane own.some_offsets also.some_offsets
-          (λ i d short. sends p flutter nodes starts lengths beyond walk reach last is acting double _ (own.offsets_among i d short) (own.acts i d short))
-          (λ i d short. sends p flutter nodes starts lengths beyond walk reach last is acting double _ (also.offsets_among i d short) (also.acts i d short))
-          (across p flutter nodes starts lengths beyond walk reach last is acting double (λ sender. sender.even.start) (pos starts) own.offset_senders also.offset_senders own.offsets_among also.offsets_among
-          (λ x y among also_among. (two p flutter nodes starts lengths beyond walk reach last is acting double x y among also_among).by_start))
-          (across p flutter nodes starts lengths beyond walk reach last is acting double (λ sender. cycle_length_of p sender.even) (pos lengths) own.offset_senders also.offset_senders own.offsets_among also.offsets_among
-          (λ x y among also_among. (two p flutter nodes starts lengths beyond walk reach last is acting double x y among also_among).by_even))
-          (across p flutter nodes starts lengths beyond walk reach last is acting double (λ sender. cycle_length_of p sender.odd) (pos (odd_spread p lengths)) own.offset_senders also.offset_senders own.offsets_among also.offsets_among
-          (λ x y among also_among. (two p flutter nodes starts lengths beyond walk reach last is acting double x y among also_among).by_odd))
-          one_takes other_takes
-          (near_all p flutter nodes starts lengths beyond walk reach last is acting double one here also.offset_senders also.offsets_among)
-          (near_all p flutter nodes starts lengths beyond walk reach last is acting double other there own.offset_senders own.offsets_among)
-          near.by_odd
-          );
+          (ends_by p flutter nodes starts lengths beyond walk reach last is acting double one other here there own also);
       lengths =
           λ even other_even after other_after.
-          lengths_sum lengths (2 * steady_error p flutter + 2 * (amount p name.pClusterDriftDamping * longest_micro p) + 2 * cycle_change p) next_lengths (cycle_length_of p even -ℤ cycle_length_of p other_even) longer
-          (
-          lengths_come_among_lem p flutter own.rate_senders also.rate_senders (pos lengths) beyond walk one.odd other.odd one.rates other.rates one.rate_term other.rate_term even other_even is.sane is.walks
-          own.some_rates also.some_rates
-          (senders_about p starts lengths beyond nodes own.rate_senders double own.rates_among)
-          (senders_about p starts lengths beyond nodes also.rate_senders double also.rates_among)
-          (across p flutter nodes starts lengths beyond walk reach last is acting double (λ sender. cycle_length_of p sender.even) (pos lengths) own.rate_senders also.rate_senders own.rates_among also.rates_among
-          (λ x y among also_among. (two p flutter nodes starts lengths beyond walk reach last is acting double x y among also_among).by_even))
-          own.by_rate also.by_rate after other_after
-          );
+          lengths_by p flutter nodes starts lengths beyond walk reach last is acting double next_lengths one other here there longer (inl (computes one here)) (inl (computes other there)) even other_even after other_after;
     }
+
+pub deaf_spreads_grow : DeafSpreadsGrow
+deaf_spreads_grow p flutter nodes starts lengths next_starts next_lengths beyond walk next reach last one other is acting next_from to_next further grows longer sharp computes here there =
+    let double : Double p starts lengths beyond nodes = record { sane = is.sane; sharp = sharp; regular = λ node at. regular_or p flutter nodes last node (computes node at) } in
+    let own = offsets_of p flutter nodes last one (computes one here) in
+    let also = offsets_of p flutter nodes last other (computes other there) in
+    record {
+      uncut = uncut_by p flutter nodes starts lengths beyond walk reach last is acting double one here own;
+      range = range_by double (computes one here);
+      ends =
+          starts_sum starts lengths (odd_spread p lengths) (arrival_error p) (longest_micro p) next_starts (corrected_end_of p one.odd -ℤ corrected_end_of p other.odd) grows
+          (ends_by p flutter nodes starts lengths beyond walk reach last is acting double one other here there own also);
+      lengths =
+          λ even other_even after other_after.
+          lengths_by p flutter nodes starts lengths beyond walk reach last is acting double next_lengths one other here there longer (computes one here) (computes other there) even other_even after other_after;
+    }
+  where
+    range_by : Double p starts lengths beyond nodes → ComputesOrKeeps p flutter nodes last one → WalksOn p next one.odd one.rate_term
+    range_by double (inl own) = range_own p flutter nodes starts lengths beyond walk reach last is acting double next one own next_from to_next
+    range_by double (inr keeps) = range_kept p flutter nodes starts lengths beyond walk reach last is acting double next one here keeps further
 
 pub one_loss_costs : OneLossCosts
 one_loss_costs p flutter = (

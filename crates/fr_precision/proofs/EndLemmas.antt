@@ -11,7 +11,6 @@ use Rattle.fr_cluster.specs.Sane.{IsSane}
 use Rattle.fr_midpoint.specs.Midpoint.{IsMidpoint}
 use Rattle.fr_midpoint.specs.Receivers.{place_at, Receiver}
 use Rattle.fr_midpoint.specs.Said.{lies_after, AllLieNear, KeepsSaid, SameLieNear}
-use Rattle.fr_midpoint.proofs.Products.{addz-mulz}
 use Rattle.fr_midpoint.proofs.SaidLemmas.{one_between_lem, two_alone_lem, two_apart_lem}
 use Rattle.fr_midpoint.proofs.Zips.{zip_all, zip_both, zip_said}
 use Rattle.fr_correct.specs.declared.term.Term.{Term}
@@ -25,7 +24,7 @@ use Rattle.fr_bound.specs.Sync.{cycle_length_of}
 use Rattle.fr_precision.specs.Rows.{corrected_end_of, end_of, Sender}
 use Rattle.fr_precision.specs.Offsets.{IsDeviation, IsOffsetRound, IsSending}
 use Rattle.fr_precision.proofs.InstantLaws.{early_on_line, odd_start_is}
-use Rattle.fr_precision.proofs.OffsetLaws.{micro_lasts, offset_terms_are_uncut}
+use Rattle.fr_precision.proofs.OffsetLaws.{micro_lasts, offset_terms_are_uncut, corrected_place}
 use Rattle.fr_precision.proofs.Senders.{heard_all, All-along}
 use Rattle.fr_precision.specs.Ends.{CorrectedEndIsNear, EndsComeNear, SendApart, TakesOffsets}
 use Rattle.fr_precision.specs.Among.{EndsComeAmong}
@@ -61,14 +60,6 @@ pub record Corrected (p : Values) (row : NodeRow) (values : List ℤ) : Type 0 w
   pub mid : ℤ
   pub middle : IsMidpoint values mid
   pub is : corrected_end_of p row ≡ place_at (ends_at p row values) mid
-
-corrected_place : (p : Values) (row : NodeRow) (values : List ℤ) (mid : ℤ) → row.offset ≡ mid → corrected_end_of p row ≡ place_at (ends_at p row values) mid
-corrected_place p row values mid is =
-    ap (λ offset. row.start +ℤ ((p.micros +ℤ row.rate +ℤ offset) *ℤ row.length)) is
-    ∙ sum row.start ((p.micros +ℤ row.rate) *ℤ row.length) (mid *ℤ row.length) ((p.micros +ℤ row.rate +ℤ mid) *ℤ row.length) (addz-mulz (p.micros +ℤ row.rate) mid row.length)
-  where
-    sum : (s a b c : ℤ) → c ≡ a +ℤ b → s +ℤ c ≡ (s +ℤ a) +ℤ b
-    sum s a b c e = omega (arith, ints)
 
 pub corrected : (p : Values) (senders : List Sender) (reach odds : ℤ) (row : NodeRow) (values : List ℤ) (term : Term) → IsSane p → 1 ≤ length senders
     → TakesOffsets p senders reach odds row values term → Corrected p row values
@@ -220,7 +211,7 @@ module _
       (λ one other v u both dev other_dev. cross_value p senders senders starts evens odds row other_row values other_values term other_term one other v u sane takes.round also.round near both dev other_dev)
       pairs takes.round.hears.each also.round.hears.each
 
-alone_ends : (odds : ℤ) (e q : ℕ) (x x' y y' : ℤ) → x ≡ x' → y ≡ y' → IsWithin ((odds +ℤ pos (2 * e + 2 * q)) +ℤ pos q) (x' -ℤ y') → IsWithin (odds +ℤ pos (2 * e + 3 * q)) (x -ℤ y)
+pub alone_ends : (odds : ℤ) (e q : ℕ) (x x' y y' : ℤ) → x ≡ x' → y ≡ y' → IsWithin ((odds +ℤ pos (2 * e + 2 * q)) +ℤ pos q) (x' -ℤ y') → IsWithin (odds +ℤ pos (2 * e + 3 * q)) (x -ℤ y)
 alone_ends odds e q x x' y y' a b within = record { low = omega (arith, ints, within.low); high = omega (arith, ints, within.high) }
 
 pub beside_ends : (starts evens odds : ℤ) (e q : ℕ) (x x' y y' : ℤ) → x ≡ x' → y ≡ y'

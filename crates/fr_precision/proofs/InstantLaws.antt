@@ -44,7 +44,7 @@ early_on_line p row macrotick sane lasts to =
     subst On (sym (before_correction p row macrotick to)) (even_on_line p row macrotick sane lasts)
 
 -- from the offset correction on it lies on the way to the corrected end
-late_instant : (p : Values) (row : NodeRow) (macrotick : ℤ) → p.correction <ℤ macrotick
+pub late_instant : (p : Values) (row : NodeRow) (macrotick : ℤ) → p.correction <ℤ macrotick
     → instant_of (grid_for p) row true macrotick
     ≡ instant_of (grid_for p) row true p.correction +ℤ (floor_of ((macrotick -ℤ p.correction) *ℤ corrected_micros (grid_for p) row.rate row.offset) (p.macros -ℤ p.correction) *ℤ row.length)
 late_instant p row macrotick from =
@@ -60,7 +60,7 @@ late_instant p row macrotick from =
     sum : (s b m w : ℤ) → w ≡ b +ℤ m → s +ℤ w ≡ (s +ℤ b) +ℤ m
     sum s b m w e = omega (arith, ints)
 
-late_on_line : (p : Values) (row : NodeRow) (macrotick : ℤ) → IsSane p → Lasts p row → p.correction <ℤ macrotick
+pub late_on_line : (p : Values) (row : NodeRow) (macrotick : ℤ) → IsSane p → Lasts p row → p.correction <ℤ macrotick
     → OnLine (instant_of (grid_for p) row true p.correction) (corrected_micros (grid_for p) row.rate row.offset *ℤ row.length) row.length
     (macrotick -ℤ p.correction) (p.macros -ℤ p.correction) (pos (longest_micro p)) (instant_of (grid_for p) row true macrotick)
 late_on_line p row macrotick sane lasts from =
@@ -104,7 +104,7 @@ pub wider : (a b x : ℤ) → a ≤ℤ b → IsWithin a x → IsWithin b x
 wider a b x le within = record { low = omega (arith, ints, within.low); high = omega (arith, ints, within.high) }
 
 -- the odd cycles' starts lie no further apart than the even ones' and their lengths
-odd_starts : (p : Values) (starts even_lengths odd_lengths : ℤ) (even odd other_even other_odd : NodeRow)
+pub odd_starts : (p : Values) (starts even_lengths odd_lengths : ℤ) (even odd other_even other_odd : NodeRow)
     → Runs p even odd → Runs p other_even other_odd → LieNear p starts even_lengths odd_lengths even odd other_even other_odd
     → IsWithin (starts +ℤ even_lengths) (odd.start -ℤ other_odd.start)
 odd_starts p starts even_lengths odd_lengths even odd other_even other_odd runs other_runs near =

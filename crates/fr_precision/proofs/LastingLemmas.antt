@@ -1,6 +1,6 @@
 -- Many double cycles, by the step.
-use Rattle.std.proofs.Common.{◌≡◌, ℕ, zero, suc, ◌+◌, ◌*◌, ◌-◌, ◌<◌, ◌≤◌, Bool, true, false, ℤ, pos, Option, Some, None, IfSome, List, map, All, inl, inr, sym, subst, arith}
-use Rattle.std.specs.Prelude.{◌+ℤ◌, ◌*ℤ◌, ◌≤ℤ◌, ◌/◌, Contains}
+use Rattle.std.proofs.Common.{◌≡◌, ℕ, zero, suc, ◌+◌, ◌*◌, ◌-◌, ◌<◌, ◌≤◌, Bool, true, false, ℤ, pos, Option, Some, None, IfSome, List, map, All, inl, inr, refl, sym, subst, arith}
+use Rattle.std.specs.Prelude.{◌+ℤ◌, ◌*ℤ◌, ◌≤ℤ◌, ◌/◌, Contains, int_le, if◌then◌else◌}
 use Rattle.std.proofs.lemmas.Int.{ints}
 use Rattle.std.proofs.lemmas.List.Elements.{All-contains_itself, All-map}
 use Rattle.std.proofs.Math.Nat.{le-max_left}
@@ -31,7 +31,7 @@ use Rattle.fr_precision.specs.SharpSettling.{sharp_spread_after}
 use Rattle.fr_precision.specs.SharpStep.{ActInReach, AreSharp, ComeSharply, ComputesSharply, DrawsTo, IsInSharpSync, IsSharpDouble, IsSharpLimit, IsSharpReach, StaySharp}
 use Rattle.fr_precision.specs.SharpRun.{lengths_from, starts_from, AllUncut, AreSharpDoubles, BeginSharp, BeginWithin, DrawInReach, IsNextDouble, KeepsSharp, KeepsToSpreads, SharpDoublesDraw, SharpSpreadsKeep, SharpSyncIsReached, SharpSyncLasts, StaysInSharpSync, WalkLastsAfter, WalkLastsUpTo}
 use Rattle.fr_precision.specs.Among.{AreLossyDoubles, ComputesOwn, GoesTo, GoInReach, HeardSo, LossyDoublesKeep, LossyDoublesStayApart}
-use Rattle.fr_precision.proofs.AmongSteps.{lost_spreads_grow}
+use Rattle.fr_precision.proofs.AmongSteps.{deaf_spreads_grow, regular_or}
 use Rattle.fr_precision.proofs.BoundLemmas.{floor_is, key_slots_act_early, sharp_checks_suffice_lem, walk_is_held, walked_none}
 use Rattle.fr_precision.proofs.MeetingSteps.{comes_near_itself, meeting_spreads_draw}
 use Rattle.fr_precision.proofs.SettlingLemmas.{next_spread_draws, next_starts_fit, settled_stays}
@@ -315,6 +315,22 @@ sharp_sync_is_reached beside p flutter start rate reach doubles rest senders nod
 
 -- ---- by what is heard
 
+-- lengths lie no less far beyond their range one double cycle later
+walked_on : (p : Values) (flutter k : ℕ) → (walked_after p flutter k +ℤ rate_walk p flutter) ≤ℤ walked_after p flutter (suc k) → walked_after p flutter k ≤ℤ walked_after p flutter (suc k)
+walked_on p flutter k held = by (int_le (rate_walk p flutter) (pos 0)) refl
+  where
+    nothing : (a : ℤ) → a ≤ℤ a
+    nothing a = omega (arith, ints)
+
+    grows : (a w b : ℤ) → int_le w (pos 0) ≡ false → (a +ℤ w) ≤ℤ b → a ≤ℤ b
+    grows a w b is le = grind (arith, ints)
+
+    by : (b : Bool) → int_le (rate_walk p flutter) (pos 0) ≡ b → walked_after p flutter k ≤ℤ walked_after p flutter (suc k)
+    by true is =
+        let At : Bool → Type 0 = λ b. (if b then pos 0 else pos k *ℤ rate_walk p flutter) ≤ℤ (if b then pos 0 else pos (suc k) *ℤ rate_walk p flutter) in
+        subst At (sym is) (nothing (pos 0))
+    by false is = grows (walked_after p flutter k) (rate_walk p flutter) (walked_after p flutter (suc k)) is held
+
 own_regular : (p : Values) (flutter : ℕ) (nodes : List Member) (last : ℤ) → ((node : Member) → Contains nodes node → ComputesOwn p flutter nodes last node) → All (λ (node : Member). IsRegular p node.even node.odd) nodes
 own_regular p flutter nodes last computes =
     All-along (Contains nodes) (λ (node : Member). IsRegular p node.even node.odd) nodes (λ node here. (computes node here).regular) (All-contains_itself nodes)
@@ -322,11 +338,12 @@ own_regular p flutter nodes last computes =
 regular_by : (what : Heard) (p : Values) (flutter : ℕ) (senders : List Sender) (nodes : List Member) (last : ℤ) → HeardSo what p flutter senders nodes last → All (λ (node : Member). IsRegular p node.even node.odd) nodes
 regular_by Clean p flutter senders nodes last heard = all_regular false p flutter senders nodes last heard
 regular_by Meeting p flutter senders nodes last heard = own_regular p flutter nodes last heard.0
-regular_by Poor p flutter senders nodes last heard = own_regular p flutter nodes last heard
+regular_by Poor p flutter senders nodes last heard =
+    All-along (Contains nodes) (λ (node : Member). IsRegular p node.even node.odd) nodes (λ node here. regular_or p flutter nodes last node (heard node here)) (All-contains_itself nodes)
 
 module _
     (p : Values) (flutter : ℕ) (senders : List Sender) (nodes : List Member) (starts lengths next_starts next_lengths : ℕ) (beyond walk next reach last : ℤ)
-    (is : IsSharpReach p flutter starts lengths beyond walk reach last) (next_from : pos 0 ≤ℤ next) (to_next : (beyond +ℤ walk) ≤ℤ next)
+    (is : IsSharpReach p flutter starts lengths beyond walk reach last) (next_from : pos 0 ≤ℤ next) (to_next : (beyond +ℤ walk) ≤ℤ next) (further : beyond ≤ℤ next)
     (sharp : AreSharp p starts lengths beyond (map (λ (node : Member). node.even) nodes)) where
   limit : IsSharpLimit p flutter beyond walk reach last
   limit = record { sane = is.sane; walks = is.walks; suffices = is.suffices; early = is.early }
@@ -349,7 +366,7 @@ module _
         (own_regular p flutter nodes last heard.0) here there common
   ]
   come_so Poor one other goes heard here there =
-      lost_spreads_grow p flutter nodes starts lengths next_starts next_lengths beyond walk next reach last one other limit (acting_by Poor heard) next_from to_next goes.0 goes.1 sharp heard here there
+      deaf_spreads_grow p flutter nodes starts lengths next_starts next_lengths beyond walk next reach last one other limit (acting_by Poor heard) next_from to_next further goes.0 goes.1 sharp heard here there
 
 module _ (p : Values) (flutter doubles : ℕ) (what : ℕ → Heard) (starts lengths : ℕ → ℕ) (senders : ℕ → List Sender) (nodes : ℕ → List Member) (reach last : ℤ)
     (are : AreLossyDoubles p flutter doubles what starts lengths senders nodes last) (go : GoInReach p flutter doubles what starts lengths reach last) where
@@ -358,7 +375,7 @@ module _ (p : Values) (flutter doubles : ℕ) (what : ℕ → Heard) (starts len
   lossy_come k short before begin one other here there =
       let held = walk_is_held p flutter k are.sane are.second before in
       come_so p flutter (senders k) (nodes k) (starts k) (lengths k) (starts (suc k)) (lengths (suc k)) (walked_after p flutter k) (rate_walk p flutter) (walked_after p flutter (suc k)) reach last
-      (record { sane = are.sane; walks = held.0; suffices = go.suffices; early = go.early; fits = go.fits k short }) held.1 held.2 begin.sharp (what k) one other (go.goes k) (are.heard k short before begin) here there
+      (record { sane = are.sane; walks = held.0; suffices = go.suffices; early = go.early; fits = go.fits k short }) held.1 held.2 (walked_on p flutter k held.2) begin.sharp (what k) one other (go.goes k) (are.heard k short before begin) here there
 
   lossy_begins : AreSharp p (starts 0) (lengths 0) (pos 0) (map (λ (node : Member). node.even) (nodes 0)) → (k : ℕ) → k < doubles → WalkLastsUpTo p flutter k → BeginSharp p flutter starts lengths nodes k
   unfolding Active_in

@@ -10,9 +10,8 @@ use Rattle.fr_cluster.specs.Values.{Values, amount}
 use Rattle.fr_cluster.specs.Sane.{IsSane}
 use Rattle.fr_cluster.specs.declared.names.ParamName.TheVariants as name
 use Rattle.fr_midpoint.specs.Midpoint.{IsMidpoint}
-use Rattle.fr_midpoint.specs.Receivers.{place_at, measured_place, Hears, Receiver}
+use Rattle.fr_midpoint.specs.Receivers.{place_at, Hears, Receiver}
 use Rattle.fr_midpoint.specs.Said.{lies_after, AllLieNear, KeepsSaid, SameLieNear}
-use Rattle.fr_midpoint.proofs.Products.{addz-mulz}
 use Rattle.fr_midpoint.proofs.SaidLemmas.{one_between_lem, two_alone_lem, two_apart_lem}
 use Rattle.fr_midpoint.proofs.Zips.{zip_all, zip_both, zip_said}
 use Rattle.fr_correct.specs.declared.term.Term.{Term}
@@ -23,7 +22,7 @@ use Rattle.fr_precision.specs.Rows.{longest_cycle, shortest_cycle, HasProperMicr
 use Rattle.fr_precision.proofs.Figures.{longest_is, shortest_is, times_natural}
 use Rattle.fr_precision.proofs.OffsetLaws.{micro_lasts}
 use Rattle.fr_precision.proofs.PlacementLaws.{steady_within}
-use Rattle.fr_precision.proofs.RateLaws.{limited_within, outcome_within}
+use Rattle.fr_precision.proofs.RateLaws.{limited_within, outcome_within, undamped}
 use Rattle.fr_precision.proofs.Senders.{heard_all, All-along}
 use Rattle.fr_bound.specs.SharpBounds.{steady_error, wide_change}
 use Rattle.fr_precision.specs.Steady.{between_actions, placed_length, PlacesEven}
@@ -60,13 +59,6 @@ pub record Round (p : Values) (row : NodeRow) (values : List ℤ) (term : Term) 
   pub is : term.value ≡ damped p.damping (row.rate +ℤ mid)
   pub uncut : term.outcome ≡ Within
   pub walks : Walked p.micros p.rate_limit (pos (shortest_micro p)) (pos (longest_micro p)) (pos (cycle_change p)) next row.length (damped p.damping (row.rate +ℤ mid))
-
--- the length at the rate before damping is where the midpoint lies
-undamped : (n rate mid unit : ℤ) → (n +ℤ (rate +ℤ mid)) *ℤ unit ≡ measured_place ((n +ℤ rate) *ℤ unit) unit mid
-undamped n rate mid unit = ap (λ x. x *ℤ unit) (grouped n rate mid) ∙ addz-mulz (n +ℤ rate) mid unit
-  where
-    grouped : (n rate mid : ℤ) → n +ℤ (rate +ℤ mid) ≡ (n +ℤ rate) +ℤ mid
-    grouped n rate mid = omega (arith, ints)
 
 takes_lem : (f j wide : ℕ) (t ct walk beyond : ℤ) → ((pos (f + j + wide) +ℤ (t -ℤ pos 1)) -ℤ ct) ≤ℤ walk
     → (((beyond +ℤ (pos (f + wide) +ℤ (t -ℤ pos 1))) +ℤ pos j) -ℤ ct) ≤ℤ (beyond +ℤ walk)
@@ -189,7 +181,7 @@ cross_sum spread far other_far e x y l k le other_le near a b = record {
   high = omega (arith, ints, near.high, a.high, b.low);
 }
 
-alone_sum : (e qp cqp j : ℕ) (c u v w x : ℤ) → pos cqp ≡ c → IsWithin (pos (2 * e) +ℤ pos qp) (u -ℤ w) → IsWithin (c +ℤ pos j) (u -ℤ v) → IsWithin (c +ℤ pos j) (w -ℤ x)
+pub alone_sum : (e qp cqp j : ℕ) (c u v w x : ℤ) → pos cqp ≡ c → IsWithin (pos (2 * e) +ℤ pos qp) (u -ℤ w) → IsWithin (c +ℤ pos j) (u -ℤ v) → IsWithin (c +ℤ pos j) (w -ℤ x)
     → IsWithin (pos (2 * e + qp + 2 * cqp + 2 * j)) (v -ℤ x)
 alone_sum e qp cqp j c u v w x is apart a b = record {
   low = omega (arith, ints, apart.low, a.high, b.low);
@@ -280,14 +272,15 @@ placed_about spread far e x l k le near placed = record { low = omega (arith, in
 near_sum : (spread c : ℤ) (e cqp j : ℕ) (u v l : ℤ) → pos cqp ≡ c → IsBetween (l -ℤ (spread +ℤ pos e)) (l +ℤ (spread +ℤ pos e)) u → IsWithin (c +ℤ pos j) (u -ℤ v) → IsWithin (spread +ℤ pos (e + cqp + j)) (v -ℤ l)
 near_sum spread c e cqp j u v l is between near = record { low = omega (arith, ints, between.low, near.high); high = omega (arith, ints, between.high, near.low) }
 
-pub next_length_is_near : NextLengthIsNear
-next_length_is_near p flutter senders spread beyond walk row values term even sane can some about within is next =
+-- any length that lies near the senders' ones
+pub near_length : (p : Values) (flutter : ℕ) (senders : List Sender) (spread beyond walk long : ℤ) (row : NodeRow) (values : List ℤ) (term : Term) (even : NodeRow)
+    → IsSane p → CanWalk p flutter beyond walk → 1 ≤ length senders → EvensAreAbout p beyond senders
+    → All (λ (sender : Sender). IsWithin spread (long -ℤ cycle_length_of p sender.even)) senders
+    → IsSteadyRound p flutter senders row values term → IsNextEven p row term even
+    → IsWithin (spread +ℤ pos (next_length_error p flutter)) (cycle_length_of p even -ℤ long)
+near_length p flutter senders spread beyond walk long row values term even sane can some about near is next =
     let round = round_of p flutter senders beyond walk (beyond +ℤ walk) row values term sane can (itself (beyond +ℤ walk)) some about is in
     let e = steady_error p flutter in
-    All-along (λ (one : Sender). All (λ (other : Sender). IsWithin spread (cycle_length_of p one.even -ℤ cycle_length_of p other.even)) senders)
-    (λ (one : Sender). IsWithin (spread +ℤ pos (next_length_error p flutter)) (cycle_length_of p even -ℤ cycle_length_of p one.even)) senders
-    (λ one near.
-    let long = cycle_length_of p one.even in
     let among =
     one_between_lem is.hears.said (long -ℤ (spread +ℤ pos e)) (long +ℤ (spread +ℤ pos e)) (rates_at p row values) round.mid (keeps_said p flutter senders row values sane is.micro is.hears)
     (
@@ -299,11 +292,17 @@ next_length_is_near p flutter senders spread beyond walk row values term even sa
     )
     round.middle in
     near_sum spread (p.damping *ℤ pos (longest_micro p)) e (amount p name.pClusterDriftDamping * longest_micro p) (cycle_change p) (place_at (rates_at p row values) round.mid) (cycle_length_of p even) long (damping_is p sane) among
-    (next_near p row values term (beyond +ℤ walk) even sane is.micro round next))
-    within
+    (next_near p row values term (beyond +ℤ walk) even sane is.micro round next)
   where
     itself : (a : ℤ) → a ≤ℤ a
     itself a = omega (arith, ints)
+
+pub next_length_is_near : NextLengthIsNear
+next_length_is_near p flutter senders spread beyond walk row values term even sane can some about within is next =
+    All-along (λ (one : Sender). All (λ (other : Sender). IsWithin spread (cycle_length_of p one.even -ℤ cycle_length_of p other.even)) senders)
+    (λ (one : Sender). IsWithin (spread +ℤ pos (next_length_error p flutter)) (cycle_length_of p even -ℤ cycle_length_of p one.even)) senders
+    (λ one near. near_length p flutter senders spread beyond walk (cycle_length_of p one.even) row values term even sane can some about near is next)
+    within
 
 -- ---- two receivers, whichever senders each of them has heard
 

@@ -33,6 +33,7 @@ pub mod StepLemmas
 pub mod AmongSteps
 pub mod MeetingSteps
 pub mod RoundLemmas
+pub mod AlikeLemmas
 pub mod SettlingLemmas
 pub mod LastingLemmas
 pub mod OlderLemmas

@@ -1,21 +1,21 @@
 -- The sharper laws of instants, over rows.
-use Rattle.std.proofs.Common.{◌≡◌, ℕ, ◌+◌, ◌*◌, true, false, ℤ, pos, refl, ap, sym, ◌∙◌, subst, arith}
+use Rattle.std.proofs.Common.{◌≡◌, ℕ, ◌+◌, ◌*◌, true, false, ℤ, pos, refl, ap, ◌∙◌, arith}
 use Rattle.std.specs.Prelude.{◌+ℤ◌, ◌-ℤ◌, ◌*ℤ◌, ◌≤ℤ◌, ◌<ℤ◌, int_lt}
 use Rattle.std.proofs.lemmas.Int.{ints, by_lt_z}
 use Rattle.fr_base.specs.declared.node_row.NodeRow.{NodeRow}
 use Rattle.fr_base.specs.Within.{IsWithin}
 use Rattle.fr_cluster.specs.Values.{Values}
 use Rattle.fr_cluster.specs.Sane.{IsSane}
-use Rattle.fr_midpoint.proofs.Products.{addz-mulz, subz-mulz, mulz_within}
+use Rattle.fr_midpoint.proofs.Products.{subz-mulz, mulz_within}
 use Rattle.fr_time.specs.Position.{corrected_micros, even_position, floor_of, grid_for}
 use Rattle.fr_time.specs.Instant.{instant_of}
-use Rattle.fr_time.proofs.Lines.{lines_between, on_line, OnLine}
+use Rattle.fr_time.proofs.Lines.{lines_between}
 use Rattle.fr_time.proofs.Placing.{is_grid_lem}
 use Rattle.fr_bound.specs.Bounds.{cycle_change, longest_micro}
 use Rattle.fr_bound.specs.Sync.{cycle_length_of}
-use Rattle.fr_precision.specs.Rows.{corrected_end_of, Lasts}
+use Rattle.fr_precision.specs.Rows.{corrected_end_of}
 use Rattle.fr_precision.specs.Instants.{gap_of, LieNear, Runs}
-use Rattle.fr_precision.proofs.InstantLaws.{early_on_line, macroticks_stay_near_lem, odd_start_is, wider}
+use Rattle.fr_precision.proofs.InstantLaws.{early_on_line, macroticks_stay_near_lem, wider, late_on_line, odd_starts as odd_starts_near}
 use Rattle.fr_precision.proofs.PlacementLaws.{share_from}
 use Rattle.fr_precision.specs.Nearness.{ActionsLieNear, MacroticksLieInReach, OddLengthsFollow}
 use Rattle.fr_precision.proofs.Signed.{signed_of}
@@ -49,16 +49,6 @@ odd_lengths_follow p lengths even odd other_even other_odd sane regular other_re
     }
 
 -- ---- action points
-
-pub odd_starts_near : (p : Values) (starts evens odds : ℤ) (even odd other_even other_odd : NodeRow)
-    → Runs p even odd → Runs p other_even other_odd → LieNear p starts evens odds even odd other_even other_odd
-    → IsWithin (starts +ℤ evens) (odd.start -ℤ other_odd.start)
-odd_starts_near p starts evens odds even odd other_even other_odd runs other_runs near =
-    sum starts evens even.start other_even.start (cycle_length_of p even) (cycle_length_of p other_even) odd.start other_odd.start
-    (odd_start_is p even odd runs.double) (odd_start_is p other_even other_odd other_runs.double) near.by_start near.by_even
-  where
-    sum : (a b s s' l l' x y : ℤ) → x ≡ s +ℤ l → y ≡ s' +ℤ l' → IsWithin a (s -ℤ s') → IsWithin b (l -ℤ l') → IsWithin (a +ℤ b) (x -ℤ y)
-    sum a b s s' l l' x y e g h k = record { low = omega (arith, ints, h.low, k.low); high = omega (arith, ints, h.high, k.high) }
 
 bound_from : (bound x : ℤ) → IsWithin bound x → pos 0 ≤ℤ bound
 bound_from bound x near = omega (arith, ints, near.low, near.high)
@@ -108,35 +98,6 @@ int_lt_true a b less = grind (arith, ints)
 
 itself : (a : ℤ) → a ≤ℤ a
 itself a = omega (arith, ints)
-
-late_instant : (p : Values) (row : NodeRow) (macrotick : ℤ) → p.correction <ℤ macrotick
-    → instant_of (grid_for p) row true macrotick
-    ≡ instant_of (grid_for p) row true p.correction +ℤ (floor_of ((macrotick -ℤ p.correction) *ℤ corrected_micros (grid_for p) row.rate row.offset) (p.macros -ℤ p.correction) *ℤ row.length)
-late_instant p row macrotick from =
-    let begin = even_position (grid_for p) row.rate p.correction in
-    let more = floor_of ((macrotick -ℤ p.correction) *ℤ corrected_micros (grid_for p) row.rate row.offset) (p.macros -ℤ p.correction) in
-    let late : instant_of (grid_for p) row true macrotick ≡ row.start +ℤ ((begin +ℤ more) *ℤ row.length) = rw (int_lt_true p.correction macrotick from) refl in
-    let early : instant_of (grid_for p) row true p.correction ≡ row.start +ℤ (begin *ℤ row.length) = rw (int_lt_false p.correction p.correction (itself p.correction)) refl in
-    late ∙ sum row.start (begin *ℤ row.length) (more *ℤ row.length) ((begin +ℤ more) *ℤ row.length) (addz-mulz begin more row.length) ∙ ap (λ x. x +ℤ (more *ℤ row.length)) (sym early)
-  where
-    sum : (s b m w : ℤ) → w ≡ b +ℤ m → s +ℤ w ≡ (s +ℤ b) +ℤ m
-    sum s b m w e = omega (arith, ints)
-
-late_on_line : (p : Values) (row : NodeRow) (macrotick : ℤ) → IsSane p → Lasts p row → p.correction <ℤ macrotick
-    → OnLine (instant_of (grid_for p) row true p.correction) (corrected_micros (grid_for p) row.rate row.offset *ℤ row.length) row.length
-    (macrotick -ℤ p.correction) (p.macros -ℤ p.correction) (pos (longest_micro p)) (instant_of (grid_for p) row true macrotick)
-late_on_line p row macrotick sane lasts from =
-    let grid = is_grid_lem p sane in
-    let rest = corrected_micros (grid_for p) row.rate row.offset in
-    let start = instant_of (grid_for p) row true p.correction in
-    let On : ℤ → Type 0 = OnLine start (rest *ℤ row.length) row.length (macrotick -ℤ p.correction) (p.macros -ℤ p.correction) (pos (longest_micro p)) in
-    let line =
-    on_line start row.length (macrotick -ℤ p.correction) rest (p.macros -ℤ p.correction) (pos (longest_micro p))
-    (some_parts p.macros p.correction grid.correction_to) lasts.some lasts.most in
-    subst On (sym (late_instant p row macrotick from)) line
-  where
-    some_parts : (g o : ℤ) → o <ℤ g → pos 0 <ℤ (g -ℤ o)
-    some_parts g o less = omega (arith, ints)
 
 corrected_end_is : (p : Values) (row : NodeRow)
     → instant_of (grid_for p) row true p.correction +ℤ (corrected_micros (grid_for p) row.rate row.offset *ℤ row.length) ≡ corrected_end_of p row

@@ -199,7 +199,7 @@ receives_ends p senders lengths row values term sane sending near round =
     }
 
 -- the corrected end is where the midpoint lies
-corrected_place : (p : Values) (row : NodeRow) (values : List ℤ) (mid : ℤ) → row.offset ≡ mid → corrected_end_of p row ≡ place_at (ends_at p row values) mid
+pub corrected_place : (p : Values) (row : NodeRow) (values : List ℤ) (mid : ℤ) → row.offset ≡ mid → corrected_end_of p row ≡ place_at (ends_at p row values) mid
 corrected_place p row values mid is =
     ap (λ offset. row.start +ℤ ((p.micros +ℤ row.rate +ℤ offset) *ℤ row.length)) is
     ∙ sum row.start ((p.micros +ℤ row.rate) *ℤ row.length) (mid *ℤ row.length) ((p.micros +ℤ row.rate +ℤ mid) *ℤ row.length) (addz-mulz (p.micros +ℤ row.rate) mid row.length)

@@ -62,7 +62,7 @@ record Round (p : Values) (row : NodeRow) (values : List ℤ) (term : Term) : Ty
   range : Ranged p.micros p.rate_limit (pos (shortest_micro p)) (pos (longest_micro p)) (pos (cycle_change p)) row.length (damped p.damping (row.rate +ℤ mid))
 
 -- the length at the rate before damping is where the midpoint lies
-undamped : (n rate mid unit : ℤ) → (n +ℤ (rate +ℤ mid)) *ℤ unit ≡ measured_place ((n +ℤ rate) *ℤ unit) unit mid
+pub undamped : (n rate mid unit : ℤ) → (n +ℤ (rate +ℤ mid)) *ℤ unit ≡ measured_place ((n +ℤ rate) *ℤ unit) unit mid
 undamped n rate mid unit = ap (λ x. x *ℤ unit) (grouped n rate mid) ∙ addz-mulz (n +ℤ rate) mid unit
   where
     grouped : (n rate mid : ℤ) → n +ℤ (rate +ℤ mid) ≡ (n +ℤ rate) +ℤ mid

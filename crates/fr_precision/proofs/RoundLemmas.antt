@@ -50,7 +50,7 @@ evens_are r (n ∷ rows) = ap (λ (rest : List NodeRow). n.even ∷ rest) (evens
 
 -- ---- the senders
 
-given : {X : Type 0} (who : ℕ → Option X) (P : X → Type 0) (i : ℕ) (xs : List X) (o : Option X) → who i ≡ o → ((x : X) → who i ≡ Some x → P x) → All P xs → All P (cons_option o xs)
+pub given : {X : Type 0} (who : ℕ → Option X) (P : X → Type 0) (i : ℕ) (xs : List X) (o : Option X) → who i ≡ o → ((x : X) → who i ≡ Some x → P x) → All P xs → All P (cons_option o xs)
 given who P i xs None is each rest = rest
 given who P i xs (Some x) is each rest = All-cons P x xs (each x is) rest
 

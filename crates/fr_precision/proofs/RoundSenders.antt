@@ -16,6 +16,7 @@ use Rattle.fr_midpoint.specs.Midpoint.{discarded}
 use Rattle.fr_midpoint.specs.Receivers.{AreFew, Hears}
 use Rattle.fr_midpoint.proofs.Agreement.{few_are_discarded_lem}
 use Rattle.fr_measure.specs.Values.{values_of}
+use Rattle.fr_precision.specs.Alike.{IsArbitraryAt}
 use Rattle.fr_precision.specs.Rows.{KeepOne, Sender}
 use Rattle.fr_precision.specs.Round.{IsRound, IsSender, Round, sender_at, sender_by, sender_in, sender_with, senders_of, sync_count}
 use Rattle.fr_cluster.proofs.KeyIndexes.{index-lt}
@@ -190,7 +191,7 @@ marked_counted r sane =
 
 -- ---- values by key index, and the senders
 
-few_more : (correct more arbitrary : ℕ) → correct ≤ more → AreFew correct arbitrary → AreFew more arbitrary
+pub few_more : (correct more arbitrary : ℕ) → correct ≤ more → AreFew correct arbitrary → AreFew more arbitrary
 few_more correct more arbitrary le (inl none) = inl (none.0, omega (arith, le, none.1))
 few_more correct more arbitrary le (inr (inl one)) = inr (inl (one.0, omega (arith, le, one.1)))
 few_more correct more arbitrary le (inr (inr two)) = inr (inr (two.0, omega (arith, le, two.1)))
@@ -258,3 +259,14 @@ values_keep_one r Says Others at other is told also =
     let Other : ℕ → Type 0 = λ b. At (length (senders_of r) + one.heard) b in
     let First : ℕ → Type 0 = λ a. At a (length (values_of other)) in
     subst First (sym one.size) (subst Other (sym two.size) few.1)
+
+pub marked_node : (r : Round) (index : ℕ) → marked r index ≡ true → IsArbitraryAt r index
+unfolding marked keyed
+marked_node r index is =
+    let slot = marked_slot (keyed r.params r.is_arbitrary) (key_slot_of r.params index) is in
+    let node = keyed_node r.is_arbitrary (key_node_of r.params slot.0) slot.2 in
+    record { slot = slot.0; node = node.0; slot_is = slot.1; node_is = node.1; arbitrary = node.2 }
+  where
+    keyed_node : (test : ℕ → Bool) (o : Option NodeSpec) → by_node test o ≡ true → (node : NodeSpec) × (o ≡ Some node) × (test node.id ≡ true)
+    keyed_node test None is = absurd (cc)
+    keyed_node test (Some node) is = (node, refl, is)

@@ -30,9 +30,9 @@ next_spread_draws true p flutter s =
 
 -- ---- no less than in sharp sync
 
-record IsFrom (beside : Bool) (p : Values) (flutter : ℕ) (s : Spread) : Type 0 where
-  starts_from : sharp_pi beside p flutter ≤ s.starts
-  lengths_from : sharp_lambda beside p flutter ≤ s.lengths
+pub record IsFrom (beside : Bool) (p : Values) (flutter : ℕ) (s : Spread) : Type 0 where
+  pub starts_from : sharp_pi beside p flutter ≤ s.starts
+  pub lengths_from : sharp_lambda beside p flutter ≤ s.lengths
 
 from_first : (beside : Bool) (p : Values) (flutter start rate : ℕ) → IsFrom beside p flutter (first_sharp_spread beside p flutter start rate)
 from_first beside p flutter start rate = record {
@@ -59,7 +59,7 @@ from_next true p flutter s from = record {
     lengths : (l k : ℕ) → l ≤ k → l ≤ (k + l) / 2
     lengths l k le = omega (arith, le)
 
-from_after : (beside : Bool) (p : Values) (flutter start rate double : ℕ) → IsFrom beside p flutter (sharp_spread_after beside p flutter start rate double)
+pub from_after : (beside : Bool) (p : Values) (flutter start rate double : ℕ) → IsFrom beside p flutter (sharp_spread_after beside p flutter start rate double)
 unfolding sharp_spread_after
 from_after beside p flutter start rate zero = from_first beside p flutter start rate
 from_after beside p flutter start rate (suc double) = from_next beside p flutter (sharp_spread_after beside p flutter start rate double) (from_after beside p flutter start rate double)

@@ -182,7 +182,7 @@ send_apart beside p flutter senders nodes starts lengths beyond walk reach last 
         let both = acts_in_cycle last p.correction sender.action is.early acts in
         record { double = regular.double; lasts = micro_lasts p sender.odd is.sane regular.odd_micro; acts_from = both.0; acts_to = both.1 }
 
-takes_sharply : (beside : Bool) (p : Values) (flutter : ℕ) (senders : List Sender) (nodes : List Member) (starts lengths : ℕ) (beyond walk reach last : ℤ) (node : Member)
+pub takes_sharply : (beside : Bool) (p : Values) (flutter : ℕ) (senders : List Sender) (nodes : List Member) (starts lengths : ℕ) (beyond walk reach last : ℤ) (node : Member)
     → IsSharpLimit p flutter beyond walk reach last → ActInReach p reach last nodes → Double p starts lengths beyond nodes → IsSharpDouble beside p flutter senders nodes last → Contains nodes node
     → TakesSharply p flutter senders reach lengths node
 takes_sharply beside p flutter senders nodes starts lengths beyond walk reach last node is acting double heard here =

@@ -35,7 +35,7 @@ pub there_by : (o : Option ℤ) → IsSome o → IsThere o
 there_by None is = absurd (cc)
 there_by (Some v) is = (v, refl)
 
-least_either : (P : ℤ → Type 0) (a b : ℤ) → P a → P b → P (int_min a b)
+pub least_either : (P : ℤ → Type 0) (a b : ℤ) → P a → P b → P (int_min a b)
 least_either P a b one other = by_test (int_lt b a)
   where
     by_test : (t : Bool) → P (cond t b a)
@@ -92,7 +92,7 @@ channel_of f (inr is) = (B, is)
 
 -- ---- a receiver's own index
 
-own_is : (own : Option ℕ) (index : ℕ) → is_own own index ≡ true → own ≡ Some index
+pub own_is : (own : Option ℕ) (index : ℕ) → is_own own index ≡ true → own ≡ Some index
 own_is None index is = absurd (cc)
 own_is (Some own) index is = let e : own ≡ index = grind arith in ap Some e
 
@@ -142,7 +142,7 @@ of_arbitrary r n index is_odd channel value is hears none there =
         absurd (no_sender r index slot node is.sane (record { there = has.0; rows = rows; key = has.1 }) slot_is none)
     by_kind slot node slot_is node_is (inr arbitrary) = marked_is r index slot node slot_is node_is arbitrary
 
-own_none : (r : Round) (n : Hearer) (index : ℕ) → IsRound r → IsHeardAt r n → sender_at r index ≡ None → is_own n.own index ≡ true → ⊥
+pub own_none : (r : Round) (n : Hearer) (index : ℕ) → IsRound r → IsHeardAt r n → sender_at r index ≡ None → is_own n.own index ≡ true → ⊥
 own_none r n index is hears none own =
     let own_one = hears.itself index (own_is n.own index own) in
     let itself = own_one.1.1 in
@@ -153,7 +153,7 @@ other_of r n index sender from other = record { sender = from.from; slot_is = fr
 
 -- ---- offset values
 
-pub Offsets : Round → Hearer → Sender → ℤ → Type 0
+unfoldable pub Offsets : Round → Hearer → Sender → ℤ → Type 0
 Offsets r n sender value = IsDeviation r.params true sender.action n.odd sender.odd value
 
 offset_said : (r : Round) (reach : ℤ) (n : Hearer) (index : ℕ) (sender : Sender) (own : Bool) → IsRound r → IsHearer r reach n → IsFrom r index sender → is_own n.own index ≡ own

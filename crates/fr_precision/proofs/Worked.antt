@@ -73,37 +73,18 @@ cluster = record {
 
 in_range : (n : ParamName) → InRange n (figure cluster n)
 in_range name.gMacroPerCycle = (record { le = tt }, record { le = tt })
-in_range name.pMicroPerCycle = (record { le = tt }, record { le = tt })
-in_range name.gNumberOfStaticSlots = (record { le = tt }, record { le = tt })
-in_range name.gdStaticSlot = (record { le = tt }, record { le = tt })
-in_range name.gdActionPointOffset = (record { le = tt }, record { le = tt })
-in_range name.gdNIT = (record { le = tt }, record { le = tt })
-in_range name.gPayloadLengthStatic = (record { le = tt }, record { le = tt })
-in_range name.gOffsetCorrectionStart = (record { le = tt }, record { le = tt })
-in_range name.gMaxWithoutClockCorrectionPassive = (record { le = tt }, record { le = tt })
-in_range name.gMaxWithoutClockCorrectionFatal = (record { le = tt }, record { le = tt })
-in_range name.pAllowHaltDueToClock = (record { le = tt }, record { le = tt })
-in_range name.pAllowPassiveToActive = (record { le = tt }, record { le = tt })
-in_range name.pClusterDriftDamping = (record { le = tt }, record { le = tt })
-in_range name.pOffsetCorrectionOut = (record { le = tt }, record { le = tt })
-in_range name.pRateCorrectionOut = (record { le = tt }, record { le = tt })
-in_range name.pDelayCompensation = (record { le = tt }, record { le = tt })
-in_range name.pDelayCompensationA = (record { le = tt }, record { le = tt })
-in_range name.pDelayCompensationB = (record { le = tt }, record { le = tt })
-in_range name.xRateBound = (record { le = tt }, record { le = tt })
-in_range name.xChangeBound = (record { le = tt }, record { le = tt })
-in_range name.xDelayError = (record { le = tt }, record { le = tt })
+in_range other = (record { le = tt }, record { le = tt })
 
 pub two : {X : Type 0} (P : X → Type 0) (one other : X) → P one → P other → All P (one ∷ other ∷ [])
 two P one other here there = All-cons P one (other ∷ []) here (All-cons P other [] there (All-nil P))
 
-none : {X : Type 0} (R : X → X → Type 0) → AllPairs R []
+pub none : {X : Type 0} (R : X → X → Type 0) → AllPairs R []
 none R = search rules
 
 pair : {X : Type 0} (R : X → X → Type 0) (one other : X) → R one other → AllPairs R (one ∷ other ∷ [])
 pair R one other is = AllPairs-cons R one (other ∷ []) (All-cons (R one) other [] is (All-nil (R one))) (AllPairs-cons R other [] (All-nil (R other)) (none R))
 
-sane_node : (id : ℕ) → 1 ≤ id → id ≤ 64 → IsSaneNode (node id)
+pub sane_node : (id : ℕ) → 1 ≤ id → id ≤ 64 → IsSaneNode (node id)
 sane_node id from to = record { proper = record { from = from; to = to; key = (from, omega arith) }; starts = refl }
 
 pub is_sane : IsSane cluster
@@ -505,7 +486,7 @@ stay_synced =
     (lit≤ tt) (lit≤ tt)
 
 -- the same from their rows as lists
-lie_two : (bound a b : ℤ) → (a -ℤ a) ≤ℤ bound → (a -ℤ b) ≤ℤ bound → (b -ℤ a) ≤ℤ bound → (b -ℤ b) ≤ℤ bound → LieWithin bound (a ∷ b ∷ [])
+pub lie_two : (bound a b : ℤ) → (a -ℤ a) ≤ℤ bound → (a -ℤ b) ≤ℤ bound → (b -ℤ a) ≤ℤ bound → (b -ℤ b) ≤ℤ bound → LieWithin bound (a ∷ b ∷ [])
 lie_two bound a b aa ab ba bb =
     two (λ x. All (λ y. (x -ℤ y) ≤ℤ bound) (a ∷ b ∷ [])) a b (two (λ y. (a -ℤ y) ≤ℤ bound) a b aa ab) (two (λ y. (b -ℤ y) ≤ℤ bound) a b ba bb)
 

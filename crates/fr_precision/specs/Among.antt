@@ -1,10 +1,11 @@
 -- What two receivers make of the values of senders of whom each has heard its own: whatever was lost on the way.
-use Rattle.std.specs.Prelude.{◌≡◌, ◌⊎◌, ◌+◌, ◌*◌, ◌≤◌, ◌<◌, ℕ, zero, suc, max, Bool, ℤ, pos, ◌+ℤ◌, ◌-ℤ◌, ◌*ℤ◌, ◌≤ℤ◌, true, false, List, ◌++◌, length, map, All, Contains}
+use Rattle.std.specs.Prelude.{◌≡◌, ◌⊎◌, ◌+◌, ◌*◌, ◌≤◌, ◌<◌, ℕ, zero, suc, max, nat_abs, Bool, ℤ, pos, ◌+ℤ◌, ◌-ℤ◌, ◌*ℤ◌, ◌≤ℤ◌, true, false, List, ◌++◌, length, map, All, Contains}
 use Rattle.fr_base.specs.declared.node_row.NodeRow.{NodeRow}
 use Rattle.fr_base.specs.Within.{IsBetween, IsWithin}
 use Rattle.fr_cluster.specs.Values.{Values, amount}
 use Rattle.fr_cluster.specs.Sane.{IsSane}
 use Rattle.fr_cluster.specs.declared.names.ParamName.TheVariants as name
+use Rattle.fr_base.specs.declared.Outcome.TheVariants.{Within}
 use Rattle.fr_correct.specs.declared.term.Term.{Term}
 use Rattle.fr_bound.specs.Bounds.{arrival_error, cycle_change, longest_micro}
 use Rattle.fr_bound.specs.Sync.{cycle_length_of}
@@ -80,6 +81,26 @@ pub record ComputesOwn (p : Values) (flutter : ℕ) (nodes : List Member) (last 
   pub by_offset : IsOffsetRound p offset_senders node.odd node.offsets node.offset_term
   pub by_rate : IsSteadyRound p flutter rate_senders node.odd node.rates node.rate_term
 
+-- how far a microtick may change from one cycle to the next, in ticks
+abbrev pub most_change : Values → ℕ
+most_change p = nat_abs p.change_bound
+
+-- or it has no rate value and keeps the rate that it has, as by a term within its limit, while oscillators do not change. Where it has no
+-- offset value either its end is not moved, as its own value 0 says: it is then the one that sends
+pub record KeepsRate (p : Values) (nodes : List Member) (last : ℤ) (node : Member) : Type 0 where
+  pub regular : IsRegular p node.even node.odd
+  pub offset_senders : List Sender
+  pub some_offsets : 1 ≤ length offset_senders
+  pub offsets_among : All (IsAmong nodes) offset_senders
+  pub acts : All (λ sender. IsBetween (pos 0) last sender.action) offset_senders
+  pub by_offset : IsOffsetRound p offset_senders node.odd node.offsets node.offset_term
+  pub unchanged : most_change p ≡ 0
+  pub kept : node.rate_term.value ≡ node.odd.rate
+  pub within : node.rate_term.outcome ≡ Within
+
+abbrev pub ComputesOrKeeps : Values → ℕ → List Member → ℤ → Member → Type 0
+ComputesOrKeeps p flutter nodes last node = ComputesOwn p flutter nodes last node ⊎ KeepsRate p nodes last node
+
 -- any two nodes come so near, whatever each of them has heard
 abbrev pub LostSpreadsGrow : Type 0
 LostSpreadsGrow =
@@ -88,6 +109,16 @@ LostSpreadsGrow =
     → lost_starts p starts lengths ≤ next_starts → lost_lengths p flutter lengths ≤ next_lengths
     → AreSharp p starts lengths beyond (map (λ node. node.even) nodes)
     → ((node : Member) → Contains nodes node → ComputesOwn p flutter nodes last node)
+    → Contains nodes one → Contains nodes other → ComeSharply p next_starts next_lengths next one other
+
+-- so do any two of which some hear nothing
+abbrev pub DeafSpreadsGrow : Type 0
+DeafSpreadsGrow =
+    (p : Values) (flutter : ℕ) (nodes : List Member) (starts lengths next_starts next_lengths : ℕ) (beyond walk next reach last : ℤ) (one other : Member)
+    → IsSharpLimit p flutter beyond walk reach last → ActInReach p reach last nodes → pos 0 ≤ℤ next → (beyond +ℤ walk) ≤ℤ next → beyond ≤ℤ next
+    → lost_starts p starts lengths ≤ next_starts → lost_lengths p flutter lengths ≤ next_lengths
+    → AreSharp p starts lengths beyond (map (λ node. node.even) nodes)
+    → ((node : Member) → Contains nodes node → ComputesOrKeeps p flutter nodes last node)
     → Contains nodes one → Contains nodes other → ComeSharply p next_starts next_lengths next one other
 
 -- what one such double cycle costs from sharp sync without arbitrary nodes: behind it macroticks lie no further apart than the sharper
@@ -141,7 +172,7 @@ HeardSo heard.Clean p flutter senders nodes last = IsSharpDouble false p flutter
 HeardSo heard.Meeting p flutter senders nodes last =
     ((node : Member) → Contains nodes node → ComputesOwn p flutter nodes last node)
     × ((one other : Member) → Contains nodes one → Contains nodes other → (one ≡ other) ⊎ HearInCommon p flutter nodes last one other)
-HeardSo heard.Poor p flutter senders nodes last = (node : Member) → Contains nodes node → ComputesOwn p flutter nodes last node
+HeardSo heard.Poor p flutter senders nodes last = (node : Member) → Contains nodes node → ComputesOrKeeps p flutter nodes last node
 
 -- how the numbers go on
 abbrev pub GoesTo : Heard → Values → ℕ → ℕ → ℕ → ℕ → ℕ → Type 0

@@ -12,6 +12,7 @@ pub mod Round
 -- of the sharper precision
 pub mod Ends
 pub mod Among
+pub mod Alike
 pub mod Hearing
 pub mod Lengths
 pub mod Nearness

@@ -35,6 +35,6 @@ pub use rates::{lengths_draw_together, lengths_stay_in_range};
 pub use receivers::receivers_come_near;
 pub use reception::frames_arrive_in_slots;
 pub use rounds::{rounds_are_heard, rounds_guide};
-pub use sharp_step::{sharp_spreads_shrink, sharp_sync_is_kept};
+pub use sharp_step::{alike_spreads_shrink, sharp_spreads_shrink, sharp_sync_is_kept};
 pub use steady::{pairs_are_steady, steady_values_place};
 pub use step::{spreads_shrink, sync_is_kept, sync_is_spread};

@@ -1,3 +1,4 @@
+ghost use Rattle.fr_precision.specs.Alike.{AlikeRoundsShrink, AlikeSpreadsShrink};
 ghost use Rattle.fr_precision.specs.SharpStep.{ActionsLieInReach, InSyncIsSharp, MacroticksStaySharp, NextIsInSharpSync, NextIsNear, NextIsSharp, ReceiversComeSharply, SharpIsWider, SharpSpreadsShrink, SharpSyncDraws, SharpSyncIsKept, SpreadsShrinkInReach};
 
 /// The law of the step with free numbers: nodes with a value of every sender cut no term, and their next starts and
@@ -22,4 +23,12 @@ pub fn sharp_sync_is_kept()
     ensures draws { SharpSyncDraws }
     ensures kept { SharpSyncIsKept }
     ensures next { NextIsInSharpSync }
+{}
+
+/// The law of the step beside arbitrary nodes that are heard alike: of each of them two receivers have values at places
+/// that lie as near, in ticks, as those of a correct sender, or neither has any. Their next starts and even lengths draw
+/// together as without arbitrary nodes; of any two of a list of nodes, and of the receivers of a round.
+pub fn alike_spreads_shrink()
+    ensures shrink { AlikeSpreadsShrink }
+    ensures rounds { AlikeRoundsShrink }
 {}

@@ -8,6 +8,7 @@ use Rattle.fr_bound.specs.Bounds.{arrival_error, cycle_change, longest_micro}
 use Rattle.fr_bound.specs.SharpBounds.{odd_spread, precision_by, sharp_lambda, sharp_pi, steady_error}
 use Rattle.fr_bound.specs.SharpSpreads.{lost_lengths, lost_starts, next_lost_spread}
 use Rattle.fr_precision.specs.Among.{all_or_any, every_second, lost_spread, EverySecondCosts, GoesTo, HeardAgain, LostSpreadGoes}
+use Rattle.fr_promise.proofs.HeardNumbers.{lambda_alone as lambda_is}
 
 goes_by : (whole : Bool) (p : Values) (flutter : ℕ) (s : Spread) → GoesTo (all_or_any whole) p flutter s.starts s.lengths (next_lost_spread whole p flutter s).starts (next_lost_spread whole p flutter s).lengths
 goes_by true p flutter s = (itself (odd_spread p s.lengths + 2 * arrival_error p + 3 * longest_micro p), itself (sharp_lambda false p flutter))
@@ -47,10 +48,6 @@ pub record IsCalm (p : Values) (flutter : ℕ) (s : Spread) : Type 0 where
 pub record IsStirred (p : Values) (flutter : ℕ) (s : Spread) : Type 0 where
   pub start : s.starts + longest_micro p ≤ sharp_pi false p flutter + 3 * sharp_lambda false p flutter + 2 * cycle_change p + 2 * arrival_error p + 3 * longest_micro p
   pub long : s.lengths + longest_micro p ≡ 2 * sharp_lambda false p flutter
-
-lambda_is : (p : Values) (flutter : ℕ)
-    → sharp_lambda false p flutter ≡ 2 * steady_error p flutter + longest_micro p + 2 * (amount p name.pClusterDriftDamping * longest_micro p) + 2 * cycle_change p
-lambda_is p flutter = refl
 
 stirred_next : (p : Values) (flutter : ℕ) (s : Spread) → IsCalm p flutter s → IsStirred p flutter (next_lost_spread false p flutter s)
 stirred_next p flutter s calm = record {

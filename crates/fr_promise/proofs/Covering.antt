@@ -22,7 +22,7 @@ use Rattle.fr_drift.specs.Questions.{delay_of, doubles_of, length_of}
 use Rattle.fr_drift.specs.View.{DriftView}
 use Rattle.fr_coverage.specs.Coverage.{asked_checks, asked_where, count_of, expected_delay, has_jumped, is_off, is_wrong, outweighs, some_join}
 use Rattle.fr_script.specs.Events.{event_of}
-use Rattle.fr_coverage.specs.Order.{HasNoGap, HasNoGapOfRun}
+use Rattle.fr_coverage.specs.Order.{HasNoGap, HasNoGapFrom}
 use Rattle.fr_coverage.specs.Links.{is_carried, is_carried_on, is_free, is_link, is_regular, shares}
 use Rattle.fr_script.specs.View.{ScriptView}
 use Rattle.fr_coverage.specs.declared.gap.Gap.TheVariants as gap
@@ -36,13 +36,13 @@ pub record HaveNoGap (p : Values) (d : DriftView) (s : ScriptView) : Type 0 wher
   pub sane : IsSane p
   pub none : HasNoGap p d s
 
--- the same, whatever their checks say
-pub record HaveNoGapOfRun (p : Values) (d : DriftView) (s : ScriptView) : Type 0 where
+-- the same from a double cycle on, whatever their checks say
+pub record HaveNoGapFrom (p : Values) (d : DriftView) (s : ScriptView) (from : ℕ) : Type 0 where
   pub sane : IsSane p
-  pub none : HasNoGapOfRun p d s
+  pub none : HasNoGapFrom p d s from
 
-pub whatever_checks : (p : Values) (d : DriftView) (s : ScriptView) → HaveNoGap p d s → HaveNoGapOfRun p d s
-whatever_checks p d s w = record { sane = w.sane; none = λ g is. w.none g (inr is) }
+pub whatever_checks : (p : Values) (d : DriftView) (s : ScriptView) → HaveNoGap p d s → HaveNoGapFrom p d s 0
+whatever_checks p d s w = record { sane = w.sane; none = λ g is behind. w.none g (inr is) }
 
 -- ---- checks and counts
 
@@ -79,24 +79,24 @@ few_if correct arbitrary is = elim (or_cases (((arbitrary == 0) && nat_le 1 corr
       let parts : ((arbitrary == count) ≡ true) × (nat_le least correct ≡ true) = and_parts (arbitrary == count) (nat_le least correct) is in
       (eqb-true arbitrary count parts.0, nat_le-true least correct parts.1)
 
-pub few_nodes : (p : Values) (d : DriftView) (s : ScriptView) → HaveNoGapOfRun p d s → AreFew (count_of s false p.nodes) (count_of s true p.nodes)
-few_nodes p d s w = few_if (count_of s false p.nodes) (count_of s true p.nodes) (by_test (outweighs (count_of s false p.nodes) (count_of s true p.nodes)) refl)
+pub few_nodes : (p : Values) (d : DriftView) (s : ScriptView) (from : ℕ) → HaveNoGapFrom p d s from → AreFew (count_of s false p.nodes) (count_of s true p.nodes)
+few_nodes p d s from w = few_if (count_of s false p.nodes) (count_of s true p.nodes) (by_test (outweighs (count_of s false p.nodes) (count_of s true p.nodes)) refl)
   where
     by_test : (b : Bool) → outweighs (count_of s false p.nodes) (count_of s true p.nodes) ≡ b → b ≡ true
     by_test true holds = refl
     by_test false fails =
-        absurd (w.none (gap.Count (count_of s false p.nodes) (count_of s true p.nodes)) (inl (record { few = fails; told = refl })))
+        absurd (w.none (gap.Count (count_of s false p.nodes) (count_of s true p.nodes)) (inl (record { few = fails; told = refl })) tt)
 
 -- ---- microticks
 
-proper_micro : (p : Values) (d : DriftView) (s : ScriptView) (node : NodeSpec) (cycle : ℕ) → HaveNoGapOfRun p d s → IsCorrectNode (setting_of p d s) node → cycle < 2 * doubles_of d → is_off p (length_of d node.id cycle) ≡ false
-proper_micro p d s node cycle w is within = by_test (is_off p (length_of d node.id cycle)) refl
+proper_micro : (p : Values) (d : DriftView) (s : ScriptView) (from : ℕ) (node : NodeSpec) (cycle : ℕ) → HaveNoGapFrom p d s from → IsCorrectNode (setting_of p d s) node → 2 * from ≤ cycle → cycle < 2 * doubles_of d → is_off p (length_of d node.id cycle) ≡ false
+proper_micro p d s from node cycle w is behind within = by_test (is_off p (length_of d node.id cycle)) refl
   where
     by_test : (b : Bool) → is_off p (length_of d node.id cycle) ≡ b → b ≡ false
     by_test false fits = refl
     by_test true off =
         absurd (w.none (gap.Length node.id cycle (length_of d node.id cycle))
-        (inr (inl (record { node = node; there = is.there; correct = is.correct; cycle = cycle; within = within; off = off; told = refl }))))
+        (inr (inl (record { node = node; there = is.there; correct = is.correct; cycle = cycle; within = within; off = off; told = refl }))) behind)
 
 not_off : (p : Values) (ticks : ℤ) → is_off p ticks ≡ false → (pos (shortest_micro p) ≤ℤ ticks) × (ticks ≤ℤ pos (longest_micro p))
 not_off p ticks is =
@@ -106,9 +106,9 @@ not_off p ticks is =
     from : (a b : ℤ) → int_lt a b ≡ false → b ≤ℤ a
     from a b told = grind (arith, ints)
 
-steady_micro : (p : Values) (d : DriftView) (s : ScriptView) (node : NodeSpec) (cycle : ℕ) → HaveNoGapOfRun p d s → IsCorrectNode (setting_of p d s) node → suc cycle < 2 * doubles_of d
+steady_micro : (p : Values) (d : DriftView) (s : ScriptView) (from : ℕ) (node : NodeSpec) (cycle : ℕ) → HaveNoGapFrom p d s from → IsCorrectNode (setting_of p d s) node → 2 * from ≤ cycle → suc cycle < 2 * doubles_of d
     → has_jumped p (length_of d node.id cycle) (length_of d node.id (suc cycle)) ≡ false
-steady_micro p d s node cycle w is within =
+steady_micro p d s from node cycle w is behind within =
     let e : suc cycle - 1 ≡ cycle = omega arith in
     ap (λ (n : ℕ). has_jumped p (length_of d node.id n) (length_of d node.id (suc cycle))) (sym e)
     ∙ by_test (has_jumped p (length_of d node.id (suc cycle - 1)) (length_of d node.id (suc cycle))) refl
@@ -117,7 +117,7 @@ steady_micro p d s node cycle w is within =
     by_test false fits = refl
     by_test true jumped =
         absurd (w.none (gap.Change node.id (suc cycle) (length_of d node.id (suc cycle) -ℤ length_of d node.id (suc cycle - 1)))
-        (inr (inr (inl (record { node = node; there = is.there; correct = is.correct; cycle = suc cycle; later = omega arith; within = within; jumped = jumped; told = refl })))))
+        (inr (inr (inl (record { node = node; there = is.there; correct = is.correct; cycle = suc cycle; later = omega arith; within = within; jumped = jumped; told = refl })))) (omega (arith, behind)))
 
 -- a number that lies within a bound of another
 near : (bound one other : ℤ) → (int_lt (one +ℤ bound) other || int_lt (other +ℤ bound) one) ≡ false → IsWithin bound (other -ℤ one)
@@ -142,9 +142,9 @@ link_is p d s sender receiver slot link =
     let hears : IsCorrectNode (setting_of p d s) receiver = correct_node (setting_of p d s) receiver link.hears in
     rw (link.key, sends.correct, hears.correct, ne_eqb sender.id receiver.id link.other) refl
 
-proper_delay : (p : Values) (d : DriftView) (s : ScriptView) (sender receiver : NodeSpec) (slot : ℕ) (ch : Channel) (cycle : ℕ) → HaveNoGapOfRun p d s → IsLinked (setting_of p d s) sender receiver slot
-    → Share sender receiver ch → cycle < 2 * doubles_of d → is_wrong p ch (delay_of d sender.id receiver.id ch cycle) ≡ false
-proper_delay p d s sender receiver slot ch cycle w link share within = by_test (is_wrong p ch (delay_of d sender.id receiver.id ch cycle)) refl
+proper_delay : (p : Values) (d : DriftView) (s : ScriptView) (from : ℕ) (sender receiver : NodeSpec) (slot : ℕ) (ch : Channel) (cycle : ℕ) → HaveNoGapFrom p d s from → IsLinked (setting_of p d s) sender receiver slot
+    → Share sender receiver ch → 2 * from ≤ cycle → cycle < 2 * doubles_of d → is_wrong p ch (delay_of d sender.id receiver.id ch cycle) ≡ false
+proper_delay p d s from sender receiver slot ch cycle w link share behind within = by_test (is_wrong p ch (delay_of d sender.id receiver.id ch cycle)) refl
   where
     shared : shares sender receiver ch ≡ true
     shared = rw (share.by_sender, share.by_receiver) refl
@@ -165,7 +165,7 @@ proper_delay p d s sender receiver slot ch cycle w link share within = by_test (
           within = within;
           wrong = wrong;
           told = refl;
-        }))))))
+        }))))) behind)
 
 delay_near : (p : Values) (ch : Channel) (ticks : ℤ) → is_wrong p ch ticks ≡ false → IsDelay p ch ticks
 delay_near p ch ticks is = turned (expected_delay p ch) ticks (pos (amount p name.xDelayError)) is
@@ -195,9 +195,9 @@ carried_on p d s sender receiver double ch is =
       odd = ap (λ (n : ℕ). event_of s n sender.id receiver.id ch) (sym (add-one (2 * double))) ∙ regular_event (event_of s (2 * double + 1) sender.id receiver.id ch) parts.1;
     }
 
-carried : (p : Values) (d : DriftView) (s : ScriptView) (sender receiver : NodeSpec) (slot double : ℕ) → HaveNoGapOfRun p d s → IsLinked (setting_of p d s) sender receiver slot → double < doubles_of d
+carried : (p : Values) (d : DriftView) (s : ScriptView) (from : ℕ) (sender receiver : NodeSpec) (slot double : ℕ) → HaveNoGapFrom p d s from → IsLinked (setting_of p d s) sender receiver slot → from ≤ double → double < doubles_of d
     → IsCarried (setting_of p d s) sender receiver double
-carried p d s sender receiver slot double w link within =
+carried p d s from sender receiver slot double w link behind within =
     elim (or_cases (is_carried_on s sender receiver double channel.A) (is_carried_on s sender receiver double channel.B) (by_test (is_carried s sender receiver double) refl)) [
       | inl a ↦ carried_on p d s sender receiver double channel.A a
       | inr b ↦ carried_on p d s sender receiver double channel.B b
@@ -217,34 +217,36 @@ carried p d s sender receiver slot double w link within =
           within = within;
           broken = broken;
           told = refl;
-        }))))))
+        }))))) behind)
 
 -- ---- all of it
 
--- oscillators, delays and links of the correct nodes keep within what is stated
-pub record KeepWithin (x : Setting) : Type 0 where
+-- oscillators, delays and links of the correct nodes keep within what is stated, from a double cycle on
+pub record KeepWithin (x : Setting) (from : ℕ) : Type 0 where
   pub least :
-      (node : NodeSpec) (cycle : ℕ) → Contains (correct_nodes x) node → cycle < 2 * x.doubles
+      (node : NodeSpec) (cycle : ℕ) → Contains (correct_nodes x) node → 2 * from ≤ cycle → cycle < 2 * x.doubles
       → pos (shortest_micro x.params) ≤ℤ x.microtick node.id cycle
   pub most :
-      (node : NodeSpec) (cycle : ℕ) → Contains (correct_nodes x) node → cycle < 2 * x.doubles
+      (node : NodeSpec) (cycle : ℕ) → Contains (correct_nodes x) node → 2 * from ≤ cycle → cycle < 2 * x.doubles
       → x.microtick node.id cycle ≤ℤ pos (longest_micro x.params)
   pub changes :
-      (node : NodeSpec) (cycle : ℕ) → Contains (correct_nodes x) node → suc cycle < 2 * x.doubles
+      (node : NodeSpec) (cycle : ℕ) → Contains (correct_nodes x) node → 2 * from ≤ cycle → suc cycle < 2 * x.doubles
       → IsWithin (pos (amount x.params name.xChangeBound)) (x.microtick node.id (suc cycle) -ℤ x.microtick node.id cycle)
   pub delays :
       (sender receiver : NodeSpec) (slot : ℕ) (channel : Channel) (cycle : ℕ)
-      → IsLinked x sender receiver slot → Share sender receiver channel → cycle < 2 * x.doubles
+      → IsLinked x sender receiver slot → Share sender receiver channel → 2 * from ≤ cycle → cycle < 2 * x.doubles
       → IsDelay x.params channel (x.delay sender.id receiver.id channel cycle)
   pub links :
       (sender receiver : NodeSpec) (slot double : ℕ)
-      → IsLinked x sender receiver slot → double < x.doubles → IsCarried x sender receiver double
+      → IsLinked x sender receiver slot → from ≤ double → double < x.doubles → IsCarried x sender receiver double
 
-pub nodes_keep_within : (p : Values) (d : DriftView) (s : ScriptView) → HaveNoGapOfRun p d s → KeepWithin (setting_of p d s)
-nodes_keep_within p d s w = record {
-  least = λ node cycle is within. (not_off p (length_of d node.id cycle) (proper_micro p d s node cycle w (correct_node (setting_of p d s) node is) within)).0;
-  most = λ node cycle is within. (not_off p (length_of d node.id cycle) (proper_micro p d s node cycle w (correct_node (setting_of p d s) node is) within)).1;
-  changes = λ node cycle is within. near (pos (amount p name.xChangeBound)) (length_of d node.id cycle) (length_of d node.id (suc cycle)) (steady_micro p d s node cycle w (correct_node (setting_of p d s) node is) within);
-  delays = λ sender receiver slot ch cycle link share within. delay_near p ch (delay_of d sender.id receiver.id ch cycle) (proper_delay p d s sender receiver slot ch cycle w link share within);
-  links = λ sender receiver slot double link within. carried p d s sender receiver slot double w link within;
+pub nodes_keep_within : (p : Values) (d : DriftView) (s : ScriptView) (from : ℕ) → HaveNoGapFrom p d s from → KeepWithin (setting_of p d s) from
+nodes_keep_within p d s from w = record {
+  least = λ node cycle is behind within. (not_off p (length_of d node.id cycle) (proper_micro p d s from node cycle w (correct_node (setting_of p d s) node is) behind within)).0;
+  most = λ node cycle is behind within. (not_off p (length_of d node.id cycle) (proper_micro p d s from node cycle w (correct_node (setting_of p d s) node is) behind within)).1;
+  changes = λ node cycle is behind within.
+      near (pos (amount p name.xChangeBound)) (length_of d node.id cycle) (length_of d node.id (suc cycle)) (steady_micro p d s from node cycle w (correct_node (setting_of p d s) node is) behind within);
+  delays = λ sender receiver slot ch cycle link share behind within.
+      delay_near p ch (delay_of d sender.id receiver.id ch cycle) (proper_delay p d s from sender receiver slot ch cycle w link share behind within);
+  links = λ sender receiver slot double link behind within. carried p d s from sender receiver slot double w link behind within;
 }

@@ -14,7 +14,7 @@ use Rattle.fr_history.specs.Unfollowed.{is_none}
 use Rattle.fr_history.proofs.Gauged.{find-same}
 use Rattle.fr_history.proofs.Synced.{IsFirstOf, found_first, none_passes}
 use Rattle.fr_runs.proofs.Parts.{cycle_within}
-use Rattle.fr_promise.specs.SharpTested.{IsFirstSharpSync, IsUnfollowedSharpSyncAt, are_free_at, are_free_by, first_free_of, first_sharp_sync_of, is_in_sharp_sync}
+use Rattle.fr_promise.specs.SharpTested.{IsFirstSharpSync, IsFirstSharpSyncBy, IsUnfollowedSharpSyncAt, are_free_at, are_free_by, first_free_of, first_sharp_sync_by, first_sharp_sync_of, is_in_sharp_sync}
 use Rattle.fr_promise.proofs.TestedLemmas.{sharp_sync_from, to_sharp_sync}
 
 -- ---- two more cycles
@@ -38,15 +38,15 @@ cycle_after c h n below = let e : (length h == n) ≡ false = ne_eqb (length h) 
 two_after : (odd even : Cycle) (h : Cycles) (n : ℕ) → n < length h → cycle_at (odd ∷ even ∷ h) n ≡ cycle_at h n
 two_after odd even h n below = cycle_after odd (even ∷ h) n (omega (arith, below)) ∙ cycle_after even h n below
 
-free_before : (test : List NodeRow → List NodeRow → Bool) (odd even : Cycle) (h : Cycles) (k : ℕ) → k < length h / 2 → are_free_at test (odd ∷ even ∷ h) k ≡ are_free_at test h k
+free_before : (test : ℕ → List NodeRow → List NodeRow → Bool) (odd even : Cycle) (h : Cycles) (k : ℕ) → k < length h / 2 → are_free_at test (odd ∷ even ∷ h) k ≡ are_free_at test h k
 free_before test odd even h k below =
     let early : cycle_at (odd ∷ even ∷ h) (even_cycle k) ≡ cycle_at h (even_cycle k) = two_after odd even h (even_cycle k) (omega (arith, below)) in
     let late : cycle_at (odd ∷ even ∷ h) (odd_cycle k) ≡ cycle_at h (odd_cycle k) = two_after odd even h (odd_cycle k) (omega (arith, below)) in
-    ap (λ (o : Option Cycle). are_free_by test o (cycle_at (odd ∷ even ∷ h) (odd_cycle k))) early
-    ∙ ap (λ (o : Option Cycle). are_free_by test (cycle_at h (even_cycle k)) o) late
+    ap (λ (o : Option Cycle). are_free_by (test k) o (cycle_at (odd ∷ even ∷ h) (odd_cycle k))) early
+    ∙ ap (λ (o : Option Cycle). are_free_by (test k) (cycle_at h (even_cycle k)) o) late
 
-free_here : (test : List NodeRow → List NodeRow → Bool) (odd even : Cycle) (h : Cycles) (double : ℕ) → length h ≡ 2 * double
-    → are_free_at test (odd ∷ even ∷ h) double ≡ are_free_by test (Some even) (Some odd)
+free_here : (test : ℕ → List NodeRow → List NodeRow → Bool) (odd even : Cycle) (h : Cycles) (double : ℕ) → length h ≡ 2 * double
+    → are_free_at test (odd ∷ even ∷ h) double ≡ are_free_by (test double) (Some even) (Some odd)
 free_here test odd even h double long =
     let is_even : even_cycle double ≡ length h = omega (arith, long) in
     let is_odd : odd_cycle double ≡ length (even ∷ h) = omega (arith, long) in
@@ -54,15 +54,15 @@ free_here test odd even h double long =
     let early : cycle_at (odd ∷ even ∷ h) (even_cycle double) ≡ Some even =
     ap (cycle_at (odd ∷ even ∷ h)) is_even ∙ cycle_after odd (even ∷ h) (length h) below ∙ cycle_here even h in
     let late : cycle_at (odd ∷ even ∷ h) (odd_cycle double) ≡ Some odd = ap (cycle_at (odd ∷ even ∷ h)) is_odd ∙ cycle_here odd (even ∷ h) in
-    ap (λ (o : Option Cycle). are_free_by test o (cycle_at (odd ∷ even ∷ h) (odd_cycle double))) early
-    ∙ ap (λ (o : Option Cycle). are_free_by test (Some even) o) late
+    ap (λ (o : Option Cycle). are_free_by (test double) o (cycle_at (odd ∷ even ∷ h) (odd_cycle double))) early
+    ∙ ap (λ (o : Option Cycle). are_free_by (test double) (Some even) o) late
 
-pub first_free-none : (test : List NodeRow → List NodeRow → Bool) → first_free_of test [] ≡ None
+pub first_free-none : (test : ℕ → List NodeRow → List NodeRow → Bool) → first_free_of test [] ≡ None
 unfolding first_free_of
 first_free-none test = refl
 
-pub first_free-next : (test : List NodeRow → List NodeRow → Bool) (h : Cycles) (even odd : Cycle) (double : ℕ) → length h ≡ 2 * double
-    → first_free_of test (odd ∷ even ∷ h) ≡ option_or (first_free_of test h) (if are_free_by test (Some even) (Some odd) then Some double else None)
+pub first_free-next : (test : ℕ → List NodeRow → List NodeRow → Bool) (h : Cycles) (even odd : Cycle) (double : ℕ) → length h ≡ 2 * double
+    → first_free_of test (odd ∷ even ∷ h) ≡ option_or (first_free_of test h) (if are_free_by (test double) (Some even) (Some odd) then Some double else None)
 unfolding first_free_of
 first_free-next test h even odd double long =
     let longer : Cycles = odd ∷ even ∷ h in
@@ -97,39 +97,46 @@ free_from beside p flutter h k (Some even) (Some odd) has_even has_odd is =
       none_late = none_from odd.followers both.1;
     }
 
-is_free : (beside : Bool) (p : Values) (flutter : ℕ) (h : Cycles) (k : ℕ) → are_free_at (is_in_sharp_sync beside p flutter) h k ≡ true → IsUnfollowedSharpSyncAt beside p flutter h k
-is_free beside p flutter h k is = free_from beside p flutter h k (cycle_at h (even_cycle k)) (cycle_at h (odd_cycle k)) refl refl is
+-- the test of each double cycle, with the numbers for its own flutter
+abbrev tested : Bool → Values → (ℕ → ℕ) → ℕ → List NodeRow → List NodeRow → Bool
+tested beside p flutter k = is_in_sharp_sync beside p (flutter k)
 
-to_free : (beside : Bool) (p : Values) (flutter : ℕ) (h : Cycles) (k : ℕ) → IsUnfollowedSharpSyncAt beside p flutter h k → are_free_at (is_in_sharp_sync beside p flutter) h k ≡ true
+is_free : (beside : Bool) (p : Values) (flutter : ℕ → ℕ) (h : Cycles) (k : ℕ) → are_free_at (tested beside p flutter) h k ≡ true → IsUnfollowedSharpSyncAt beside p (flutter k) h k
+is_free beside p flutter h k is = free_from beside p (flutter k) h k (cycle_at h (even_cycle k)) (cycle_at h (odd_cycle k)) refl refl is
+
+to_free : (beside : Bool) (p : Values) (flutter : ℕ → ℕ) (h : Cycles) (k : ℕ) → IsUnfollowedSharpSyncAt beside p (flutter k) h k → are_free_at (tested beside p flutter) h k ≡ true
 to_free beside p flutter h k is =
     let s = is.synced in
-    rw (s.has_even, s.has_odd) (rw (to_sharp_sync beside p flutter s.even.told.rows s.odd.told.rows s.in_sync, is.none_early, is.none_late) refl)
+    rw (s.has_even, s.has_odd) (rw (to_sharp_sync beside p (flutter k) s.even.told.rows s.odd.told.rows s.in_sync, is.none_early, is.none_late) refl)
 
 -- such a double cycle is a complete one
 pub sharp_sync_within : (beside : Bool) (p : Values) (flutter : ℕ) (h : Cycles) (k : ℕ) → IsUnfollowedSharpSyncAt beside p flutter h k → k < length h / 2
 sharp_sync_within beside p flutter h k is = let below : odd_cycle k < length h = cycle_within h (odd_cycle k) is.synced.odd is.synced.has_odd in omega (arith, below)
 
-not_free : (beside : Bool) (p : Values) (flutter : ℕ) (h : Cycles) (k : ℕ) → are_free_at (is_in_sharp_sync beside p flutter) h k ≡ false → IsUnfollowedSharpSyncAt beside p flutter h k → ⊥
+not_free : (beside : Bool) (p : Values) (flutter : ℕ → ℕ) (h : Cycles) (k : ℕ) → are_free_at (tested beside p flutter) h k ≡ false → IsUnfollowedSharpSyncAt beside p (flutter k) h k → ⊥
 not_free beside p flutter h k fails is = let passes = to_free beside p flutter h k is in let e : false ≡ true = sym fails ∙ passes in cc
 
-pub first_sharp_sync_is : (beside : Bool) (p : Values) (flutter : ℕ) (h : Cycles) (k : ℕ) → first_sharp_sync_of beside p flutter h ≡ Some k → IsFirstSharpSync beside p flutter h k
+pub first_sharp_sync_by_is : (beside : Bool) (p : Values) (flutter : ℕ → ℕ) (h : Cycles) (k : ℕ) → first_sharp_sync_by beside p flutter h ≡ Some k → IsFirstSharpSyncBy beside p flutter h k
 unfolding first_free_of
-first_sharp_sync_is beside p flutter h k is =
-    let test : ℕ → Bool = are_free_at (is_in_sharp_sync beside p flutter) h in
+first_sharp_sync_by_is beside p flutter h k is =
+    let test : ℕ → Bool = are_free_at (tested beside p flutter) h in
     let first : IsFirstOf test 0 (length h / 2) k = found_first test 0 (length h / 2) k is in
     record {
       unfollowed = is_free beside p flutter h k first.passes;
       first = λ j below unfollowed. not_free beside p flutter h j (first.earlier j (omega arith) below) unfollowed;
     }
 
-pub never_sharp_sync : (beside : Bool) (p : Values) (flutter : ℕ) (h : Cycles) → first_sharp_sync_of beside p flutter h ≡ None → (k : ℕ) → IsUnfollowedSharpSyncAt beside p flutter h k → ⊥
+pub first_sharp_sync_is : (beside : Bool) (p : Values) (flutter : ℕ) (h : Cycles) (k : ℕ) → first_sharp_sync_of beside p flutter h ≡ Some k → IsFirstSharpSync beside p flutter h k
+first_sharp_sync_is beside p flutter h k is = first_sharp_sync_by_is beside p (λ n. flutter) h k is
+
+pub never_sharp_sync : (beside : Bool) (p : Values) (flutter : ℕ → ℕ) (h : Cycles) → first_sharp_sync_by beside p flutter h ≡ None → (k : ℕ) → IsUnfollowedSharpSyncAt beside p (flutter k) h k → ⊥
 unfolding first_free_of
 never_sharp_sync beside p flutter h is k unfollowed =
-    let test : ℕ → Bool = are_free_at (is_in_sharp_sync beside p flutter) h in
-    let within : k < length h / 2 = sharp_sync_within beside p flutter h k unfollowed in
+    let test : ℕ → Bool = are_free_at (tested beside p flutter) h in
+    let within : k < length h / 2 = sharp_sync_within beside p (flutter k) h k unfollowed in
     not_free beside p flutter h k (none_passes test 0 (length h / 2) is k (omega arith) (omega (arith, within))) unfollowed
 
-pub first_sharp_sync_is_one : (beside : Bool) (p : Values) (flutter : ℕ) (h : Cycles) (k l : ℕ) → IsFirstSharpSync beside p flutter h k → IsFirstSharpSync beside p flutter h l → k ≡ l
+pub first_sharp_sync_is_one : (beside : Bool) (p : Values) (flutter : ℕ → ℕ) (h : Cycles) (k l : ℕ) → IsFirstSharpSyncBy beside p flutter h k → IsFirstSharpSyncBy beside p flutter h l → k ≡ l
 first_sharp_sync_is_one beside p flutter h k l one other = by_order (grind arith)
   where
     by_order : ((k < l) ⊎ (l < k)) ⊎ (k ≡ l) → k ≡ l

@@ -62,7 +62,7 @@ heard_below Clean p flutter s t below = next_below p flutter true s t below
 heard_below Meeting p flutter s t below = meeting_below p flutter s t below
 heard_below Poor p flutter s t below = next_below p flutter false s t below
 
-lambda_alone : (p : Values) (flutter : ℕ)
+pub lambda_alone : (p : Values) (flutter : ℕ)
     → sharp_lambda false p flutter ≡ 2 * steady_error p flutter + longest_micro p + 2 * (amount p name.pClusterDriftDamping * longest_micro p) + 2 * cycle_change p
 lambda_alone p flutter = refl
 

@@ -16,7 +16,7 @@ use Rattle.fr_runs.proofs.Parts.{cycle_found, cycle_within, each_cycle}
 use Rattle.fr_promise.specs.JoinedHistories.{CyclesKeepJoined, FirstRatesLastToEnd, JoinedHistoriesKeepSharpPrecision, KeepsJoined, StaysJoined}
 use Rattle.fr_bound.specs.SharpBounds.{sharp_precision}
 use Rattle.fr_runs.specs.SharpHistories.{BeginsActive}
-use Rattle.fr_promise.specs.SharpJoined.{IsSteadyJoined}
+use Rattle.fr_promise.specs.SharpJoined.{IsSteadyJoinedFrom}
 use Rattle.fr_promise.specs.SharpTested.{IsUnfollowedSharpSyncAt}
 use Rattle.fr_promise.proofs.JoinedRuns.{joined_histories_keep_sharp_sync}
 
@@ -69,27 +69,27 @@ module _ (x : Setting) (h : Cycles) (whole : length h ≡ 2 * x.doubles) (double
 
 -- ---- where first rates last
 
-module _ (beside : Bool) (x : Setting) (flutter : ℕ) (h : Cycles) (double : ℕ) (w : IsSteadyJoined beside x flutter h) (begin : IsUnfollowedSharpSyncAt beside x.params flutter h double)
+module _ (beside : Bool) (x : Setting) (from flutter : ℕ) (h : Cycles) (double : ℕ) (w : IsSteadyJoinedFrom beside x from flutter h) (late : from ≤ double) (begin : IsUnfollowedSharpSyncAt beside x.params flutter h double)
     (last : FirstRatesLastToEnd x flutter double) where
   stays : (k : ℕ) → double ≤ k → k < x.doubles → StaysJoined beside x flutter h double (k - double)
-  stays k from within =
-      joined_histories_keep_sharp_sync beside x flutter h double w begin (k - double) (omega (arith, from, within)) (λ m less. last m (omega (arith, from, within, less)))
+  stays k after within =
+      joined_histories_keep_sharp_sync beside x from flutter h double w late begin (k - double) (omega (arith, after, within)) (λ m less. last m (omega (arith, after, within, less)))
 
   keeps_at : (k : ℕ) → double ≤ k → k < x.doubles → KeepsJoined x h k (sharp_precision beside x.params flutter)
-  keeps_at k from within =
-      let same : double + (k - double) ≡ k = omega (arith, from) in
+  keeps_at k after within =
+      let same : double + (k - double) ≡ k = omega (arith, after) in
       let At : ℕ → Type 0 = λ m. KeepsJoined x h m (sharp_precision beside x.params flutter) in
-      subst At same ((stays k from within).keeps (last (k - double) (omega (arith, from, within))))
+      subst At same ((stays k after within).keeps (last (k - double) (omega (arith, after, within))))
 
   active_at : (k : ℕ) → double ≤ k → k < x.doubles → BeginsActive h k
-  active_at k from within earlier even odd d =
-      let same : k ≡ double + (k - double) = omega (arith, from) in
+  active_at k after within earlier even odd d =
+      let same : k ≡ double + (k - double) = omega (arith, after) in
       let At : ℕ → Type 0 = λ m. IsDoubleOf h m earlier even odd in
-      let own = (stays k from within).joined earlier even odd (subst At same d) in
+      let own = (stays k after within).joined earlier even odd (subst At same d) in
       (own.active_even, own.active_odd)
 
 pub joined_histories_keep_sharp_precision : JoinedHistoriesKeepSharpPrecision
-joined_histories_keep_sharp_precision beside x flutter h double w begin last =
+joined_histories_keep_sharp_precision beside x from flutter h double w late begin last =
     let whole : length h ≡ 2 * x.doubles = w.whole in
     let below : 2 * double < length h = cycle_within h (2 * double) begin.synced.even begin.synced.has_even in
-    cycles_keep x h whole double (sharp_precision beside x.params flutter) (omega (arith, whole, below)) (active_at beside x flutter h double w begin last) (keeps_at beside x flutter h double w begin last)
+    cycles_keep x h whole double (sharp_precision beside x.params flutter) (omega (arith, whole, below)) (active_at beside x from flutter h double w late begin last) (keeps_at beside x from flutter h double w late begin last)

@@ -19,7 +19,7 @@ use Rattle.fr_history.specs.Standing.{following_nodes, follows, follows_by, row_
 use Rattle.fr_runs.specs.Gathered.{follower_hearer, followers_since, hearers_of, round_at, row_hearer}
 use Rattle.fr_runs.specs.Hearers.{group_of, member_from, IsOneOf}
 use Rattle.fr_runs.proofs.Going.{is_since}
-use Rattle.fr_runs.proofs.Rows.{contains_map, map_contains}
+use Rattle.fr_precision.proofs.RoundLemmas.{contains_map, map_contains}
 use Rattle.fr_runs.proofs.Standing.{how_follows, is_follower}
 use Rattle.fr_runs.proofs.Lawful.{lawful_cycles_run}
 use Rattle.fr_runs.proofs.Whole.{double_runs, fresh_at, none_follows}
@@ -28,20 +28,20 @@ use Rattle.fr_bound.specs.SharpBounds.{last_action, sharp_lambda, sharp_near, sh
 use Rattle.fr_promise.specs.SharpFollowing.{AreFollowersInReach}
 use Rattle.fr_promise.specs.SharpGroup.{IsSharpRoundFollowed}
 use Rattle.fr_promise.specs.SharpJoining.{sharp_first_apart, sharp_first_lengths, sharp_reach, sharp_second_apart}
-use Rattle.fr_promise.specs.SharpJoined.{IsJoinedDouble, IsSteadyJoined, JoinedDoublesAreKept, JoinedIsInSharpSync, UnfollowedIsJoined}
+use Rattle.fr_promise.specs.SharpJoined.{IsJoinedDouble, IsSteadyJoinedFrom, JoinedDoublesAreKept, JoinedIsInSharpSync, UnfollowedIsJoined}
 use Rattle.fr_precision.specs.SharpRound.{as_member, IsSteadilySupplied}
 use Rattle.fr_precision.specs.SharpStep.{AreSharp}
-use Rattle.fr_runs.specs.SteadyRuns.{row_members, AreRowsInReach, IsSteadyPart, IsWhole, MayHaveArbitrary}
+use Rattle.fr_runs.specs.SteadyRuns.{row_members, AreRowsInReach, IsSteadyPartFrom, IsWhole, MayHaveArbitrary}
 use Rattle.fr_promise.proofs.FollowersSupplied.{follower_regular, supplied_at as follower_supplied}
 use Rattle.fr_promise.proofs.JoinBounds.{followers_come_nearer_lem, sharp_join_checks_suffice_lem}
-use Rattle.fr_runs.proofs.RowsSupplied.{lawful_rows, members_regular, rates_in_limit, round_in_reach, row_regular, supplied_at as row_supplied, LawfulRows}
+use Rattle.fr_runs.proofs.RowsSupplied.{lawful_rows_from, members_regular, rates_in_limit, round_in_reach, row_regular, supplied_at as row_supplied, LawfulRows}
 use Rattle.fr_promise.proofs.RunDoubles.{evens_are}
 use Rattle.fr_promise.proofs.SharpFollowed.{sharp_rounds_are_followed}
 use Rattle.fr_promise.proofs.SharpGrouped.{apart_reached, in_natural, sharp_groups_are_kept}
 use Rattle.fr_precision.proofs.StepLemmas.{nodes_near, Double}
 
-pub joined_part : (beside : Bool) (x : Setting) (flutter : ℕ) (h : Cycles) → IsSteadyJoined beside x flutter h → IsSteadyPart x flutter h
-joined_part beside x flutter h w = record { covered = w.covered; lawful = w.lawful; within = (let whole = w.whole in omega (arith, whole)) }
+pub joined_part : (beside : Bool) (x : Setting) (from flutter : ℕ) (h : Cycles) → IsSteadyJoinedFrom beside x from flutter h → IsSteadyPartFrom x from flutter h
+joined_part beside x from flutter h w = record { covered = w.covered; lawful = w.lawful; within = (let whole = w.whole in omega (arith, whole)) }
 
 -- whoever follows does so for the second or for the first double cycle
 pub since_when : (x : Setting) (h : Cycles) (double : ℕ) (node : NodeSpec) → length h ≡ 2 * double → Contains (following_nodes x h) node
@@ -165,15 +165,15 @@ module _
           }
 
 pub joined_doubles_are_kept : JoinedDoublesAreKept
-joined_doubles_are_kept beside x flutter h double earlier even odd beyond walk next w d n g =
+joined_doubles_are_kept beside x from flutter h double earlier even odd beyond walk next w late d n g =
     let p = x.params in
     let reach = sharp_reach beside p flutter in
     let suffice = sharp_join_checks_suffice_lem beside p flutter w.covered.timed.sane w.checks in
-    let s = lawful_rows x flutter h (joined_part beside x flutter h w) double earlier even odd d in
+    let s = lawful_rows_from x from flutter h (joined_part beside x from flutter h w) double late earlier even odd d in
     sharp_groups_are_kept beside p flutter beyond walk next _ (group_of p (hearers_of x earlier even odd double)) (pos reach)
     (
     sharp_rounds_are_followed beside (round_at x earlier even odd) flutter beyond walk (hearers_of x earlier even odd double) (pos reach)
-    (round_followed beside x flutter earlier even odd double beyond s w.arbitrary g (pos reach) suffice.0 suffice.1 (no_less reach) (w.covered.links double s.within) walk n.walks)
+    (round_followed beside x flutter earlier even odd double beyond s w.arbitrary g (pos reach) suffice.0 suffice.1 (no_less reach) (w.covered.links double late s.within) walk n.walks)
     )
     n.from n.to
 
@@ -188,9 +188,9 @@ none_member x h even odd ago double node none here =
     none from.0 (is_since x h ago double from.0 from.1)
 
 pub unfollowed_is_joined : UnfollowedIsJoined
-unfollowed_is_joined beside x flutter h double earlier even odd beyond w d suffices sync unfollowed =
+unfollowed_is_joined beside x from flutter h double earlier even odd beyond w late d suffices sync unfollowed =
     let p = x.params in
-    let s = lawful_rows x flutter h (joined_part beside x flutter h w) double earlier even odd d in
+    let s = lawful_rows_from x from flutter h (joined_part beside x from flutter h w) double late earlier even odd d in
     let runs = double_runs x h double earlier even odd d (lawful_cycles_run x h w.lawful) in
     let none = λ (node : NodeSpec) (among : Contains (following_nodes x earlier) node). none_follows x earlier even node runs.1.0 unfollowed among in
     let Sharp : List NodeRow → Type 0 = λ rows. AreSharp p (sharp_pi beside x.params flutter) (sharp_lambda beside x.params flutter) beyond rows in
@@ -210,8 +210,8 @@ unfollowed_is_joined beside x flutter h double earlier even odd beyond w d suffi
     }
 
 pub joined_is_in_sharp_sync : JoinedIsInSharpSync
-joined_is_in_sharp_sync beside x flutter h double earlier even odd beyond w d g =
+joined_is_in_sharp_sync beside x from flutter h double earlier even odd beyond w late d g =
     let p = x.params in
-    let s = lawful_rows x flutter h (joined_part beside x flutter h w) double earlier even odd d in
+    let s = lawful_rows_from x from flutter h (joined_part beside x from flutter h w) double late earlier even odd d in
     let Sharp : List NodeRow → Type 0 = λ rows. AreSharp p (sharp_pi beside x.params flutter) (sharp_lambda beside x.params flutter) beyond rows in
     record { active_even = g.active_even; active_odd = g.active_odd; rows = subst Sharp (evens_are x flutter earlier even odd double s) g.placed.sharp }

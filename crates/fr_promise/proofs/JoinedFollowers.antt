@@ -1,34 +1,29 @@
 -- A run that nodes join: no follower is left behind, where no term of it is cut.
-use Rattle.std.proofs.Common.{◌≡◌, ℕ, suc, ◌+◌, ◌*◌, ◌==◌, Bool, true, ◌&&◌, ◌||◌, Option, None, List, ◌∷◌, length, ℤ, pos, ap, ap₂, ◌∙◌, inl, inr, arith}
+use Rattle.std.proofs.Common.{◌≡◌, ℕ, suc, ◌+◌, ◌*◌, ◌==◌, Bool, true, ◌&&◌, ◌||◌, Option, ◌∷◌, length, ℤ, pos, ap, ap₂, ◌∙◌, inl, inr, arith}
 use Rattle.std.specs.Prelude.{Contains, is_some}
 use Rattle.std.proofs.lemmas.Bool.{or_right}
-use Rattle.fr_base.specs.declared.dev.Dev.{Dev}
 use Rattle.fr_base.specs.declared.node_row.NodeRow.{NodeRow}
-use Rattle.fr_base.specs.declared.state.Outcome.TheVariants.{Within}
 use Rattle.fr_cluster.specs.Setting.{Setting, correct_nodes}
-use Rattle.fr_cluster.specs.Values.{Values}
 use Rattle.fr_cluster.specs.declared.nodes.NodeSpec.{NodeSpec}
 use Rattle.fr_time.specs.Cycles.{is_odd}
-use Rattle.fr_correct.specs.Terms.{is_uncut, rate_term_of}
-use Rattle.fr_measure.specs.Deviations.{rate_values_by}
 use Rattle.fr_history.specs.History.{row_for, row_of}
-use Rattle.fr_history.specs.Terms.{offset_term_by, rate_term_by}
 use Rattle.fr_history.specs.Catching.{begins_with}
 use Rattle.fr_history.specs.Cycles.{Cycle, Cycles}
-use Rattle.fr_history.specs.Standing.{followed_well, following_nodes, follows, follows_by, goes_on, has_row, has_row_by, is_steady, row_nodes}
+use Rattle.fr_history.specs.Standing.{followed_well, following_nodes, follows, follows_by, goes_on, has_row, has_row_by, row_nodes}
 use Rattle.fr_history.proofs.Standing.{equal}
 use Rattle.fr_precision.specs.Round.{senders_of}
 use Rattle.fr_cluster.proofs.Elements.{kept_filtered}
-use Rattle.fr_runs.proofs.Rows.{contains_map, has_row as row_there}
+use Rattle.fr_precision.proofs.RoundLemmas.{contains_map}
+use Rattle.fr_runs.proofs.Rows.{has_row as row_there}
 use Rattle.fr_runs.specs.Gathered.{follower_hearer, followers_since, hearers_of, round_at}
 use Rattle.fr_runs.specs.Hearers.{IsOneOf, group_of, member_from}
 use Rattle.fr_runs.proofs.Standing.{follower_of, follows_stays, is_follower}
-use Rattle.fr_runs.proofs.Joined.{is_of}
+use Rattle.fr_runs.proofs.Joined.{is_of, steady_at}
 use Rattle.fr_promise.specs.SharpGroup.{IsSharpGroupKept}
 use Rattle.fr_promise.specs.SharpJoined.{JoinedFollowersJoin}
 use Rattle.fr_promise.specs.SharpJoining.{sharp_reach}
 use Rattle.fr_promise.proofs.JoinedDoubles.{joined_doubles_are_kept, joined_part}
-use Rattle.fr_runs.proofs.RowsSupplied.{lawful_rows, LawfulRows}
+use Rattle.fr_runs.proofs.RowsSupplied.{lawful_rows_from, LawfulRows}
 
 -- a double cycle whose clocks run by their laws, and in which no term is cut
 record AtDouble (beside : Bool) (x : Setting) (flutter : ℕ) (beyond next : ℤ) (h : Cycles) (even odd : Cycle) (double : ℕ) : Type 0 where
@@ -39,18 +34,6 @@ record AtDouble (beside : Bool) (x : Setting) (flutter : ℕ) (beyond next : ℤ
 
 both_true : (a b : Bool) → a ≡ true → b ≡ true → (a && b) ≡ true
 both_true a b one other = ap₂ (λ c d. c && d) one other
-
--- a follower neither of whose terms was cut or missing was steady
-pub steady_at : (p : Values) (evens odds : List Dev) (node : ℕ) (row : NodeRow) → row.node ≡ node
-    → (offset_term_by p evens odds node None).outcome ≡ Within
-    → (rate_term_of row.rate p.damping p.rate_limit (rate_values_by p evens odds node None)).outcome ≡ Within
-    → is_steady p evens odds row ≡ true
-steady_at p evens odds node row own offset rate =
-    let by_offset : is_uncut (offset_term_by p evens odds row.node None).outcome ≡ true =
-    ap (λ n. is_uncut (offset_term_by p evens odds n None).outcome) own ∙ ap is_uncut offset in
-    let by_rate : is_uncut (rate_term_by p evens odds row None).outcome ≡ true =
-    ap (λ n. is_uncut (rate_term_of row.rate p.damping p.rate_limit (rate_values_by p evens odds n None)).outcome) own ∙ ap is_uncut rate in
-    both_true (is_uncut (offset_term_by p evens odds row.node None).outcome) (is_uncut (rate_term_by p evens odds row None).outcome) by_offset by_rate
 
 -- each follower followed well up to the end of the double cycle
 record FollowedWell (x : Setting) (h : Cycles) (even odd : Cycle) (node : NodeSpec) : Type 0 where
@@ -112,9 +95,9 @@ first_follows beside x flutter beyond next h even odd double g node among =
     is_follower x (odd ∷ even ∷ h) 2 (suc double) node f.join f.joins f.correct again (omega (arith, since))
 
 pub joined_followers_join : JoinedFollowersJoin
-joined_followers_join beside x flutter h double earlier even odd beyond walk next w d n g =
+joined_followers_join beside x from flutter h double earlier even odd beyond walk next w late d n g =
     let at : AtDouble beside x flutter beyond next earlier even odd double = record {
-      rows = lawful_rows x flutter h (joined_part beside x flutter h w) double earlier even odd d;
-      kept = joined_doubles_are_kept beside x flutter h double earlier even odd beyond walk next w d n g;
+      rows = lawful_rows_from x from flutter h (joined_part beside x from flutter h w) double late earlier even odd d;
+      kept = joined_doubles_are_kept beside x from flutter h double earlier even odd beyond walk next w late d n g;
     } in
     (second_has beside x flutter beyond next earlier even odd double at, first_follows beside x flutter beyond next earlier even odd double at)

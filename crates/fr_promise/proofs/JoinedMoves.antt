@@ -21,14 +21,15 @@ use Rattle.fr_history.specs.Terms.{offset_term_in, status_in}
 use Rattle.fr_runs.specs.Gathered.{follower_hearer, followers_since, hearers_of, round_at, row_hearer}
 use Rattle.fr_runs.specs.Group.{WillHaveRow}
 use Rattle.fr_runs.specs.Hearers.{group_of, member_from}
-use Rattle.fr_runs.specs.References.{AreReferenced}
+use Rattle.fr_runs.specs.References.{HaveReferences}
 use Rattle.fr_runs.specs.Succession.{IsSucceeded}
 use Rattle.fr_runs.proofs.Courses.{follower_term_is, follower_two, is_correct_follower, is_correct_row, no_row, rate_followed_odd, rate_told_odd, row_term_is, row_two, start_followed, start_told, NodeTwo}
 use Rattle.fr_runs.proofs.Doubles.{even_length, odd_length}
 use Rattle.fr_runs.proofs.Going.{is_since}
 use Rattle.fr_runs.proofs.Moved.{hearer_by, two_on}
 use Rattle.fr_runs.proofs.Outcomes.{active_after, begun_active, outcomes_none}
-use Rattle.fr_runs.proofs.Rows.{contains_map, each_row, has_row as has_row_in, row_runs_by}
+use Rattle.fr_precision.proofs.RoundLemmas.{contains_map}
+use Rattle.fr_runs.proofs.Rows.{each_row, has_row as has_row_in, row_runs_by}
 use Rattle.fr_precision.specs.Lengths.{IsNextEven}
 use Rattle.fr_promise.specs.SharpGroup.{IsSharpGroupKept}
 use Rattle.fr_promise.specs.SharpJoining.{sharp_reach}
@@ -39,7 +40,7 @@ use Rattle.fr_runs.proofs.RowsSupplied.{proper_in, steady_in, LawfulRows}
 -- a double cycle in sharp sync and the next one
 pub record IsSharpStep (beside : Bool) (x : Setting) (flutter : ℕ) (beyond next : ℤ) (h : Cycles) (even odd even2 odd2 : Cycle) (double : ℕ) : Type 0 where
   pub joined : IsJoinedDouble beside x flutter beyond h even odd double
-  pub referenced : AreReferenced x
+  pub referenced : HaveReferences x
   pub rows : LawfulRows x flutter h even odd double
   pub later : LawfulRows x flutter (odd ∷ even ∷ h) even2 odd2 (suc double)
   pub succeeded : IsSucceeded x h even odd double
@@ -79,8 +80,8 @@ module _
       let more = s.later.within in
       let less : suc (suc (suc (length h))) < 2 * x.doubles = omega (arith, counted, more) in
       let covered = s.rows.covered in
-      let early = proper_in x flutter node (suc (suc (length h))) row.length covered correct (omega (arith, less)) at.even_length in
-      let late = proper_in x flutter node (suc (suc (suc (length h)))) later.length covered correct less at.odd_length in
+      let early = proper_in x double flutter node (suc (suc (length h))) row.length covered correct (omega (arith, counted)) (omega (arith, less)) at.even_length in
+      let late = proper_in x double flutter node (suc (suc (suc (length h)))) later.length covered correct (omega (arith, counted)) less at.odd_length in
       record {
         start = start;
         next = record {
@@ -88,8 +89,8 @@ module _
           odd_rate = at.double.same_rate ∙ rate;
           even_micro = record { least = early.0; most = early.1 };
           odd_micro = record { least = late.0; most = late.1 };
-          even_steady = steady_in x flutter node (suc (length h)) n.odd.length row.length covered correct (omega (arith, less)) on.long at.even_length;
-          odd_steady = steady_in x flutter node (suc (suc (length h))) row.length later.length covered correct less at.even_length at.odd_length;
+          even_steady = steady_in x double flutter node (suc (length h)) n.odd.length row.length covered correct (omega (arith, counted)) (omega (arith, less)) on.long at.even_length;
+          odd_steady = steady_in x double flutter node (suc (suc (length h))) row.length later.length covered correct (omega (arith, counted)) less at.even_length at.odd_length;
         };
       }
 

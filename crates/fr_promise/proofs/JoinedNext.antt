@@ -29,7 +29,8 @@ use Rattle.fr_runs.proofs.Going.{is_since, rows_ascend}
 use Rattle.fr_runs.proofs.Moved.{hearer_by, two_on}
 use Rattle.fr_runs.proofs.Outcomes.{outcomes_none, told_counted}
 use Rattle.fr_runs.proofs.Receivers.{same_mapped}
-use Rattle.fr_runs.proofs.Rows.{contains_map, map_contains, row_runs_by, rows_are}
+use Rattle.fr_precision.proofs.RoundLemmas.{contains_map, map_contains}
+use Rattle.fr_runs.proofs.Rows.{row_runs_by, rows_are}
 use Rattle.fr_runs.proofs.Whole.{prior_of}
 use Rattle.fr_bound.specs.SharpBounds.{sharp_lambda, sharp_pi}
 use Rattle.fr_promise.specs.SharpGroup.{IsSharpPlacing, LastApart, StartApart}
@@ -39,8 +40,8 @@ use Rattle.fr_promise.specs.SharpListening.{IsCaughtSharply}
 use Rattle.fr_precision.specs.SharpStep.{AreSharp, IsInSharpSync}
 use Rattle.fr_promise.proofs.JoinedDoubles.{joined_doubles_are_kept, joined_part}
 use Rattle.fr_promise.proofs.JoinedMoves.{follower_moves, moved, next_even_of, parity, IsSharpStep, MovedTo, Moves}
-use Rattle.fr_promise.proofs.JoinedNodes.{nodes_succeed}
-use Rattle.fr_runs.proofs.RowsSupplied.{lawful_rows, proper_in, rates_in_limit, steady_in}
+use Rattle.fr_runs.proofs.Succeeding.{nodes_succeed}
+use Rattle.fr_runs.proofs.RowsSupplied.{lawful_rows_from, proper_in, rates_in_limit, steady_in}
 use Rattle.fr_promise.proofs.RunDoubles.{evens_are}
 use Rattle.fr_promise.proofs.SharpCatches.{caught_at}
 use Rattle.fr_promise.proofs.SharpListened.{sharp_first_rate_is_within}
@@ -188,8 +189,8 @@ module _
       let first = row_runs_by (follower_laws x after) (follower_offset p after even2.follower_devs) (following_nodes x after) even2.followers node s.later.two.even_followers among in
       let at = follower_two x after even2 odd2 node s.later.two (parity beside x flutter beyond next h even odd even2 odd2 double s) among in
       let rate = first.rate ∙ rate_begun x (even ∷ h) odd node.id begins.join begins.caught begins.no_row begins.no_follower begins.joins begins.begins in
-      let early = proper_in x flutter node (suc (suc (length h))) (row_for even2.followers node.id).length covered correct (omega (arith, less)) at.even_length in
-      let late = proper_in x flutter node (suc (suc (suc (length h)))) (row_for odd2.followers node.id).length covered correct less at.odd_length in
+      let early = proper_in x double flutter node (suc (suc (length h))) (row_for even2.followers node.id).length covered correct (omega (arith, counted)) (omega (arith, less)) at.even_length in
+      let late = proper_in x double flutter node (suc (suc (suc (length h)))) (row_for odd2.followers node.id).length covered correct (omega (arith, counted)) less at.odd_length in
       record {
         caught = begins.caught;
         reference = sender_with (round_at x h even odd) begins.caught.slot found.reference.id;
@@ -201,8 +202,8 @@ module _
           odd_rate = at.double.same_rate ∙ rate;
           even_micro = record { least = early.0; most = early.1 };
           odd_micro = record { least = late.0; most = late.1 };
-          even_steady = steady_in x flutter node (suc (length h)) begins.caught.odd_length (row_for even2.followers node.id).length covered correct (omega (arith, less)) found.odd_length at.even_length;
-          odd_steady = steady_in x flutter node (suc (suc (length h))) (row_for even2.followers node.id).length (row_for odd2.followers node.id).length covered correct less at.even_length at.odd_length;
+          even_steady = steady_in x double flutter node (suc (length h)) begins.caught.odd_length (row_for even2.followers node.id).length covered correct (omega (arith, counted)) (omega (arith, less)) found.odd_length at.even_length;
+          odd_steady = steady_in x double flutter node (suc (suc (length h))) (row_for even2.followers node.id).length (row_for odd2.followers node.id).length covered correct (omega (arith, counted)) less at.even_length at.odd_length;
         };
       }
 
@@ -300,11 +301,11 @@ module _
           subst First same (subst (R a) also holds)
 
 pub joined_doubles_go_on : JoinedDoublesGoOn
-joined_doubles_go_on beside x flutter h double earlier even odd even2 odd2 beyond walk next w d n suffices g =
-    let part = joined_part beside x flutter h w in
+joined_doubles_go_on beside x from flutter h double earlier even odd even2 odd2 beyond walk next w late d n suffices g =
+    let part = joined_part beside x from flutter h w in
     let before = prior_of h double earlier even odd even2 odd2 d in
-    let rows = lawful_rows x flutter h part double earlier even odd before in
-    let later = lawful_rows x flutter h part (suc double) (odd ∷ even ∷ earlier) even2 odd2 d in
+    let rows = lawful_rows_from x from flutter h part double late earlier even odd before in
+    let later = lawful_rows_from x from flutter h part (suc double) (omega (arith, late)) (odd ∷ even ∷ earlier) even2 odd2 d in
     let succeeded = nodes_succeed x earlier even odd even2 double rows.counted rows.even_runs rows.odd_runs later.even_runs in
     let s : IsSharpStep beside x flutter beyond next earlier even odd even2 odd2 double = record {
       joined = g;
@@ -313,7 +314,7 @@ joined_doubles_go_on beside x flutter h double earlier even odd even2 odd2 beyon
       later = later;
       succeeded = succeeded;
       joins = n.joins;
-      kept = joined_doubles_are_kept beside x flutter h double earlier even odd beyond walk next w before n g;
+      kept = joined_doubles_are_kept beside x from flutter h double earlier even odd beyond walk next w late before n g;
     } in
     let sync = next_sync beside x flutter beyond next earlier even odd even2 odd2 double s in
     record {

@@ -38,7 +38,8 @@ use Rattle.fr_runs.proofs.Joined.{is_of}
 use Rattle.fr_runs.proofs.Outcomes.{active_after, begun_active, outcomes_none}
 use Rattle.fr_runs.proofs.Parts.{double_at, even_is, odd_is, told_at, DoubleAt}
 use Rattle.fr_runs.proofs.Receivers.{no_less}
-use Rattle.fr_runs.proofs.Rows.{contains_map, each_row, row_runs_by}
+use Rattle.fr_precision.proofs.RoundLemmas.{contains_map}
+use Rattle.fr_runs.proofs.Rows.{each_row, row_runs_by}
 use Rattle.fr_runs.proofs.Spread.{macrotick_within, spread_within}
 use Rattle.fr_runs.proofs.Standing.{has_stays, is_none, told_has}
 use Rattle.fr_runs.proofs.Whole.{prior_of}
@@ -51,7 +52,7 @@ use Rattle.fr_promise.specs.SharpJoining.{sharp_reach}
 use Rattle.fr_precision.specs.SharpStep.{IsInSharpSync}
 use Rattle.fr_precision.specs.SharpRun.{WalkLastsAfter}
 use Rattle.fr_promise.specs.SharpListening.{RateTakesIn}
-use Rattle.fr_promise.specs.SharpJoined.{IsJoinedDouble, IsSteadyJoined, WalksJoined}
+use Rattle.fr_promise.specs.SharpJoined.{IsJoinedDouble, IsSteadyJoinedFrom, WalksJoined}
 use Rattle.fr_promise.specs.SharpTested.{IsUnfollowedSharpSyncAt}
 use Rattle.fr_promise.specs.JoinedHistories.{FirstRatesLast, FirstRatesLastOn, JoinedHistoriesKeepSharpSync, KeepsJoined, NoneIsCut}
 use Rattle.fr_precision.proofs.BoundLemmas.{first_check_stops_walk, walk_is_held, walked_none}
@@ -60,7 +61,7 @@ use Rattle.fr_promise.proofs.JoinBounds.{sharp_join_checks_suffice_lem}
 use Rattle.fr_promise.proofs.JoinedDoubles.{joined_doubles_are_kept, joined_is_in_sharp_sync, joined_part, unfollowed_is_joined}
 use Rattle.fr_promise.proofs.JoinedNext.{joined_doubles_go_on}
 use Rattle.fr_promise.proofs.JoinedUncut.{even_uncut, odd_uncut, terms_within}
-use Rattle.fr_runs.proofs.RowsSupplied.{lawful_rows, LawfulRows}
+use Rattle.fr_runs.proofs.RowsSupplied.{lawful_rows_from, LawfulRows}
 use Rattle.fr_promise.proofs.RunDoubles.{rows_lie}
 
 -- ---- numbers
@@ -105,7 +106,7 @@ first_rates_last_on beside p flutter reach passed sane first checks =
 
 -- ---- a history
 
-module _ (beside : Bool) (x : Setting) (flutter : ℕ) (h : Cycles) (w : IsSteadyJoined beside x flutter h) where
+module _ (beside : Bool) (x : Setting) (from flutter : ℕ) (h : Cycles) (w : IsSteadyJoinedFrom beside x from flutter h) where
   second : holds_of 2 x.params ≡ true
   second = (sharp_join_checks_suffice_lem beside x.params flutter w.covered.timed.sane w.checks).3 2 (omega arith) (omega arith)
 
@@ -118,14 +119,14 @@ module _ (beside : Bool) (x : Setting) (flutter : ℕ) (h : Cycles) (w : IsStead
 
   -- ---- from the first on
 
-  module _ (double : ℕ) (begin : IsUnfollowedSharpSyncAt beside x.params flutter h double) where
+  module _ (double : ℕ) (late : from ≤ double) (begin : IsUnfollowedSharpSyncAt beside x.params flutter h double) where
     first : (earlier : Cycles) (even odd : Cycle) → IsDoubleOf h double earlier even odd → IsJoinedDouble beside x flutter (walked_after x.params flutter 0) earlier even odd double
     first earlier even odd d =
         let p = x.params in
         let s = begin.synced in
-        let late : odd_cycle double ≡ suc (2 * double) = omega arith in
+        let second_is : odd_cycle double ≡ suc (2 * double) = omega arith in
         let one : Some s.even ≡ Some even = sym s.has_even ∙ even_is h double earlier even odd d in
-        let other : Some s.odd ≡ Some odd = sym s.has_odd ∙ ap (cycle_at h) late ∙ odd_is h double earlier even odd d in
+        let other : Some s.odd ≡ Some odd = sym s.has_odd ∙ ap (cycle_at h) second_is ∙ odd_is h double earlier even odd d in
         let same_even : s.even ≡ even = cc in
         let same_odd : s.odd ≡ odd = cc in
         let Even : Cycle → Type 0 = λ c. IsInSharpSync beside p flutter (pos 0) c.told.rows odd.told.rows in
@@ -134,7 +135,7 @@ module _ (beside : Bool) (x : Setting) (flutter : ℕ) (h : Cycles) (w : IsStead
         let At : ℤ → Type 0 = λ z. IsJoinedDouble beside x flutter z earlier even odd double in
         subst At (sym (walked_none p flutter))
         (
-        unfollowed_is_joined beside x flutter h double earlier even odd (pos 0) w d (zero_suffices (right_of 2 p) (left_of 2 p) (nat_le-true (right_of 2 p) (left_of 2 p) second))
+        unfollowed_is_joined beside x from flutter h double earlier even odd (pos 0) w late d (zero_suffices (right_of 2 p) (left_of 2 p) (nat_le-true (right_of 2 p) (left_of 2 p) second))
         (subst Even same_even (subst Odd same_odd s.in_sync)) (subst Free same_even begin.none_early)
         )
       where
@@ -164,7 +165,7 @@ module _ (beside : Bool) (x : Setting) (flutter : ℕ) (h : Cycles) (w : IsStead
         let before = joined_from n m earlier e o refl (omega (arith, is, within)) (λ j less. lasting j (omega (arith, less))) (prior_of h m earlier e o even odd there) in
         subst At (sym next)
         (
-        joined_doubles_go_on beside x flutter h m earlier e o even odd (walked_after x.params flutter n) (rate_walk x.params flutter) (walked_after x.params flutter (suc n)) w there (numbers n last)
+        joined_doubles_go_on beside x from flutter h m earlier e o even odd (walked_after x.params flutter n) (rate_walk x.params flutter) (walked_after x.params flutter (suc n)) w (omega (arith, late)) there (numbers n last)
         (next_suffices x.params flutter n w.covered.timed.sane second last.0) before
         )
 
@@ -173,9 +174,9 @@ module _ (beside : Bool) (x : Setting) (flutter : ℕ) (h : Cycles) (w : IsStead
   found_at : (k : ℕ) → k < x.doubles → DoubleAt h k
   found_at k within = let whole = w.whole in double_at h k (omega (arith, whole, within))
 
-  synced_at : (k : ℕ) (beyond : ℤ) → k < x.doubles
+  synced_at : (k : ℕ) (beyond : ℤ) → from ≤ k → k < x.doubles
       → ((earlier : Cycles) (even odd : Cycle) → IsDoubleOf h k earlier even odd → IsJoinedDouble beside x flutter beyond earlier even odd k) → IsInSharpSyncAt beside x.params flutter beyond h k
-  synced_at k beyond within joined =
+  synced_at k beyond behind within joined =
       let f = found_at k within in
       let late : odd_cycle k ≡ suc (2 * k) = omega arith in
       record {
@@ -183,19 +184,19 @@ module _ (beside : Bool) (x : Setting) (flutter : ℕ) (h : Cycles) (w : IsStead
         odd = f.odd;
         has_even = even_is h k f.earlier f.even f.odd f.is;
         has_odd = ap (cycle_at h) late ∙ odd_is h k f.earlier f.even f.odd f.is;
-        in_sync = joined_is_in_sharp_sync beside x flutter h k f.earlier f.even f.odd beyond w f.is (joined f.earlier f.even f.odd f.is);
+        in_sync = joined_is_in_sharp_sync beside x from flutter h k f.earlier f.even f.odd beyond w behind f.is (joined f.earlier f.even f.odd f.is);
       }
 
   module _
-      (k : ℕ) (beyond walk next : ℤ) (earlier : Cycles) (even odd : Cycle) (d : IsDoubleOf h k earlier even odd) (n : WalksJoined beside x flutter beyond walk next)
+      (k : ℕ) (behind : from ≤ k) (beyond walk next : ℤ) (earlier : Cycles) (even odd : Cycle) (d : IsDoubleOf h k earlier even odd) (n : WalksJoined beside x flutter beyond walk next)
       (g : IsJoinedDouble beside x flutter beyond earlier even odd k) where
     lawful : LawfulRows x flutter earlier even odd k
-    lawful = lawful_rows x flutter h (joined_part beside x flutter h w) k earlier even odd d
+    lawful = lawful_rows_from x from flutter h (joined_part beside x from flutter h w) k behind earlier even odd d
 
     kept :
         IsSharpGroupKept beside x.params flutter beyond next (senders_of (round_at x earlier even odd)) (group_of x.params (hearers_of x earlier even odd k))
         (pos (sharp_reach beside x.params flutter))
-    kept = joined_doubles_are_kept beside x flutter h k earlier even odd beyond walk next w d n g
+    kept = joined_doubles_are_kept beside x from flutter h k earlier even odd beyond walk next w behind d n g
 
     offset_within : (m : Hearer) → IsOneOf (hearers_of x earlier even odd k) m → (member_from x.params m).offset_term.outcome ≡ Within
     offset_within m one = kept.uncut (member_from x.params m) (is_of x earlier even odd k m one)
@@ -263,26 +264,26 @@ module _ (beside : Bool) (x : Setting) (flutter : ℕ) (h : Cycles) (w : IsStead
             subst (Most (suc (2 * k))) (sym told)
             (spread_within x.params (suc (2 * k)) (pos (sharp_precision beside x.params flutter)) odd.told.rows macrotick true (odd_length (2 * k) k refl) (no_less (sharp_precision beside x.params flutter)) late)
 
-  keeps_at : (k passed : ℕ) → k < x.doubles → FirstRatesLast x.params flutter passed
+  keeps_at : (k passed : ℕ) → from ≤ k → k < x.doubles → FirstRatesLast x.params flutter passed
       → ((earlier : Cycles) (even odd : Cycle) → IsDoubleOf h k earlier even odd → IsJoinedDouble beside x flutter (walked_after x.params flutter passed) earlier even odd k)
       → KeepsJoined x h k (sharp_precision beside x.params flutter)
-  keeps_at k passed within last joined =
+  keeps_at k passed behind within last joined =
       let f = found_at k within in
       let beyond = walked_after x.params flutter passed in
       let walk = rate_walk x.params flutter in
       let next = walked_after x.params flutter (suc passed) in
       record {
-        skew = skew_in k beyond walk next f.earlier f.even f.odd f.is (numbers passed last) (joined f.earlier f.even f.odd f.is);
-        ends = λ earlier even odd d. none_is_cut k beyond walk next earlier even odd d (numbers passed last) (joined earlier even odd d);
+        skew = skew_in k behind beyond walk next f.earlier f.even f.odd f.is (numbers passed last) (joined f.earlier f.even f.odd f.is);
+        ends = λ earlier even odd d. none_is_cut k behind beyond walk next earlier even odd d (numbers passed last) (joined earlier even odd d);
       }
 
 pub joined_histories_keep_sharp_sync : JoinedHistoriesKeepSharpSync
-joined_histories_keep_sharp_sync beside x flutter h double w begin passed within lasting =
+joined_histories_keep_sharp_sync beside x from flutter h double w late begin passed within lasting =
     let turned : double + passed ≡ passed + double = omega arith in
     let joined = λ (earlier : Cycles) (even odd : Cycle) (d : IsDoubleOf h (double + passed) earlier even odd).
-    joined_from beside x flutter h w double begin passed (double + passed) earlier even odd turned within lasting d in
+    joined_from beside x from flutter h w double late begin passed (double + passed) earlier even odd turned within lasting d in
     record {
-      synced = synced_at beside x flutter h w (double + passed) (walked_after x.params flutter passed) within joined;
+      synced = synced_at beside x from flutter h w (double + passed) (walked_after x.params flutter passed) (omega (arith, late)) within joined;
       joined = joined;
-      keeps = λ last. keeps_at beside x flutter h w (double + passed) passed within last joined;
+      keeps = λ last. keeps_at beside x from flutter h w (double + passed) passed (omega (arith, late)) within last joined;
     }

@@ -26,9 +26,10 @@ use Rattle.fr_runs.specs.Hearers.{member_from, IsOneOf}
 use Rattle.fr_runs.proofs.Courses.{follower_term_is, row_term_is, told_parity}
 use Rattle.fr_runs.proofs.Doubles.{even_length, even_stands, odd_is_corrected, odd_length}
 use Rattle.fr_runs.proofs.Going.{followers_ascend, rows_ascend}
-use Rattle.fr_runs.proofs.Rows.{all_rows, contains_map, each_row, row_runs_by}
+use Rattle.fr_precision.proofs.RoundLemmas.{contains_map}
+use Rattle.fr_runs.proofs.Rows.{all_rows, each_row, row_runs_by}
 use Rattle.fr_promise.proofs.JoinedDoubles.{since_when}
-use Rattle.fr_promise.proofs.JoinedFollowers.{steady_at}
+use Rattle.fr_runs.proofs.Joined.{steady_at}
 use Rattle.fr_runs.proofs.RowsSupplied.{LawfulRows}
 
 -- no row of some rows tells a cut

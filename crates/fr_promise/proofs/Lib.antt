@@ -22,7 +22,6 @@ pub mod SharpFollowed
 pub mod FollowersSupplied
 pub mod SharpCatches
 pub mod JoinedDoubles
-pub mod JoinedNodes
 pub mod JoinedMoves
 pub mod JoinedNext
 pub mod JoinedUncut
@@ -32,4 +31,9 @@ pub mod FirstRates
 pub mod JoinedFollowers
 pub mod JoinedBeginning
 pub mod JoinedListeners
-pub mod JoinedStarts
+pub mod SharpRows
+pub mod SharpWorked
+pub mod WayRows
+pub mod TimedRuns
+pub mod RunSync
+pub mod RunCycles

@@ -13,7 +13,6 @@ use Rattle.fr_precision.specs.Round.{offsets_of, rates_of, senders_of, Hearer, I
 use Rattle.fr_precision.specs.Step.{Member}
 use Rattle.fr_runs.specs.Group.{IsOf}
 use Rattle.fr_runs.specs.Hearers.{group_of, member_from, Hearers, IsOneOf}
-use Rattle.fr_runs.proofs.Rows.{contains_map, map_contains}
 use Rattle.fr_bound.specs.SharpBounds.{last_action, near_by, sharp_lambda, sharp_pi}
 use Rattle.fr_precision.specs.Lengths.{KeepSenders}
 use Rattle.fr_precision.specs.SharpRound.{IsRoundInReach}
@@ -23,7 +22,7 @@ use Rattle.fr_promise.specs.SharpGroup.{IsSharpRoundFollowed, SharpRoundsAreFoll
 use Rattle.fr_precision.proofs.BoundLemmas.{key_slots_act_early}
 use Rattle.fr_precision.proofs.HearingLemmas.{hearers_keep_senders, hears_all_steadily}
 use Rattle.fr_promise.proofs.JoinBounds.{followers_come_nearer_lem}
-use Rattle.fr_precision.proofs.RoundLemmas.{rounds_in_reach_are_sharp}
+use Rattle.fr_precision.proofs.RoundLemmas.{rounds_in_reach_are_sharp, contains_map, map_contains}
 use Rattle.fr_promise.proofs.SharpGrouped.{apart_reached, in_natural}
 use Rattle.fr_precision.proofs.StepLemmas.{nodes_near, Double}
 

@@ -1,6 +1,6 @@
--- A drift that fits parameters starts no cycle 0 below 0.
-use Rattle.std.proofs.Common.{◌≡◌, ℕ, ℤ, pos, ◌≤ℤ◌, Bool, true, false, List, [], ◌∷◌, length, Option, Some, None, Result, Ok, Err, sym, ◌∙◌, refl, arith, subst}
-use Rattle.std.specs.Prelude.{int_lt, ◌||◌, ◌&&◌, ◌==◌, codes, if◌then◌else◌}
+-- A drift that fits parameters starts no cycle 0 below 0, and its microticks are no less than 0.
+use Rattle.std.proofs.Common.{◌≡◌, ℕ, zero, suc, ℤ, pos, ◌≤ℤ◌, Bool, true, false, List, [], ◌∷◌, length, Option, Some, None, Result, Ok, Err, sym, ◌∙◌, refl, arith, subst}
+use Rattle.std.specs.Prelude.{int_lt, ◌||◌, ◌&&◌, ◌==◌, codes, unwrap_or, if◌then◌else◌}
 use Rattle.std.specs.Option.{option_map_or}
 use Rattle.std.specs.Str.{bytes_eq}
 use Rattle.std.proofs.lemmas.Int.{ints}
@@ -11,21 +11,24 @@ use Rattle.fr_base.specs.declared.reason.Reason.{Reason}
 use Rattle.fr_base.specs.declared.reason.Reason.TheVariants as reason
 use Rattle.fr_text.specs.Records.{FileRecord}
 use Rattle.fr_text.specs.Fields.{both_of, field_of, is_blank, natural_of, or_else, or_reason, looked_up}
-use Rattle.fr_drift.specs.Questions.{start_of}
-use Rattle.fr_drift.specs.Reasons.{start_in}
-use Rattle.fr_drift.specs.Rows.{delay_row, doubles_row, drift_file_row, drift_row_of, length_row, rate_in, short_row, start_row, start_with}
-use Rattle.fr_drift.specs.View.{start_rows}
+use Rattle.fr_cluster.specs.Values.{Values}
+use Rattle.fr_drift.specs.Files.{DriftFits}
+use Rattle.fr_drift.specs.Held.{held}
+use Rattle.fr_drift.specs.Questions.{length_of, start_of}
+use Rattle.fr_drift.specs.Reasons.{length_in, start_in}
+use Rattle.fr_drift.specs.Rows.{delay_row, doubles_row, drift_file_row, drift_row_of, length_row, length_with, rate_in, short_row, start_row, start_with}
+use Rattle.fr_drift.specs.View.{length_rows, start_rows, DriftView}
 use Rattle.fr_drift.specs.declared.rows.Start.{Start}
 use Rattle.fr_drift.specs.declared.rows.StartRow.{StartRow}
 use Rattle.fr_drift.specs.declared.rows.Row.{Row}
 use Rattle.fr_drift.specs.declared.rows.Row.TheVariants as row
-use Rattle.fr_promise.specs.Files.{StartsAreNatural}
+use Rattle.fr_promise.specs.Files.{LengthsAreNatural, StartsAreNatural}
 
--- the ticks of a `start` row are not negative
+-- the ticks of a `start` row are not negative, nor those of a `length` row
 abbrev Begins : Result Row Reason → Type 0
 Begins (Ok (row.Doubles n)) = Unit {0}
 Begins (Ok (row.Start t)) = pos 0 ≤ℤ t.start.ticks
-Begins (Ok (row.Length l)) = Unit {0}
+Begins (Ok (row.Length l)) = pos 0 ≤ℤ l.ticks
 Begins (Ok (row.Delay d)) = Unit {0}
 Begins (Err why) = Unit {0}
 
@@ -67,6 +70,19 @@ begins_start (Err fault.OutOfRange) z r f = out (both_of z r)
     out (Ok q) = tt
     out (Err why) = tt
 
+begins_length : (node from : Result ℕ NumberFault) (ticks : Result ℤ NumberFault) → IsFrom (pos 500_000) ticks → Begins (or_reason length_with (both_of node (both_of from ticks)))
+begins_length (Ok n) (Ok c) (Ok z) f = omega (arith, ints, f)
+begins_length (Ok n) (Ok c) (Err why) f = tt
+begins_length (Ok n) (Err fault.NotDigits) r f = tt
+begins_length (Ok n) (Err fault.OutOfRange) (Ok r) f = tt
+begins_length (Ok n) (Err fault.OutOfRange) (Err why) f = tt
+begins_length (Err fault.NotDigits) z r f = tt
+begins_length (Err fault.OutOfRange) z r f = out (both_of z r)
+  where
+    out : (x : Result (ℕ × ℤ) NumberFault) → Begins (or_reason length_with (both_of (Err fault.OutOfRange) x))
+    out (Ok q) = tt
+    out (Err why) = tt
+
 begins_row : (r : FileRecord) → Begins (drift_row_of r)
 unfolding drift_row_of
 begins_row r =
@@ -84,7 +100,8 @@ begins_row r =
     (begins_short fourth fifth (start_row first second third)
     (begins_start (natural_of 1 64 first) (within (pos 0) (pos 1_000_000_000_000) (number_of second)) (rate_in third) (from_within (pos 0) (pos 1_000_000_000_000) (number_of second))))
     (begins_if (bytes_eq kind (codes "length")) (short_row fourth fifth (length_row first second third)) _
-    (begins_short fourth fifth (length_row first second third) (begins_read _ (both_of (natural_of 1 64 first) (both_of (natural_of 0 199_999 second) (within (pos 500_000) (pos 1_500_000) (number_of third)))) (λ numbers. tt)))
+    (begins_short fourth fifth (length_row first second third)
+    (begins_length (natural_of 1 64 first) (natural_of 0 199_999 second) (within (pos 500_000) (pos 1_500_000) (number_of third)) (from_within (pos 500_000) (pos 1_500_000) (number_of third))))
     (begins_if (bytes_eq kind (codes "delay")) (delay_row first second third fourth fifth) (Err reason.UnknownName)
     (begins_read _
     (both_of (both_of (natural_of 1 64 first) (natural_of 1 64 second)) (both_of (natural_of 0 199_999 fourth) (within (pos 0) (pos 1_000_000_000) (number_of fifth))))
@@ -117,3 +134,39 @@ starts_are_natural p d node fits = by_start (start_rows d node) refl
     by_start : (o : Option Start) → start_rows d node ≡ o → pos 0 ≤ℤ option_map_or (λ s. s.ticks) o (pos 0)
     by_start None is = omega (arith, ints)
     by_start (Some s) is = begins_at node s fits.records (sym (fits.stands.starts node) ∙ is)
+
+-- ---- and of lengths
+
+hit_length : (b : Bool) (ticks z : ℤ) → pos 0 ≤ℤ ticks → (rest : Option ℤ) → (rest ≡ Some z → pos 0 ≤ℤ z) → or_else (if b then Some ticks else None) rest ≡ Some z → pos 0 ≤ℤ z
+hit_length true ticks z from rest more is = let same : ticks ≡ z = cc is in subst (λ (y : ℤ). pos 0 ≤ℤ y) same from
+hit_length false ticks z from rest more is = more is
+
+lasts_by : (node from : ℕ) (z : ℤ) (x : Result Row Reason) (rest : Option ℤ) → Begins x → (rest ≡ Some z → pos 0 ≤ℤ z) → or_else (length_in node from x) rest ≡ Some z → pos 0 ≤ℤ z
+lasts_by node from z (Ok (row.Doubles n)) rest begins more is = more is
+lasts_by node from z (Ok (row.Start t)) rest begins more is = more is
+lasts_by node from z (Ok (row.Length l)) rest begins more is = hit_length ((l.node == node) && (l.from == from)) l.ticks z begins rest more is
+lasts_by node from z (Ok (row.Delay d)) rest begins more is = more is
+lasts_by node from z (Err why) rest begins more is = more is
+
+lasts_at : (node from : ℕ) (z : ℤ) (records : List FileRecord) → looked_up (λ r. length_in node from (drift_row_of r)) records ≡ Some z → pos 0 ≤ℤ z
+unfolding looked_up
+lasts_at node from z [] is = cc is
+lasts_at node from z (r ∷ rest) is = lasts_by node from z (drift_row_of r) (looked_up (λ q. length_in node from (drift_row_of q)) rest) (begins_row r) (λ more. lasts_at node from z rest more) is
+
+-- the row that holds is one of them
+held_row : (rows : ℕ → Option ℤ) (cycle : ℕ) (z : ℤ) → ((from : ℕ) → rows from ≡ Some z → pos 0 ≤ℤ z) → held rows cycle ≡ Some z → pos 0 ≤ℤ z
+unfolding held
+held_row rows zero z each is = each 0 is
+held_row rows (suc cycle) z each is = by (rows (suc cycle)) refl is (λ found. held_row rows cycle z each found)
+  where
+    by : (o : Option ℤ) → rows (suc cycle) ≡ o → or_else o (held rows cycle) ≡ Some z → (held rows cycle ≡ Some z → pos 0 ≤ℤ z) → pos 0 ≤ℤ z
+    by None at found more = more found
+    by (Some y) at found more = each (suc cycle) (at ∙ found)
+
+pub lengths_are_natural : LengthsAreNatural
+unfolding length_of
+lengths_are_natural p d node cycle fits = by_held (held (length_rows d node) cycle) refl
+  where
+    by_held : (o : Option ℤ) → held (length_rows d node) cycle ≡ o → pos 0 ≤ℤ unwrap_or o (pos 1_000_000)
+    by_held None is = omega (arith, ints)
+    by_held (Some z) is = held_row (length_rows d node) cycle z (λ from at. lasts_at node from z fits.records (sym (fits.stands.lengths node from) ∙ at)) is

@@ -1,5 +1,5 @@
 -- A run without a gap is a covered one.
-use Rattle.std.proofs.Common.{◌≡◌, ℕ, ◌==◌, Bool, true, false, Option, Some, None, refl, ap, sym, ◌∙◌}
+use Rattle.std.proofs.Common.{◌≡◌, ℕ, ◌==◌, Bool, true, false, Option, Some, None, refl, ap, sym, ◌∙◌, arith}
 use Rattle.std.specs.Prelude.{Contains, not, is_some}
 use Rattle.std.proofs.lemmas.Bool.{eqb-true}
 use Rattle.fr_base.specs.Event.{Event}
@@ -35,7 +35,7 @@ use Rattle.fr_promise.proofs.Drifts.{rates_are_within}
 use Rattle.fr_promise.proofs.Starts.{starts_are_natural}
 
 -- the reference of a node that joins is a node of the cluster
-reference_is : (p : Values) (d : DriftView) (s : ScriptView) (node : NodeSpec) (join : Join) → JoinsProperly p s node.id join → IsReference (setting_of p d s) node join
+pub reference_is : (p : Values) (d : DriftView) (s : ScriptView) (node : NodeSpec) (join : Join) → JoinsProperly p s node.id join → IsReference (setting_of p d s) node join
 reference_is p d s node join proper = by_node (node_of p join.reference) refl
   where
     by_key : (spec : NodeSpec) → node_of p join.reference ≡ Some spec → (key : Option ℕ) → spec.key ≡ key → IsReference (setting_of p d s) node join
@@ -66,15 +66,15 @@ CorrectJoinProperly p d s = (node : NodeSpec) (join : Join) → Contains (correc
 
 pub covered_as_stated : (p : Values) (d : DriftView) (s : ScriptView) → HaveNoGap p d s → CorrectJoinProperly p d s → IsCoveredByFiles (setting_of p d s)
 covered_as_stated p d s w proper =
-    let c = nodes_keep_within p d s (whatever_checks p d s w) in
+    let c = nodes_keep_within p d s 0 (whatever_checks p d s w) in
     record {
       sane = w.sane;
       checks = λ number from to. first_checks p d s number w from to;
       join_checks = λ joins number from to. joining_checks p d s number w joins from to;
-      few = few_nodes p d s (whatever_checks p d s w);
-      least = c.least;
-      most = c.most;
-      changes = c.changes;
+      few = few_nodes p d s 0 (whatever_checks p d s w);
+      least = λ node cycle there less. c.least node cycle there (omega arith) less;
+      most = λ node cycle there less. c.most node cycle there (omega arith) less;
+      changes = λ node cycle there less. c.changes node cycle there (omega arith) less;
       referenced = record {
         references = λ node join there at. reference_is p d s node join (proper node join there at);
         delays =
@@ -82,9 +82,9 @@ covered_as_stated p d s w proper =
             let on = λ (node : NodeSpec) (is : Contains (correct_nodes (setting_of p d s)) node).
             on_channel (setting_of p d s) node channel (node_there p node w.sane (correct_node (setting_of p d s) node is).there) in
             c.delays sender receiver slot channel cycle (record { sends = sends; hears = hears; key = key; other = other })
-            (record { by_sender = sym (on sender sends) ∙ by_sender; by_receiver = sym (on receiver hears) ∙ by_receiver }) less;
+            (record { by_sender = sym (on sender sends) ∙ by_sender; by_receiver = sym (on receiver hears) ∙ by_receiver }) (omega arith) less;
       };
-      links = c.links;
+      links = λ sender receiver slot double linked within. c.links sender receiver slot double linked (omega arith) within;
     }
 
 says_bytes : (event : Event) → IsProperEvent event → SaysBytes event
@@ -94,7 +94,7 @@ says_bytes (Flip bit) proper = tt
 says_bytes (Say shift None) proper = proper.said
 says_bytes (Say shift (Some bytes)) proper = proper.said.small
 
-is_setting : (p : Values) (d : DriftView) (s : ScriptView) → IsSane p → IsScript s → IsSetting (setting_of p d s)
+pub is_setting : (p : Values) (d : DriftView) (s : ScriptView) → IsSane p → IsScript s → IsSetting (setting_of p d s)
 is_setting p d s sane script = record {
   sane = sane;
   bytes = λ cycle sender receiver channel. says_bytes (event_of s cycle sender receiver channel) (event-proper s cycle sender receiver channel script);

@@ -1,6 +1,5 @@
 -- No correction term of a run that keeps together is cut or missing, of a node with a row or of one that follows.
-use Rattle.std.proofs.Common.{◌≡◌, ◌∙◌, ◌⊎◌, ℕ, zero, suc, ◌+◌, ◌*◌, ◌<◌, ◌≤◌, None, [], ◌∷◌, ◌&&◌, inl, inr, ap, ap₂, subst, arith}
-use Rattle.std.specs.Prelude.{Contains}
+use Rattle.std.proofs.Common.{◌≡◌, ◌∙◌, ◌⊎◌, ℕ, zero, suc, ◌*◌, ◌<◌, ◌≤◌, None, [], ◌∷◌, ◌&&◌, inl, inr, ap, ap₂, subst, arith}
 use Rattle.fr_base.specs.declared.node_row.NodeRow.{NodeRow}
 use Rattle.fr_base.specs.declared.state.Outcome.{Outcome}
 use Rattle.fr_base.specs.declared.state.Outcome.TheVariants.{Within}
@@ -18,16 +17,17 @@ use Rattle.fr_history.specs.Rows.{offset_after}
 use Rattle.fr_history.specs.Standing.{following_nodes, row_nodes}
 use Rattle.fr_history.specs.Terms.{offset_term_by, rate_term_by}
 use Rattle.fr_precision.specs.Round.{Hearer}
-use Rattle.fr_runs.specs.Gathered.{follower_hearer, followers_since, hearers_of, row_hearer}
+use Rattle.fr_runs.specs.Gathered.{follower_hearer, hearers_of, row_hearer}
 use Rattle.fr_runs.specs.Hearers.{IsOneOf, member_from}
 use Rattle.fr_runs.specs.Numbers.{rate_term_told}
-use Rattle.fr_runs.specs.Rounds.{IsDoubleOf, KeepsUp}
+use Rattle.fr_runs.specs.Rounds.{IsDoubleOf}
 use Rattle.fr_runs.specs.Whole.{IsUnfollowedRun}
-use Rattle.fr_runs.proofs.Courses.{RunTwo, follower_term_is, run_two}
+use Rattle.fr_runs.proofs.Courses.{follower_term_is}
 use Rattle.fr_runs.proofs.Joining.{is_run, later_at}
-use Rattle.fr_runs.proofs.Rows.{contains_map, row_runs_by}
-use Rattle.fr_runs.proofs.Succeeding.{followers_stay, gathered_nodes_succeed, rows_stay}
-use Rattle.fr_runs.proofs.Uncut.{FollowersAre}
+use Rattle.fr_precision.proofs.RoundLemmas.{contains_map}
+use Rattle.fr_runs.proofs.Rows.{row_runs_by}
+use Rattle.fr_runs.proofs.Succeeding.{gathered_nodes_succeed}
+use Rattle.fr_runs.proofs.Uncut.{FollowersAre, one_of as hearer_is, two_of}
 use Rattle.fr_runs.proofs.UnfollowedSync.{unfollowed_sync_is}
 use Rattle.fr_runs.proofs.Whole.{double_runs, none_follows, prior_of}
 use Rattle.fr_promise.specs.Statement.{TermsAreWithin}
@@ -71,17 +71,7 @@ followers_are x h double (suc m) earlier even odd s from less d = elim (splits d
   | inr same ↦ followers_are_at x h double (suc m) earlier even odd same s d
 ]
 
-hearer_is : (x : Setting) (h : Cycles) (even odd : Cycle) (double : ℕ) (node : NodeSpec)
-    → Contains (followers_since x h 2 double) node ⊎ Contains (followers_since x h 1 double) node → IsOneOf (hearers_of x h even odd double) (follower_hearer x even odd node.id)
-hearer_is x h even odd double node (inl second) = inl (inr (contains_map (λ (n : NodeSpec). follower_hearer x even odd n.id) (followers_since x h 2 double) node second))
-hearer_is x h even odd double node (inr first) = inr (contains_map (λ (n : NodeSpec). follower_hearer x even odd n.id) (followers_since x h 1 double) node first)
-
 -- ---- their terms
-
-two_of : (x : Setting) (h : Cycles) (even odd : Cycle) (double : ℕ) → KeepsUp x h even odd double → RunTwo x h even odd
-two_of x h even odd double up =
-    let g = up.gathered in
-    run_two x h even odd g.even_runs g.odd_runs (rows_stay x h even double g.counted g.even_runs) (followers_stay x h even double g.counted g.even_runs)
 
 row_rate_is : (x : Setting) (even odd : Cycle) (node : NodeSpec) → (row_for odd.told.rows node.id).node ≡ node.id
     → rate_term_told x even odd node ≡ (member_from x.params (row_hearer x even odd node.id)).rate_term

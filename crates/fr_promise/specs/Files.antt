@@ -4,7 +4,7 @@ use Rattle.fr_cluster.specs.Values.{Values}
 use Rattle.fr_cluster.specs.Sane.{IsSane}
 use Rattle.fr_bound.specs.Bounds.{precision_of}
 use Rattle.fr_drift.specs.Files.{DriftFits, IsDriftFile, IsRateWithin}
-use Rattle.fr_drift.specs.Questions.{rate_of, start_of}
+use Rattle.fr_drift.specs.Questions.{length_of, rate_of, start_of}
 use Rattle.fr_drift.specs.View.{DriftView}
 use Rattle.fr_script.specs.Files.{ScriptFits}
 use Rattle.fr_script.specs.View.{IsScript, ScriptView}
@@ -54,3 +54,7 @@ RatesAreWithin = (p : Values) (d : DriftView) (node : ℕ) → IsSane p → Drif
 
 abbrev pub StartsAreNatural : Type 0
 StartsAreNatural = (p : Values) (d : DriftView) (node : ℕ) → DriftFits p d → pos 0 ≤ℤ start_of d node
+
+-- and no microtick of it is less than 0
+abbrev pub LengthsAreNatural : Type 0
+LengthsAreNatural = (p : Values) (d : DriftView) (node cycle : ℕ) → DriftFits p d → pos 0 ≤ℤ length_of d node cycle

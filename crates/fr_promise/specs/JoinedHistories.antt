@@ -20,7 +20,7 @@ use Rattle.fr_precision.specs.Lengths.{walked_after}
 use Rattle.fr_bound.specs.SharpBounds.{rate_room, rate_walk, sharp_precision}
 use Rattle.fr_bound.specs.SharpChecks.{sharp_holds_of}
 use Rattle.fr_runs.specs.SharpHistories.{IsInSharpSyncAt}
-use Rattle.fr_promise.specs.SharpJoined.{IsJoinedDouble, IsSteadyJoined}
+use Rattle.fr_promise.specs.SharpJoined.{IsJoinedDouble, IsSteadyJoinedFrom}
 use Rattle.fr_promise.specs.SharpJoining.{counted_error, sharp_join_holds_of, SharpJoinChecksHold}
 use Rattle.fr_promise.specs.SharpListening.{RateTakesIn}
 use Rattle.fr_precision.specs.SharpRun.{WalkLastsAfter}
@@ -101,16 +101,16 @@ pub record StaysJoined (beside : Bool) (x : Setting) (flutter : ℕ) (h : Cycles
 -- it is so as long as first rates have lasted
 abbrev pub JoinedHistoriesKeepSharpSync : Type 0
 JoinedHistoriesKeepSharpSync =
-    (beside : Bool) (x : Setting) (flutter : ℕ) (h : Cycles) (double : ℕ)
-    → IsSteadyJoined beside x flutter h → IsUnfollowedSharpSyncAt beside x.params flutter h double
+    (beside : Bool) (x : Setting) (from flutter : ℕ) (h : Cycles) (double : ℕ)
+    → IsSteadyJoinedFrom beside x from flutter h → from ≤ double → IsUnfollowedSharpSyncAt beside x.params flutter h double
     → (passed : ℕ) → double + passed < x.doubles → ((m : ℕ) → m < passed → FirstRatesLast x.params flutter m)
     → StaysJoined beside x flutter h double passed
 
 -- and where first rates last to the end of the run it is so by the cycle
 abbrev pub JoinedHistoriesKeepSharpPrecision : Type 0
 JoinedHistoriesKeepSharpPrecision =
-    (beside : Bool) (x : Setting) (flutter : ℕ) (h : Cycles) (double : ℕ)
-    → IsSteadyJoined beside x flutter h → IsUnfollowedSharpSyncAt beside x.params flutter h double
+    (beside : Bool) (x : Setting) (from flutter : ℕ) (h : Cycles) (double : ℕ)
+    → IsSteadyJoinedFrom beside x from flutter h → from ≤ double → IsUnfollowedSharpSyncAt beside x.params flutter h double
     → FirstRatesLastToEnd x flutter double → CyclesKeepJoined x h double (sharp_precision beside x.params flutter)
 
 -- in the cycles before one a node that listens follows in the four behind the double cycle in which it does, and has a row in those
@@ -125,8 +125,8 @@ IsJoinedUpTo h node join before =
 -- lasted, where its reference's start is not below 0 where it listens
 abbrev pub JoinedListenersJoinUpTo : Type 0
 JoinedListenersJoinUpTo =
-    (beside : Bool) (x : Setting) (flutter : ℕ) (h : Cycles) (double passed : ℕ) (node : NodeSpec) (join : Join)
-    → IsSteadyJoined beside x flutter h → IsUnfollowedSharpSyncAt beside x.params flutter h double
+    (beside : Bool) (x : Setting) (from flutter : ℕ) (h : Cycles) (double passed : ℕ) (node : NodeSpec) (join : Join)
+    → IsSteadyJoinedFrom beside x from flutter h → from ≤ double → IsUnfollowedSharpSyncAt beside x.params flutter h double
     → double + passed < x.doubles → ((m : ℕ) → m < passed → FirstRatesLast x.params flutter m)
     → Contains (correct_nodes x) node → x.join node.id ≡ Some join → double ≤ join.double
     → (
@@ -139,8 +139,8 @@ JoinedListenersJoinUpTo =
 -- them
 abbrev pub JoinedListenersJoin : Type 0
 JoinedListenersJoin =
-    (beside : Bool) (x : Setting) (flutter : ℕ) (h : Cycles) (double : ℕ) (node : NodeSpec) (join : Join)
-    → IsSteadyJoined beside x flutter h → IsUnfollowedSharpSyncAt beside x.params flutter h double
+    (beside : Bool) (x : Setting) (from flutter : ℕ) (h : Cycles) (double : ℕ) (node : NodeSpec) (join : Join)
+    → IsSteadyJoinedFrom beside x from flutter h → from ≤ double → IsUnfollowedSharpSyncAt beside x.params flutter h double
     → FirstRatesLastToEnd x flutter double
     → Contains (correct_nodes x) node → x.join node.id ≡ Some join → double ≤ join.double
     → (

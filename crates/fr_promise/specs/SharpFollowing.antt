@@ -1,6 +1,6 @@
 -- A run whose delays flutter little, and the nodes that follow in one of its double cycles: they have steady pairs of the nodes
 -- with rows (section 8.5).
-use Rattle.std.specs.Prelude.{◌≡◌, ◌≤ℤ◌, ℕ, suc, ℤ, pos, Bool, ◌∷◌, length, All, Contains, Some}
+use Rattle.std.specs.Prelude.{◌≡◌, ◌≤◌, ◌≤ℤ◌, ℕ, suc, ℤ, pos, Bool, ◌∷◌, length, All, Contains, Some}
 use Rattle.fr_base.specs.Within.{IsWithin}
 use Rattle.fr_base.specs.declared.state.State.TheVariants.{Active}
 use Rattle.fr_cluster.specs.Setting.{Setting, correct_nodes}
@@ -16,13 +16,13 @@ use Rattle.fr_history.specs.Cycles.{Cycle, Cycles}
 use Rattle.fr_history.specs.History.{row_for}
 use Rattle.fr_history.specs.Standing.{following_nodes, row_nodes}
 use Rattle.fr_runs.specs.Gathered.{follower_hearer, round_at}
-use Rattle.fr_runs.specs.References.{AreReferenced}
+use Rattle.fr_runs.specs.References.{HaveReferences}
 use Rattle.fr_runs.specs.Rounds.{IsDoubleOf}
 use Rattle.fr_precision.specs.Lengths.{IsAboutCycle}
 use Rattle.fr_promise.specs.SharpListening.{IsCaughtSharply}
 use Rattle.fr_bound.specs.SharpBounds.{last_action}
 use Rattle.fr_precision.specs.SharpRound.{IsSteadilySupplied}
-use Rattle.fr_runs.specs.SteadyRuns.{IsSteadyPart}
+use Rattle.fr_runs.specs.SteadyRuns.{IsSteadyPartFrom}
 
 -- the nodes with rows in a double cycle are active in it, those that follow have rates within their limit, in microticks, and
 -- their action points lie within a reach of those of the nodes with rows, in ticks, for which the offset limit suffices and slots
@@ -46,8 +46,9 @@ pub record AreFollowersInReach (x : Setting) (h : Cycles) (even odd : Cycle) (re
 -- then each that follows has its deviations of every sender among the nodes with rows, and those of one channel are a steady pair
 abbrev pub FollowersHearSteadily : Type 0
 FollowersHearSteadily =
-    (x : Setting) (flutter : ℕ) (h earlier : Cycles) (even odd : Cycle) (double : ℕ) (reach : ℤ) (node : NodeSpec)
-    → IsSteadyPart x flutter h → IsDoubleOf h double earlier even odd → AreFollowersInReach x earlier even odd reach
+    (x : Setting) (from flutter : ℕ) (h earlier : Cycles) (even odd : Cycle) (double : ℕ) (reach : ℤ) (node : NodeSpec)
+    → IsSteadyPartFrom x from flutter h → from ≤ double → IsDoubleOf h double earlier even odd
+    → AreFollowersInReach x earlier even odd reach
     → Contains (following_nodes x earlier) node
     → IsSteadilySupplied (round_at x earlier even odd) flutter (follower_hearer x even odd node.id)
 
@@ -70,7 +71,8 @@ pub record IsCaughtOf (x : Setting) (flutter : ℕ) (beyond : ℤ) (h : Cycles) 
 -- what a node begins to follow with behind a double cycle was caught of its reference's frames, whose delays flutter little
 abbrev pub CatchesAreSharp : Type 0
 CatchesAreSharp =
-    (x : Setting) (flutter : ℕ) (h earlier : Cycles) (even odd : Cycle) (double : ℕ) (beyond : ℤ) (node : NodeSpec) (join : Join) (c : Caught)
-    → IsSteadyPart x flutter h → IsDoubleOf h double earlier even odd → AreReferenced x → AreRowsAbout x beyond even
+    (x : Setting) (from flutter : ℕ) (h earlier : Cycles) (even odd : Cycle) (double : ℕ) (beyond : ℤ) (node : NodeSpec) (join : Join) (c : Caught)
+    → IsSteadyPartFrom x from flutter h → from ≤ double → IsDoubleOf h double earlier even odd
+    → HaveReferences x → AreRowsAbout x beyond even
     → Contains (correct_nodes x) node → x.join node.id ≡ Some join → begins_with x (odd ∷ even ∷ earlier) node.id join ≡ Some c
     → IsCaughtOf x flutter beyond earlier even odd node join c

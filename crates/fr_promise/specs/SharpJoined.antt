@@ -1,6 +1,6 @@
 -- A lawful run that nodes join and whose delays flutter little: in which double cycles its nodes with rows are as near as in sharp
 -- sync and those that follow near them, and that this goes on.
-use Rattle.std.specs.Prelude.{◌≡◌, ◌≤ℤ◌, ◌+ℤ◌, ◌*◌, ℕ, suc, ℤ, pos, Bool, false, [], ◌∷◌, length, All, Contains, IsSome, Some}
+use Rattle.std.specs.Prelude.{◌≡◌, ◌≤◌, ◌≤ℤ◌, ◌+ℤ◌, ◌*◌, ℕ, suc, ℤ, pos, Bool, false, [], ◌∷◌, length, All, Contains, IsSome, Some}
 use Rattle.fr_base.specs.Within.{IsWithin}
 use Rattle.fr_base.specs.declared.state.State.TheVariants.{Active}
 use Rattle.fr_cluster.specs.Setting.{Setting, correct_nodes}
@@ -15,7 +15,7 @@ use Rattle.fr_history.specs.Standing.{following_nodes, has_row, row_nodes}
 use Rattle.fr_history.specs.Terms.{outcomes_in}
 use Rattle.fr_runs.specs.Gathered.{followers_since, hearers_of, round_at}
 use Rattle.fr_runs.specs.Hearers.{group_of}
-use Rattle.fr_runs.specs.References.{AreReferenced}
+use Rattle.fr_runs.specs.References.{HaveReferences}
 use Rattle.fr_runs.specs.Rounds.{IsDoubleOf}
 use Rattle.fr_precision.specs.Lengths.{CanWalk}
 use Rattle.fr_bound.specs.SharpChecks.{RateSuffices}
@@ -24,17 +24,20 @@ use Rattle.fr_promise.specs.SharpGroup.{IsSharpGroupKept, IsSharpPlacing}
 use Rattle.fr_promise.specs.SharpJoining.{sharp_reach, SharpJoinChecksHold}
 use Rattle.fr_promise.specs.SharpListening.{RateTakesIn}
 use Rattle.fr_precision.specs.SharpStep.{IsInSharpSync}
-use Rattle.fr_runs.specs.SteadyRuns.{IsSteadySetting, MayHaveArbitrary}
+use Rattle.fr_runs.specs.SteadyRuns.{IsSteadyFrom, MayHaveArbitrary}
 
--- lawful cycles of a run that nodes join, with or without arbitrary sync nodes, what is stated of the run, and the checks of nodes
--- that join
-pub record IsSteadyJoined (beside : Bool) (x : Setting) (flutter : ℕ) (h : Cycles) : Type 0 where
-  pub covered : IsSteadySetting x flutter
+-- lawful cycles of a run that nodes join, with or without arbitrary sync nodes, what is stated of the run from a double cycle on, and
+-- the checks of nodes that join
+pub record IsSteadyJoinedFrom (beside : Bool) (x : Setting) (from flutter : ℕ) (h : Cycles) : Type 0 where
+  pub covered : IsSteadyFrom x from flutter
   pub arbitrary : MayHaveArbitrary beside x
-  pub referenced : AreReferenced x
+  pub referenced : HaveReferences x
   pub checks : SharpJoinChecksHold beside flutter x.params
   pub lawful : IsLawful x h
   pub whole : length h ≡ 2 * x.doubles
+
+abbrev pub IsSteadyJoined : Bool → Setting → ℕ → Cycles → Type 0
+IsSteadyJoined beside x flutter h = IsSteadyJoinedFrom beside x 0 flutter h
 
 -- in a double cycle the nodes with rows are active and lie as near as in sharp sync, with rates within their limit, in
 -- microticks, and even lengths at most so far beyond their range, in ticks; those that follow lie near them, with rates within the
@@ -62,8 +65,8 @@ pub record WalksJoined (beside : Bool) (x : Setting) (flutter : ℕ) (beyond wal
 -- then no term of any node is cut, with a row or following, and they come to where the sharper step says
 abbrev pub JoinedDoublesAreKept : Type 0
 JoinedDoublesAreKept =
-    (beside : Bool) (x : Setting) (flutter : ℕ) (h : Cycles) (double : ℕ) (earlier : Cycles) (even odd : Cycle) (beyond walk next : ℤ)
-    → IsSteadyJoined beside x flutter h → IsDoubleOf h double earlier even odd → WalksJoined beside x flutter beyond walk next
+    (beside : Bool) (x : Setting) (from flutter : ℕ) (h : Cycles) (double : ℕ) (earlier : Cycles) (even odd : Cycle) (beyond walk next : ℤ)
+    → IsSteadyJoinedFrom beside x from flutter h → from ≤ double → IsDoubleOf h double earlier even odd → WalksJoined beside x flutter beyond walk next
     → IsJoinedDouble beside x flutter beyond earlier even odd double
     → IsSharpGroupKept beside x.params flutter beyond next (senders_of (round_at x earlier even odd))
     (group_of x.params (hearers_of x earlier even odd double)) (pos (sharp_reach beside x.params flutter))
@@ -71,9 +74,9 @@ JoinedDoublesAreKept =
 -- and the next double cycle is such a one, whoever joined
 abbrev pub JoinedDoublesGoOn : Type 0
 JoinedDoublesGoOn =
-    (beside : Bool) (x : Setting) (flutter : ℕ) (h : Cycles) (double : ℕ) (earlier : Cycles) (even odd even2 odd2 : Cycle)
+    (beside : Bool) (x : Setting) (from flutter : ℕ) (h : Cycles) (double : ℕ) (earlier : Cycles) (even odd even2 odd2 : Cycle)
     (beyond walk next : ℤ)
-    → IsSteadyJoined beside x flutter h → IsDoubleOf h (suc double) (odd ∷ even ∷ earlier) even2 odd2
+    → IsSteadyJoinedFrom beside x from flutter h → from ≤ double → IsDoubleOf h (suc double) (odd ∷ even ∷ earlier) even2 odd2
     → WalksJoined beside x flutter beyond walk next → RateSuffices x.params next
     → IsJoinedDouble beside x flutter beyond earlier even odd double
     → IsJoinedDouble beside x flutter next (odd ∷ even ∷ earlier) even2 odd2 (suc double)
@@ -81,16 +84,16 @@ JoinedDoublesGoOn =
 -- a double cycle in sharp sync in which no node follows is such a one
 abbrev pub UnfollowedIsJoined : Type 0
 UnfollowedIsJoined =
-    (beside : Bool) (x : Setting) (flutter : ℕ) (h : Cycles) (double : ℕ) (earlier : Cycles) (even odd : Cycle) (beyond : ℤ)
-    → IsSteadyJoined beside x flutter h → IsDoubleOf h double earlier even odd → RateSuffices x.params beyond
+    (beside : Bool) (x : Setting) (from flutter : ℕ) (h : Cycles) (double : ℕ) (earlier : Cycles) (even odd : Cycle) (beyond : ℤ)
+    → IsSteadyJoinedFrom beside x from flutter h → from ≤ double → IsDoubleOf h double earlier even odd → RateSuffices x.params beyond
     → IsInSharpSync beside x.params flutter beyond even.told.rows odd.told.rows → even.followers ≡ []
     → IsJoinedDouble beside x flutter beyond earlier even odd double
 
 -- and in each such double cycle the nodes with rows are in sharp sync
 abbrev pub JoinedIsInSharpSync : Type 0
 JoinedIsInSharpSync =
-    (beside : Bool) (x : Setting) (flutter : ℕ) (h : Cycles) (double : ℕ) (earlier : Cycles) (even odd : Cycle) (beyond : ℤ)
-    → IsSteadyJoined beside x flutter h → IsDoubleOf h double earlier even odd
+    (beside : Bool) (x : Setting) (from flutter : ℕ) (h : Cycles) (double : ℕ) (earlier : Cycles) (even odd : Cycle) (beyond : ℤ)
+    → IsSteadyJoinedFrom beside x from flutter h → from ≤ double → IsDoubleOf h double earlier even odd
     → IsJoinedDouble beside x flutter beyond earlier even odd double
     → IsInSharpSync beside x.params flutter beyond even.told.rows odd.told.rows
 
@@ -98,8 +101,8 @@ JoinedIsInSharpSync =
 -- first time follows there for the second time
 abbrev pub JoinedFollowersJoin : Type 0
 JoinedFollowersJoin =
-    (beside : Bool) (x : Setting) (flutter : ℕ) (h : Cycles) (double : ℕ) (earlier : Cycles) (even odd : Cycle) (beyond walk next : ℤ)
-    → IsSteadyJoined beside x flutter h → IsDoubleOf h double earlier even odd → WalksJoined beside x flutter beyond walk next
+    (beside : Bool) (x : Setting) (from flutter : ℕ) (h : Cycles) (double : ℕ) (earlier : Cycles) (even odd : Cycle) (beyond walk next : ℤ)
+    → IsSteadyJoinedFrom beside x from flutter h → from ≤ double → IsDoubleOf h double earlier even odd → WalksJoined beside x flutter beyond walk next
     → IsJoinedDouble beside x flutter beyond earlier even odd double
     → ((node : NodeSpec) → Contains (followers_since x earlier 2 double) node → Contains (row_nodes x (odd ∷ even ∷ earlier)) node)
     × ((node : NodeSpec) → Contains (followers_since x earlier 1 double) node
@@ -108,8 +111,8 @@ JoinedFollowersJoin =
 -- and a node that listens in such a double cycle begins to follow behind it, where its reference's start is not below 0
 abbrev pub JoinedListenersBegin : Type 0
 JoinedListenersBegin =
-    (beside : Bool) (x : Setting) (flutter : ℕ) (h : Cycles) (double : ℕ) (earlier : Cycles) (even odd : Cycle) (beyond : ℤ) (node : NodeSpec) (join : Join)
-    → IsSteadyJoined beside x flutter h → IsDoubleOf h double earlier even odd → RateTakesIn x.params flutter beyond
+    (beside : Bool) (x : Setting) (from flutter : ℕ) (h : Cycles) (double : ℕ) (earlier : Cycles) (even odd : Cycle) (beyond : ℤ) (node : NodeSpec) (join : Join)
+    → IsSteadyJoinedFrom beside x from flutter h → from ≤ double → IsDoubleOf h double earlier even odd → RateTakesIn x.params flutter beyond
     → IsJoinedDouble beside x flutter beyond earlier even odd double → Contains (correct_nodes x) node → x.join node.id ≡ Some join
     → join.double ≡ double → pos 0 ≤ℤ (row_for even.told.rows join.reference).start
     → IsSome (begins_with x (odd ∷ even ∷ earlier) node.id join)

@@ -35,10 +35,14 @@ pub record IsUnfollowedSharpSyncAt (beside : Bool) (p : Values) (flutter : ℕ) 
   pub none_early : synced.even.followers ≡ []
   pub none_late : synced.odd.followers ≡ []
 
--- the first double cycle in which it is so
-pub record IsFirstSharpSync (beside : Bool) (p : Values) (flutter : ℕ) (h : Cycles) (double : ℕ) : Type 0 where
-  pub unfollowed : IsUnfollowedSharpSyncAt beside p flutter h double
-  pub first : (earlier : ℕ) → earlier < double → IsUnfollowedSharpSyncAt beside p flutter h earlier → ⊥
+-- the first double cycle in which it is so, each with the numbers for a flutter of its own
+pub record IsFirstSharpSyncBy (beside : Bool) (p : Values) (flutter : ℕ → ℕ) (h : Cycles) (double : ℕ) : Type 0 where
+  pub unfollowed : IsUnfollowedSharpSyncAt beside p (flutter double) h double
+  pub first : (earlier : ℕ) → earlier < double → IsUnfollowedSharpSyncAt beside p (flutter earlier) h earlier → ⊥
+
+-- and with those for one flutter
+abbrev pub IsFirstSharpSync : Bool → Values → ℕ → Cycles → ℕ → Type 0
+IsFirstSharpSync beside p flutter h double = IsFirstSharpSyncBy beside p (λ k. flutter) h double
 
 -- ---- the same as a function
 
@@ -48,13 +52,16 @@ are_free_by test None odd = false
 are_free_by test (Some even) None = false
 are_free_by test (Some even) (Some odd) = test even.told.rows odd.told.rows && is_none even.followers && is_none odd.followers
 
-abbrev pub are_free_at : (List NodeRow → List NodeRow → Bool) → Cycles → ℕ → Bool
-are_free_at test h double = are_free_by test (cycle_at h (even_cycle double)) (cycle_at h (odd_cycle double))
+abbrev pub are_free_at : (ℕ → List NodeRow → List NodeRow → Bool) → Cycles → ℕ → Bool
+are_free_at test h double = are_free_by (test double) (cycle_at h (even_cycle double)) (cycle_at h (odd_cycle double))
 
--- the first double cycle that passes a test and in which none follows, if there is one
-unfoldable pub first_free_of : (List NodeRow → List NodeRow → Bool) → Cycles → Option ℕ
+-- the first double cycle that passes its test and in which none follows, if there is one
+unfoldable pub first_free_of : (ℕ → List NodeRow → List NodeRow → Bool) → Cycles → Option ℕ
 first_free_of test h = find (are_free_at test h) (range_with_len 0 (length h / 2))
 
--- the first one in sharp sync
+-- the first one in sharp sync, each with the numbers for a flutter of its own, and with those for one flutter
+abbrev pub first_sharp_sync_by : Bool → Values → (ℕ → ℕ) → Cycles → Option ℕ
+first_sharp_sync_by beside p flutter h = first_free_of (λ k. is_in_sharp_sync beside p (flutter k)) h
+
 abbrev pub first_sharp_sync_of : Bool → Values → ℕ → Cycles → Option ℕ
-first_sharp_sync_of beside p flutter h = first_free_of (is_in_sharp_sync beside p flutter) h
+first_sharp_sync_of beside p flutter h = first_sharp_sync_by beside p (λ k. flutter) h

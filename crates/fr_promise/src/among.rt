@@ -1,4 +1,4 @@
-ghost use Rattle.fr_precision.specs.Among.{CleanAgain, EndsComeAmong, EverySecondCosts, HeardAgain, LaterSpreadsAreLess, LengthsComeAmong, LostIsBy, LostSpreadGoes, LossyDoublesKeep, LossyDoublesStayApart, LostSpreadsGrow, MeetingSpreadsDraw, MeetingStays, OneLossCosts, SpreadsAreBelowLost, SpreadsGo};
+ghost use Rattle.fr_precision.specs.Among.{CleanAgain, DeafSpreadsGrow, EndsComeAmong, EverySecondCosts, HeardAgain, LaterSpreadsAreLess, LengthsComeAmong, LostIsBy, LostSpreadGoes, LossyDoublesKeep, LossyDoublesStayApart, LostSpreadsGrow, MeetingSpreadsDraw, MeetingStays, OneLossCosts, SpreadsAreBelowLost, SpreadsGo};
 
 /// The laws of losses: whichever senders two nodes have heard, their next lengths and their next starts, in ticks,
 /// lie no further apart than those of the senders, and some.
@@ -8,9 +8,10 @@ pub fn nodes_come_among()
 {}
 
 /// The law of a double cycle in which anything may be lost: its nodes come so near, in ticks; and what that costs from
-/// sharp sync, without arbitrary nodes.
+/// sharp sync, without arbitrary nodes. Nodes that keep their rates, while oscillators do not change, come no less near.
 pub fn losses_cost()
     ensures step { LostSpreadsGrow }
+    ensures deaf { DeafSpreadsGrow }
     ensures cost { OneLossCosts }
 {}
 

@@ -1,6 +1,6 @@
 ghost use Rattle.fr_promise.specs.Files.{CoveredFilesAreStated, DriftOfAFileFits};
 ghost use Rattle.fr_promise.specs.Files.{FilesKeepPrecision, GreatestSkewIsWithin};
-ghost use Rattle.fr_promise.specs.Files.{RatesAreWithin, StartsAreNatural};
+ghost use Rattle.fr_promise.specs.Files.{LengthsAreNatural, RatesAreWithin, StartsAreNatural};
 ghost use Rattle.fr_promise.specs.Statement.{TheHeadline};
 
 /// A law: where sane parameters, a drift and a script that fit them have no gap, the run is a covered one: the clocks,
@@ -34,8 +34,9 @@ pub fn drift_of_a_file_fits()
 {}
 
 /// A law: the first rate terms of a drift that fits parameters lie within their limit, and it starts no cycle 0 below
-/// tick 0.
+/// tick 0; and none of its microticks lasts less than 0 ticks.
 pub fn rates_are_within()
     ensures rates { RatesAreWithin }
     ensures starts { StartsAreNatural }
+    ensures lengths { LengthsAreNatural }
 {}

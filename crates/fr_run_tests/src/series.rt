@@ -151,10 +151,10 @@ lost,0,-,-,-\n\
             WriteFault,
             "\
 cycle,in_sync,skew,macrotick,sharp,heard,bound\n\
-0,no,39992000,4999,no,all,39007594\n\
-1,no,79200000,4900,no,all,39007594\n\
-2,yes,48991900,4999,no,all,39007594\n\
-3,yes,56495900,4687,no,all,39007594\n\
+0,no,39992000,4999,no,all,-\n\
+1,no,79200000,4900,no,all,-\n\
+2,yes,48991900,4999,no,all,-\n\
+3,yes,56495900,4687,no,all,-\n\
 greatest,56495900,3,4687,\n\
 synced,yes,,,\n\
 within,yes,,,\n\

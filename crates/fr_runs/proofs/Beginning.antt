@@ -33,20 +33,20 @@ use Rattle.fr_runs.proofs.Reach.{reach_is, some_joins_by}
 use Rattle.fr_runs.proofs.Exchanged.{on_channel}
 use Rattle.fr_runs.specs.References.{IsReference}
 use Rattle.fr_runs.specs.Supplied.{CoveredListenersBegin}
-use Rattle.fr_runs.proofs.Catches.{IsOf, Listens, ListensIn, catches_suffice, caught_either, caught_from, listened_offer, reference_key, reference_listened}
+use Rattle.fr_runs.proofs.Catches.{both_caught, IsOf, Listens, ListensIn, catches_suffice, caught_either, caught_from, listened_offer, reference_key, reference_listened}
 use Rattle.fr_runs.proofs.SyncedRows.{row_later}
 
-same_test : (a b : ℕ) → a ≡ b → (a == b) ≡ true
+pub same_test : (a b : ℕ) → a ≡ b → (a == b) ≡ true
 same_test a b is = grind arith
 
 -- ---- a regular frame of the reference is a good one
 
 -- when it arrives
-record Arrives (x : Setting) (cycle : ℕ) (rows : List NodeRow) (node slot : ℕ) (channel : Channel) : Type 0 where
-  at : ℤ
-  good : option_and_then (good_arrival slot) (listener_offer x cycle rows node slot channel) ≡ Some at
+pub record Arrives (x : Setting) (cycle : ℕ) (rows : List NodeRow) (node slot : ℕ) (channel : Channel) : Type 0 where
+  pub at : ℤ
+  pub good : option_and_then (good_arrival slot) (listener_offer x cycle rows node slot channel) ≡ Some at
 
-arrives : (x : Setting) (cycle : ℕ) (rows : List NodeRow) (reference node : NodeSpec) (slot : ℕ) (channel : Channel) → Listens x cycle rows reference node slot → Share reference node channel
+pub arrives : (x : Setting) (cycle : ℕ) (rows : List NodeRow) (reference node : NodeSpec) (slot : ℕ) (channel : Channel) → Listens x cycle rows reference node slot → Share reference node channel
     → (row_for rows reference.id).state ≡ Active → (row_for rows reference.id).node ≡ reference.id → x.event cycle reference.id node.id channel ≡ Regular → Arrives x cycle rows node.id slot channel
 arrives x cycle rows reference node slot channel l share active number regular =
     let p = x.params in
@@ -74,17 +74,17 @@ arrives x cycle rows reference node slot channel l share active number regular =
 
 -- ---- so something is caught
 
-caught_both : (x : Setting) (cycle : ℕ) (even odd : Cycle) (node slot : ℕ) (channel : Channel) → (early : Arrives x cycle even.told.rows node slot channel)
+pub caught_both : (x : Setting) (cycle : ℕ) (even odd : Cycle) (node slot : ℕ) (channel : Channel) → (early : Arrives x cycle even.told.rows node slot channel)
     → (late : Arrives x (suc cycle) odd.told.rows node slot channel)
     → caught_in_run x cycle even odd node slot channel ≡ Some (caught_from x cycle node slot channel early.at late.at)
 unfolding caught_in_run caught_arrival
 caught_both x cycle even odd node slot channel early late = rw (early.good, late.good) refl
 
-record HasCaught (x : Setting) (cycle : ℕ) (even odd : Cycle) (node slot : ℕ) : Type 0 where
-  caught : Caught
-  is : caught_of x cycle even odd node slot ≡ Some caught
+pub record HasCaught (x : Setting) (cycle : ℕ) (even odd : Cycle) (node slot : ℕ) : Type 0 where
+  pub caught : Caught
+  pub is : caught_of x cycle even odd node slot ≡ Some caught
 
-has_caught : (x : Setting) (cycle : ℕ) (even odd : Cycle) (node slot : ℕ) (channel : Channel) (c : Caught) → caught_in_run x cycle even odd node slot channel ≡ Some c → HasCaught x cycle even odd node slot
+pub has_caught : (x : Setting) (cycle : ℕ) (even odd : Cycle) (node slot : ℕ) (channel : Channel) (c : Caught) → caught_in_run x cycle even odd node slot channel ≡ Some c → HasCaught x cycle even odd node slot
 has_caught x cycle even odd node slot A c is = record { caught = c; is = ap (λ o. first_or o (caught_in_run x cycle even odd node slot B)) is }
 has_caught x cycle even odd node slot B c is = by_first (caught_in_run x cycle even odd node slot A) refl
   where
@@ -127,7 +127,9 @@ covered_listeners_begin x h even odd double node join w g there at listens natur
     let carried : IsCarried x reference node double =
     w.links reference node slot double (record { sends = ref.correct; hears = there; key = ref.key; other = ref.other }) g.within in
     let caught : HasCaught x (length h) even odd node.id slot = catches x h even odd double reference node slot l carried in
-    let of : IsOf x even odd double reference node slot caught.caught = caught_either x h even odd double reference node slot caught.caught l caught.is in
+    let of : IsOf x even odd double reference node slot caught.caught =
+    caught_either x (length h) even odd node.id slot (IsOf x even odd double reference node slot)
+    (λ channel early late first second. both_caught x h even odd double reference node slot channel early late l first second) caught.caught caught.is in
     let Starts : ℕ → Type 0 = λ id. pos 0 ≤ℤ (row_for even.told.rows id).start in
     let proper = each_row (row_nodes x h) even.told.rows (λ row. IsCycleLength p (cycle_length_of p row)) reference g.even_runs.rows.nodes l.among g.in_sync.even_proper in
     let enough : suffices p caught.caught ≡ true =

@@ -62,7 +62,7 @@ catches_suffice p c even odd sane rate limit caught proper from =
 -- ---- an arrival
 
 -- a good arrival is that of its offer
-good_by : (b : Bool) (arrival at : ℤ) → cond b (Some arrival) None ≡ Some at → at ≡ arrival
+pub good_by : (b : Bool) (arrival at : ℤ) → cond b (Some arrival) None ≡ Some at → at ≡ arrival
 good_by true arrival at is = let e : arrival ≡ at = cc in sym e
 good_by false arrival at is = absurd (cc)
 
@@ -78,7 +78,7 @@ pub record Listens (x : Setting) (cycle : ℕ) (rows : List NodeRow) (reference 
       (channel : Channel) → is_on x reference.id channel ≡ true → is_on x node.id channel ≡ true
       → IsDelay x.params channel (x.delay reference.id node.id channel cycle)
 
-listened_slot : (x : Setting) (cycle : ℕ) (rows : List NodeRow) (reference node : NodeSpec) (slot : ℕ) → Listens x cycle rows reference node slot → IsKeySlot x.params slot
+pub listened_slot : (x : Setting) (cycle : ℕ) (rows : List NodeRow) (reference node : NodeSpec) (slot : ℕ) → Listens x cycle rows reference node slot → IsKeySlot x.params slot
 listened_slot x cycle rows reference node slot l =
     let from : IsCorrectNode x reference = correct_node x reference l.sends in
     key_slot_there x.params reference slot l.sane from.there l.key
@@ -106,15 +106,19 @@ sends_at p row slot is_odd sane key =
     let less : action_point_of p slot < slot_end_of p slot = action_point_lt p slot sane key.from in
     sym (early p row is_odd slot (action_point_of p slot) sane key.to (omega (arith, less)))
 
-less_delay : (at action delay : ℤ) → at ≡ action +ℤ delay → delay ≡ at -ℤ action
+less_delay : (at action delay : ℤ) → at ≡ action +ℤ delay → at -ℤ action ≡ delay
 less_delay at action delay is = omega (arith, ints, is)
 
--- what is caught in a cycle came with a proper delay
-arrival_is : (x : Setting) (cycle : ℕ) (rows : List NodeRow) (reference node : NodeSpec) (slot : ℕ) (channel : Channel) (is_odd : Bool) (at : ℤ)
+-- what is caught in a cycle came with the delay of the run, on a channel that both have
+pub record Came (x : Setting) (cycle : ℕ) (rows : List NodeRow) (reference node : NodeSpec) (slot : ℕ) (channel : Channel) (is_odd : Bool) (at : ℤ) : Type 0 where
+  pub delay : (at -ℤ instant_of (grid_for x.params) (row_for rows reference.id) is_odd (pos (action_point_of x.params slot))) ≡ x.delay reference.id node.id channel cycle
+  pub sends : is_on x reference.id channel ≡ true
+  pub hears : is_on x node.id channel ≡ true
+
+pub came : (x : Setting) (cycle : ℕ) (rows : List NodeRow) (reference node : NodeSpec) (slot : ℕ) (channel : Channel) (is_odd : Bool) (at : ℤ)
     → Listens x cycle rows reference node slot → (row_for rows reference.id).node ≡ reference.id
-    → option_and_then (good_arrival slot) (listener_offer x cycle rows node.id slot channel) ≡ Some at
-    → IsDelay x.params channel (at -ℤ instant_of (grid_for x.params) (row_for rows reference.id) is_odd (pos (action_point_of x.params slot)))
-arrival_is x cycle rows reference node slot channel is_odd at l number is =
+    → option_and_then (good_arrival slot) (listener_offer x cycle rows node.id slot channel) ≡ Some at → Came x cycle rows reference node slot channel is_odd at
+came x cycle rows reference node slot channel is_odd at l number is =
     let p = x.params in
     let from : NodeRow = row_for rows reference.id in
     let deaf : Bool = is_deaf x (listening_row node.id) channel in
@@ -126,13 +130,22 @@ arrival_is x cycle rows reference node slot channel is_odd at l number is =
     let good : at ≡ (offer parts.bytes).arrival = good_by (is_sync_of slot (read_as channel parts.bytes)) (offer parts.bytes).arrival at parts.stored in
     let delay : ℤ = x.delay reference.id node.id channel cycle in
     let action : ℤ = instant_of (grid_for p) from is_odd (pos (action_point_of p slot)) in
-    let came : at ≡ action +ℤ delay =
+    let arrives : at ≡ action +ℤ delay =
     good
     ∙ ap (λ (id : ℕ). action_instant p from slot +ℤ x.delay id node.id channel cycle) number
     ∙ ap (λ (t : ℤ). t +ℤ delay) (sends_at p from slot is_odd l.sane (listened_slot x cycle rows reference node slot l)) in
     let heard = or_parts (is_halted (listening_row node.id).state) (not (is_on x node.id channel)) parts.hears in
     let sent = and_parts (is_active from.state) (is_on x reference.id channel) parts.sent in
-    subst (IsDelay p channel) (less_delay at action delay came) (l.delays channel sent.1 (not-false (is_on x node.id channel) heard.1))
+    record { delay = less_delay at action delay arrives; sends = sent.1; hears = not-false (is_on x node.id channel) heard.1 }
+
+-- so its delay is a proper one
+arrival_is : (x : Setting) (cycle : ℕ) (rows : List NodeRow) (reference node : NodeSpec) (slot : ℕ) (channel : Channel) (is_odd : Bool) (at : ℤ)
+    → Listens x cycle rows reference node slot → (row_for rows reference.id).node ≡ reference.id
+    → option_and_then (good_arrival slot) (listener_offer x cycle rows node.id slot channel) ≡ Some at
+    → IsDelay x.params channel (at -ℤ instant_of (grid_for x.params) (row_for rows reference.id) is_odd (pos (action_point_of x.params slot)))
+arrival_is x cycle rows reference node slot channel is_odd at l number is =
+    let c = came x cycle rows reference node slot channel is_odd at l number is in
+    subst (IsDelay x.params channel) (sym c.delay) (l.delays channel c.sends c.hears)
 
 -- ---- both
 
@@ -156,6 +169,53 @@ caught_from x cycle node slot channel early late = record {
   odd_length = x.microtick node (suc cycle);
 }
 
+-- ---- what is caught
+
+pub kept_is : (p : Values) (d c : Caught) (b : Bool) → cond b (Some d) None ≡ Some c → d ≡ c
+kept_is p d c true is = cc
+kept_is p d c false is = absurd (cc)
+
+-- what holds of whatever is made of two arrivals on a channel
+module _
+    (x : Setting) (cycle : ℕ) (even odd : Cycle) (node slot : ℕ) (Is : Caught → Type 0)
+    (both :
+    (channel : Channel) (early late : ℤ) → caught_arrival x cycle even.told.rows node slot channel ≡ Some early → caught_arrival x (suc cycle) odd.told.rows node slot channel ≡ Some late
+    → Is (caught_from x cycle node slot channel early late)) where
+  -- holds of what is caught on one
+  caught_is : (channel : Channel) (c : Caught) → caught_in_run x cycle even odd node slot channel ≡ Some c → Is c
+  unfolding caught_in_run
+  caught_is channel c is =
+      by_both (caught_arrival x cycle even.told.rows node slot channel) (caught_arrival x (suc cycle) odd.told.rows node slot channel) refl refl is
+    where
+      by_both : (early late : Option ℤ) → caught_arrival x cycle even.told.rows node slot channel ≡ early → caught_arrival x (suc cycle) odd.told.rows node slot channel ≡ late
+          → caught_by slot channel (x.microtick node cycle) (x.microtick node (suc cycle)) early late ≡ Some c → Is c
+      by_both None late first second made = absurd (cc)
+      by_both (Some early) None first second made = absurd (cc)
+      by_both (Some early) (Some late) first second made =
+          let e : caught_from x cycle node slot channel early late ≡ c = cc in
+          subst Is e (both channel early late first second)
+
+  -- on either
+  pub caught_either : (c : Caught) → caught_of x cycle even odd node slot ≡ Some c → Is c
+  caught_either c is = by_first (caught_in_run x cycle even odd node slot A) refl is
+    where
+      by_first : (o : Option Caught) → caught_in_run x cycle even odd node slot A ≡ o → first_or o (caught_in_run x cycle even odd node slot B) ≡ Some c → Is c
+      by_first None first made = caught_is B c made
+      by_first (Some d) first made =
+          let e : Some d ≡ Some c = made in
+          caught_is A c (first ∙ e)
+
+  -- and of what a node begins with, whose reference has the slot
+  pub begun_with : (reference : ℕ) (c : Caught) (b : Bool) → own_key x.params reference ≡ Some slot
+      → cond b (option_and_then (caught_by_slot x cycle even odd node) (own_key x.params reference)) None ≡ Some c → Is c
+  begun_with reference c false key made = absurd (cc)
+  begun_with reference c true key made =
+      let by_slot : option_and_then (kept_if x.params) (caught_of x cycle even odd node slot) ≡ Some c =
+      sym (ap (option_and_then (caught_by_slot x cycle even odd node)) key) ∙ made in
+      let some = and_then_some (kept_if x.params) (caught_of x cycle even odd node slot) c by_slot in
+      let e : some.0 ≡ c = kept_is x.params some.0 c (suffices x.params some.0) some.2 in
+      subst Is e (caught_either some.0 some.1)
+
 -- it was caught of the reference's rows, and has the node's own lengths
 pub record IsOf (x : Setting) (even odd : Cycle) (double : ℕ) (reference node : NodeSpec) (slot : ℕ) (c : Caught) : Type 0 where
   pub slot_is : slot ≡ c.slot
@@ -163,7 +223,7 @@ pub record IsOf (x : Setting) (even odd : Cycle) (double : ℕ) (reference node 
   pub even_length : c.even_length ≡ x.microtick node.id (2 * double)
   pub odd_length : c.odd_length ≡ x.microtick node.id (suc (2 * double))
 
-both_caught : (x : Setting) (h : Cycles) (even odd : Cycle) (double : ℕ) (reference node : NodeSpec) (slot : ℕ) (channel : Channel) (early late : ℤ)
+pub both_caught : (x : Setting) (h : Cycles) (even odd : Cycle) (double : ℕ) (reference node : NodeSpec) (slot : ℕ) (channel : Channel) (early late : ℤ)
     → ListensIn x h even odd double reference node slot
     → caught_arrival x (length h) even.told.rows node.id slot channel ≡ Some early → caught_arrival x (suc (length h)) odd.told.rows node.id slot channel ≡ Some late
     → IsOf x even odd double reference node slot (caught_from x (length h) node.id slot channel early late)
@@ -197,32 +257,6 @@ both_caught x h even odd double reference node slot channel early late l first s
       even_length = ap (x.microtick node.id) counted;
       odd_length = ap (λ (n : ℕ). x.microtick node.id (suc n)) counted;
     }
-
--- on a channel
-pub caught_is : (x : Setting) (h : Cycles) (even odd : Cycle) (double : ℕ) (reference node : NodeSpec) (slot : ℕ) (channel : Channel) (c : Caught)
-    → ListensIn x h even odd double reference node slot → caught_in_run x (length h) even odd node.id slot channel ≡ Some c → IsOf x even odd double reference node slot c
-unfolding caught_in_run
-caught_is x h even odd double reference node slot channel c l is =
-    by_both (caught_arrival x (length h) even.told.rows node.id slot channel) (caught_arrival x (suc (length h)) odd.told.rows node.id slot channel) refl refl is
-  where
-    by_both : (early late : Option ℤ) → caught_arrival x (length h) even.told.rows node.id slot channel ≡ early → caught_arrival x (suc (length h)) odd.told.rows node.id slot channel ≡ late
-        → caught_by slot channel (x.microtick node.id (length h)) (x.microtick node.id (suc (length h))) early late ≡ Some c → IsOf x even odd double reference node slot c
-    by_both None late first second made = absurd (cc)
-    by_both (Some early) None first second made = absurd (cc)
-    by_both (Some early) (Some late) first second made =
-        let e : caught_from x (length h) node.id slot channel early late ≡ c = cc in
-        subst (IsOf x even odd double reference node slot) e (both_caught x h even odd double reference node slot channel early late l first second)
-
--- on either
-pub caught_either : (x : Setting) (h : Cycles) (even odd : Cycle) (double : ℕ) (reference node : NodeSpec) (slot : ℕ) (c : Caught)
-    → ListensIn x h even odd double reference node slot → caught_of x (length h) even odd node.id slot ≡ Some c → IsOf x even odd double reference node slot c
-caught_either x h even odd double reference node slot c l is = by_first (caught_in_run x (length h) even odd node.id slot A) refl is
-  where
-    by_first : (o : Option Caught) → caught_in_run x (length h) even odd node.id slot A ≡ o → first_or o (caught_in_run x (length h) even odd node.id slot B) ≡ Some c → IsOf x even odd double reference node slot c
-    by_first None first made = caught_is x h even odd double reference node slot B c l made
-    by_first (Some d) first made =
-        let e : Some d ≡ Some c = made in
-        caught_is x h even odd double reference node slot A c l (first ∙ e)
 
 -- ---- the reference of a node that joins
 
@@ -270,27 +304,14 @@ reference_key x node join sane ref =
     ∙ ap key_in (node_there x.params ref.reference sane (correct_node x ref.reference ref.correct).there)
     ∙ ref.key
 
-kept_is : (p : Values) (d c : Caught) (b : Bool) → cond b (Some d) None ≡ Some c → d ≡ c
-kept_is p d c true is = cc
-kept_is p d c false is = absurd (cc)
-
 pub catches_are_caught : CatchesAreCaught
 unfolding begins_with
 catches_are_caught x h even odd double node join c g r there at is =
     let ref : IsReference x node join = r.references node join there at in
     let l = reference_listened x h even odd double node join g r there ref in
     let key = reference_key x node join g.covered.sane ref in
-    let slot : ℕ = ref.slot in
-    let found : (b : Bool) → cond b (option_and_then (caught_by_slot x (length h) even odd node.id) (own_key x.params join.reference)) None ≡ Some c → IsOf x even odd double ref.reference node slot c = by_test ref l key in
-    let of : IsOf x even odd double ref.reference node slot c = found (length h == 2 * join.double) is in
+    let of : IsOf x even odd double ref.reference node ref.slot c =
+    begun_with x (length h) even odd node.id ref.slot (IsOf x even odd double ref.reference node ref.slot)
+    (λ channel early late first second. both_caught x h even odd double ref.reference node ref.slot channel early late l first second)
+    join.reference c (length h == 2 * join.double) key is in
     (ref.reference, l.among, ref.key ∙ ap (λ (s : ℕ). Some s) of.slot_is, of.caught, of.even_length, of.odd_length)
-  where
-    by_test : (ref : IsReference x node join) → ListensIn x h even odd double ref.reference node ref.slot → own_key x.params join.reference ≡ Some ref.slot
-        → (b : Bool) → cond b (option_and_then (caught_by_slot x (length h) even odd node.id) (own_key x.params join.reference)) None ≡ Some c → IsOf x even odd double ref.reference node ref.slot c
-    by_test ref l key false made = absurd (cc)
-    by_test ref l key true made =
-        let by_slot : option_and_then (kept_if x.params) (caught_of x (length h) even odd node.id ref.slot) ≡ Some c =
-        sym (ap (option_and_then (caught_by_slot x (length h) even odd node.id)) key) ∙ made in
-        let some = and_then_some (kept_if x.params) (caught_of x (length h) even odd node.id ref.slot) c by_slot in
-        let e : some.0 ≡ c = kept_is x.params some.0 c (suffices x.params some.0) some.2 in
-        subst (IsOf x even odd double ref.reference node ref.slot) e (caught_either x h even odd double ref.reference node ref.slot some.0 l some.1)

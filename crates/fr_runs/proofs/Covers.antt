@@ -1,10 +1,9 @@
 -- A run is covered by what is stated of it alone, whoever has rows.
-use Rattle.std.proofs.Common.{◌≡◌, ℕ, ◌≤◌, pos, Bool, true, false, ◌&&◌, Option, Some, None, refl, ap, sym, subst, inl, inr, lit≤, arith}
+use Rattle.std.proofs.Common.{◌≡◌, ℕ, ◌≤◌, pos, Bool, true, false, ◌&&◌, Option, Some, None, refl, ap, sym, subst, lit≤}
 use Rattle.std.specs.Prelude.{is_none, is_some}
 use Rattle.std.proofs.lemmas.Bool.{and_parts}
 use Rattle.fr_cluster.specs.Setting.{Setting, is_correct}
 use Rattle.fr_cluster.specs.declared.nodes.NodeSpec.{NodeSpec}
-use Rattle.fr_midpoint.specs.Receivers.{AreFew}
 use Rattle.fr_midpoint.proofs.Counts.{count_by-le-count_by}
 use Rattle.fr_bound.specs.Bounds.{precision_of, reach_of}
 use Rattle.fr_precision.specs.Offsets.{LimitSuffices}
@@ -19,15 +18,10 @@ use Rattle.fr_precision.specs.Round.{sync_count}
 use Rattle.fr_runs.specs.Gathered.{reach_in}
 use Rattle.fr_runs.proofs.Reach.{precision_is, reach_is}
 use Rattle.fr_runs.specs.Supplied.{CoverageSuffices, stays_on}
-
--- as many and more correct nodes beside the same arbitrary ones
-pub more_are_few : (correct more arbitrary : ℕ) → correct ≤ more → AreFew correct arbitrary → AreFew more arbitrary
-more_are_few correct more arbitrary le (inl none) = inl (none.0, omega (arith, le, none.1))
-more_are_few correct more arbitrary le (inr (inl one)) = inr (inl (one.0, omega (arith, le, one.1)))
-more_are_few correct more arbitrary le (inr (inr two)) = inr (inr (two.0, omega (arith, le, two.1)))
+use Rattle.fr_precision.proofs.RoundSenders.{few_more as more_are_few}
 
 -- a node that does not join has a row in every cycle
-stays_has : (x : Setting) (h : Cycles) (node : ℕ) (join : Option Join) → x.join node ≡ join → is_none join ≡ true → has_row x h node ≡ true
+pub stays_has : (x : Setting) (h : Cycles) (node : ℕ) (join : Option Join) → x.join node ≡ join → is_none join ≡ true → has_row x h node ≡ true
 stays_has x h node None at stays = ap (has_row_by x h node) at
 stays_has x h node (Some join) at stays = absurd (cc)
 

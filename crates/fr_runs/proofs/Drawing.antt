@@ -1,8 +1,8 @@
 -- A round whose receivers have rows and lie so far apart is a double cycle as the step asks for, and any two of them draw near.
-use Rattle.std.proofs.Common.{◌≡◌, ℕ, false, ℤ, pos, Option, Some, None, List, [], ◌∷◌, All, map, refl, sym, subst}
+use Rattle.std.proofs.Common.{◌≡◌, ℕ, false, ℤ, pos, List, All, map, sym, subst}
 use Rattle.std.specs.Prelude.{Contains}
-use Rattle.std.specs.List.{cons_option, filter_map, range_with_len}
-use Rattle.std.proofs.lemmas.List.Elements.{All-cons, All-contains_itself, All-nil}
+use Rattle.std.specs.List.{range_with_len}
+use Rattle.std.proofs.lemmas.List.Elements.{All-contains_itself}
 use Rattle.fr_base.specs.Within.{IsWithin}
 use Rattle.fr_base.specs.declared.node_row.NodeRow.{NodeRow}
 use Rattle.fr_cluster.specs.Sane.{IsSane}
@@ -24,20 +24,11 @@ use Rattle.fr_precision.specs.Round.{Hearer, IsHearer, IsRound, IsSender, Round,
 use Rattle.fr_precision.proofs.RoundSenders.{IsFrom, sender_is}
 use Rattle.fr_precision.proofs.Values.{acts_before, hearers_keep_one, hears_all}
 use Rattle.fr_runs.proofs.Receivers.{no_less}
-use Rattle.fr_runs.proofs.Rows.{contains_map, map_contains}
 use Rattle.fr_runs.specs.Drawn.{IsRoundSpread, RoundsDrawNear}
 use Rattle.fr_runs.specs.Hearers.{IsSupplied, member_from}
+use Rattle.fr_precision.proofs.RoundLemmas.{all_given, contains_map, map_contains}
 
 -- ---- the senders of any round
-
--- what holds of the sender of each key index holds of all senders
-given : {X : Type 0} (who : ℕ → Option X) (P : X → Type 0) (i : ℕ) (xs : List X) (o : Option X) → who i ≡ o → ((x : X) → who i ≡ Some x → P x) → All P xs → All P (cons_option o xs)
-given who P i xs None is each rest = rest
-given who P i xs (Some x) is each rest = All-cons P x xs (each x is) rest
-
-all_given : {X : Type 0} (who : ℕ → Option X) (P : X → Type 0) (is : List ℕ) → ((i : ℕ) (x : X) → who i ≡ Some x → P x) → All P (filter_map who is)
-all_given who P [] each = All-nil P
-all_given who P (i ∷ is) each = given who P i (filter_map who is) (who i) refl (each i) (all_given who P is each)
 
 pub all_senders : (r : Round) (P : Sender → Type 0) → ((index : ℕ) (sender : Sender) → IsFrom r index sender → P sender) → All P (senders_of r)
 all_senders r P each = all_given (sender_at r) P (range_with_len 0 15) (λ index sender some. each index sender (sender_is r index sender some))

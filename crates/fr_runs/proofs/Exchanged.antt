@@ -42,7 +42,7 @@ pub record IsNearIn (x : Setting) (e : Exchange) (is_odd : Bool) (reach : ℤ) (
   pub near : IsWithin reach (gap_of x.params is_odd (pos (action_point_of x.params slot)) (row_for e.sender_rows sender.id) (row_for e.receiver_rows receiver.id))
   pub delays : (channel : Channel) → Share sender receiver channel → IsDelay x.params channel (x.delay sender.id receiver.id channel e.cycle)
 
-near_link : (x : Setting) (e : Exchange) (is_odd : Bool) (reach : ℤ) (sender receiver : NodeSpec) (slot : ℕ) → IsNearIn x e is_odd reach sender receiver slot
+pub near_link : (x : Setting) (e : Exchange) (is_odd : Bool) (reach : ℤ) (sender receiver : NodeSpec) (slot : ℕ) → IsNearIn x e is_odd reach sender receiver slot
     → IsNearLink x (link_of e sender receiver slot) is_odd reach
 unfolding link_of
 near_link x e is_odd reach sender receiver slot n =
@@ -66,10 +66,10 @@ near_link x e is_odd reach sender receiver slot n =
     }
 
 -- what is stored of it
-stored_is : (x : Setting) (e : Exchange) (is_odd : Bool) (reach : ℤ) (sender receiver : NodeSpec) (slot : ℕ) (channel : Channel) → IsNearIn x e is_odd reach sender receiver slot
+pub recorded_is : (x : Setting) (e : Exchange) (is_odd : Bool) (reach : ℤ) (sender receiver : NodeSpec) (slot : ℕ) (channel : Channel) → IsNearIn x e is_odd reach sender receiver slot
     → dev_in e.devs receiver.id slot channel ≡ stored_on x (link_of e sender receiver slot) channel
 unfolding link_of
-stored_is x e is_odd reach sender receiver slot channel n =
+recorded_is x e is_odd reach sender receiver slot channel n =
     recorded_in x e sender receiver slot channel n.sane n.is (n.is.correct_senders sender n.link.sends) n.link.key n.link.hears
 
 -- each deviation of a sender is one of both rows
@@ -79,7 +79,7 @@ pub stored_is_deviation : (x : Setting) (e : Exchange) (is_odd : Bool) (reach : 
 unfolding link_of
 stored_is_deviation x e is_odd reach sender receiver slot channel value n some =
     stored_is_placed x (link_of e sender receiver slot) is_odd reach channel value (near_link x e is_odd reach sender receiver slot n)
-    (sym (stored_is x e is_odd reach sender receiver slot channel n) ∙ some)
+    (sym (recorded_is x e is_odd reach sender receiver slot channel n) ∙ some)
 
 -- and a regular frame of it is stored
 pub regular_is_stored : (x : Setting) (e : Exchange) (is_odd : Bool) (reach : ℤ) (sender receiver : NodeSpec) (slot : ℕ) (channel : Channel)
@@ -87,7 +87,7 @@ pub regular_is_stored : (x : Setting) (e : Exchange) (is_odd : Bool) (reach : �
     → IsSome (dev_in e.devs receiver.id slot channel)
 unfolding link_of
 regular_is_stored x e is_odd reach sender receiver slot channel n share regular =
-    ap is_some (stored_is x e is_odd reach sender receiver slot channel n)
+    ap is_some (recorded_is x e is_odd reach sender receiver slot channel n)
     ∙ regular_is_stored_on x (link_of e sender receiver slot) is_odd reach channel (near_link x e is_odd reach sender receiver slot n) share n.active n.awake regular
 
 -- ---- channels

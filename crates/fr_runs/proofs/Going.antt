@@ -20,7 +20,8 @@ use Rattle.fr_cluster.proofs.Elements.{filtered, kept_filtered}
 use Rattle.fr_history.specs.History.{row_for}
 use Rattle.fr_runs.proofs.Doubles.{even_length, odd_length}
 use Rattle.fr_runs.proofs.Receivers.{is_correct_node}
-use Rattle.fr_runs.proofs.Rows.{Ascend, contains_map, correct_ascend, each_row, map_contains, rows_are}
+use Rattle.fr_precision.proofs.RoundLemmas.{contains_map, map_contains}
+use Rattle.fr_runs.proofs.Rows.{Ascend, correct_ascend, each_row, rows_are}
 use Rattle.fr_runs.specs.Gathered.{IsDoubleInSync, IsHeardByAll, follower_hearer, followers_since, hearers_of, listened_by, reach_in, round_at, row_hearer}
 use Rattle.fr_runs.specs.Hearers.{FollowsIn, IsOneOf, IsRoundSynced, group_of, member_from}
 use Rattle.fr_runs.proofs.Courses.{RunTwo, follower_applied, follower_two, is_correct_follower, is_correct_row, proper_micro, row_applied, row_two, steady}

@@ -20,7 +20,8 @@ use Rattle.fr_history.specs.Standing.{followed_well, following_nodes, follows, f
 use Rattle.fr_history.proofs.Standing.{equal}
 use Rattle.fr_precision.specs.Round.{Hearer, senders_of}
 use Rattle.fr_cluster.proofs.Elements.{kept_filtered}
-use Rattle.fr_runs.proofs.Rows.{contains_map, has_row as row_there}
+use Rattle.fr_precision.proofs.RoundLemmas.{contains_map}
+use Rattle.fr_runs.proofs.Rows.{has_row as row_there}
 use Rattle.fr_runs.specs.Gathered.{IsDoubleInSync, IsHeardByAll, follower_hearer, followers_since, hearers_of, reach_in, round_at}
 use Rattle.fr_runs.specs.Hearers.{IsOneOf, group_of, member_from}
 use Rattle.fr_runs.specs.Succession.{FollowersJoin}
@@ -50,7 +51,7 @@ both_true : (a b : Bool) → a ≡ true → b ≡ true → (a && b) ≡ true
 both_true a b one other = ap₂ (λ c d. c && d) one other
 
 -- a follower neither of whose terms was cut or missing was steady
-steady_at : (p : Values) (evens odds : List Dev) (node : ℕ) (row : NodeRow) → row.node ≡ node
+pub steady_at : (p : Values) (evens odds : List Dev) (node : ℕ) (row : NodeRow) → row.node ≡ node
     → (offset_term_by p evens odds node None).outcome ≡ Within
     → (rate_term_of row.rate p.damping p.rate_limit (rate_values_by p evens odds node None)).outcome ≡ Within
     → is_steady p evens odds row ≡ true

@@ -55,14 +55,14 @@ link_facts x l is_odd reach near = record {
 }
 
 -- the offer of some bytes, and what comes of the sender's frame
-offer_on : Setting → Link → Channel → List ℕ → Offer
+unfoldable pub offer_on : Setting → Link → Channel → List ℕ → Offer
 offer_on x l channel bytes = offer_with x l.cycle (uncorrected l.from) (uncorrected l.at) l.slot channel bytes
 
-comes_on : Setting → Link → Channel → Option (List ℕ)
+unfoldable pub comes_on : Setting → Link → Channel → Option (List ℕ)
 comes_on x l channel = coming x l.cycle l.sender (uncorrected l.from) (uncorrected l.at) l.slot channel
 
 -- what the receiver stores of the sender, by whether it hears, whether the sender sends, and what comes
-stored_is : (x : Setting) (l : Link) (is_odd : Bool) (reach : ℤ) (channel : Channel) → IsNearLink x l is_odd reach
+pub stored_is : (x : Setting) (l : Link) (is_odd : Bool) (reach : ℤ) (channel : Channel) → IsNearLink x l is_odd reach
     → stored_on x l channel
     ≡ option_and_then (λ offer. value_of (answer_of x.params l.cycle (uncorrected l.at) offer))
     (cond (is_deaf x (uncorrected l.at) channel) None
@@ -101,7 +101,7 @@ arrives_at x l is_odd reach channel bytes near =
     (instant_is x.params l.from l.slot (action_point_of x.params l.slot) is_odd near.sane key (acts_within x.params l.slot near.sane key))
 
 -- a node that hears or sends on a channel has it
-on_channel : (x : Setting) (node : ℕ) (spec : NodeSpec) (channel : Channel) → node ≡ spec.id → node_of x.params spec.id ≡ Some spec → is_on x node channel ≡ has_channel (Some spec) channel
+pub on_channel : (x : Setting) (node : ℕ) (spec : NodeSpec) (channel : Channel) → node ≡ spec.id → node_of x.params spec.id ≡ Some spec → is_on x node channel ≡ has_channel (Some spec) channel
 on_channel x node spec channel same found =
     ap (λ (id : ℕ). is_on x id channel) same ∙ ap (λ (o : Option NodeSpec). has_channel o channel) found
 
@@ -116,25 +116,37 @@ share_of x l is_odd reach channel near hears sends =
       by_receiver = sym (on_channel x l.at.node l.receiver channel near.at_node facts.receiver_is) ∙ not-false (is_on x l.at.node channel) heard.1;
     }
 
--- each deviation that the receiver stores of the sender is one of both rows
-pub stored_is_placed : StoredIsPlaced
+-- a deviation of a frame that came is that of the sender's action point, delayed; both nodes have its channel
+pub record IsCounted (x : Setting) (l : Link) (is_odd : Bool) (channel : Channel) (value : ℤ) : Type 0 where
+  pub share : Share l.sender l.receiver channel
+  pub counted :
+      value
+      ≡ counted_of x.params l.at l.slot channel
+      (instant_of (grid_for x.params) l.from is_odd (pos (action_point_of x.params l.slot)) +ℤ x.delay l.sender.id l.receiver.id channel l.cycle)
+
+pub stored_is_counted : (x : Setting) (l : Link) (is_odd : Bool) (reach : ℤ) (channel : Channel) (value : ℤ) → IsNearLink x l is_odd reach → stored_on x l channel ≡ Some value → IsCounted x l is_odd channel value
 unfolding offer_on
-stored_is_placed x l is_odd reach channel value near is =
+stored_is_counted x l is_odd reach channel value near is =
     let p : Values = x.params in
-    let facts : LinkFacts x l = link_facts x l is_odd reach near in
     let answer : Offer → Option ℤ = λ offer. value_of (answer_of p l.cycle (uncorrected l.at) offer) in
     let deaf : Bool = is_deaf x (uncorrected l.at) channel in
     let sends : Bool = does_send x l.sender.id (uncorrected l.from) channel in
     let parts : IsStoredOf deaf sends (λ bytes. answer (offer_on x l channel bytes)) value =
     parts_of deaf sends answer (offer_on x l channel) (comes_on x l channel) value (sym (stored_is x l is_odd reach channel near) ∙ is) in
-    let share : Share l.sender l.receiver channel = share_of x l is_odd reach channel near parts.hears parts.sent in
     let measured : value ≡ deviation_of p (uncorrected l.at) (offer_on x l channel parts.bytes) = stored_value p l.cycle (uncorrected l.at) (offer_on x l channel parts.bytes) value parts.stored in
-    let delay : ℤ = x.delay l.sender.id l.receiver.id channel l.cycle in
-    let action : ℤ = instant_of (grid_for p) l.from is_odd (pos (action_point_of p l.slot)) in
-    let counted : value ≡ counted_of p l.at l.slot channel (action +ℤ delay) =
-    measured ∙ ap (λ (t : ℤ). counted_of p l.at l.slot channel t) (arrives_at x l is_odd reach channel parts.bytes near) in
-    subst (λ (v : ℤ). IsDeviation p is_odd (pos (action_point_of p l.slot)) l.at l.from v) (sym counted)
-    (counted_is_deviation p delay l.slot channel is_odd l.at l.from near.sane facts.key.to facts.key.from near.micro (near.delays channel share))
+    record {
+      share = share_of x l is_odd reach channel near parts.hears parts.sent;
+      counted = measured ∙ ap (λ (t : ℤ). counted_of p l.at l.slot channel t) (arrives_at x l is_odd reach channel parts.bytes near);
+    }
+
+-- each deviation that the receiver stores of the sender is one of both rows
+pub stored_is_placed : StoredIsPlaced
+stored_is_placed x l is_odd reach channel value near is =
+    let p : Values = x.params in
+    let key : IsKeySlot p l.slot = (link_facts x l is_odd reach near).key in
+    let c : IsCounted x l is_odd channel value = stored_is_counted x l is_odd reach channel value near is in
+    subst (λ (v : ℤ). IsDeviation p is_odd (pos (action_point_of p l.slot)) l.at l.from v) (sym c.counted)
+    (counted_is_deviation p (x.delay l.sender.id l.receiver.id channel l.cycle) l.slot channel is_odd l.at l.from near.sane key.to key.from near.micro (near.delays channel c.share))
 
 -- ---- what is stored
 

@@ -19,7 +19,8 @@ use Rattle.fr_precision.specs.Round.{Hearer, senders_of}
 use Rattle.fr_cluster.proofs.Elements.{filtered, kept_filtered}
 use Rattle.fr_history.specs.History.{row_for}
 use Rattle.fr_runs.proofs.Doubles.{even_length, odd_length}
-use Rattle.fr_runs.proofs.Rows.{contains_map, each_row, has_row as has_row_in, row_runs_by}
+use Rattle.fr_precision.proofs.RoundLemmas.{contains_map}
+use Rattle.fr_runs.proofs.Rows.{each_row, has_row as has_row_in, row_runs_by}
 use Rattle.fr_runs.specs.Gathered.{IsHeardByAll, IsDoubleInSync, AreClocksCovered, follower_hearer, followers_since, hearers_of, reach_in, round_at, row_hearer}
 use Rattle.fr_runs.specs.Hearers.{group_of, member_from}
 use Rattle.fr_runs.specs.Succession.{IsSucceeded}

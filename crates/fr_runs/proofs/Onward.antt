@@ -20,7 +20,8 @@ use Rattle.fr_precision.specs.Round.{Hearer}
 use Rattle.fr_history.specs.History.{row_for}
 use Rattle.fr_runs.proofs.Doubles.{even_length, status_even}
 use Rattle.fr_runs.proofs.Receivers.{same_mapped}
-use Rattle.fr_runs.proofs.Rows.{contains_map, map_contains, row_runs_by, rows_are}
+use Rattle.fr_precision.proofs.RoundLemmas.{contains_map, map_contains}
+use Rattle.fr_runs.proofs.Rows.{row_runs_by, rows_are}
 use Rattle.fr_runs.specs.Gathered.{follower_hearer, followers_since, hearers_of, row_hearer}
 use Rattle.fr_runs.specs.Hearers.{LiesNear, group_of, member_from}
 use Rattle.fr_runs.specs.Succession.{SucceedingGoesOn}

@@ -68,3 +68,15 @@ active_after x h even odd double node row counted some active offset rate =
     ∙ ap (λ (status : Status). status.state) (fold-append step first_status before (pair ∷ []))
     ∙ ap (λ pair. (step (status_in p (told_of h) node) pair).state) both
     ∙ stays x (status_in p (told_of h) node) active
+
+-- so it goes on by one step
+pub status_step : (x : Setting) (h : Cycles) (even odd : Cycle) (double node : ℕ) (row : NodeRow) → length h ≡ 2 * double → row_of odd.told.rows node ≡ Some row
+    → status_in x.params (told_of (odd ∷ even ∷ h)) node
+    ≡ step_of (limits_of x.params) (status_in x.params (told_of h) node) (offset_term_in x.params (told_of (even ∷ h)) odd.told.devs row.node).outcome
+    (rate_term_in x.params (told_of (even ∷ h)) odd.told.devs row).outcome
+status_step x h even odd double node row counted some =
+    let p = x.params in
+    let limits = limits_of p in
+    let step : Status → Outcome × Outcome → Status = λ status pair. step_of limits status pair.0 pair.1 in
+    let pair : Outcome × Outcome = ((offset_term_in p (told_of (even ∷ h)) odd.told.devs row.node).outcome, (rate_term_in p (told_of (even ∷ h)) odd.told.devs row).outcome) in
+    ap (control_of limits) (outcomes_some x h even odd double node row counted some) ∙ fold-append step first_status (outcomes_in p (told_of h) node) (pair ∷ [])

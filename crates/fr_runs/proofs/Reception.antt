@@ -87,14 +87,21 @@ near_link x e is_odd reach sender receiver slot near link =
       delays = λ channel share. near.delays sender receiver slot channel link share;
     }
 
--- what a receiver recorded in a correct node's key slot is what its row stores
+-- what a receiver recorded in a node's key slot is what its row stores
+pub recorded_there : (x : Setting) (e : Exchange) (node receiver : NodeSpec) (slot : ℕ) (channel : Channel) → IsSane x.params → IsExchangeOf x e → Contains x.params.nodes node → node.key ≡ Some slot
+    → Contains e.receivers receiver
+    → dev_in e.devs receiver.id slot channel ≡ stored_in x e.cycle (map uncorrected e.sender_rows) (uncorrected (row_for e.receiver_rows receiver.id)) slot channel
+recorded_there x e node receiver slot channel sane is there key hears =
+    let static = key_slot_there x.params node slot sane there key in
+    recorded_is_stored x e.cycle (map uncorrected e.sender_rows) e.receiver_rows e.receivers is.receptions e.devs receiver slot channel is.received is.devs
+    is.receivers_ascend is.receiver_nodes hears static.from static.to
+
+-- so it is of a correct node
 pub recorded_in : (x : Setting) (e : Exchange) (node receiver : NodeSpec) (slot : ℕ) (channel : Channel) → IsSane x.params → IsExchangeOf x e → Contains (correct_nodes x) node → node.key ≡ Some slot
     → Contains e.receivers receiver
     → dev_in e.devs receiver.id slot channel ≡ stored_in x e.cycle (map uncorrected e.sender_rows) (uncorrected (row_for e.receiver_rows receiver.id)) slot channel
 recorded_in x e node receiver slot channel sane is correct key hears =
-    let static = key_slot_there x.params node slot sane (correct_node x node correct).there key in
-    recorded_is_stored x e.cycle (map uncorrected e.sender_rows) e.receiver_rows e.receivers is.receptions e.devs receiver slot channel is.received is.devs
-    is.receivers_ascend is.receiver_nodes hears static.from static.to
+    recorded_there x e node receiver slot channel sane is (correct_node x node correct).there key hears
 
 recorded_on : (x : Setting) (e : Exchange) (is_odd : Bool) (reach : ℤ) (sender receiver : NodeSpec) (slot : ℕ) (channel : Channel) → IsNearExchange x e is_odd reach → IsExchanged e sender receiver slot
     → dev_in e.devs receiver.id slot channel ≡ stored_on x (link_of e sender receiver slot) channel

@@ -18,7 +18,7 @@ use Rattle.fr_runs.proofs.Grouped.{groups_are_kept_lem}
 use Rattle.fr_precision.specs.Round.{Hearer, IsHearer, Round, senders_of}
 use Rattle.fr_precision.proofs.Values.{acts_before, hearers_keep_one}
 use Rattle.fr_runs.proofs.Receivers.{no_less}
-use Rattle.fr_runs.proofs.Rows.{contains_map, map_contains}
+use Rattle.fr_precision.proofs.RoundLemmas.{contains_map, map_contains}
 use Rattle.fr_runs.proofs.Drawing.{all_among, computes_terms, runs_of, sending}
 use Rattle.fr_runs.specs.Hearers.{FollowsIn, Hearers, IsOneOf, IsRoundSynced, LiesNear, RoundsAreKept, group_of, member_from}
 use Rattle.fr_runs.proofs.Reach.{first_reached, second_reached, synced_reached}

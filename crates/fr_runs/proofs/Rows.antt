@@ -13,22 +13,9 @@ use Rattle.fr_cluster.specs.Setting.{Setting, correct_nodes, is_correct}
 use Rattle.fr_history.proofs.Lists.{map-map}
 use Rattle.fr_cluster.proofs.Elements.{Contains-here, Contains-none, Contains-there, found, not_found, sole_found}
 use Rattle.fr_cluster.proofs.KeyNodes.{AllPairs-first, AllPairs-rest, Contains-cons_cases}
+use Rattle.fr_precision.proofs.RoundLemmas.{contains_map, map_contains}
 
 -- ---- elements of mapped lists
-
-pub contains_map : {X Y : Type 0} (f : X → Y) (xs : List X) (x : X) → Contains xs x → Contains (map f xs) (f x)
-contains_map f [] x among = absurd (Contains-none x among)
-contains_map {Y = Y} f (y ∷ xs) x among = elim (Contains-cons_cases y xs x among) [
-  | inl same ↦ let Has : Y → Type 0 = λ z. Contains (f y ∷ map f xs) z in subst Has (ap f same) (Contains-here (f y) (map f xs))
-  | inr more ↦ Contains-there (f y) (map f xs) (f x) (contains_map f xs x more)
-]
-
-pub map_contains : {X Y : Type 0} (f : X → Y) (xs : List X) (y : Y) → Contains (map f xs) y → (x : X) × Contains xs x × (f x ≡ y)
-map_contains f [] y among = absurd (Contains-none y among)
-map_contains f (x ∷ xs) y among = elim (Contains-cons_cases (f x) (map f xs) y among) [
-  | inl same ↦ (x, Contains-here x xs, same)
-  | inr more ↦ let rest = map_contains f xs y more in (rest.0, Contains-there x xs rest.0 rest.1, rest.2)
-]
 
 -- ---- rows and nodes
 

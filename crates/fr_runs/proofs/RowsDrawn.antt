@@ -25,7 +25,8 @@ use Rattle.fr_history.specs.Laws.{row_laws}
 use Rattle.fr_history.specs.Standing.{row_nodes}
 use Rattle.fr_precision.specs.Round.{Hearer}
 use Rattle.fr_runs.proofs.Doubles.{even_length, odd_length, status_even}
-use Rattle.fr_runs.proofs.Rows.{Ascend, all_rows, contains_map, each_row, map_contains, row_runs_by, rows_are}
+use Rattle.fr_precision.proofs.RoundLemmas.{contains_map, map_contains}
+use Rattle.fr_runs.proofs.Rows.{Ascend, all_rows, each_row, row_runs_by, rows_are}
 use Rattle.fr_runs.specs.Drawn.{IsRoundSpread}
 use Rattle.fr_runs.specs.Gathered.{round_at, row_hearer}
 use Rattle.fr_runs.specs.Hearers.{IsSupplied, member_from}

@@ -36,11 +36,11 @@ same_even h double even odd earlier e o has d = let same : Some e ≡ Some even 
 same_odd : (h : Cycles) (double : ℕ) (even odd : Cycle) (earlier : Cycles) (e o : Cycle) → HasDouble h double even odd → IsDoubleOf h double earlier e o → o ≡ odd
 same_odd h double even odd earlier e o has d = let same : Some o ≡ Some odd = sym (odd_is h double earlier e o d) ∙ has.has_odd in cc
 
-record Here (h : Cycles) (double : ℕ) (even odd : Cycle) : Type 0 where
-  earlier : Cycles
-  is : IsDoubleOf h double earlier even odd
+pub record Here (h : Cycles) (double : ℕ) (even odd : Cycle) : Type 0 where
+  pub earlier : Cycles
+  pub is : IsDoubleOf h double earlier even odd
 
-here : (h : Cycles) (double : ℕ) (even odd : Cycle) → HasDouble h double even odd → Here h double even odd
+pub here : (h : Cycles) (double : ℕ) (even odd : Cycle) → HasDouble h double even odd → Here h double even odd
 here h double even odd has =
     let below : suc (2 * double) < length h = cycle_within h (suc (2 * double)) odd has.has_odd in
     let at = double_at h double (omega (arith, below)) in
@@ -54,11 +54,11 @@ here h double even odd has =
     }
 
 -- the next double cycle stands behind the same cycles
-record NextHere (h : Cycles) (double : ℕ) (even odd even2 odd2 : Cycle) : Type 0 where
-  earlier : Cycles
-  is : IsDoubleOf h (suc double) (odd ∷ even ∷ earlier) even2 odd2
+pub record NextHere (h : Cycles) (double : ℕ) (even odd even2 odd2 : Cycle) : Type 0 where
+  pub earlier : Cycles
+  pub is : IsDoubleOf h (suc double) (odd ∷ even ∷ earlier) even2 odd2
 
-next_here : (h : Cycles) (double : ℕ) (even odd even2 odd2 : Cycle) → HasDouble h double even odd → HasDouble h (suc double) even2 odd2
+pub next_here : (h : Cycles) (double : ℕ) (even odd even2 odd2 : Cycle) → HasDouble h double even odd → HasDouble h (suc double) even2 odd2
     → NextHere h double even odd even2 odd2
 next_here h double even odd even2 odd2 has next =
     let at = here h (suc double) even2 odd2 next in

@@ -1,6 +1,5 @@
 -- The double cycles of a run, or of its cycles up to one of them: their rows, and those of the next one.
-use Rattle.std.proofs.Common.{◌≡◌, ℕ, suc, ◌*◌, ◌<◌, ◌≤◌, ℤ, pos, ◌∷◌, ◌++◌, length, subst, arith}
-use Rattle.std.proofs.lemmas.List.{length-append}
+use Rattle.std.proofs.Common.{ℕ, suc, ℤ, pos, ◌∷◌, subst}
 use Rattle.fr_base.specs.Within.{IsWithin}
 use Rattle.fr_cluster.specs.Setting.{Setting, correct_nodes}
 use Rattle.fr_cluster.specs.declared.nodes.NodeSpec.{NodeSpec}
@@ -26,15 +25,7 @@ use Rattle.fr_runs.specs.Supplied.{IsCovered}
 use Rattle.fr_runs.proofs.Fed.{lawful_part}
 use Rattle.fr_runs.proofs.RowsDrawn.{NextRows}
 use Rattle.fr_runs.proofs.RowsHeard.{SpreadRows}
-
--- a double cycle of them is one of the run
-double_within : (h : Cycles) (double doubles : ℕ) (earlier : Cycles) (even odd : Cycle) → IsDoubleOf h double earlier even odd → length h ≤ 2 * doubles → double < doubles
-double_within h double doubles earlier even odd d within =
-    let counted : length earlier ≡ 2 * double = d.counted in
-    let long = length-append d.later (odd ∷ even ∷ earlier) in
-    let Short : Cycles → Type 0 = λ t. length t ≤ 2 * doubles in
-    let whole : length (d.later ++ odd ∷ even ∷ earlier) ≤ 2 * doubles = subst Short d.parted within in
-    omega (arith, counted, long, whole)
+use Rattle.fr_runs.proofs.RowsSupplied.{double_within}
 
 -- in sync is the case of pi and lambda, and of the reach of the run
 pub synced_are_spread : (x : Setting) (even odd : Cycle) → IsCovered x → IsInSync x.params even.told.rows odd.told.rows

@@ -1,13 +1,12 @@
 -- The nodes with rows of a double cycle of a run, whoever follows in it: their rows are regular, and each has its deviations of
 -- every other one, those of one channel as a steady pair.
-use Rattle.std.proofs.Common.{◌≡◌, ◌⊎◌, ℕ, suc, ◌*◌, ◌<◌, ◌≤◌, Bool, true, false, not, ◌&&◌, ℤ, pos, Option, Some, None, All, ◌∷◌, ◌++◌, length, map, refl, ap, sym, ◌∙◌, subst, inl, inr, arith, if◌then◌else◌}
-use Rattle.std.specs.Prelude.{◌≤ℤ◌, ◌+ℤ◌, ◌-ℤ◌, Contains, IsSome, is_none, is_some}
+use Rattle.std.proofs.Common.{◌≡◌, ℕ, suc, ◌*◌, ◌<◌, ◌≤◌, Bool, true, false, ◌&&◌, ℤ, pos, Some, All, ◌∷◌, ◌++◌, length, map, refl, ap, sym, ◌∙◌, subst, arith}
+use Rattle.std.specs.Prelude.{◌≤ℤ◌, ◌+ℤ◌, ◌-ℤ◌, Contains, IsSome, is_some}
 use Rattle.std.proofs.lemmas.Bool.{and_parts}
 use Rattle.std.proofs.lemmas.Int.{ints}
 use Rattle.std.proofs.lemmas.List.{length-append}
 use Rattle.fr_base.specs.Event.Event.{Regular}
 use Rattle.fr_base.specs.Rows.{dev_in}
-use Rattle.fr_base.specs.States.{is_halted}
 use Rattle.fr_base.specs.Within.{IsWithin}
 use Rattle.fr_base.specs.declared.channel.Channel.{Channel}
 use Rattle.fr_base.specs.declared.state.State.TheVariants.{Active}
@@ -15,7 +14,6 @@ use Rattle.fr_cluster.specs.Questions.{key_slot_of}
 use Rattle.fr_cluster.specs.Sane.{IsSane}
 use Rattle.fr_cluster.specs.Setting.{Setting, correct_nodes, is_correct}
 use Rattle.fr_cluster.specs.Values.{amount}
-use Rattle.fr_cluster.specs.declared.join.Join.{Join}
 use Rattle.fr_cluster.specs.declared.names.ParamName.TheVariants as name
 use Rattle.fr_cluster.specs.declared.nodes.NodeSpec.{NodeSpec}
 use Rattle.fr_cluster.proofs.KeyNodes.{key_among}
@@ -23,41 +21,37 @@ use Rattle.fr_midpoint.specs.Receivers.{AreFew}
 use Rattle.fr_midpoint.proofs.Counts.{count_by-le-count_by}
 use Rattle.fr_time.specs.Instant.{instant_of}
 use Rattle.fr_time.specs.Position.{grid_for}
-use Rattle.fr_time.specs.Senders.{key_node_of}
 use Rattle.fr_time.specs.Slots.{action_point_of}
-use Rattle.fr_time.proofs.Keys.{key_node_among, key_node_is, key_slot_has}
 use Rattle.fr_bound.specs.Bounds.{longest_micro, shortest_micro}
 use Rattle.fr_bound.specs.Sync.{cycle_length_of}
+use Rattle.fr_precision.specs.Reception.{IsDelay, LeavesRoom}
 use Rattle.fr_precision.specs.Deviations.{counted_of}
 use Rattle.fr_precision.specs.Instants.{gap_of, row_in}
-use Rattle.fr_precision.specs.Offsets.{IsDeviation}
 use Rattle.fr_precision.specs.Placement.{IsRegular}
-use Rattle.fr_precision.specs.Round.{sender_with, senders_of, sync_count, Hearer, IsHeardAt, IsOther}
-use Rattle.fr_precision.specs.Rows.{HasProperMicro}
+use Rattle.fr_precision.specs.Round.{sender_with, senders_of, sync_count, Hearer, IsOther}
 use Rattle.fr_precision.specs.Step.{Member}
-use Rattle.fr_precision.proofs.RoundSenders.{and_then_some}
-use Rattle.fr_history.specs.History.{AreRowsOf, row_for, row_of}
+use Rattle.fr_precision.proofs.RoundSenders.{few_more as more_are_few}
+use Rattle.fr_history.specs.History.{row_for}
 use Rattle.fr_history.specs.Cycles.{Cycle, Cycles}
-use Rattle.fr_history.specs.Lawful.{IsLawful, Obeys, ToldObeys}
-use Rattle.fr_history.specs.Standing.{has_row, has_row_by, row_nodes}
-use Rattle.fr_runs.specs.Exchange.{Exchange, IsExchanged, IsNearExchange}
+use Rattle.fr_history.specs.Lawful.{IsLawful, Obeys}
+use Rattle.fr_history.specs.Standing.{has_row, row_nodes}
+use Rattle.fr_runs.specs.Exchange.{Exchange}
 use Rattle.fr_runs.specs.Gathered.{CycleRuns, round_at, row_hearer}
-use Rattle.fr_runs.specs.Links.{IsCarried, IsLinked, Share, cycle_in}
+use Rattle.fr_runs.specs.Links.{IsLinked, Share, cycle_in}
 use Rattle.fr_runs.specs.Rounds.{IsDoubleOf}
 use Rattle.fr_runs.specs.Supplied.{stays_on}
 use Rattle.fr_runs.proofs.Courses.{RunTwo, is_correct_row, row_applied, row_two, run_two}
-use Rattle.fr_runs.proofs.Covers.{coverage_suffices, more_are_few}
+use Rattle.fr_runs.proofs.Covers.{coverage_suffices, stays_has}
 use Rattle.fr_runs.proofs.Doubles.{even_length, odd_length}
-use Rattle.fr_runs.proofs.Fed.{lawful_part, row_itself, row_other, row_receivers}
+use Rattle.fr_runs.proofs.Fed.{lawful_part, row_other, row_receiver, row_receivers}
 use Rattle.fr_runs.proofs.Going.{is_row_node, rows_ascend}
-use Rattle.fr_runs.proofs.Hearing.{delayed, looked}
+use Rattle.fr_runs.proofs.Hearing.{before_in, comes, counted_from, cycle_of, delayed, even_exchange, heard_at, heard_in_part, looked, odd_exchange, stored, IsReceiver, RowsSend}
+use Rattle.fr_runs.proofs.Begun.{row_sends}
 use Rattle.fr_runs.proofs.Lawful.{lawful_cycles_run}
 use Rattle.fr_runs.proofs.Nodes.{IsKeySlot, correct_node, key_slot_there}
-use Rattle.fr_runs.proofs.Receivers.{is_correct_node, no_less}
-use Rattle.fr_runs.proofs.Reception.{absent_is_not_recorded, recorded_is_placed, regular_is_recorded}
-use Rattle.fr_runs.proofs.Rows.{all_rows, contains_map, each_row, map_contains}
-use Rattle.fr_runs.proofs.RowsHeard.{RowLink, before_in, cycle_of}
-use Rattle.fr_runs.proofs.Standing.{has_stays, is_none as none_there, told_has}
+use Rattle.fr_runs.proofs.Receivers.{no_less}
+use Rattle.fr_runs.proofs.Rows.{all_rows, each_row}
+use Rattle.fr_runs.proofs.RowsHeard.{RowLink}
 use Rattle.fr_runs.proofs.Succeeding.{followers_stay, rows_stay}
 use Rattle.fr_runs.proofs.Whole.{double_runs}
 use Rattle.fr_precision.specs.Hearing.{AllowsArbitrary, AreSteadyPairs, IsHeardInPart}
@@ -67,16 +61,17 @@ use Rattle.fr_bound.specs.SharpChecks.{RateSuffices}
 use Rattle.fr_precision.specs.SharpRound.{as_member, IsRoundInReach, IsSteadilySupplied}
 use Rattle.fr_precision.specs.SharpStep.{IsSharpDouble}
 use Rattle.fr_precision.specs.Steady.{IsSteadyPair}
-use Rattle.fr_runs.specs.SteadyRuns.{is_silent, row_hearers, row_members, AreRowsInReach, CoveredRunsAreSteady, IsSteadyPart, IsTimedPart, IsTimedSetting, IsWhole, MayHaveArbitrary, RowsAreSharpDoubles, RowsHearSteadily}
+use Rattle.fr_runs.specs.SteadyRuns.{is_silent, row_hearers, row_members, AreRowsInReach, CoveredRunsAreSteady, IsSteadyPart, IsSteadyPartFrom, IsTimedFrom, IsTimedPartFrom, IsWhole, MayHaveArbitrary, RowsAreSharpDoubles, RowsHearSteadily, SteadyRunsAreLater, TimedRunsAreLater}
 use Rattle.fr_precision.proofs.Arriving.{frames_are_steady}
 use Rattle.fr_precision.proofs.BoundLemmas.{key_slots_act_early}
-use Rattle.fr_runs.proofs.FramesCounted.{link_in, recorded_comes, recorded_is_counted, IsCounted}
+use Rattle.fr_runs.proofs.FramesCounted.{link_in, recorded_says}
+use Rattle.fr_runs.proofs.Links.{IsCounted}
 use Rattle.fr_precision.proofs.RateRange.{rate_in_limit}
-use Rattle.fr_precision.proofs.RoundLemmas.{rounds_in_reach_are_sharp}
+use Rattle.fr_precision.proofs.RoundLemmas.{rounds_in_reach_are_sharp, contains_map, map_contains}
 
--- a double cycle of a run in which the clocks run by their laws
+-- a double cycle of a run in which the clocks run by their laws, stated from that double cycle on
 pub record LawfulRows (x : Setting) (flutter : ℕ) (h : Cycles) (even odd : Cycle) (double : ℕ) : Type 0 where
-  pub covered : IsTimedSetting x flutter
+  pub covered : IsTimedFrom x double flutter
   pub counted : length h ≡ 2 * double
   pub within : double < x.doubles
   pub even_obeys : Obeys x h even
@@ -93,13 +88,34 @@ double_within h double doubles earlier even odd d within =
     let whole : length (d.later ++ odd ∷ even ∷ earlier) ≤ 2 * doubles = subst Short d.parted within in
     omega (arith, counted, long, whole)
 
-pub timed_rows : (x : Setting) (flutter : ℕ) (h : Cycles) → IsTimedPart x flutter h → (double : ℕ) (earlier : Cycles) (even odd : Cycle) → IsDoubleOf h double earlier even odd
-    → LawfulRows x flutter earlier even odd double
-timed_rows x flutter h w double earlier even odd d =
+-- ---- what is stated from a double cycle on is so from a later one on
+
+pub timed_runs_are_later : TimedRunsAreLater
+timed_runs_are_later x from later flutter up w = record {
+  sane = w.sane;
+  few = w.few;
+  least = λ node cycle there late less. w.least node cycle there (omega (arith, up, late)) less;
+  most = λ node cycle there late less. w.most node cycle there (omega (arith, up, late)) less;
+  changes = λ node cycle there late less. w.changes node cycle there (omega (arith, up, late)) less;
+  delays = λ sender receiver slot channel cycle linked share late less. w.delays sender receiver slot channel cycle linked share (omega (arith, up, late)) less;
+  flutters = λ sender receiver slot channel double linked share late less. w.flutters sender receiver slot channel double linked share (omega (arith, up, late)) less;
+}
+
+pub steady_runs_are_later : SteadyRunsAreLater
+steady_runs_are_later x from later flutter up w = record {
+  timed = timed_runs_are_later x from later flutter up w.timed;
+  links = λ double late less. w.links double (omega (arith, up, late)) less;
+}
+
+-- ---- the double cycles of such a run
+
+pub timed_rows_from : (x : Setting) (from flutter : ℕ) (h : Cycles) → IsTimedPartFrom x from flutter h → (double : ℕ) → from ≤ double → (earlier : Cycles) (even odd : Cycle)
+    → IsDoubleOf h double earlier even odd → LawfulRows x flutter earlier even odd double
+timed_rows_from x from flutter h w double late earlier even odd d =
     let lawful = lawful_part x d.later (odd ∷ even ∷ earlier) (subst (IsLawful x) d.parted w.lawful) in
     let runs = double_runs x h double earlier even odd d (lawful_cycles_run x h w.lawful) in
     record {
-      covered = w.covered;
+      covered = timed_runs_are_later x from double flutter late w.covered;
       counted = d.counted;
       within = double_within h double x.doubles earlier even odd d w.within;
       even_obeys = lawful.1.0;
@@ -109,55 +125,57 @@ timed_rows x flutter h w double earlier even odd d =
       two = run_two x earlier even odd runs.1.0 runs.0 (rows_stay x earlier even double d.counted runs.1.0) (followers_stay x earlier even double d.counted runs.1.0);
     }
 
+pub lawful_rows_from : (x : Setting) (from flutter : ℕ) (h : Cycles) → IsSteadyPartFrom x from flutter h → (double : ℕ) → from ≤ double → (earlier : Cycles) (even odd : Cycle)
+    → IsDoubleOf h double earlier even odd → LawfulRows x flutter earlier even odd double
+lawful_rows_from x from flutter h w double late earlier even odd d =
+    timed_rows_from x from flutter h (record { covered = w.covered.timed; lawful = w.lawful; within = w.within }) double late earlier even odd d
+
+-- where it is stated from the first one on
 pub lawful_rows : (x : Setting) (flutter : ℕ) (h : Cycles) → IsSteadyPart x flutter h → (double : ℕ) (earlier : Cycles) (even odd : Cycle) → IsDoubleOf h double earlier even odd
     → LawfulRows x flutter earlier even odd double
-lawful_rows x flutter h w double earlier even odd d = timed_rows x flutter h (record { covered = w.covered.timed; lawful = w.lawful; within = w.within }) double earlier even odd d
+lawful_rows x flutter h w double earlier even odd d = lawful_rows_from x 0 flutter h w double (omega arith) earlier even odd d
 
 -- ---- a run that is covered in the older sense
 
 pub covered_runs_are_steady : CoveredRunsAreSteady
-covered_runs_are_steady x flutter w flutters = record {
+covered_runs_are_steady x from flutter w flutters = record {
   timed = record {
     sane = w.sane;
     few = w.few;
-    least = w.least;
-    most = w.most;
-    changes = w.changes;
-    delays = λ sender receiver slot channel cycle linked share within.
+    least = λ node cycle there late less. w.least node cycle there less;
+    most = λ node cycle there late less. w.most node cycle there less;
+    changes = λ node cycle there late less. w.changes node cycle there less;
+    delays = λ sender receiver slot channel cycle linked share late within.
         delayed x sender receiver slot cycle channel (coverage_suffices x w) linked.sends linked.hears linked.key linked.other within share;
     flutters = flutters;
   };
-  links = λ double within sender receiver slot linked. w.links sender receiver slot double linked within;
+  links = λ double late within sender receiver slot linked. w.links sender receiver slot double linked within;
 }
 
 -- ---- the microticks of a node
 
-pub proper_in : (x : Setting) (flutter : ℕ) (node : NodeSpec) (cycle : ℕ) (micro : ℤ) → IsTimedSetting x flutter → Contains (correct_nodes x) node → cycle < 2 * x.doubles → micro ≡ x.microtick node.id cycle
+pub proper_in : (x : Setting) (from flutter : ℕ) (node : NodeSpec) (cycle : ℕ) (micro : ℤ) → IsTimedFrom x from flutter → Contains (correct_nodes x) node → 2 * from ≤ cycle → cycle < 2 * x.doubles → micro ≡ x.microtick node.id cycle
     → (pos (shortest_micro x.params) ≤ℤ micro) × (micro ≤ℤ pos (longest_micro x.params))
-proper_in x flutter node cycle micro covered among less is =
+proper_in x from flutter node cycle micro covered among late less is =
     let Proper : ℤ → Type 0 = λ z. (pos (shortest_micro x.params) ≤ℤ z) × (z ≤ℤ pos (longest_micro x.params)) in
-    subst Proper (sym is) (covered.least node cycle among less, covered.most node cycle among less)
+    subst Proper (sym is) (covered.least node cycle among late less, covered.most node cycle among late less)
 
-pub steady_in : (x : Setting) (flutter : ℕ) (node : NodeSpec) (cycle : ℕ) (micro next : ℤ) → IsTimedSetting x flutter → Contains (correct_nodes x) node → suc cycle < 2 * x.doubles
+pub steady_in : (x : Setting) (from flutter : ℕ) (node : NodeSpec) (cycle : ℕ) (micro next : ℤ) → IsTimedFrom x from flutter → Contains (correct_nodes x) node → 2 * from ≤ cycle → suc cycle < 2 * x.doubles
     → micro ≡ x.microtick node.id cycle → next ≡ x.microtick node.id (suc cycle) → IsWithin (pos (amount x.params name.xChangeBound)) (next -ℤ micro)
-steady_in x flutter node cycle micro next covered among less is next_is =
+steady_in x from flutter node cycle micro next covered among late less is next_is =
     let Change : ℤ → ℤ → Type 0 = λ a b. IsWithin (pos (amount x.params name.xChangeBound)) (b -ℤ a) in
     let First : ℤ → Type 0 = λ a. Change a next in
     let Second : ℤ → Type 0 = λ b. Change (x.microtick node.id cycle) b in
-    subst First (sym is) (subst Second (sym next_is) (covered.changes node cycle among less))
+    subst First (sym is) (subst Second (sym next_is) (covered.changes node cycle among late less))
 
 -- ---- whoever has rows, the senders outweigh the arbitrary nodes
-
-stays_has : (x : Setting) (h : Cycles) (node : ℕ) (join : Option Join) → x.join node ≡ join → is_none join ≡ true → has_row x h node ≡ true
-stays_has x h node None at stays = ap (has_row_by x h node) at
-stays_has x h node (Some join) at stays = absurd (cc)
 
 all_three : (key correct has : Bool) → key ≡ true → correct ≡ true → has ≡ true → (key && (correct && has)) ≡ true
 all_three key correct has a b c = rw (a, b, c) refl
 
-pub few_in : (x : Setting) (flutter : ℕ) (h : Cycles) → IsTimedSetting x flutter
+pub few_in : (x : Setting) (from flutter : ℕ) (h : Cycles) → IsTimedFrom x from flutter
     → AreFew (sync_count x.params (λ node. is_correct x node && has_row x h node)) (sync_count x.params x.is_arbitrary)
-few_in x flutter h covered =
+few_in x from flutter h covered =
     let stay : ℕ → Bool = λ node. is_correct x node && stays_on x node in
     let has : ℕ → Bool = λ node. is_correct x node && has_row x h node in
     more_are_few (sync_count x.params stay) (sync_count x.params has) (sync_count x.params x.is_arbitrary)
@@ -184,7 +202,7 @@ module _ (x : Setting) (flutter : ℕ) (h : Cycles) (even odd : Cycle) (double :
       let within = s.within in
       let less : length h < 2 * x.doubles = omega (arith, counted, within) in
       let at = row_two x h even odd node s.two (even_length (length h) double counted) among in
-      let micro = proper_in x flutter node (length h) (row_for even.told.rows node.id).length s.covered (is_correct_row x h node among) less at.even_length in
+      let micro = proper_in x double flutter node (length h) (row_for even.told.rows node.id).length s.covered (is_correct_row x h node among) (omega (arith, counted)) less at.even_length in
       rate_in_limit x.params beyond (row_for even.told.rows node.id) s.covered.sane suffices (record { least = micro.0; most = micro.1 })
       (each_row (row_nodes x h) even.told.rows (λ row. IsAboutCycle x.params beyond (cycle_length_of x.params row)) node s.two.even_rows.nodes among about))
 
@@ -198,14 +216,14 @@ module _ (x : Setting) (flutter : ℕ) (h : Cycles) (even odd : Cycle) (double :
       let at = row_two x h even odd node s.two (even_length (length h) double counted) among in
       let row = row_for even.told.rows node.id in
       let next = row_for odd.told.rows node.id in
-      let first = proper_in x flutter node (length h) row.length s.covered correct (omega (arith, less)) at.even_length in
-      let second = proper_in x flutter node (suc (length h)) next.length s.covered correct less at.odd_length in
+      let first = proper_in x double flutter node (length h) row.length s.covered correct (omega (arith, counted)) (omega (arith, less)) at.even_length in
+      let second = proper_in x double flutter node (suc (length h)) next.length s.covered correct (omega (arith, counted)) less at.odd_length in
       record {
         double = at.double;
         rate_within = each_row (row_nodes x h) even.told.rows (λ row. IsWithin x.params.rate_limit row.rate) node s.two.even_rows.nodes among rates;
         even_micro = record { least = first.0; most = first.1 };
         odd_micro = record { least = second.0; most = second.1 };
-        steady = steady_in x flutter node (length h) row.length next.length s.covered correct less at.even_length at.odd_length;
+        steady = steady_in x double flutter node (length h) row.length next.length s.covered correct (omega (arith, counted)) less at.even_length at.odd_length;
       }
 
   pub members_regular : (node : Member) → Contains (row_members x h even odd) node → IsRegular x.params node.even node.odd
@@ -216,20 +234,30 @@ module _ (x : Setting) (flutter : ℕ) (h : Cycles) (even odd : Cycle) (double :
       let Of : Member → Type 0 = λ node. IsRegular x.params node.even node.odd in
       subst Of n.2 (subst Hears at.2 (row_regular at.0 at.1))
 
--- ---- one of the two cycles: its rows, by the nodes that have them
-
-record IsCycleIn (x : Setting) (h : Cycles) (even odd : Cycle) (double : ℕ) (reach : ℤ) (is_odd : Bool) : Type 0 where
-  nodes : AreRowsOf (row_nodes x h) (cycle_of is_odd even odd).told.rows
-  obeys : ToldObeys x (before_in is_odd h even) (cycle_of is_odd even odd)
-  counted : length (before_in is_odd h even) ≡ cycle_in is_odd double
-  within : length (before_in is_odd h even) < 2 * x.doubles
-  active : All (λ row. row.state ≡ Active) (cycle_of is_odd even odd).told.rows
-  rate : (node : NodeSpec) → Contains (row_nodes x h) node → IsWithin x.params.rate_limit (row_for (cycle_of is_odd even odd).told.rows node.id).rate
-  micro : (node : NodeSpec) → Contains (row_nodes x h) node → HasProperMicro x.params (row_for (cycle_of is_odd even odd).told.rows node.id)
-  reached :
-      (node sender : NodeSpec) (action : ℤ) → Contains (row_nodes x h) node → Contains (row_nodes x h) sender → pos 0 ≤ℤ action → action ≤ℤ pos (last_action x.params)
-      → IsWithin reach
-      (gap_of x.params is_odd action (row_for (cycle_of is_odd even odd).told.rows sender.id) (row_for (cycle_of is_odd even odd).told.rows node.id))
+-- the nodes with rows send in it, where they are active and slots leave room for a reach
+pub lawful_rows_send : (x : Setting) (flutter : ℕ) (h : Cycles) (even odd : Cycle) (double : ℕ) (reach : ℤ) → LawfulRows x flutter h even odd double → All (λ row. row.state ≡ Active) even.told.rows
+    → All (λ row. row.state ≡ Active) odd.told.rows → LeavesRoom x.params reach → RowsSend x h even odd double reach
+lawful_rows_send x flutter h even odd double reach s active_even active_odd room = record {
+  sane = s.covered.sane;
+  counted = s.counted;
+  even_runs = s.even_runs;
+  odd_runs = s.odd_runs;
+  active_even = active_even;
+  active_odd = active_odd;
+  room = room;
+  delays = delayed_in;
+}
+  where
+    delayed_in : (is_odd : Bool) (sender receiver : NodeSpec) (slot : ℕ) (channel : Channel) → IsLinked x sender receiver slot → Share sender receiver channel
+        → IsDelay x.params channel (x.delay sender.id receiver.id channel (length (before_in is_odd h even)))
+    delayed_in false sender receiver slot channel link share =
+        let c = s.counted in
+        let l = s.within in
+        s.covered.delays sender receiver slot channel (length h) link share (omega (arith, c)) (omega (arith, c, l))
+    delayed_in true sender receiver slot channel link share =
+        let c = s.counted in
+        let l = s.within in
+        s.covered.delays sender receiver slot channel (suc (length h)) link share (omega (arith, c)) (omega (arith, c, l))
 
 module _ (x : Setting) (flutter : ℕ) (h : Cycles) (even odd : Cycle) (double : ℕ) (reach : ℤ) (s : LawfulRows x flutter h even odd double) (r : AreRowsInReach x h even odd reach) where
   sane : IsSane x.params
@@ -250,30 +278,6 @@ module _ (x : Setting) (flutter : ℕ) (h : Cycles) (even odd : Cycle) (double :
   row_reached node sender is_odd action here there from to =
       let at : NodeSpec → Member = λ n. as_member x.params (row_hearer x even odd n.id) in
       r.acts is_odd (at sender) (at node) action (member_there sender there) (member_there node here) from to
-
-  cycle_is : (is_odd : Bool) → IsCycleIn x h even odd double reach is_odd
-  cycle_is false = record {
-    nodes = s.two.even_rows.nodes;
-    obeys = s.even_obeys.told;
-    counted = s.counted;
-    within = (let c = s.counted in let l = s.within in omega (arith, c, l));
-    active = r.active_even;
-    rate = λ node among. (row_regular x flutter h even odd double s r.rates node among).rate_within;
-    micro = λ node among. (row_regular x flutter h even odd double s r.rates node among).even_micro;
-    reached = λ node sender action here there from to. row_reached node sender false action here there from to;
-  }
-  cycle_is true = record {
-    nodes = s.two.odd_rows.nodes;
-    obeys = s.odd_obeys.told;
-    counted = ap suc s.counted;
-    within = (let c = s.counted in let l = s.within in omega (arith, c, l));
-    active = r.active_odd;
-    rate = λ node among.
-        let regular = row_regular x flutter h even odd double s r.rates node among in
-        subst (IsWithin x.params.rate_limit) (sym regular.double.same_rate) regular.rate_within;
-    micro = λ node among. (row_regular x flutter h even odd double s r.rates node among).odd_micro;
-    reached = λ node sender action here there from to. row_reached node sender true action here there from to;
-  }
 
   -- these nodes send in it, and receive
   abbrev rows_exchange : Bool → Exchange
@@ -302,74 +306,49 @@ module _ (x : Setting) (flutter : ℕ) (h : Cycles) (even odd : Cycle) (double :
       no_more : (a b : ℕ) → a ≤ b → pos a ≤ℤ pos b
       no_more a b le = omega (arith, ints, le)
 
-  near_exchange : (is_odd : Bool) → IsNearExchange x (rows_exchange is_odd) is_odd reach
-  near_exchange is_odd =
-      let c = cycle_is is_odd in
-      let active = λ (node : NodeSpec) (among : Contains (row_nodes x h) node). each_row (row_nodes x h) (cycle_of is_odd even odd).told.rows (λ row. row.state ≡ Active) node c.nodes among c.active in
-      record {
-        sane = sane;
-        room = r.room;
-        is = record {
-          correct_senders = λ node among. is_correct_row x h node among;
-          correct_receivers = λ node among. is_correct_row x h node among;
-          sender_nodes = c.nodes;
-          receiver_nodes = c.nodes;
-          receivers_ascend = rows_ascend x h sane;
-          receptions = c.obeys.receptions;
-          received = c.obeys.received;
-          devs = c.obeys.devs;
-        };
-        active = active;
-        hearing = λ node among. ap is_halted (active node among);
-        rate = c.rate;
-        micro = c.micro;
-        near = λ sender receiver slot link.
-            c.reached receiver sender (pos (action_point_of x.params slot)) link.hears link.sends (no_less (action_point_of x.params slot)) (acts_early sender slot link.sends link.key);
-        delays = λ sender receiver slot channel link share.
-            s.covered.delays sender receiver slot channel (length (before_in is_odd h even))
-            (record { sends = is_correct_row x h sender link.sends; hears = is_correct_row x h receiver link.hears; key = link.key; other = link.other }) share c.within;
-      }
+  sending : RowsSend x h even odd double reach
+  sending = lawful_rows_send x flutter h even odd double reach s r.active_even r.active_odd r.room
+
+  receiving : (node : NodeSpec) → Contains (row_nodes x h) node → IsReceiver x h even odd reach (row_receivers x h even odd) node
+  receiving node among =
+      row_receiver x h even odd double reach node s.even_obeys s.odd_obeys sending among (row_regular x flutter h even odd double s r.rates node among)
+      (λ is_odd sender slot there key. row_reached node sender is_odd (pos (action_point_of x.params slot)) among there (no_less (action_point_of x.params slot)) (acts_early sender slot there key))
 
   -- ---- what each of them has
-
-  exchanged_by : (is_odd : Bool) (sender receiver : NodeSpec) (slot : ℕ) → RowLink x h sender receiver slot → IsExchanged (rows_exchange is_odd) sender receiver slot
-  exchanged_by is_odd sender receiver slot link = record { sends = link.sends; hears = link.hears; key = link.key; other = link.other }
 
   -- regular frames are stored
   pub frames_stored : (is_odd : Bool) (sender receiver : NodeSpec) (slot : ℕ) (channel : Channel) → RowLink x h sender receiver slot → Share sender receiver channel
       → x.event (cycle_in is_odd double) sender.id receiver.id channel ≡ Regular → IsSome (dev_in (cycle_of is_odd even odd).told.devs receiver.id slot channel)
-  frames_stored is_odd sender receiver slot channel link share regular =
-      let counted = (cycle_is is_odd).counted in
-      let event : x.event (length (before_in is_odd h even)) sender.id receiver.id channel ≡ Regular =
-      ap (λ (n : ℕ). x.event n sender.id receiver.id channel) counted ∙ regular in
-      regular_is_recorded x (rows_exchange is_odd) is_odd reach sender receiver slot channel (near_exchange is_odd) (exchanged_by is_odd sender receiver slot link) share event
+  frames_stored false sender receiver slot channel link share regular =
+      stored x h even odd double reach (row_receivers x h even odd) receiver sender slot false channel sending (receiving receiver link.hears) (row_sends x h even odd sender slot link.sends link.key) link.other share regular
+  frames_stored true sender receiver slot channel link share regular =
+      stored x h even odd double reach (row_receivers x h even odd) receiver sender slot true channel sending (receiving receiver link.hears) (row_sends x h even odd sender slot link.sends link.key) link.other share regular
 
-  -- each deviation is one of both rows
-  placed_in : (is_odd : Bool) (sender receiver : NodeSpec) (slot : ℕ) (channel : Channel) (value : ℤ) → RowLink x h sender receiver slot
-      → dev_in (cycle_of is_odd even odd).told.devs receiver.id slot channel ≡ Some value
-      → IsDeviation x.params is_odd (pos (action_point_of x.params slot)) (row_for (cycle_of is_odd even odd).told.rows receiver.id) (row_for (cycle_of is_odd even odd).told.rows sender.id) value
-  placed_in is_odd sender receiver slot channel value link is =
-      recorded_is_placed x (rows_exchange is_odd) is_odd reach sender receiver slot channel value (near_exchange is_odd) (exchanged_by is_odd sender receiver slot link) is
-
-  placed_by : (is_odd : Bool) (sender receiver : NodeSpec) (slot : ℕ) (channel : Channel) (value : ℤ) → RowLink x h sender receiver slot
-      → dev_in (cycle_of is_odd even odd).told.devs receiver.id slot channel ≡ Some value
-      → IsDeviation x.params is_odd (pos (action_point_of x.params slot)) (row_in is_odd (row_for even.told.rows receiver.id) (row_for odd.told.rows receiver.id))
-      (row_in is_odd (row_for even.told.rows sender.id) (row_for odd.told.rows sender.id)) value
-  placed_by false sender receiver slot channel value link is = placed_in false sender receiver slot channel value link is
-  placed_by true sender receiver slot channel value link is = placed_in true sender receiver slot channel value link is
-
-  -- and it is counted from the arrival of the frame
+  -- each deviation is counted from the arrival of the frame
   pub counted_in : (is_odd : Bool) (sender receiver : NodeSpec) (slot : ℕ) (channel : Channel) (value : ℤ) → RowLink x h sender receiver slot
       → dev_in (cycle_of is_odd even odd).told.devs receiver.id slot channel ≡ Some value → IsCounted x (link_in (rows_exchange is_odd) sender receiver slot) is_odd channel value
-  counted_in is_odd sender receiver slot channel value link is =
-      recorded_is_counted x (rows_exchange is_odd) is_odd reach sender receiver slot channel value (near_exchange is_odd) (exchanged_by is_odd sender receiver slot link) is
+  counted_in false sender receiver slot channel value link is =
+      counted_from x h even odd double reach (row_receivers x h even odd) receiver sender slot false channel value sending (receiving receiver link.hears) (row_sends x h even odd sender slot link.sends link.key) link.other is
+  counted_in true sender receiver slot channel value link is =
+      counted_from x h even odd double reach (row_receivers x h even odd) receiver sender slot true channel value sending (receiving receiver link.hears) (row_sends x h even odd sender slot link.sends link.key) link.other is
 
   -- of a frame that is not silent
   pub comes_in : (is_odd : Bool) (sender receiver : NodeSpec) (slot : ℕ) (channel : Channel) (value : ℤ) → RowLink x h sender receiver slot
       → dev_in (cycle_of is_odd even odd).told.devs receiver.id slot channel ≡ Some value → is_silent (x.event (cycle_in is_odd double) sender.id receiver.id channel) ≡ false
-  comes_in is_odd sender receiver slot channel value link is =
-      ap (λ (n : ℕ). is_silent (x.event n sender.id receiver.id channel)) (sym (cycle_is is_odd).counted)
-      ∙ recorded_comes x (rows_exchange is_odd) is_odd reach sender receiver slot channel value (near_exchange is_odd) (exchanged_by is_odd sender receiver slot link) is
+  comes_in false sender receiver slot channel value link is =
+      comes x h even odd double reach (row_receivers x h even odd) receiver sender slot false channel value sending (receiving receiver link.hears) (row_sends x h even odd sender slot link.sends link.key) link.other is
+  comes_in true sender receiver slot channel value link is =
+      comes x h even odd double reach (row_receivers x h even odd) receiver sender slot true channel value sending (receiving receiver link.hears) (row_sends x h even odd sender slot link.sends link.key) link.other is
+
+  -- and of an arbitrary node none of one that says nothing
+  pub says_in : (is_odd : Bool) (sender receiver : NodeSpec) (slot : ℕ) (channel : Channel) (value : ℤ) → Contains x.params.nodes sender → sender.key ≡ Some slot → x.is_arbitrary sender.id ≡ true
+      → Contains (row_nodes x h) receiver → dev_in (cycle_of is_odd even odd).told.devs receiver.id slot channel ≡ Some value → is_silent (x.event (cycle_in is_odd double) sender.id receiver.id channel) ≡ false
+  says_in false sender receiver slot channel value there key arbitrary hears is =
+      ap (λ (n : ℕ). is_silent (x.event n sender.id receiver.id channel)) (sym sending.counted)
+      ∙ recorded_says x (even_exchange x h even (row_receivers x h even odd)) sender receiver slot channel value sane (receiving receiver hears).evens there key arbitrary (receiving receiver hears).hears_even is
+  says_in true sender receiver slot channel value there key arbitrary hears is =
+      ap (λ (n : ℕ). is_silent (x.event (suc n) sender.id receiver.id channel)) (sym sending.counted)
+      ∙ recorded_says x (odd_exchange x h even odd (row_receivers x h even odd)) sender receiver slot channel value sane (receiving receiver hears).odds there key arbitrary (receiving receiver hears).hears_odd is
 
   -- so two of one channel are a steady pair
   pair_steady : (sender receiver : NodeSpec) (slot : ℕ) (channel : Channel) (early late : ℤ) → RowLink x h sender receiver slot → dev_in even.told.devs receiver.id slot channel ≡ Some early
@@ -395,49 +374,16 @@ module _ (x : Setting) (flutter : ℕ) (h : Cycles) (even odd : Cycle) (double :
       frames_are_steady p flutter slot channel (row_for even.told.rows receiver.id) (row_for odd.told.rows receiver.id) (row_for even.told.rows sender.id) (row_for odd.told.rows sender.id)
       (delay (length h)) (delay (suc (length h))) reach sane r.room r.limit (row_regular x flutter h even odd double s r.rates receiver link.hears) key.from key.to
       (r.acts false (at sender) (at receiver) (pos (action_point_of p slot)) (member_there sender link.sends) (member_there receiver link.hears) (no_less (action_point_of p slot)) (acts_early sender slot link.sends link.key))
-      (s.covered.delays sender receiver slot channel (length h) linked first.share (cycle_is false).within)
-      (subst Flutters (sym s.counted) (s.covered.flutters sender receiver slot channel double linked first.share s.within))
+      (sending.delays false sender receiver slot channel linked first.share)
+      (subst Flutters (sym s.counted) (s.covered.flutters sender receiver slot channel double linked first.share (omega arith) s.within))
       )
       )
-
-  -- there is none of a correct node without a row
-  none_heard : (is_odd : Bool) (sender receiver : NodeSpec) (slot : ℕ) (channel : Channel) → Contains (correct_nodes x) sender → sender.key ≡ Some slot → has_row x h sender.id ≡ false
-      → Contains (row_nodes x h) receiver → dev_in (cycle_of is_odd even odd).told.devs receiver.id slot channel ≡ None
-  none_heard is_odd sender receiver slot channel correct key fails hears =
-      absent_is_not_recorded x (rows_exchange is_odd) sender receiver slot channel sane (near_exchange is_odd).is correct key (absent is_odd) hears
-    where
-      absent : (is_odd : Bool) → row_of (cycle_of is_odd even odd).told.rows sender.id ≡ None
-      absent false = none_there (row_of even.told.rows sender.id) (told_has x h even sender s.even_runs correct ∙ fails)
-      absent true =
-          none_there (row_of odd.told.rows sender.id) (told_has x (even ∷ h) odd sender s.odd_runs correct ∙ has_stays x h even double sender s.counted s.even_runs correct ∙ fails)
 
   -- a deviation by key index is that of the key slot
   pub looked_up : (node index slot : ℕ) (is_odd : Bool) (channel : Channel) → key_slot_of x.params index ≡ Some slot
       → (row_hearer x even odd node).look index is_odd channel ≡ dev_in (cycle_of is_odd even odd).told.devs node slot channel
   looked_up node index slot false channel slot_is = looked x (row_receivers x h even odd) node index slot false channel slot_is
   looked_up node index slot true channel slot_is = looked x (row_receivers x h even odd) node index slot true channel slot_is
-
-  -- each deviation is of a sender, or of an arbitrary node
-  only : (node : NodeSpec) (index : ℕ) (is_odd : Bool) (channel : Channel) (value : ℤ) → Contains (row_nodes x h) node → (row_hearer x even odd node.id).look index is_odd channel ≡ Some value
-      → (slot : ℕ) × ((sender : NodeSpec) × (key_slot_of x.params index ≡ Some slot) × (key_node_of x.params slot ≡ Some sender)
-      × (((is_correct x sender.id && has_row x h sender.id) ≡ true) ⊎ (x.is_arbitrary sender.id ≡ true)))
-  only node index is_odd channel value among is =
-      let p = x.params in
-      let slot = and_then_some (λ k. dev_in (if is_odd then odd.told.devs else even.told.devs) node.id k channel) (key_slot_of p index) value is in
-      let sender = key_node_among p.nodes slot.0 (key_slot_has p index slot.0 slot.1).1 in
-      let some = sym (looked_up node.id index slot.0 is_odd channel slot.1) ∙ is in
-      (slot.0, (sender.0, slot.1, key_node_is p sender.0 slot.0 sane sender.1 sender.2, kind sender.0 slot.0 sender.1 sender.2 some (x.is_arbitrary sender.0.id) (has_row x h sender.0.id) refl refl))
-    where
-      kind : (sender : NodeSpec) (slot : ℕ) → Contains x.params.nodes sender → sender.key ≡ Some slot → dev_in (cycle_of is_odd even odd).told.devs node.id slot channel ≡ Some value
-          → (arbitrary has : Bool) → x.is_arbitrary sender.id ≡ arbitrary → has_row x h sender.id ≡ has
-          → ((is_correct x sender.id && has_row x h sender.id) ≡ true) ⊎ (x.is_arbitrary sender.id ≡ true)
-      kind sender slot there key some true has arbitrary row = inr arbitrary
-      kind sender slot there key some false true correct row = inl (rw (correct, row) refl)
-      kind sender slot there key some false false correct row =
-          let is_right : is_correct x sender.id ≡ true = ap not correct in
-          let none = none_heard is_odd sender node slot channel (is_correct_node x sender there is_right) key row among in
-          let e : Some value ≡ None = sym some ∙ none in
-          absurd (cc)
 
   pub link_to : (node : NodeSpec) (index slot : ℕ) (sender : NodeSpec) → Contains (row_nodes x h) node → IsOther (round_at x h even odd) (row_hearer x even odd node.id) index slot sender → RowLink x h sender node slot
   link_to node index slot sender among other = record {
@@ -448,13 +394,7 @@ module _ (x : Setting) (flutter : ℕ) (h : Cycles) (even odd : Cycle) (double :
   }
 
   pub rows_heard_in_part : (node : NodeSpec) → Contains (row_nodes x h) node → IsHeardInPart (round_at x h even odd) (row_hearer x even odd node.id)
-  rows_heard_in_part node among = record {
-    itself = λ index own. row_itself x h even odd node index sane among own;
-    placed = λ index slot sender is_odd channel value other is.
-        placed_by is_odd sender node slot channel value (link_to node index slot sender among other)
-        (sym (looked_up node.id index slot is_odd channel other.slot_is) ∙ is);
-    only = λ index is_odd channel value is. only node index is_odd channel value among is;
-  }
+  rows_heard_in_part node among = heard_in_part x h even odd double reach (row_receivers x h even odd) node sending (receiving node among)
 
   pub pairs_steady : (node : NodeSpec) → Contains (row_nodes x h) node → AreSteadyPairs (round_at x h even odd) flutter (row_hearer x even odd node.id)
   pairs_steady node among index slot sender channel early late other is late_is =
@@ -471,28 +411,11 @@ module _ (x : Setting) (flutter : ℕ) (h : Cycles) (even odd : Cycle) (double :
   -- ---- where all is heard
 
   module _ (links : IsWhole x double) where
-    -- where one channel carries the frames of both cycles each has those of every other sender
-    rows_hear : (node : NodeSpec) → Contains (row_nodes x h) node → IsHeardAt (round_at x h even odd) (row_hearer x even odd node.id)
-    rows_hear node among =
-        let part = rows_heard_in_part node among in
-        record {
-          itself = part.itself;
-          placed = part.placed;
-          heard = λ index slot sender other.
-              let own = link_to node index slot sender among other in
-              let carried : IsCarried x sender node double = links sender node slot (linked_by sender node slot own) in (
-                carried.channel,
-                ap is_some (looked_up node.id index slot false carried.channel other.slot_is) ∙ frames_stored false sender node slot carried.channel own carried.share carried.even,
-                ap is_some (looked_up node.id index slot true carried.channel other.slot_is) ∙ frames_stored true sender node slot carried.channel own carried.share carried.odd,
-              );
-          only = part.only;
-        }
-
     pub supplied_at : (node : NodeSpec) → Contains (row_nodes x h) node → IsSteadilySupplied (round_at x h even odd) flutter (row_hearer x even odd node.id)
     supplied_at node among = record {
       regular = row_regular x flutter h even odd double s r.rates node among;
       applied = row_applied x h even odd node s.two (odd_length (length h) double s.counted) among (odd_active node among);
-      hears = rows_hear node among;
+      hears = heard_at x h even odd double reach (row_receivers x h even odd) node links sending (receiving node among);
       steady = pairs_steady node among;
     }
 
@@ -504,7 +427,7 @@ module _ (x : Setting) (flutter : ℕ) (h : Cycles) (even odd : Cycle) (double :
         record {
           round = record {
             sane = sane;
-            few = few_in x flutter h s.covered;
+            few = few_in x double flutter h s.covered;
             regular = λ node there has. row_regular x flutter h even odd double s r.rates node (is_row_node x h node there has);
           };
           arbitrary = allows beside may;
@@ -524,12 +447,12 @@ module _ (x : Setting) (flutter : ℕ) (h : Cycles) (even odd : Cycle) (double :
 -- ---- the laws
 
 pub rows_hear_steadily : RowsHearSteadily
-rows_hear_steadily x flutter h earlier even odd double reach node w d r among =
-    let s = lawful_rows x flutter h w double earlier even odd d in
-    supplied_at x flutter earlier even odd double reach s r (w.covered.links double s.within) node among
+rows_hear_steadily x from flutter h earlier even odd double reach node w late d r among =
+    let s = lawful_rows_from x from flutter h w double late earlier even odd d in
+    supplied_at x flutter earlier even odd double reach s r (w.covered.links double late s.within) node among
 
 pub rows_are_sharp_doubles : RowsAreSharpDoubles
-rows_are_sharp_doubles beside x flutter h earlier even odd double reach may w d r =
-    let s = lawful_rows x flutter h w double earlier even odd d in
-    let links = w.covered.links double s.within in
+rows_are_sharp_doubles beside x from flutter h earlier even odd double reach may w late d r =
+    let s = lawful_rows_from x from flutter h w double late earlier even odd d in
+    let links = w.covered.links double late s.within in
     (round_in_reach x flutter earlier even odd double reach s r links beside may, double_is_sharp x flutter earlier even odd double reach s r links beside may)

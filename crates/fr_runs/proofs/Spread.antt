@@ -18,6 +18,7 @@ use Rattle.fr_precision.specs.Instants.{gap_of}
 use Rattle.fr_precision.proofs.Figures.{natural}
 use Rattle.fr_precision.proofs.Senders.{All-along, All-mapped}
 use Rattle.fr_skew.specs.Spreads.{running, spread_at, spread_of}
+use Rattle.fr_precision.proofs.Values.{least_either as min_either}
 
 -- what holds of each number holds of the greatest, and of the least
 folded : (op : ℤ → ℤ → ℤ) (P : ℤ → Type 0) → ((a b : ℤ) → P a → P b → P (op a b)) → (first : ℤ) (rest : List ℤ) → P first → All P rest → P (fold op first rest)
@@ -31,13 +32,6 @@ max_either P a b one other = by_test (int_lt b a)
     by_test : (t : Bool) → P (cond t a b)
     by_test true = one
     by_test false = other
-
-min_either : (P : ℤ → Type 0) (a b : ℤ) → P a → P b → P (int_min a b)
-min_either P a b one other = by_test (int_lt b a)
-  where
-    by_test : (t : Bool) → P (cond t b a)
-    by_test true = other
-    by_test false = one
 
 -- any two of some numbers lie no further apart than a bound
 abbrev NoMore : ℤ → List ℤ → Type 0

@@ -1,6 +1,6 @@
 -- No cycle of a run starts below 0, where none does in cycle 0.
 use Rattle.std.proofs.Common.{◌≡◌, ℕ, ◌-◌, ◌*◌, ◌<◌, ◌≤◌, Bool, true, false, ◌&&◌, ℤ, pos, Option, Some, None, List, [], ◌∷◌, length, refl, sym, subst, arith, if◌then◌else◌}
-use Rattle.std.specs.Prelude.{◌≤ℤ◌, ◌<ℤ◌, ◌+ℤ◌, ◌*ℤ◌, ◌==◌, neg_ℤ, int_le, All, Contains}
+use Rattle.std.specs.Prelude.{◌≤ℤ◌, ◌+ℤ◌, ◌*ℤ◌, ◌==◌, neg_ℤ, int_le, All, Contains}
 use Rattle.std.proofs.lemmas.Bool.{and_parts}
 use Rattle.std.proofs.lemmas.Int.{ints}
 use Rattle.std.proofs.lemmas.List.Elements.{All-contains, All-weaker}
@@ -21,9 +21,9 @@ use Rattle.fr_measure.specs.Deviations.{offset_values_by}
 use Rattle.fr_correct.specs.Terms.{offset_term_at}
 use Rattle.fr_correct.proofs.There.{term_lies_within}
 use Rattle.fr_bound.proofs.Uncut.{uncut_lem}
-use Rattle.fr_precision.specs.Rows.{HasProperMicro, corrected_end_of}
+use Rattle.fr_bound.specs.Bounds.{shortest_micro}
+use Rattle.fr_precision.specs.Rows.{corrected_end_of}
 use Rattle.fr_precision.proofs.Figures.{natural}
-use Rattle.fr_precision.proofs.OffsetLaws.{micro_lasts}
 use Rattle.fr_precision.proofs.PlacementLaws.{limit_below}
 use Rattle.fr_history.specs.History.{row_for, row_of}
 use Rattle.fr_history.specs.Rows.{is_corrected, offset_after}
@@ -37,7 +37,7 @@ use Rattle.fr_cluster.proofs.Elements.{found}
 use Rattle.fr_runs.proofs.Rows.{all_rows, each_row, row_runs_by}
 use Rattle.fr_runs.specs.Gathered.{CycleRuns, AreClocksCovered}
 use Rattle.fr_runs.specs.Rounds.{AllClocksRun, RatesBegin}
-use Rattle.fr_runs.proofs.Courses.{is_correct_follower, is_correct_row, proper_micro}
+use Rattle.fr_runs.proofs.Courses.{is_correct_follower, is_correct_row}
 use Rattle.fr_runs.proofs.Going.{followers_ascend, rows_ascend}
 use Rattle.fr_runs.proofs.Rates.{begun_suffices, rates_stay_within}
 use Rattle.fr_runs.specs.Supplied.{StartsBegin, StartsStayNatural}
@@ -49,16 +49,13 @@ record Goes (p : Values) (row : NodeRow) : Type 0 where
   start : pos 0 ≤ℤ row.start
   rate : IsWithin p.rate_limit row.rate
   offset : IsWithin p.offset_limit row.offset
-  micro : HasProperMicro p row
+  micro : pos 0 ≤ℤ row.length
 
 micros_from : (n r o rate offset : ℤ) (a b c : ℕ) → n ≡ pos a → r ≡ pos b → o ≡ pos c → b ≤ a → c ≤ a - b → IsWithin r rate → IsWithin o offset → pos 0 ≤ℤ (n +ℤ rate +ℤ offset)
 micros_from n r o rate offset a b c n_is r_is o_is fits below rate_lies offset_lies = omega (arith, ints, rate_lies.low, offset_lies.low)
 
 more : (a b : ℤ) → pos 0 ≤ℤ a → pos 0 ≤ℤ b → pos 0 ≤ℤ (a +ℤ b)
 more a b from some = omega (arith, ints)
-
-above : (t : ℤ) → pos 0 <ℤ t → pos 0 ≤ℤ t
-above t some = omega (arith, ints)
 
 ends_later : (p : Values) (row : NodeRow) → IsSane p → Goes p row → pos 0 ≤ℤ corrected_end_of p row
 ends_later p row sane goes =
@@ -74,7 +71,7 @@ ends_later p row sane goes =
     (natural p.micros (omega (arith, ints, micros.0))) (natural p.rate_limit (omega (arith, ints, rate.0))) (natural p.offset_limit (omega (arith, ints, offset.0)))
     (uncut_lem p sane).cycle below goes.rate goes.offset in
     more row.start ((p.micros +ℤ row.rate +ℤ row.offset) *ℤ row.length) goes.start
-    (mulz_from (p.micros +ℤ row.rate +ℤ row.offset) row.length whole (above row.length (micro_lasts p row sane goes.micro).some))
+    (mulz_from (p.micros +ℤ row.rate +ℤ row.offset) row.length whole goes.micro)
 
 -- ---- an offset lies within its limit
 
@@ -125,11 +122,14 @@ begun_natural x h node (Some join) = by_caught (begins_with x h node join) refl
 abbrev BothGo : Setting → Cycle → Type 0
 BothGo x c = All (Goes x.params) c.told.rows × All (Goes x.params) c.followers
 
-rows_go : (x : Setting) (h : Cycles) (c : Cycle) → AreClocksCovered x → RatesBegin x → AllClocksRun x (c ∷ h) → length h < 2 * x.doubles
+-- microticks of correct nodes are no less than 0 in so many cycles
+abbrev pub MicroticksAreNatural : Setting → ℕ → Type 0
+MicroticksAreNatural x cycles = (node : NodeSpec) (cycle : ℕ) → Contains (correct_nodes x) node → cycle < cycles → pos 0 ≤ℤ x.microtick node.id cycle
+
+rows_go : (x : Setting) (h : Cycles) (c : Cycle) → IsSane x.params → MicroticksAreNatural x (length (c ∷ h)) → RatesBegin x → AllClocksRun x (c ∷ h)
     → ((node : NodeSpec) → Contains (correct_nodes x) node → pos 0 ≤ℤ start_of_next x h node.id) → BothGo x c
-rows_go x h c covered rates run less behind =
+rows_go x h c sane micros rates run behind =
     let p = x.params in
-    let sane = covered.sane in
     let runs : CycleRuns x h c = run.0 in
     let within = rates_stay_within x h c sane rates run in
     let Natural : ℤ → Type 0 = λ z. pos 0 ≤ℤ z in
@@ -144,7 +144,7 @@ rows_go x h c covered rates run less behind =
             start = subst Natural (sym own.start) (behind node there);
             rate = each_row (row_nodes x h) c.told.rows Rate node runs.rows.nodes among within.0;
             offset = subst Offset (sym own.offset) (told_offset x h c row (is_corrected (told_of h) row) sane);
-            micro = proper_micro x node (length h) row covered there less own.length_is;
+            micro = subst Natural (sym own.length_is) (micros node (length h) there (omega arith));
           }),
       all_rows (following_nodes x h) c.followers (Goes p) (followers_ascend x h sane) runs.followers.nodes
           (λ node among.
@@ -155,7 +155,7 @@ rows_go x h c covered rates run less behind =
             start = subst Natural (sym own.start) (behind node there);
             rate = each_row (following_nodes x h) c.followers Rate node runs.followers.nodes among within.1;
             offset = subst Offset (sym own.offset) (followed_offset x h c row (is_odd (length h)) sane);
-            micro = proper_micro x node (length h) row covered there less own.length_is;
+            micro = subst Natural (sym own.length_is) (micros node (length h) there (omega arith));
           }),
     )
 
@@ -168,18 +168,29 @@ after_natural x h c node (Some row) follower sane go is follows_is = ends_later 
 after_natural x h c node None (Some row) sane go is follows_is = ends_later x.params row sane (found_goes x.params c.followers node row go.1 follows_is)
 after_natural x h c node None None sane go is follows_is = begun_natural x (c ∷ h) node (x.join node)
 
-behind_natural : (x : Setting) (h : Cycles) (node : NodeSpec) → AreClocksCovered x → RatesBegin x → StartsBegin x → AllClocksRun x h → length h ≤ 2 * x.doubles
+behind_natural : (x : Setting) (h : Cycles) (node : NodeSpec) → IsSane x.params → MicroticksAreNatural x (length h) → RatesBegin x → StartsBegin x → AllClocksRun x h
     → Contains (correct_nodes x) node → pos 0 ≤ℤ start_of_next x h node.id
-behind_natural x [] node covered rates starts run most correct = starts node correct
-behind_natural x (c ∷ h) node covered rates starts run most correct =
-    let go = rows_go x h c covered rates run (omega (arith, most)) (λ other there. behind_natural x h other covered rates starts run.1 (omega (arith, most)) there) in
-    after_natural x h c node.id (row_of c.told.rows node.id) (row_of c.followers node.id) covered.sane go refl refl
+behind_natural x [] node sane micros rates starts run correct = starts node correct
+behind_natural x (c ∷ h) node sane micros rates starts run correct =
+    let go = rows_go x h c sane micros rates run (λ other there. behind_natural x h other sane (λ spec cycle among less. micros spec cycle among (omega (arith, less))) rates starts run.1 there) in
+    after_natural x h c node.id (row_of c.told.rows node.id) (row_of c.followers node.id) sane go refl refl
 
 natural_start : (p : Values) (row : NodeRow) → Goes p row → pos 0 ≤ℤ row.start
 natural_start p row goes = goes.start
 
+-- so it is of any run whose microticks are no less than 0
+pub starts_are_natural : (x : Setting) (h : Cycles) (c : Cycle) → IsSane x.params → MicroticksAreNatural x (length (c ∷ h)) → RatesBegin x → StartsBegin x → AllClocksRun x (c ∷ h)
+    → All (λ row. pos 0 ≤ℤ row.start) c.told.rows × All (λ row. pos 0 ≤ℤ row.start) c.followers
+starts_are_natural x h c sane micros rates starts run =
+    let p = x.params in
+    let go = rows_go x h c sane micros rates run (λ node correct. behind_natural x h node sane (λ spec cycle among less. micros spec cycle among (omega (arith, less))) rates starts run.1 correct) in
+    (All-weaker (Goes p) (λ row. pos 0 ≤ℤ row.start) (natural_start p) c.told.rows go.0, All-weaker (Goes p) (λ row. pos 0 ≤ℤ row.start) (natural_start p) c.followers go.1)
+
+-- and of a covered one
+from_shortest : (short : ℕ) (t : ℤ) → pos short ≤ℤ t → pos 0 ≤ℤ t
+from_shortest short t le = omega (arith, ints, le)
+
 pub starts_stay_natural : StartsStayNatural
 starts_stay_natural x h c covered rates starts run less =
-    let p = x.params in
-    let go = rows_go x h c covered rates run less (λ node correct. behind_natural x h node covered rates starts run.1 (omega (arith, less)) correct) in
-    (All-weaker (Goes p) (λ row. pos 0 ≤ℤ row.start) (natural_start p) c.told.rows go.0, All-weaker (Goes p) (λ row. pos 0 ≤ℤ row.start) (natural_start p) c.followers go.1)
+    starts_are_natural x h c covered.sane
+    (λ node cycle there before. from_shortest (shortest_micro x.params) (x.microtick node.id cycle) (covered.least node cycle there (omega (arith, before, less)))) rates starts run

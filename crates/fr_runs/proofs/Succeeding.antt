@@ -12,7 +12,7 @@ use Rattle.fr_history.specs.Standing.{followed_well, following_nodes, follows, f
 use Rattle.fr_history.proofs.Standing.{either, same}
 use Rattle.fr_cluster.proofs.Elements.{filtered, kept_filtered}
 use Rattle.fr_runs.specs.Gathered.{CycleRuns, followers_since}
-use Rattle.fr_runs.specs.Succession.{Begins, GatheredNodesSucceed}
+use Rattle.fr_runs.specs.Succession.{Begins, GatheredNodesSucceed, IsSucceeded}
 use Rattle.fr_runs.proofs.Standing.{apart_at, filter_same, follower_of, follows_stays, goes_from, had_none, has_stays, how_follows, is_follower, is_none, is_there, not_so, told_follows, told_has, well_follows}
 
 -- a double cycle whose clocks run by their laws, and the even cycle behind it
@@ -137,15 +137,19 @@ pub followers_stay : (x : Setting) (h : Cycles) (c : Cycle) (double : ℕ) → l
 followers_stay x h c double counted runs =
     filter_same (λ (n : NodeSpec). follows x (c ∷ h) n.id) (λ (n : NodeSpec). follows x h n.id) (correct_nodes x) (λ node there. follows_stays x h c double node counted runs there)
 
-pub gathered_nodes_succeed : GatheredNodesSucceed
-gathered_nodes_succeed x h even odd even2 double g after =
-    let s : Standing x h even odd even2 double = record { counted = g.counted; early = g.even_runs; late = g.odd_runs; after = after } in
+pub nodes_succeed : (x : Setting) (h : Cycles) (even odd even2 : Cycle) (double : ℕ) → length h ≡ 2 * double → CycleRuns x h even → CycleRuns x (even ∷ h) odd → CycleRuns x (odd ∷ even ∷ h) even2
+    → IsSucceeded x h even odd double
+nodes_succeed x h even odd even2 double counted early late after =
+    let s : Standing x h even odd even2 double = record { counted = counted; early = early; late = late; after = after } in
     record {
-      rows_stay = rows_stay x h even double g.counted g.even_runs;
-      followers_stay = followers_stay x h even double g.counted g.even_runs;
+      rows_stay = rows_stay x h even double counted early;
+      followers_stay = followers_stay x h even double counted early;
       rows_from = rows_from x h even odd even2 double s;
       seconds_from = seconds_from x h even odd even2 double s;
       firsts_from = firsts_from x h even odd even2 double s;
       followers_from = followers_from x h even odd even2 double s;
       fresh_from = fresh_from x h even odd even2 double s;
     }
+
+pub gathered_nodes_succeed : GatheredNodesSucceed
+gathered_nodes_succeed x h even odd even2 double g after = nodes_succeed x h even odd even2 double g.counted g.even_runs g.odd_runs after

@@ -1,5 +1,5 @@
 -- The two rows of a node in a double cycle in sync, whether it has rows or follows.
-use Rattle.std.proofs.Common.{ℕ, suc, ◌*◌, ◌<◌, List, ◌∷◌, length, sym, subst, arith}
+use Rattle.std.proofs.Common.{◌≡◌, ℕ, suc, ◌*◌, ◌<◌, List, ◌∷◌, length, sym, subst, arith}
 use Rattle.std.specs.Prelude.{Contains}
 use Rattle.fr_base.specs.Within.{IsWithin}
 use Rattle.fr_base.specs.declared.node_row.NodeRow.{NodeRow}
@@ -10,22 +10,24 @@ use Rattle.fr_history.specs.Cycles.{Cycle, Cycles}
 use Rattle.fr_history.specs.Standing.{following_nodes, row_nodes}
 use Rattle.fr_history.specs.History.{row_for}
 use Rattle.fr_runs.proofs.Doubles.{even_length}
-use Rattle.fr_runs.specs.Gathered.{IsDoubleInSync}
+use Rattle.fr_runs.specs.Gathered.{CycleRuns, IsDoubleInSync}
 use Rattle.fr_runs.proofs.Courses.{NodeTwo, RunTwo, follower_two, is_correct_follower, is_correct_row, proper_micro, row_two, run_two, steady}
 use Rattle.fr_runs.proofs.Succeeding.{followers_stay, rows_stay}
 
 -- it has a row in the odd cycle too, or follows there too
+pub stays_later : (x : Setting) (h : Cycles) (even : Cycle) (double : ℕ) (node : NodeSpec) → length h ≡ 2 * double → CycleRuns x h even → Contains (row_nodes x h) node → Contains (row_nodes x (even ∷ h)) node
+stays_later x h even double node counted runs among =
+    let Has : List NodeSpec → Type 0 = λ nodes. Contains nodes node in
+    subst Has (sym (rows_stay x h even double counted runs)) among
+
 pub row_later : (x : Setting) (h : Cycles) (even odd : Cycle) (double : ℕ) (node : NodeSpec) → IsDoubleInSync x h even odd double → Contains (row_nodes x h) node
     → Contains (row_nodes x (even ∷ h)) node
-row_later x h even odd double node g among =
-    let Has : List NodeSpec → Type 0 = λ nodes. Contains nodes node in
-    subst Has (sym (rows_stay x h even double g.counted g.even_runs)) among
+row_later x h even odd double node g among = stays_later x h even double node g.counted g.even_runs among
 
-pub follower_later : (x : Setting) (h : Cycles) (even odd : Cycle) (double : ℕ) (node : NodeSpec) → IsDoubleInSync x h even odd double → Contains (following_nodes x h) node
-    → Contains (following_nodes x (even ∷ h)) node
-follower_later x h even odd double node g among =
+pub follows_later : (x : Setting) (h : Cycles) (even : Cycle) (double : ℕ) (node : NodeSpec) → length h ≡ 2 * double → CycleRuns x h even → Contains (following_nodes x h) node → Contains (following_nodes x (even ∷ h)) node
+follows_later x h even double node counted runs among =
     let Has : List NodeSpec → Type 0 = λ nodes. Contains nodes node in
-    subst Has (sym (followers_stay x h even double g.counted g.even_runs)) among
+    subst Has (sym (followers_stay x h even double counted runs)) among
 
 two_of : (x : Setting) (h : Cycles) (even odd : Cycle) (double : ℕ) → IsDoubleInSync x h even odd double → RunTwo x h even odd
 two_of x h even odd double g =

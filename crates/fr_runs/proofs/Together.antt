@@ -16,7 +16,8 @@ use Rattle.fr_history.specs.Standing.{has_row, row_nodes}
 use Rattle.fr_history.specs.Unfollowed.{RowsAreInSyncAt}
 use Rattle.fr_precision.specs.Round.{Hearer}
 use Rattle.fr_cluster.proofs.Elements.{kept_filtered}
-use Rattle.fr_runs.proofs.Rows.{contains_map, each_row, row_runs_by}
+use Rattle.fr_precision.proofs.RoundLemmas.{contains_map}
+use Rattle.fr_runs.proofs.Rows.{each_row, row_runs_by}
 use Rattle.fr_runs.specs.Gathered.{IsDoubleInSync, IsHeardByAll, row_hearer}
 use Rattle.fr_runs.specs.Hearers.{member_from}
 use Rattle.fr_runs.specs.Precision.{AllCutsRun}

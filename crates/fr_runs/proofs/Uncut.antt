@@ -17,7 +17,8 @@ use Rattle.fr_history.specs.Standing.{following_nodes, row_nodes}
 use Rattle.fr_precision.specs.Round.{Hearer}
 use Rattle.fr_history.specs.History.{row_for}
 use Rattle.fr_runs.proofs.Doubles.{even_length, even_stands, odd_is_corrected, odd_length}
-use Rattle.fr_runs.proofs.Rows.{all_rows, contains_map, each_row, row_runs_by}
+use Rattle.fr_precision.proofs.RoundLemmas.{contains_map}
+use Rattle.fr_runs.proofs.Rows.{all_rows, each_row, row_runs_by}
 use Rattle.fr_runs.specs.Gathered.{follower_hearer, followers_since, hearers_of, row_hearer}
 use Rattle.fr_runs.specs.Hearers.{IsOneOf}
 use Rattle.fr_runs.specs.Rounds.{KeepsUp}
@@ -50,7 +51,7 @@ even_followers x h even parity cuts =
 
 -- ---- in the odd cycle no term is cut
 
-two_of : (x : Setting) (h : Cycles) (even odd : Cycle) (double : ℕ) → KeepsUp x h even odd double → RunTwo x h even odd
+pub two_of : (x : Setting) (h : Cycles) (even odd : Cycle) (double : ℕ) → KeepsUp x h even odd double → RunTwo x h even odd
 two_of x h even odd double up =
     let g = up.gathered in
     run_two x h even odd g.even_runs g.odd_runs (rows_stay x h even double g.counted g.even_runs) (followers_stay x h even double g.counted g.even_runs)
@@ -84,7 +85,7 @@ abbrev pub FollowersAre : Setting → Cycles → ℕ → Type 0
 FollowersAre x h double =
     (node : NodeSpec) → Contains (following_nodes x h) node → Contains (followers_since x h 2 double) node ⊎ Contains (followers_since x h 1 double) node
 
-one_of : (x : Setting) (h : Cycles) (even odd : Cycle) (double : ℕ) (node : NodeSpec)
+pub one_of : (x : Setting) (h : Cycles) (even odd : Cycle) (double : ℕ) (node : NodeSpec)
     → Contains (followers_since x h 2 double) node ⊎ Contains (followers_since x h 1 double) node → IsOneOf (hearers_of x h even odd double) (follower_hearer x even odd node.id)
 one_of x h even odd double node (inl second) = inl (inr (contains_map (λ (n : NodeSpec). follower_hearer x even odd n.id) (followers_since x h 2 double) node second))
 one_of x h even odd double node (inr first) = inr (contains_map (λ (n : NodeSpec). follower_hearer x even odd n.id) (followers_since x h 1 double) node first)

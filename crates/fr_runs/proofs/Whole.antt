@@ -21,7 +21,8 @@ use Rattle.fr_precision.specs.Round.{Hearer}
 use Rattle.fr_cluster.proofs.Elements.{Contains-none, filtered}
 use Rattle.fr_runs.proofs.Doubles.{even_length, odd_length}
 use Rattle.fr_runs.proofs.Receivers.{no_less}
-use Rattle.fr_runs.proofs.Rows.{all_rows, contains_map, correct_ascend, map_contains}
+use Rattle.fr_precision.proofs.RoundLemmas.{contains_map, map_contains}
+use Rattle.fr_runs.proofs.Rows.{all_rows, correct_ascend}
 use Rattle.fr_runs.proofs.Spread.{RowsLie, macrotick_within, spread_within}
 use Rattle.fr_runs.specs.Gathered.{CycleRuns, IsDoubleInSync, IsHeardByAll, SyncGoesOn, follower_hearer, followers_since, listened_by, row_hearer}
 use Rattle.fr_runs.specs.Hearers.{member_from}
@@ -55,7 +56,7 @@ none_more p h r node none before =
     ∙ ap (λ o. if is_odd (length h) then outcomes_by p h r.devs o else []) none
     ∙ nothing_if (is_odd (length h)) []
 
-no_outcomes : (x : Setting) (node : ℕ) → outcomes_in x.params [] node ≡ []
+pub no_outcomes : (x : Setting) (node : ℕ) → outcomes_in x.params [] node ≡ []
 unfolding outcomes_in
 no_outcomes x node = refl
 

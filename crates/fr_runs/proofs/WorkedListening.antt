@@ -28,26 +28,7 @@ cluster = record step.cluster { action_offset = pos 12; offset_limit = pos 454; 
 
 in_range : (n : ParamName) → InRange n (figure cluster n)
 in_range name.gMacroPerCycle = (record { le = tt }, record { le = tt })
-in_range name.pMicroPerCycle = (record { le = tt }, record { le = tt })
-in_range name.gNumberOfStaticSlots = (record { le = tt }, record { le = tt })
-in_range name.gdStaticSlot = (record { le = tt }, record { le = tt })
-in_range name.gdActionPointOffset = (record { le = tt }, record { le = tt })
-in_range name.gdNIT = (record { le = tt }, record { le = tt })
-in_range name.gPayloadLengthStatic = (record { le = tt }, record { le = tt })
-in_range name.gOffsetCorrectionStart = (record { le = tt }, record { le = tt })
-in_range name.gMaxWithoutClockCorrectionPassive = (record { le = tt }, record { le = tt })
-in_range name.gMaxWithoutClockCorrectionFatal = (record { le = tt }, record { le = tt })
-in_range name.pAllowHaltDueToClock = (record { le = tt }, record { le = tt })
-in_range name.pAllowPassiveToActive = (record { le = tt }, record { le = tt })
-in_range name.pClusterDriftDamping = (record { le = tt }, record { le = tt })
-in_range name.pOffsetCorrectionOut = (record { le = tt }, record { le = tt })
-in_range name.pRateCorrectionOut = (record { le = tt }, record { le = tt })
-in_range name.pDelayCompensation = (record { le = tt }, record { le = tt })
-in_range name.pDelayCompensationA = (record { le = tt }, record { le = tt })
-in_range name.pDelayCompensationB = (record { le = tt }, record { le = tt })
-in_range name.xRateBound = (record { le = tt }, record { le = tt })
-in_range name.xChangeBound = (record { le = tt }, record { le = tt })
-in_range name.xDelayError = (record { le = tt }, record { le = tt })
+in_range other = (record { le = tt }, record { le = tt })
 
 pub is_sane : IsSane cluster
 is_sane = record {

@@ -1,11 +1,11 @@
 -- The premises of the law of the group are met: nodes 1 and 2 have rows, node 3 follows for the second double cycle and node 4
 -- for the first one, and node 5 listens to node 1.
-use Rattle.std.proofs.Common.{◌≡◌, ℕ, ◌≤◌, ℤ, pos, negsuc, [], ◌∷◌, All, refl, inl, inr, lit≤, lit<, length}
-use Rattle.std.specs.Prelude.{◌+◌, ◌-ℤ◌, ◌≤ℤ◌, Contains}
+use Rattle.std.proofs.Common.{◌≡◌, ℕ, ◌≤◌, ℤ, pos, negsuc, [], ◌∷◌, refl, inl, inr, lit≤, lit<, length}
+use Rattle.std.specs.Prelude.{◌+◌, Contains}
 use Rattle.std.proofs.lemmas.List.Elements.{All-contains}
 use Rattle.fr_base.specs.declared.node_row.NodeRow.{NodeRow}
 use Rattle.fr_base.specs.declared.state.State.TheVariants.{Active}
-use Rattle.fr_base.specs.Within.{IsWithin, LieWithin}
+use Rattle.fr_base.specs.Within.{IsWithin}
 use Rattle.fr_midpoint.specs.Midpoint.{discarded}
 use Rattle.fr_bound.specs.Bounds.{lambda_of, pi_of, reach_of}
 use Rattle.fr_bound.specs.Sync.{cycle_length_of, IsCycleLength, IsInSync}
@@ -14,7 +14,7 @@ use Rattle.fr_precision.specs.Instants.{LieNear}
 use Rattle.fr_precision.specs.Offsets.{IsSending}
 use Rattle.fr_precision.specs.Rates.{IsNext}
 use Rattle.fr_precision.specs.Step.{ComputesTerms, IsAmong, IsFollowed, Member}
-use Rattle.fr_precision.proofs.Worked.{row, two}
+use Rattle.fr_precision.proofs.Worked.{row, two, lie_two}
 use Rattle.fr_runs.specs.Listening.{BeginsAt}
 use Rattle.fr_runs.specs.Following.{first_apart, first_lengths, second_apart}
 use Rattle.fr_runs.specs.Group.{IsGroupKept, IsGroupSynced, IsNearRows, IsOf, WillHaveRow}
@@ -45,10 +45,6 @@ keep node other is also =
   where
     of_two : (m n : ℕ) → m ≡ 2 → n ≡ 2 → discarded m + discarded n + 1 ≤ 2
     of_two m n e g = rw (e, g) (lit≤ tt)
-
-lie_two : (bound a b : ℤ) → (a -ℤ a) ≤ℤ bound → (a -ℤ b) ≤ℤ bound → (b -ℤ a) ≤ℤ bound → (b -ℤ b) ≤ℤ bound → LieWithin bound (a ∷ b ∷ [])
-lie_two bound a b aa ab ba bb =
-    two (λ x. All (λ y. (x -ℤ y) ≤ℤ bound) (a ∷ b ∷ [])) a b (two (λ y. (a -ℤ y) ≤ℤ bound) a b aa ab) (two (λ y. (b -ℤ y) ≤ℤ bound) a b ba bb)
 
 in_sync : IsInSync cluster (first.even ∷ second.even ∷ []) (first.odd ∷ second.odd ∷ [])
 in_sync = record {

@@ -29,11 +29,15 @@ pub record IsReference (x : Setting) (node : NodeSpec) (join : Join) : Type 0 wh
   pub stays : x.join reference.id ≡ None
   pub other : reference.id ≢ node.id
 
--- each node that joins has one, and delays between correct nodes keep within what is stated
+-- each node that joins has one
+abbrev pub HaveReferences : Setting → Type 0
+HaveReferences x =
+    (node : NodeSpec) (join : Join) → Contains (correct_nodes x) node → x.join node.id ≡ Some join
+    → IsReference x node join
+
+-- and delays between correct nodes keep within what is stated
 pub record AreReferenced (x : Setting) : Type 0 where
-  pub references :
-      (node : NodeSpec) (join : Join) → Contains (correct_nodes x) node → x.join node.id ≡ Some join
-      → IsReference x node join
+  pub references : HaveReferences x
   pub delays :
       (sender receiver : NodeSpec) (slot : ℕ) (channel : Channel) (cycle : ℕ)
       → Contains (correct_nodes x) sender → Contains (correct_nodes x) receiver

@@ -28,24 +28,41 @@ use Rattle.fr_bound.specs.SharpBounds.{last_action, near_by, rate_walk, sharp_ne
 use Rattle.fr_bound.specs.SharpChecks.{sharp_holds_of, RateSuffices, SharpChecksHold}
 use Rattle.fr_precision.specs.SharpRun.{AreSharpDoubles, WalkLastsAfter, WalkLastsUpTo}
 use Rattle.fr_precision.specs.SharpStep.{AreSharp, IsInSharpSync}
-use Rattle.fr_runs.specs.SteadyRuns.{row_members, IsSteadySetting, IsTimedSetting, MayHaveArbitrary}
+use Rattle.fr_runs.specs.SteadyRuns.{row_members, IsSteadyFrom, IsTimedFrom, MayHaveArbitrary}
 use Rattle.fr_bound.specs.declared.judging.Known.{Known}
 use Rattle.fr_history.specs.History.{row_of}
 
--- a whole lawful history of a run that no node joins, in which frames may be lost, and what is stated of the run besides its checks
-pub record IsStatedRun (x : Setting) (flutter : ℕ) (h : Cycles) : Type 0 where
-  pub covered : IsTimedSetting x flutter
+-- a whole lawful history of a run that no node joins, in which frames may be lost, and what is stated of the run besides its checks,
+-- from a double cycle on
+pub record IsStatedRunFrom (x : Setting) (from flutter : ℕ) (h : Cycles) : Type 0 where
+  pub covered : IsTimedFrom x from flutter
   pub none_joins : some_joins x ≡ false
   pub lawful : IsLawful x h
   pub whole : length h ≡ 2 * x.doubles
 
+abbrev pub IsStatedRun : Setting → ℕ → Cycles → Type 0
+IsStatedRun x flutter h = IsStatedRunFrom x 0 flutter h
+
+-- a whole lawful history of a run that nodes may join, in which frames may be lost, and what is stated of the run besides its checks,
+-- from a double cycle on
+pub record IsLawfulStatedRunFrom (x : Setting) (from flutter : ℕ) (h : Cycles) : Type 0 where
+  pub covered : IsTimedFrom x from flutter
+  pub lawful : IsLawful x h
+  pub whole : length h ≡ 2 * x.doubles
+
+abbrev pub IsLawfulStatedRun : Setting → ℕ → Cycles → Type 0
+IsLawfulStatedRun x flutter h = IsLawfulStatedRunFrom x 0 flutter h
+
 -- one in which all is heard, with or without arbitrary sync nodes
-pub record IsSteadyRun (beside : Bool) (x : Setting) (flutter : ℕ) (h : Cycles) : Type 0 where
-  pub covered : IsSteadySetting x flutter
+pub record IsSteadyRunFrom (beside : Bool) (x : Setting) (from flutter : ℕ) (h : Cycles) : Type 0 where
+  pub covered : IsSteadyFrom x from flutter
   pub arbitrary : MayHaveArbitrary beside x
   pub none_joins : some_joins x ≡ false
   pub lawful : IsLawful x h
   pub whole : length h ≡ 2 * x.doubles
+
+abbrev pub IsSteadyRun : Bool → Setting → ℕ → Cycles → Type 0
+IsSteadyRun beside x flutter h = IsSteadyRunFrom beside x 0 flutter h
 
 -- ---- its double cycles, as nodes of the step
 
@@ -75,8 +92,8 @@ senders_at x h double = last_senders x (first_cycles h (2 * double + 2))
 -- the nodes have its rows, and the senders are those of its round
 abbrev pub HistoriesHaveMembers : Type 0
 HistoriesHaveMembers =
-    (beside : Bool) (x : Setting) (flutter : ℕ) (h : Cycles) (double : ℕ) (earlier : Cycles) (even odd : Cycle)
-    → IsSteadyRun beside x flutter h → IsDoubleOf h double earlier even odd
+    (beside : Bool) (x : Setting) (from flutter : ℕ) (h : Cycles) (double : ℕ) (earlier : Cycles) (even odd : Cycle)
+    → IsSteadyRunFrom beside x from flutter h → from ≤ double → IsDoubleOf h double earlier even odd
     → (map (λ node. node.even) (members_at x h double) ≡ even.told.rows)
     × (map (λ node. node.odd) (members_at x h double) ≡ odd.told.rows)
     × (senders_at x h double ≡ senders_of (round_at x earlier even odd))
@@ -91,8 +108,8 @@ BeginsActive h double =
 -- that a reach takes in, in ticks, for which the offset limit suffices and slots leave room
 abbrev pub HistoriesAreSharpDoubles : Type 0
 HistoriesAreSharpDoubles =
-    (beside : Bool) (x : Setting) (flutter : ℕ) (h : Cycles) (double : ℕ) (starts lengths : ℕ → ℕ) (reach : ℕ)
-    → IsSteadyRun beside x flutter h → holds_of 2 x.params ≡ true → LimitSuffices x.params (pos reach) → LeavesRoom x.params (pos reach)
+    (beside : Bool) (x : Setting) (from flutter : ℕ) (h : Cycles) (double : ℕ) (starts lengths : ℕ → ℕ) (reach : ℕ)
+    → IsSteadyRunFrom beside x from flutter h → from ≤ double → holds_of 2 x.params ≡ true → LimitSuffices x.params (pos reach) → LeavesRoom x.params (pos reach)
     → ((k : ℕ) → double + k < x.doubles → near_by x.params (starts k) (lengths k) ≤ reach) → BeginsActive h double
     → AreSharpDoubles beside x.params flutter (x.doubles - double) starts lengths (λ k. senders_at x h (double + k))
     (λ k. members_at x h (double + k))
@@ -133,8 +150,8 @@ pub record KeepsApart (x : Setting) (h : Cycles) (double apart : ℕ) : Type 0 w
 -- sync, with lengths no further beyond than the walk takes them
 abbrev pub HistoriesStepSharply : Type 0
 HistoriesStepSharply =
-    (beside : Bool) (x : Setting) (flutter : ℕ) (h : Cycles) (double : ℕ) (beyond next : ℤ)
-    → IsSteadyRun beside x flutter h → SharpChecksHold flutter (sharp_near beside x.params flutter) x.params
+    (beside : Bool) (x : Setting) (from flutter : ℕ) (h : Cycles) (double : ℕ) (beyond next : ℤ)
+    → IsSteadyRunFrom beside x from flutter h → from ≤ double → SharpChecksHold flutter (sharp_near beside x.params flutter) x.params
     → RateSuffices x.params beyond → RateSuffices x.params (beyond +ℤ rate_walk x.params flutter)
     → pos 0 ≤ℤ next → (beyond +ℤ rate_walk x.params flutter) ≤ℤ next → IsInSharpSyncAt beside x.params flutter beyond h double
     → KeepsApart x h double (sharp_precision beside x.params flutter)
@@ -151,8 +168,8 @@ pub record StaysInSharpSyncAt (beside : Bool) (x : Setting) (flutter : ℕ) (h :
 -- from a double cycle in sharp sync on, with lengths in their range, it is so in each later one, under the checks but the first
 abbrev pub HistoriesKeepSharpSync : Type 0
 HistoriesKeepSharpSync =
-    (beside : Bool) (x : Setting) (flutter : ℕ) (h : Cycles) (double : ℕ)
-    → IsSteadyRun beside x flutter h → SharpChecksHold flutter (sharp_near beside x.params flutter) x.params
+    (beside : Bool) (x : Setting) (from flutter : ℕ) (h : Cycles) (double : ℕ)
+    → IsSteadyRunFrom beside x from flutter h → from ≤ double → SharpChecksHold flutter (sharp_near beside x.params flutter) x.params
     → IsInSharpSyncAt beside x.params flutter (pos 0) h double
     → (passed : ℕ) → double + passed < x.doubles → StaysInSharpSyncAt beside x flutter h double passed
 
@@ -181,17 +198,17 @@ pub record KeepsSharpPrecision (beside : Bool) (x : Setting) (flutter : ℕ) (be
 -- under all five checks it is so from a double cycle in sharp sync on, with lengths in their range
 abbrev pub HistoriesKeepSharpPrecision : Type 0
 HistoriesKeepSharpPrecision =
-    (beside : Bool) (x : Setting) (flutter : ℕ) (h : Cycles) (double : ℕ)
-    → IsSteadyRun beside x flutter h
+    (beside : Bool) (x : Setting) (from flutter : ℕ) (h : Cycles) (double : ℕ)
+    → IsSteadyRunFrom beside x from flutter h → from ≤ double
     → ((k : ℕ) → 1 ≤ k → k ≤ 5 → sharp_holds_of k flutter (sharp_near beside x.params flutter) x.params ≡ true)
     → IsInSharpSyncAt beside x.params flutter (pos 0) h double → KeepsSharpPrecision beside x flutter (pos 0) h double
 
 -- all cycles of a run that is stated so are such a history
 abbrev pub StatedRunsAreSteady : Type 0
 StatedRunsAreSteady =
-    (beside : Bool) (x : Setting) (flutter : ℕ)
-    → IsSetting x → IsSteadySetting x flutter → MayHaveArbitrary beside x → some_joins x ≡ false
-    → IsSteadyRun beside x flutter (all_cycles x)
+    (beside : Bool) (x : Setting) (from flutter : ℕ)
+    → IsSetting x → IsSteadyFrom x from flutter → MayHaveArbitrary beside x → some_joins x ≡ false
+    → IsSteadyRunFrom beside x from flutter (all_cycles x)
 
 -- so much is known of a double cycle of a history, both of whose cycles it has: all nodes are active in both, starts and even lengths
 -- lie no further apart, and these no further beyond their range

@@ -29,49 +29,70 @@ use Rattle.fr_base.specs.Event.{Event}
 use Rattle.fr_base.specs.Event as event
 
 -- what is stated of a run besides its checks, whatever frames are lost in it: the correct sync nodes that do not join outweigh
--- the arbitrary ones; oscillators, their changes and delays keep within bounds; and delays flutter by no more than this
-pub record IsTimedSetting (x : Setting) (flutter : ℕ) : Type 0 where
+-- the arbitrary ones; and from a double cycle on oscillators, their changes and delays keep within bounds, and delays flutter by no
+-- more than this
+pub record IsTimedFrom (x : Setting) (from flutter : ℕ) : Type 0 where
   pub sane : IsSane x.params
   pub few :
       AreFew (sync_count x.params (λ node. is_correct x node && stays_on x node))
       (sync_count x.params x.is_arbitrary)
   pub least :
-      (node : NodeSpec) (cycle : ℕ) → Contains (correct_nodes x) node → cycle < 2 * x.doubles
+      (node : NodeSpec) (cycle : ℕ) → Contains (correct_nodes x) node → 2 * from ≤ cycle → cycle < 2 * x.doubles
       → pos (shortest_micro x.params) ≤ℤ x.microtick node.id cycle
   pub most :
-      (node : NodeSpec) (cycle : ℕ) → Contains (correct_nodes x) node → cycle < 2 * x.doubles
+      (node : NodeSpec) (cycle : ℕ) → Contains (correct_nodes x) node → 2 * from ≤ cycle → cycle < 2 * x.doubles
       → x.microtick node.id cycle ≤ℤ pos (longest_micro x.params)
   pub changes :
-      (node : NodeSpec) (cycle : ℕ) → Contains (correct_nodes x) node → suc cycle < 2 * x.doubles
+      (node : NodeSpec) (cycle : ℕ) → Contains (correct_nodes x) node → 2 * from ≤ cycle → suc cycle < 2 * x.doubles
       → IsWithin (pos (amount x.params name.xChangeBound)) (x.microtick node.id (suc cycle) -ℤ x.microtick node.id cycle)
-  pub delays : DelaysAreStated x
-  pub flutters : FluttersWithin x flutter
+  pub delays : DelaysAreStated x from
+  pub flutters : FluttersWithin x from flutter
+
+abbrev pub IsTimedSetting : Setting → ℕ → Type 0
+IsTimedSetting x flutter = IsTimedFrom x 0 flutter
 
 -- of any two nodes one channel carries the frames of both cycles of a double cycle
 abbrev pub IsWhole : Setting → ℕ → Type 0
 IsWhole x double = (sender receiver : NodeSpec) (slot : ℕ) → IsLinked x sender receiver slot → IsCarried x sender receiver double
 
--- and where that is so in each double cycle
-pub record IsSteadySetting (x : Setting) (flutter : ℕ) : Type 0 where
-  pub timed : IsTimedSetting x flutter
-  pub links : (double : ℕ) → double < x.doubles → IsWhole x double
+-- and where that is so in each double cycle from that one on
+pub record IsSteadyFrom (x : Setting) (from flutter : ℕ) : Type 0 where
+  pub timed : IsTimedFrom x from flutter
+  pub links : (double : ℕ) → from ≤ double → double < x.doubles → IsWhole x double
+
+abbrev pub IsSteadySetting : Setting → ℕ → Type 0
+IsSteadySetting x flutter = IsSteadyFrom x 0 flutter
+
+-- what is stated so from a double cycle on is so from a later one on
+abbrev pub TimedRunsAreLater : Type 0
+TimedRunsAreLater = (x : Setting) (from later flutter : ℕ) → from ≤ later → IsTimedFrom x from flutter → IsTimedFrom x later flutter
+
+abbrev pub SteadyRunsAreLater : Type 0
+SteadyRunsAreLater =
+    (x : Setting) (from later flutter : ℕ) → from ≤ later → IsSteadyFrom x from flutter → IsSteadyFrom x later flutter
 
 -- a run that is covered in the older sense is such a one, if its delays flutter no more
 abbrev pub CoveredRunsAreSteady : Type 0
 CoveredRunsAreSteady =
-    (x : Setting) (flutter : ℕ) → IsCoveredByFiles x → FluttersWithin x flutter → IsSteadySetting x flutter
+    (x : Setting) (from flutter : ℕ) → IsCoveredByFiles x → FluttersWithin x from flutter → IsSteadyFrom x from flutter
 
--- lawful cycles of a run in which frames may be lost: all that it has, or those up to one of them
-pub record IsTimedPart (x : Setting) (flutter : ℕ) (h : Cycles) : Type 0 where
-  pub covered : IsTimedSetting x flutter
+-- lawful cycles of a run in which frames may be lost, stated from a double cycle on: all that it has, or those up to one of them
+pub record IsTimedPartFrom (x : Setting) (from flutter : ℕ) (h : Cycles) : Type 0 where
+  pub covered : IsTimedFrom x from flutter
   pub lawful : IsLawful x h
   pub within : length h ≤ 2 * x.doubles
+
+abbrev pub IsTimedPart : Setting → ℕ → Cycles → Type 0
+IsTimedPart x flutter h = IsTimedPartFrom x 0 flutter h
 
 -- and of a steady one
-pub record IsSteadyPart (x : Setting) (flutter : ℕ) (h : Cycles) : Type 0 where
-  pub covered : IsSteadySetting x flutter
+pub record IsSteadyPartFrom (x : Setting) (from flutter : ℕ) (h : Cycles) : Type 0 where
+  pub covered : IsSteadyFrom x from flutter
   pub lawful : IsLawful x h
   pub within : length h ≤ 2 * x.doubles
+
+abbrev pub IsSteadyPart : Setting → ℕ → Cycles → Type 0
+IsSteadyPart x flutter h = IsSteadyPartFrom x 0 flutter h
 
 -- the nodes with rows in a double cycle behind some cycles, as receivers and as nodes of the step
 abbrev pub row_hearers : Setting → Cycles → Cycle → Cycle → List Hearer
@@ -93,8 +114,9 @@ pub record AreRowsInReach (x : Setting) (h : Cycles) (even odd : Cycle) (reach :
 -- then each of them has its deviations of every other sender among them, and those of one channel are a steady pair
 abbrev pub RowsHearSteadily : Type 0
 RowsHearSteadily =
-    (x : Setting) (flutter : ℕ) (h earlier : Cycles) (even odd : Cycle) (double : ℕ) (reach : ℤ) (node : NodeSpec)
-    → IsSteadyPart x flutter h → IsDoubleOf h double earlier even odd → AreRowsInReach x earlier even odd reach
+    (x : Setting) (from flutter : ℕ) (h earlier : Cycles) (even odd : Cycle) (double : ℕ) (reach : ℤ) (node : NodeSpec)
+    → IsSteadyPartFrom x from flutter h → from ≤ double → IsDoubleOf h double earlier even odd
+    → AreRowsInReach x earlier even odd reach
     → Contains (row_nodes x earlier) node
     → IsSteadilySupplied (round_at x earlier even odd) flutter (row_hearer x even odd node.id)
 
@@ -106,8 +128,8 @@ MayHaveArbitrary true x = Unit {0}
 -- so their round is one in reach, and a double cycle as the sharper step asks for
 abbrev pub RowsAreSharpDoubles : Type 0
 RowsAreSharpDoubles =
-    (beside : Bool) (x : Setting) (flutter : ℕ) (h earlier : Cycles) (even odd : Cycle) (double : ℕ) (reach : ℤ)
-    → MayHaveArbitrary beside x → IsSteadyPart x flutter h → IsDoubleOf h double earlier even odd
+    (beside : Bool) (x : Setting) (from flutter : ℕ) (h earlier : Cycles) (even odd : Cycle) (double : ℕ) (reach : ℤ)
+    → MayHaveArbitrary beside x → IsSteadyPartFrom x from flutter h → from ≤ double → IsDoubleOf h double earlier even odd
     → AreRowsInReach x earlier even odd reach
     → IsRoundInReach beside (round_at x earlier even odd) flutter reach (row_hearers x earlier even odd)
     × IsSharpDouble beside x.params flutter (senders_of (round_at x earlier even odd)) (row_members x earlier even odd)

@@ -1,5 +1,5 @@
 -- The rows of odd cycles in which a macrotick of sharp senders comes far apart, or those of the cycles behind, say over.
-use Rattle.std.proofs.Common.{◌≡◌, ◌⊎◌, ℕ, suc, ◌+◌, true, Some, ℤ, pos, refl, ap, sym, ◌∙◌, subst, inl, inr, arith}
+use Rattle.std.proofs.Common.{◌≡◌, ◌⊎◌, ℕ, suc, ◌+◌, true, Some, ℤ, pos, ap, sym, ◌∙◌, subst, inl, inr, arith}
 use Rattle.std.specs.Prelude.{◌+ℤ◌, ◌-ℤ◌, ◌*ℤ◌, ◌≤ℤ◌, ◌<ℤ◌}
 use Rattle.std.specs.Int.{int_max}
 use Rattle.std.proofs.lemmas.Int.{ints, by_lt_z}
@@ -10,16 +10,13 @@ use Rattle.fr_bound.specs.Bounds.{longest_micro}
 use Rattle.fr_cluster.specs.Sane.{IsSane}
 use Rattle.fr_cluster.specs.Setting.{Setting}
 use Rattle.fr_cluster.specs.Values.{Values}
-use Rattle.fr_midpoint.proofs.Products.{addz-mulz, subz-mulz}
 use Rattle.fr_time.specs.Instant.{instant_of}
-use Rattle.fr_time.specs.Position.{corrected_micros, even_position, floor_of, grid_for}
-use Rattle.fr_time.proofs.Ends.{int_lt_true}
-use Rattle.fr_time.proofs.Lines.{on_line, OnLine}
+use Rattle.fr_time.specs.Position.{corrected_micros, grid_for}
 use Rattle.fr_time.proofs.Placing.{is_grid_lem}
 use Rattle.fr_history.specs.Cycles.{Cycle, Cycles}
 use Rattle.fr_history.specs.History.{row_for, row_of}
 use Rattle.fr_precision.specs.Rows.{Lasts, corrected_end_of}
-use Rattle.fr_precision.proofs.InstantLaws.{before_correction}
+use Rattle.fr_precision.proofs.InstantLaws.{late_on_line as late_line}
 use Rattle.fr_runs.specs.Numbers.{HasDouble}
 use Rattle.fr_log.specs.View.{LogView}
 use Rattle.fr_course.specs.Readings.{reading_scale}
@@ -38,6 +35,7 @@ use Rattle.fr_seen.specs.Contradictions.{IsObservedRun}
 use Rattle.fr_seen.proofs.CompletenessMacroticks.{beyond_more, counting, either, far_macroticks_are_told}
 use Rattle.fr_seen.proofs.CompletenessOver.{all_on, drifts, far_senders_are_told}
 use Rattle.fr_seen.proofs.CompletenessTicks.{slow_some}
+use Rattle.fr_seen.proofs.OddLaws.{late_end}
 
 no_less : (a : ℤ) → pos 0 <ℤ a → pos 0 ≤ℤ a
 no_less a h = omega (arith, ints)
@@ -49,48 +47,6 @@ itself : (a : ℤ) → a ≤ℤ a
 itself a = omega (arith, ints)
 
 -- ---- behind the start of an offset correction
-
-late_instant : (p : Values) (row : NodeRow) (macrotick : ℤ) → p.correction <ℤ macrotick
-    → instant_of (grid_for p) row true macrotick
-    ≡ instant_of (grid_for p) row true p.correction +ℤ (floor_of ((macrotick -ℤ p.correction) *ℤ corrected_micros (grid_for p) row.rate row.offset) (p.macros -ℤ p.correction) *ℤ row.length)
-late_instant p row macrotick from =
-    let begin = even_position (grid_for p) row.rate p.correction in
-    let more = floor_of ((macrotick -ℤ p.correction) *ℤ corrected_micros (grid_for p) row.rate row.offset) (p.macros -ℤ p.correction) in
-    let late : instant_of (grid_for p) row true macrotick ≡ row.start +ℤ ((begin +ℤ more) *ℤ row.length) = rw (int_lt_true p.correction macrotick from) refl in
-    let early : instant_of (grid_for p) row true p.correction ≡ row.start +ℤ (begin *ℤ row.length) = before_correction p row p.correction (itself p.correction) in
-    late ∙ both row.start (begin *ℤ row.length) (more *ℤ row.length) ((begin +ℤ more) *ℤ row.length) (addz-mulz begin more row.length) ∙ ap (λ x. x +ℤ (more *ℤ row.length)) (sym early)
-  where
-    both : (s b m w : ℤ) → w ≡ b +ℤ m → s +ℤ w ≡ (s +ℤ b) +ℤ m
-    both s b m w e = omega (arith, ints)
-
-late_line : (p : Values) (row : NodeRow) (macrotick : ℤ) → IsSane p → Lasts p row → p.correction <ℤ macrotick
-    → OnLine (instant_of (grid_for p) row true p.correction) (corrected_micros (grid_for p) row.rate row.offset *ℤ row.length) row.length
-    (macrotick -ℤ p.correction) (p.macros -ℤ p.correction) (pos (longest_micro p)) (instant_of (grid_for p) row true macrotick)
-late_line p row macrotick sane lasts from =
-    let rest = corrected_micros (grid_for p) row.rate row.offset in
-    let turn = instant_of (grid_for p) row true p.correction in
-    let On : ℤ → Type 0 = OnLine turn (rest *ℤ row.length) row.length (macrotick -ℤ p.correction) (p.macros -ℤ p.correction) (pos (longest_micro p)) in
-    subst On (sym (late_instant p row macrotick from))
-    (on_line turn row.length (macrotick -ℤ p.correction) rest (p.macros -ℤ p.correction) (pos (longest_micro p))
-    (some_parts p.macros p.correction (is_grid_lem p sane).correction_to) lasts.some lasts.most)
-  where
-    some_parts : (g o : ℤ) → o <ℤ g → pos 0 <ℤ (g -ℤ o)
-    some_parts g o less = omega (arith, ints)
-
--- it ends at the next start
-late_end : (p : Values) (row : NodeRow)
-    → corrected_end_of p row ≡ instant_of (grid_for p) row true p.correction +ℤ (corrected_micros (grid_for p) row.rate row.offset *ℤ row.length)
-late_end p row =
-    let begin = even_position (grid_for p) row.rate p.correction in
-    let whole = p.micros +ℤ row.rate +ℤ row.offset in
-    sym
-    (
-    ap (λ x. x +ℤ ((whole -ℤ begin) *ℤ row.length)) (before_correction p row p.correction (itself p.correction))
-    ∙ both row.start (begin *ℤ row.length) (whole *ℤ row.length) ((whole -ℤ begin) *ℤ row.length) (subz-mulz whole begin row.length)
-    )
-  where
-    both : (s b w r : ℤ) → r ≡ w -ℤ b → (s +ℤ b) +ℤ r ≡ s +ℤ w
-    both s b w r e = omega (arith, ints)
 
 module _ (p : Values) (sane : IsSane p) (macrotick : ℤ) (from : p.correction <ℤ macrotick) (to : macrotick ≤ℤ p.macros) where
   abbrev one : StraightClock

@@ -25,7 +25,7 @@ use Rattle.fr_log.specs.View.{LogView}
 use Rattle.fr_course.specs.Course.{even_start, odd_start, odd_turn}
 use Rattle.fr_course.specs.Readings.{fast_million, reading_scale, slow_million}
 use Rattle.fr_course.specs.Spread.{least_at}
-use Rattle.fr_course.specs.declared.scales.Scale.{Scale}
+use Rattle.fr_course.specs.Scales.{Scale}
 use Rattle.fr_course.specs.declared.stamps.Delays.{Delays}
 use Rattle.fr_observe.specs.Observing.{courses_of, odd_high, odd_low}
 use Rattle.fr_observe.specs.declared.says.Says.TheVariants.{Over}

@@ -19,7 +19,7 @@ use Rattle.fr_course.specs.Course.{even_start, odd_start, odd_turn}
 use Rattle.fr_course.specs.Readings.{fast_million, reading_scale, slow_million}
 use Rattle.fr_course.specs.Spread.{most_at, most_odd_skew, most_spread}
 use Rattle.fr_course.specs.declared.courses.Course.{Course}
-use Rattle.fr_course.specs.declared.scales.Scale.{Scale}
+use Rattle.fr_course.specs.Scales.{Scale}
 use Rattle.fr_course.specs.declared.stamps.Delays.{Delays}
 use Rattle.fr_observe.specs.Observing.{all_there, courses_of, next_courses, odd_high, odd_low, says_of}
 use Rattle.fr_observe.specs.declared.says.Says.TheVariants.{Within}

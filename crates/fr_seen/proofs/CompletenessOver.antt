@@ -19,7 +19,7 @@ use Rattle.fr_course.specs.Readings.{fast_million, least_ticks, reading_scale, s
 use Rattle.fr_course.specs.Spread.{least_at, least_spread}
 use Rattle.fr_course.specs.declared.courses.Course.{Course}
 use Rattle.fr_course.specs.declared.intervals.Interval.{Interval}
-use Rattle.fr_course.specs.declared.scales.Scale.{Scale}
+use Rattle.fr_course.specs.Scales.{Scale}
 use Rattle.fr_course.specs.declared.stamps.Delays.{Delays}
 use Rattle.fr_observe.specs.Observing.{courses_of, even_high, even_low, odd_high, odd_low, says_of}
 use Rattle.fr_observe.specs.declared.says.Says.TheVariants.{Over}

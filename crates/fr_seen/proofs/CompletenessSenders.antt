@@ -17,7 +17,7 @@ use Rattle.fr_course.specs.Course.{allowed, apart_by, between, breadth_of, cours
 use Rattle.fr_course.specs.Readings.{least_reading, meet, meet_all, most_reading, reading_scale}
 use Rattle.fr_course.specs.declared.courses.Course.{Course}
 use Rattle.fr_course.specs.declared.intervals.Interval.{Interval}
-use Rattle.fr_course.specs.declared.scales.Scale.{Scale}
+use Rattle.fr_course.specs.Scales.{Scale}
 use Rattle.fr_course.specs.declared.stamps.Delays.{Delays}
 use Rattle.fr_course.specs.declared.stamps.Observer.{Observer}
 use Rattle.fr_observe.specs.Observing.{senders_of}

@@ -10,7 +10,7 @@ use Rattle.fr_course.proofs.Floors.{ceiling_below}
 use Rattle.fr_course.specs.Course.{mean_from, mean_to, share_from, share_to}
 use Rattle.fr_course.specs.Readings.{ceiling_of}
 use Rattle.fr_course.specs.declared.courses.Course.{Course}
-use Rattle.fr_course.specs.declared.scales.Scale.{Scale}
+use Rattle.fr_course.specs.Scales.{Scale}
 use Rattle.fr_seen.proofs.Pairs.{max_left}
 use Rattle.fr_seen.specs.Completeness.{HasNarrowCorners, IsNoWider}
 

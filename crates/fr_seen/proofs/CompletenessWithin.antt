@@ -19,7 +19,7 @@ use Rattle.fr_course.specs.Readings.{fast_million, most_ticks, reading_scale, sl
 use Rattle.fr_course.specs.Spread.{most_at, most_even_skew, most_spread}
 use Rattle.fr_course.specs.declared.courses.Course.{Course}
 use Rattle.fr_course.specs.declared.intervals.Interval.{Interval}
-use Rattle.fr_course.specs.declared.scales.Scale.{Scale}
+use Rattle.fr_course.specs.Scales.{Scale}
 use Rattle.fr_course.specs.declared.stamps.Delays.{Delays}
 use Rattle.fr_observe.specs.Observing.{courses_of, even_high, even_low, says_of, with_senders}
 use Rattle.fr_observe.specs.declared.says.Says.TheVariants.{Within}

@@ -1,5 +1,5 @@
 -- How far macroticks of the odd cycle lie apart at most, by the courses of two double cycles.
-use Rattle.std.proofs.Common.{◌≡◌, ℕ, ℤ, pos, true, List, All, map, refl, ap, sym, subst, ◌∙◌, arith}
+use Rattle.std.proofs.Common.{◌≡◌, ℕ, ℤ, pos, true, List, All, map, ap, sym, subst, ◌∙◌, arith}
 use Rattle.std.specs.Prelude.{◌+ℤ◌, ◌-ℤ◌, ◌*ℤ◌, ◌≤ℤ◌, ◌<ℤ◌, Contains}
 use Rattle.std.specs.Int.{int_max}
 use Rattle.std.proofs.lemmas.Int.{ints, by_lt_z}
@@ -8,18 +8,16 @@ use Rattle.std.proofs.lemmas.Simd.{map-map}
 use Rattle.fr_base.specs.declared.node_row.NodeRow.{NodeRow}
 use Rattle.fr_cluster.specs.Values.{Values}
 use Rattle.fr_cluster.specs.Sane.{IsSane}
-use Rattle.fr_midpoint.proofs.Products.{addz-mulz, mulz-addz, mulz_from, subz-mulz}
-use Rattle.fr_time.specs.Position.{corrected_micros, even_position, floor_of, grid_for}
+use Rattle.fr_midpoint.proofs.Products.{mulz-addz, mulz_from, subz-mulz}
+use Rattle.fr_time.specs.Position.{corrected_micros, even_position, grid_for}
 use Rattle.fr_time.specs.Instant.{instant_of}
-use Rattle.fr_time.proofs.Ends.{int_lt_true}
-use Rattle.fr_time.proofs.Lines.{on_line, OnLine}
 use Rattle.fr_time.proofs.Placing.{is_grid_lem}
 use Rattle.fr_bound.specs.Bounds.{longest_micro}
 use Rattle.fr_bound.specs.Sync.{cycle_length_of}
 use Rattle.fr_skew.specs.Spreads.{spread_of}
-use Rattle.fr_precision.specs.Rows.{corrected_end_of, Lasts}
-use Rattle.fr_precision.proofs.InstantLaws.{before_correction}
-use Rattle.fr_course.specs.declared.scales.Scale.{Scale}
+use Rattle.fr_precision.specs.Rows.{corrected_end_of}
+use Rattle.fr_precision.proofs.InstantLaws.{before_correction, late_on_line as late_line}
+use Rattle.fr_course.specs.Scales.{Scale}
 use Rattle.fr_course.specs.Readings.{most_ticks, reading_scale}
 use Rattle.fr_course.specs.Course.{even_start, odd_start, odd_turn}
 use Rattle.fr_course.specs.Spread.{most_at, most_spread}
@@ -38,36 +36,8 @@ use Rattle.fr_seen.proofs.SkewLaws.{at_end, bound_above, corner_pair, corners_of
 itself : (a : ℤ) → a ≤ℤ a
 itself a = omega (arith, ints)
 
--- an instant there
-late_instant : (p : Values) (row : NodeRow) (macrotick : ℤ) → p.correction <ℤ macrotick
-    → instant_of (grid_for p) row true macrotick
-    ≡ instant_of (grid_for p) row true p.correction +ℤ (floor_of ((macrotick -ℤ p.correction) *ℤ corrected_micros (grid_for p) row.rate row.offset) (p.macros -ℤ p.correction) *ℤ row.length)
-late_instant p row macrotick from =
-    let begin = even_position (grid_for p) row.rate p.correction in
-    let more = floor_of ((macrotick -ℤ p.correction) *ℤ corrected_micros (grid_for p) row.rate row.offset) (p.macros -ℤ p.correction) in
-    let late : instant_of (grid_for p) row true macrotick ≡ row.start +ℤ ((begin +ℤ more) *ℤ row.length) = rw (int_lt_true p.correction macrotick from) refl in
-    let early : instant_of (grid_for p) row true p.correction ≡ row.start +ℤ (begin *ℤ row.length) = before_correction p row p.correction (itself p.correction) in
-    late ∙ both row.start (begin *ℤ row.length) (more *ℤ row.length) ((begin +ℤ more) *ℤ row.length) (addz-mulz begin more row.length) ∙ ap (λ x. x +ℤ (more *ℤ row.length)) (sym early)
-  where
-    both : (s b m w : ℤ) → w ≡ b +ℤ m → s +ℤ w ≡ (s +ℤ b) +ℤ m
-    both s b m w e = omega (arith, ints)
-
-late_line : (p : Values) (row : NodeRow) (macrotick : ℤ) → IsSane p → Lasts p row → p.correction <ℤ macrotick
-    → OnLine (instant_of (grid_for p) row true p.correction) (corrected_micros (grid_for p) row.rate row.offset *ℤ row.length) row.length
-    (macrotick -ℤ p.correction) (p.macros -ℤ p.correction) (pos (longest_micro p)) (instant_of (grid_for p) row true macrotick)
-late_line p row macrotick sane lasts from =
-    let rest = corrected_micros (grid_for p) row.rate row.offset in
-    let turn = instant_of (grid_for p) row true p.correction in
-    let On : ℤ → Type 0 = OnLine turn (rest *ℤ row.length) row.length (macrotick -ℤ p.correction) (p.macros -ℤ p.correction) (pos (longest_micro p)) in
-    subst On (sym (late_instant p row macrotick from))
-    (on_line turn row.length (macrotick -ℤ p.correction) rest (p.macros -ℤ p.correction) (pos (longest_micro p))
-    (some_parts p.macros p.correction (is_grid_lem p sane).correction_to) lasts.some lasts.most)
-  where
-    some_parts : (g o : ℤ) → o <ℤ g → pos 0 <ℤ (g -ℤ o)
-    some_parts g o less = omega (arith, ints)
-
 -- it ends at the next start
-late_end : (p : Values) (row : NodeRow)
+pub late_end : (p : Values) (row : NodeRow)
     → corrected_end_of p row ≡ instant_of (grid_for p) row true p.correction +ℤ (corrected_micros (grid_for p) row.rate row.offset *ℤ row.length)
 late_end p row =
     let begin = even_position (grid_for p) row.rate p.correction in

@@ -12,7 +12,7 @@ use Rattle.fr_course.specs.Readings.{reading_scale}
 use Rattle.fr_course.specs.Spread.{least_even_skew, least_odd_skew, most_even_skew, most_odd_skew}
 use Rattle.fr_course.specs.Terms.{offset_seen}
 use Rattle.fr_course.specs.declared.courses.Course.{Course}
-use Rattle.fr_course.specs.declared.scales.Scale.{Scale}
+use Rattle.fr_course.specs.Scales.{Scale}
 use Rattle.fr_observe.specs.Observing.{all_there, courses_of, even_high, even_low, next_courses, odd_high, odd_low, terms_of, with_senders}
 use Rattle.fr_sightings.specs.declared.sender.Sender.{Sender}
 use Rattle.fr_seen.specs.Clocks.{IsWithinDrift, StraightClock}

@@ -24,7 +24,8 @@ use Rattle.fr_runs.proofs.Doubles.{even_length}
 use Rattle.fr_runs.proofs.Lawful.{lawful_cycles_run}
 use Rattle.fr_runs.proofs.Parts.{cycle_within, double_at, even_is, odd_is}
 use Rattle.fr_runs.proofs.Rates.{rates_stay_within}
-use Rattle.fr_runs.proofs.Rows.{each_row, has_row, map_contains, row_runs_by, contains_map}
+use Rattle.fr_precision.proofs.RoundLemmas.{contains_map, map_contains}
+use Rattle.fr_runs.proofs.Rows.{each_row, has_row, row_runs_by}
 use Rattle.fr_runs.proofs.Succeeding.{followers_stay, rows_stay}
 use Rattle.fr_runs.proofs.Whole.{double_runs, prior_of}
 use Rattle.fr_seen.specs.RunRows.{IsTimedRun, NodesGoOn, NodesHaveBothRows, NodesRunRegularly}

@@ -13,7 +13,7 @@ use Rattle.fr_course.specs.Readings.{meet_all, reading_scale}
 use Rattle.fr_course.specs.Course.{course_from}
 use Rattle.fr_course.specs.declared.courses.Course.{Course}
 use Rattle.fr_course.specs.declared.intervals.Interval.{Interval}
-use Rattle.fr_course.specs.declared.scales.Scale.{Scale}
+use Rattle.fr_course.specs.Scales.{Scale}
 use Rattle.fr_course.specs.declared.stamps.Delays.{Delays}
 use Rattle.fr_sightings.specs.Senders.{course_in, observer_of, sightings_in}
 use Rattle.fr_sightings.specs.Sightings.{sightings_of}

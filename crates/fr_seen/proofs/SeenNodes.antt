@@ -23,13 +23,14 @@ use Rattle.fr_history.specs.Standing.{row_nodes}
 use Rattle.fr_runs.proofs.Courses.{is_correct_row}
 use Rattle.fr_runs.proofs.Going.{rows_ascend}
 use Rattle.fr_runs.proofs.Nodes.{correct_node}
-use Rattle.fr_runs.proofs.Rows.{Ascend, all_rows, contains_map}
+use Rattle.fr_precision.proofs.RoundLemmas.{contains_map}
+use Rattle.fr_runs.proofs.Rows.{Ascend, all_rows}
 use Rattle.fr_log.specs.View.{LogView, is_arbitrary_in}
 use Rattle.fr_course.specs.Readings.{meet_all, reading_scale}
 use Rattle.fr_course.specs.Course.{course_from}
 use Rattle.fr_course.specs.declared.courses.Course.{Course}
 use Rattle.fr_course.specs.declared.intervals.Interval.{Interval}
-use Rattle.fr_course.specs.declared.scales.Scale.{Scale}
+use Rattle.fr_course.specs.Scales.{Scale}
 use Rattle.fr_course.specs.declared.stamps.Delays.{Delays}
 use Rattle.fr_observe.specs.Observing.{courses_of, senders_of}
 use Rattle.fr_sightings.specs.Senders.{course_in, if_there, observer_of, own_slot, seen_box, seen_sender, seen_sender_by, seen_senders, seen_span, sender_on, sightings_in}

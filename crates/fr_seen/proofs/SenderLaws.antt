@@ -24,7 +24,7 @@ use Rattle.fr_course.specs.Readings.{meet_all, reading_scale}
 use Rattle.fr_course.specs.Course.{course_from, is_there, span_of, stamped}
 use Rattle.fr_course.specs.declared.courses.Course.{Course}
 use Rattle.fr_course.specs.declared.intervals.Interval.{Interval}
-use Rattle.fr_course.specs.declared.scales.Scale.{Scale}
+use Rattle.fr_course.specs.Scales.{Scale}
 use Rattle.fr_course.specs.declared.stamps.Delays.{Delays}
 use Rattle.fr_observe.specs.Observing.{senders_of}
 use Rattle.fr_sightings.specs.Senders.{box_by, seen_box, box_on, course_in, delays_in, first_stamp, if_there, is_in, is_sent_in, observer_of, on_both_channels, own_slot, seen_sender_by, seen_sender, sender_on, seen_senders, sightings_in, span_by, seen_span, span_on}

@@ -12,10 +12,10 @@ use Rattle.fr_bound.specs.Sync.{cycle_length_of}
 use Rattle.fr_midpoint.proofs.Products.{mulz-lez_left, mulz-subz, mulz_from}
 use Rattle.fr_history.specs.Cycles.{Cycle}
 use Rattle.fr_history.specs.History.{row_for}
-use Rattle.fr_runs.proofs.Rows.{contains_map}
+use Rattle.fr_precision.proofs.RoundLemmas.{contains_map}
 use Rattle.fr_course.specs.declared.courses.Course.{Course}
 use Rattle.fr_course.specs.declared.intervals.Interval.{Interval}
-use Rattle.fr_course.specs.declared.scales.Scale.{Scale}
+use Rattle.fr_course.specs.Scales.{Scale}
 use Rattle.fr_course.specs.Readings.{least_ticks, most_ticks, reading_scale}
 use Rattle.fr_course.specs.Course.{even_start}
 use Rattle.fr_course.specs.Spread.{least_spread, most_spread}

@@ -20,7 +20,7 @@ use Rattle.fr_skew.specs.Spreads.{spread_of}
 use Rattle.fr_skew.proofs.Differences.{within_spread}
 use Rattle.fr_precision.proofs.InstantLaws.{before_correction}
 use Rattle.fr_course.specs.declared.intervals.Interval.{Interval}
-use Rattle.fr_course.specs.declared.scales.Scale.{Scale}
+use Rattle.fr_course.specs.Scales.{Scale}
 use Rattle.fr_course.specs.Readings.{least_ticks, most_ticks, reading_scale}
 use Rattle.fr_course.specs.declared.courses.Course.{Course}
 use Rattle.fr_course.specs.Course.{even_start, even_turn, odd_start, odd_turn}

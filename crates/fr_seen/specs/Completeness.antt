@@ -16,7 +16,7 @@ use Rattle.fr_course.specs.Course.{breadth_of, even_start, even_turn, odd_start,
 use Rattle.fr_course.specs.Readings.{fast_million, least_reading, most_reading, reading_scale, slow_million}
 use Rattle.fr_course.specs.declared.courses.Course.{Course}
 use Rattle.fr_course.specs.declared.intervals.Interval.{Interval}
-use Rattle.fr_course.specs.declared.scales.Scale.{Scale}
+use Rattle.fr_course.specs.Scales.{Scale}
 use Rattle.fr_course.specs.declared.stamps.Delays.{Delays}
 use Rattle.fr_course.specs.declared.stamps.Observer.{Observer}
 use Rattle.fr_observe.specs.Observing.{even_high, even_low, odd_high, odd_low, says_of}

@@ -12,7 +12,7 @@ use Rattle.fr_cluster.specs.declared.nodes.NodeSpec.{NodeSpec}
 use Rattle.fr_log.specs.View.{LogView}
 use Rattle.fr_course.specs.Terms.{rate_step_seen}
 use Rattle.fr_course.specs.declared.intervals.Interval.{Interval}
-use Rattle.fr_course.specs.declared.scales.Scale.{Scale}
+use Rattle.fr_course.specs.Scales.{Scale}
 use Rattle.fr_bound.specs.Judged.{apart_through}
 use Rattle.fr_bound.specs.declared.judging.Heard.{Heard}
 use Rattle.fr_bound.specs.declared.judging.Known.{Known}

@@ -23,7 +23,7 @@ use Rattle.fr_course.specs.Readings.{meet_all, reading_scale}
 use Rattle.fr_course.specs.Terms.{offset_seen, rate_step_seen}
 use Rattle.fr_course.specs.declared.courses.Course.{Course}
 use Rattle.fr_course.specs.declared.intervals.Interval.{Interval}
-use Rattle.fr_course.specs.declared.scales.Scale.{Scale}
+use Rattle.fr_course.specs.Scales.{Scale}
 use Rattle.fr_course.specs.declared.stamps.Delays.{Delays}
 use Rattle.fr_course.specs.declared.stamps.Observer.{Observer}
 use Rattle.fr_observe.specs.Observing.{senders_of, terms_of}

@@ -17,7 +17,7 @@ use Rattle.fr_precision.specs.Offsets.{IsDeviation}
 use Rattle.fr_precision.specs.Rows.{HasProperMicro, Sender}
 use Rattle.fr_precision.specs.Steady.{between_actions, PlacesEven}
 use Rattle.fr_course.specs.declared.intervals.Interval.{Interval}
-use Rattle.fr_course.specs.declared.scales.Scale.{Scale}
+use Rattle.fr_course.specs.Scales.{Scale}
 use Rattle.fr_course.specs.Readings.{reading_scale}
 use Rattle.fr_course.specs.Course.{between, odd_macrotick}
 use Rattle.fr_seen.specs.Clocks.{HasReading, IsWithinDrift, LastsIn, ReadsIn, StraightClock, reading_at, reading_of}

@@ -12,7 +12,7 @@ use Rattle.fr_cluster.specs.declared.nodes.NodeSpec.{NodeSpec}
 use Rattle.fr_midpoint.specs.Midpoint.{IsMidpoint}
 use Rattle.fr_measure.specs.Values.{values_of}
 use Rattle.fr_precision.proofs.Counting.{count_no}
-use Rattle.fr_runs.proofs.Rows.{map_contains}
+use Rattle.fr_precision.proofs.RoundLemmas.{map_contains}
 use Rattle.fr_course.specs.Computed.{own_value}
 use Rattle.fr_course.specs.Middles.{MiddlesHold, middle}
 use Rattle.fr_course.specs.declared.intervals.Interval.{Interval}

@@ -30,15 +30,15 @@ use Rattle.fr_runs.specs.Links.{IsLinked}
 use Rattle.fr_runs.specs.Numbers.{HasDouble, HasRowIn}
 use Rattle.fr_runs.proofs.Nodes.{correct_node, node_there}
 use Rattle.fr_runs.proofs.Receivers.{is_correct_node}
-use Rattle.fr_runs.proofs.Rows.{map_contains}
+use Rattle.fr_precision.proofs.RoundLemmas.{map_contains}
 use Rattle.fr_precision.specs.Steady.{PlacesEven}
 use Rattle.fr_log.specs.View.{LogView}
 use Rattle.fr_course.specs.Computed.{ValuesAreCounted, ValuesArePlaced, deviation_seen, further_by, measuring_of, own_value, rate_value_seen}
 use Rattle.fr_course.specs.Middles.{MiddlesHold, middle}
 use Rattle.fr_course.specs.Readings.{reading_scale}
 use Rattle.fr_course.specs.declared.intervals.Interval.{Interval}
-use Rattle.fr_course.specs.declared.measuring.Measuring.{Measuring}
-use Rattle.fr_course.specs.declared.scales.Scale.{Scale}
+use Rattle.fr_course.specs.Measures.{Measuring}
+use Rattle.fr_course.specs.Scales.{Scale}
 use Rattle.fr_course.specs.declared.stamps.Delays.{Delays}
 use Rattle.fr_sightings.specs.declared.sender.Sender.{Sender}
 use Rattle.fr_observe.specs.Faults.{further_of, other_courses, stated_flutter}

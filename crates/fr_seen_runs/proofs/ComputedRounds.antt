@@ -1,5 +1,5 @@
 -- The values of the nodes with rows of a double cycle, whatever frames are lost on their way, and the midpoints that they apply.
-use Rattle.std.proofs.Common.{◌≡◌, ◌≢◌, ◌⊎◌, ℕ, suc, ◌*◌, ◌<◌, ◌==◌, Bool, true, false, ℤ, pos, Option, Some, None, [], ◌∷◌, length, refl, ap, sym, ◌∙◌, subst, inl, inr, arith, if◌then◌else◌}
+use Rattle.std.proofs.Common.{◌≡◌, ◌≢◌, ◌⊎◌, ℕ, suc, ◌==◌, Bool, true, false, ℤ, pos, Option, Some, None, refl, ap, sym, ◌∙◌, subst, inl, inr, arith, if◌then◌else◌}
 use Rattle.std.specs.Prelude.{◌-ℤ◌, Contains, IfSome, IsSome, int_lt, is_some}
 use Rattle.std.proofs.lemmas.Bool.{eqb-true}
 use Rattle.fr_base.specs.Within.{IsWithin}
@@ -25,13 +25,10 @@ use Rattle.fr_history.specs.Standing.{has_row, row_nodes}
 use Rattle.fr_runs.specs.Gathered.{round_at, row_hearer}
 use Rattle.fr_runs.specs.Links.{IsCarried}
 use Rattle.fr_runs.specs.Numbers.{HasDouble, HasRowIn}
-use Rattle.fr_runs.specs.Rounds.{IsDoubleOf}
 use Rattle.fr_runs.proofs.Courses.{is_correct_row}
 use Rattle.fr_runs.proofs.Going.{is_row_node}
 use Rattle.fr_runs.proofs.Nodes.{correct_node, node_there}
-use Rattle.fr_runs.proofs.Parts.{cycle_within, double_at, even_is, odd_is}
 use Rattle.fr_runs.proofs.RowsHeard.{RowLink}
-use Rattle.fr_runs.proofs.Whole.{prior_of}
 use Rattle.fr_precision.specs.Hearing.{IsHeardInPart}
 use Rattle.fr_precision.specs.Steady.{PlacesEven}
 use Rattle.fr_runs.specs.SteadyRuns.{AreRowsInReach}
@@ -40,6 +37,7 @@ use Rattle.fr_sharp.proofs.JudgedLaws.{Grows}
 use Rattle.fr_runs.proofs.RowsSupplied.{few_in, frames_stored, looked_up, pairs_steady, row_regular, rows_heard_in_part, LawfulRows}
 use Rattle.fr_precision.proofs.SteadyLemmas.{half_places_even, steady_values_place_lem}
 use Rattle.fr_seen_runs.specs.ComputedValues.{AreKeyed, ComputesOffset, ComputesRate, IsHeardOf, IsKeyedAt, told_offsets, told_rates, told_sender}
+use Rattle.fr_runs.proofs.RowsNumbers.{here}
 
 -- ---- the values of both channels
 
@@ -177,7 +175,7 @@ module _
     round_is : IsRound (round_at x h even odd)
     round_is = record {
       sane = sane;
-      few = few_in x flutter h rows.covered;
+      few = few_in x double flutter h rows.covered;
       regular = λ node there has. row_regular x flutter h even odd double rows near.rates node (is_row_node x h node there has);
     }
 
@@ -330,53 +328,4 @@ module _
           grown = λ next_even next_odd is.
               let Near : ℤ → Type 0 = λ v. IsWithin x.params.damping ((v -ℤ (row_for odd.told.rows node.id).rate) -ℤ grows.middle) in
               subst Near (sym (on next_even next_odd is)) grows.near;
-        }
-
--- ---- the double cycle, with the cycles before it
-
-same_even : (h : Cycles) (double : ℕ) (even odd : Cycle) (earlier : Cycles) (e o : Cycle) → HasDouble h double even odd → IsDoubleOf h double earlier e o → e ≡ even
-same_even h double even odd earlier e o has d = let same : Some e ≡ Some even = sym (even_is h double earlier e o d) ∙ has.has_even in cc same
-
-same_odd : (h : Cycles) (double : ℕ) (even odd : Cycle) (earlier : Cycles) (e o : Cycle) → HasDouble h double even odd → IsDoubleOf h double earlier e o → o ≡ odd
-same_odd h double even odd earlier e o has d = let same : Some o ≡ Some odd = sym (odd_is h double earlier e o d) ∙ has.has_odd in cc same
-
-pub record Here (h : Cycles) (double : ℕ) (even odd : Cycle) : Type 0 where
-  pub earlier : Cycles
-  pub is : IsDoubleOf h double earlier even odd
-
-pub here : (h : Cycles) (double : ℕ) (even odd : Cycle) → HasDouble h double even odd → Here h double even odd
-here h double even odd has =
-    let below : suc (2 * double) < length h = cycle_within h (suc (2 * double)) odd has.has_odd in
-    let at = double_at h double (omega (arith, below)) in
-    let Even : Cycle → Type 0 = λ c. IsDoubleOf h double at.earlier c at.odd in
-    let Odd : Cycle → Type 0 = λ c. IsDoubleOf h double at.earlier even c in
-    record {
-      earlier = at.earlier;
-      is =
-          subst Odd (same_odd h double even odd at.earlier at.even at.odd has at.is)
-          (subst Even (same_even h double even odd at.earlier at.even at.odd has at.is) at.is);
-    }
-
--- the next double cycle stands behind the same cycles
-pub record NextHere (h : Cycles) (double : ℕ) (even odd even2 odd2 : Cycle) : Type 0 where
-  pub earlier : Cycles
-  pub is : IsDoubleOf h (suc double) (odd ∷ even ∷ earlier) even2 odd2
-
-pub next_here : (h : Cycles) (double : ℕ) (even odd even2 odd2 : Cycle) → HasDouble h double even odd → HasDouble h (suc double) even2 odd2
-    → NextHere h double even odd even2 odd2
-next_here h double even odd even2 odd2 has next =
-    let at = here h (suc double) even2 odd2 next in
-    by_earlier at.earlier at.is
-  where
-    by_earlier : (earlier : Cycles) → IsDoubleOf h (suc double) earlier even2 odd2 → NextHere h double even odd even2 odd2
-    by_earlier [] d = let counted : 0 ≡ 2 * suc double = d.counted in absurd (omega (arith, counted))
-    by_earlier (o ∷ []) d = let counted : 1 ≡ 2 * suc double = d.counted in absurd (omega (arith, counted))
-    by_earlier (o ∷ e ∷ earlier) d =
-        let before = prior_of h double earlier e o even2 odd2 d in
-        let Even : Cycle → Type 0 = λ c. IsDoubleOf h (suc double) (o ∷ c ∷ earlier) even2 odd2 in
-        let Odd : Cycle → Type 0 = λ c. IsDoubleOf h (suc double) (c ∷ even ∷ earlier) even2 odd2 in
-        record {
-          earlier = earlier;
-          is =
-              subst Odd (same_odd h double even odd earlier e o has before) (subst Even (same_even h double even odd earlier e o has before) d);
         }

@@ -22,7 +22,7 @@ use Rattle.fr_course.specs.Course.{course_back, course_by, course_from, course_o
 use Rattle.fr_course.specs.Readings.{reading_scale}
 use Rattle.fr_course.specs.declared.courses.Course.{Course}
 use Rattle.fr_course.specs.declared.intervals.Interval.{Interval}
-use Rattle.fr_course.specs.declared.scales.Scale.{Scale}
+use Rattle.fr_course.specs.Scales.{Scale}
 use Rattle.fr_observe.specs.Observing.{senders_of}
 use Rattle.fr_sightings.specs.Senders.{course_in, if_there, own_slot, seen_box, seen_sender, seen_sender_by, seen_senders, sender_on, seen_span, sightings_in}
 use Rattle.fr_sightings.specs.Sightings.{sightings_of}

@@ -1,8 +1,9 @@
 -- The values of the nodes with rows of a double cycle that is judged, and the midpoints that they apply.
 use Rattle.std.proofs.Common.{◌≡◌, ℕ, suc, ◌*◌, ◌<◌, ℤ, pos, List, ◌∷◌, length, ap, sym, ◌∙◌, subst, arith}
 use Rattle.std.specs.Prelude.{Contains}
-use Rattle.std.proofs.lemmas.List.Elements.{All-contains_itself, All-map}
+use Rattle.fr_base.specs.States.{cut_of}
 use Rattle.fr_base.specs.declared.state.Outcome.TheVariants.{Within}
+use Rattle.fr_base.specs.declared.state.State.TheVariants.{Active}
 use Rattle.fr_cluster.specs.Questions.{own_index}
 use Rattle.fr_cluster.specs.Setting.{Setting, correct_nodes}
 use Rattle.fr_cluster.specs.Values.{Values}
@@ -13,12 +14,11 @@ use Rattle.fr_measure.specs.Deviations.{rate_values_by}
 use Rattle.fr_bound.specs.SharpSpreads.{sharply_near_in}
 use Rattle.fr_bound.specs.declared.judging.Heard.{Heard}
 use Rattle.fr_bound.specs.declared.judging.Known.{Known}
-use Rattle.fr_precision.specs.Round.{Hearer}
 use Rattle.fr_precision.specs.Step.{Member}
-use Rattle.fr_precision.proofs.Senders.{All-along}
-use Rattle.fr_history.specs.Cycles.{Cycle, Cycles}
+use Rattle.fr_history.specs.Cycles.{Cycle, Cycles, told_of}
 use Rattle.fr_history.specs.History.{row_for}
 use Rattle.fr_history.specs.Standing.{has_row, row_nodes}
+use Rattle.fr_history.specs.Terms.{status_in}
 use Rattle.fr_runs.specs.Gathered.{row_hearer}
 use Rattle.fr_runs.specs.Numbers.{HasDouble, HasRowIn}
 use Rattle.fr_runs.specs.Rounds.{IsDoubleOf}
@@ -30,15 +30,15 @@ use Rattle.fr_runs.proofs.Whole.{prior_of}
 use Rattle.fr_sharp.specs.JudgedSteps.{AppliesMidpoints, GoesOnJudged}
 use Rattle.fr_runs.specs.SharpHistories.{EndsWell}
 use Rattle.fr_precision.specs.SharpRound.{as_member}
-use Rattle.fr_precision.specs.SharpRun.{AllUncut}
-use Rattle.fr_runs.specs.SteadyRuns.{row_hearers, row_members, AreRowsInReach}
+use Rattle.fr_runs.specs.SteadyRuns.{AreRowsInReach}
 use Rattle.fr_sharp.proofs.JudgedLaws.{unfollowed_goes_on_lem}
 use Rattle.fr_runs.proofs.RowsSupplied.{LawfulRows}
-use Rattle.fr_promise.proofs.RunDoubles.{goes_on, member_among, members_found}
-use Rattle.fr_sharp.proofs.TimedRuns.{have_rows, rows_of}
+use Rattle.fr_promise.proofs.RunDoubles.{goes_on, member_among, members_found, IsCalm}
+use Rattle.fr_promise.proofs.TimedRuns.{have_rows, rows_of}
 use Rattle.fr_seen_runs.specs.ComputedValues.{ComputesOffset, ComputesRate, OffsetsAreMidpoints, RatesGrowByMidpoints}
 use Rattle.fr_seen_runs.specs.JudgedTerms.{IsJudgedRun}
-use Rattle.fr_seen_runs.proofs.ComputedRounds.{computes_offset, computes_rate, here, next_here, AreApplying}
+use Rattle.fr_runs.proofs.RowsNumbers.{here, next_here}
+use Rattle.fr_seen_runs.proofs.ComputedRounds.{computes_offset, computes_rate, AreApplying}
 
 module _ (what : Heard) (x : Setting) (flutter : ℕ) (h : Cycles) (double : ℕ) (known : Known) (j : IsJudgedRun what x flutter h double known) where
   abbrev reach : ℤ
@@ -51,13 +51,13 @@ module _ (what : Heard) (x : Setting) (flutter : ℕ) (h : Cycles) (double : ℕ
       omega (arith, below, whole)
 
   goes : GoesOnJudged what x flutter h double known
-  goes = (unfollowed_goes_on_lem what x flutter h double known j.run short j.hears j.each j.is j.judged).0
+  goes = (unfollowed_goes_on_lem what x 0 flutter h double known j.run (omega arith) short j.hears j.each j.is j.judged).0
 
   -- ---- behind the cycles before it
 
   module _ (earlier : Cycles) (even odd : Cycle) (d : IsDoubleOf h double earlier even odd) where
     rows : LawfulRows x flutter earlier even odd double
-    rows = rows_of x flutter h j.run double earlier even odd d
+    rows = rows_of x 0 flutter h j.run double (omega arith) earlier even odd d
 
     among : (node : NodeSpec) → HasRowIn x even node → Contains (row_nodes x earlier) node
     among node has =
@@ -108,22 +108,20 @@ module _ (what : Heard) (x : Setting) (flutter : ℕ) (h : Cycles) (double : ℕ
               ∙ ends.rate_within node correct,
         )
 
-    uncut : AllUncut (row_members x earlier even odd)
-    uncut =
-        let at : NodeSpec → Hearer = λ node. row_hearer x even odd node.id in
-        let Uncut : Member → Type 0 = λ node. (node.offset_term.outcome ≡ Within) × (node.rate_term.outcome ≡ Within) in
-        All-map Uncut (as_member x.params) (row_hearers x earlier even odd)
-        (
-        All-map (λ (n : Hearer). Uncut (as_member x.params n)) at (row_nodes x earlier)
-        (All-along (Contains (row_nodes x earlier)) (λ (node : NodeSpec). Uncut (as_member x.params (at node))) (row_nodes x earlier) uncut_at (All-contains_itself (row_nodes x earlier)))
-        )
+    calm : (node : NodeSpec) → Contains (row_nodes x earlier) node → IsCalm (as_member x.params (row_hearer x even odd node.id))
+    calm node here = let both = uncut_at node here in (ap cut_of both.0, ap cut_of both.1)
+
+    stays : (node : NodeSpec) → Contains (row_nodes x earlier) node → (status_in x.params (told_of (odd ∷ even ∷ earlier)) node.id).state ≡ Active
+    stays node here =
+        let ends : EndsWell x earlier even odd = goes.keeps.ends earlier even odd d in
+        ends.active node (is_correct_row x earlier node here)
 
     rate_next : (even2 odd2 : Cycle) → IsDoubleOf h (suc double) (odd ∷ even ∷ earlier) even2 odd2 → (node : NodeSpec) → Contains (row_nodes x earlier) node
         → (row_for even2.told.rows node.id).rate ≡ (as_member x.params (row_hearer x even odd node.id)).rate_term.value
     rate_next even2 odd2 next node here =
         let reached = goes.reached earlier even odd d in
-        (goes_on x flutter earlier even odd double rows reached.active_even reached.active_odd uncut even2 odd2 (rows_of x flutter h j.run (suc double) (odd ∷ even ∷ earlier) even2 odd2 next)
-        (have_rows x flutter h j.run double j.each earlier even odd d) node here).next.even_rate
+        (goes_on x flutter earlier even odd double rows reached.active_even reached.active_odd calm stays even2 odd2 (rows_of x 0 flutter h j.run (suc double) (omega arith) (odd ∷ even ∷ earlier) even2 odd2 next)
+        (have_rows x 0 flutter h j.run double j.each earlier even odd d) node here).next.even_rate
 
 -- ---- the laws
 

@@ -22,7 +22,7 @@ use Rattle.fr_log.specs.View.{LogView}
 use Rattle.fr_course.specs.Computed.{length_ticks}
 use Rattle.fr_course.specs.Readings.{reading_scale}
 use Rattle.fr_course.specs.Spread.{lengths_apart, starts_apart}
-use Rattle.fr_course.specs.declared.scales.Scale.{Scale}
+use Rattle.fr_course.specs.Scales.{Scale}
 use Rattle.fr_course.specs.declared.stamps.Delays.{Delays}
 use Rattle.fr_sightings.specs.Senders.{own_slot, sightings_in}
 use Rattle.fr_sightings.specs.Sightings.{sightings_of}

@@ -11,7 +11,7 @@ use Rattle.fr_cluster.specs.Values.{Values}
 use Rattle.fr_history.specs.Cycles.{Cycles}
 use Rattle.fr_log.specs.View.{LogView}
 use Rattle.fr_course.specs.Readings.{reading_scale}
-use Rattle.fr_course.specs.declared.scales.Scale.{Scale}
+use Rattle.fr_course.specs.Scales.{Scale}
 use Rattle.fr_course.specs.declared.stamps.Delays.{Delays}
 use Rattle.fr_sightings.specs.Sightings.{OffendingFrames, offending_frames_of, sightings_of}
 use Rattle.fr_sightings.specs.declared.sender.Sender.{Sender}

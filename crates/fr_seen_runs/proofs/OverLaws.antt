@@ -14,7 +14,7 @@ use Rattle.fr_history.specs.Cycles.{Cycle, Cycles}
 use Rattle.fr_runs.specs.Numbers.{HasDouble}
 use Rattle.fr_log.specs.View.{LogView}
 use Rattle.fr_course.specs.Readings.{reading_scale}
-use Rattle.fr_course.specs.declared.scales.Scale.{Scale}
+use Rattle.fr_course.specs.Scales.{Scale}
 use Rattle.fr_course.specs.declared.stamps.Delays.{Delays}
 use Rattle.fr_observe.specs.Observing.{both_say, even_high, even_low, odd_high, odd_low, says_of, says_up_to, seen_doubles, senders_of}
 use Rattle.fr_observe.specs.declared.says.Says.{Says}

@@ -16,7 +16,7 @@ use Rattle.fr_course.specs.Readings.{reading_scale}
 use Rattle.fr_course.specs.Course.{apart_by, course_back, course_by, course_from, course_on, is_empty}
 use Rattle.fr_course.specs.declared.courses.Course.{Course}
 use Rattle.fr_course.specs.declared.intervals.Interval.{Interval}
-use Rattle.fr_course.specs.declared.scales.Scale.{Scale}
+use Rattle.fr_course.specs.Scales.{Scale}
 use Rattle.fr_course.specs.declared.stamps.Delays.{Delays}
 use Rattle.fr_sightings.specs.Senders.{course_in, own_slot, seen_box, seen_span, sightings_in}
 use Rattle.fr_sightings.specs.Sightings.{sightings_of}

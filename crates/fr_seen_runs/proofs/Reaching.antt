@@ -10,7 +10,7 @@ use Rattle.fr_log.specs.View.{LogView}
 use Rattle.fr_course.specs.Readings.{reading_scale}
 use Rattle.fr_course.specs.Spread.{most_odd_skew}
 use Rattle.fr_course.specs.declared.courses.Course.{Course}
-use Rattle.fr_course.specs.declared.scales.Scale.{Scale}
+use Rattle.fr_course.specs.Scales.{Scale}
 use Rattle.fr_course.specs.declared.stamps.Delays.{Delays}
 use Rattle.fr_observe.specs.Observing.{all_there, both_say, courses_of, even_high, even_low, odd_high, odd_low, says_of, seen_doubles, senders_of}
 use Rattle.fr_sightings.specs.Sightings.{sightings_of}

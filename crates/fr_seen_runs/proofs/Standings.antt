@@ -18,7 +18,7 @@ use Rattle.fr_precision.specs.Round.{sync_count}
 use Rattle.fr_history.specs.Cycles.{Cycles}
 use Rattle.fr_log.specs.View.{LogView}
 use Rattle.fr_course.specs.Readings.{reading_scale}
-use Rattle.fr_course.specs.declared.scales.Scale.{Scale}
+use Rattle.fr_course.specs.Scales.{Scale}
 use Rattle.fr_course.specs.declared.stamps.Delays.{Delays}
 use Rattle.fr_sightings.specs.Senders.{sightings_in}
 use Rattle.fr_sightings.specs.Sightings.{sightings_of}
@@ -34,7 +34,8 @@ use Rattle.fr_observe.specs.Observing.{even_high, even_low, odd_high, odd_low, s
 use Rattle.fr_observe.specs.declared.fault.Fault.{Fault}
 use Rattle.fr_judging.specs.Hearing.{are_enough, log_heard, synced_with}
 use Rattle.fr_findings.specs.Verdict.{log_span, sightings_before}
-use Rattle.fr_sharp.specs.JudgedSteps.{GoesOnJudged, IsHeardIn, IsLawfulStatedRun}
+use Rattle.fr_sharp.specs.JudgedSteps.{GoesOnJudged, IsHeardIn}
+use Rattle.fr_runs.specs.SharpHistories.{IsLawfulStatedRun}
 use Rattle.fr_runs.specs.SteadyRuns.{IsWhole}
 use Rattle.fr_runs.proofs.Parts.{cycle_within}
 use Rattle.fr_sharp.proofs.JudgedLaws.{known_is_met_lem, unfollowed_goes_on_lem}
@@ -213,7 +214,7 @@ module _
 
     module _ (below : IsBefore) (met : Known) (j : IsJudged met) where
       goes : GoesOnJudged what x (stated_flutter x.params l) h At met × (suc At < x.doubles → EachHasRow x h (suc At))
-      goes = unfollowed_goes_on_lem what x Flutter h At met lawful short (hears below) j.at.1 j.at.0 j.judged
+      goes = unfollowed_goes_on_lem what x 0 Flutter h At met lawful (omega arith) short (hears below) j.at.1 j.at.0 j.judged
 
       no_term_fault : (kind : Term) (s : Sender) → Contains (log_senders x l double) s → unlike_term kind x.params l (reading_scale l.drift x.params) double (log_senders x l double) s l.lost ≡ None
       no_term_fault kind s there = by (unlike_term kind p l Scaled double Senders s l.lost) refl

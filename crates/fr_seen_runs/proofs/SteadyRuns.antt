@@ -6,7 +6,7 @@ pub steady_runs_miss_none : SteadyRunsMissNone
 steady_runs_miss_none x flutter double lost node steady short correct = record {
   missed = [];
   few = none lost;
-  carried = λ sender slot linked sent. steady.links double short sender node slot linked;
+  carried = λ sender slot linked sent. steady.links double (none double) short sender node slot linked;
 }
   where
     none : (n : ℕ) → 0 ≤ n

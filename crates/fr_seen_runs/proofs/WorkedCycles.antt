@@ -101,13 +101,13 @@ run_is_steady = record {
   timed = record {
     sane = cluster_is_sane;
     few = inl (refl, lit≤ tt);
-    least = λ node cycle among less. record { le = tt };
-    most = λ node cycle among less. record { le = tt };
-    changes = λ node cycle among less. record { low = record { le = tt }; high = record { le = tt } };
-    delays = λ sender receiver slot channel cycle link share less. no_delay channel;
-    flutters = λ sender receiver slot channel double link share less. record { low = record { le = tt }; high = record { le = tt } };
+    least = λ node cycle among late less. record { le = tt };
+    most = λ node cycle among late less. record { le = tt };
+    changes = λ node cycle among late less. record { low = record { le = tt }; high = record { le = tt } };
+    delays = λ sender receiver slot channel cycle link share late less. no_delay channel;
+    flutters = λ sender receiver slot channel double link share late less. record { low = record { le = tt }; high = record { le = tt } };
   };
-  links = λ double less sender receiver slot link. is_carried sender receiver slot double link;
+  links = λ double late less sender receiver slot link. is_carried sender receiver slot double link;
 }
 
 -- each node has a key slot, and so a value of its own

@@ -9,7 +9,8 @@ use Rattle.fr_bound.specs.declared.judging.Heard.{Heard}
 use Rattle.fr_bound.specs.declared.judging.Known.{Known}
 use Rattle.fr_history.specs.Cycles.{Cycle, Cycles}
 use Rattle.fr_runs.specs.Numbers.{HasDouble}
-use Rattle.fr_sharp.specs.JudgedSteps.{IsHeardIn, IsLawfulStatedRun}
+use Rattle.fr_sharp.specs.JudgedSteps.{IsHeardIn}
+use Rattle.fr_runs.specs.SharpHistories.{IsLawfulStatedRun}
 use Rattle.fr_log.specs.View.{LogView}
 use Rattle.fr_course.specs.Readings.{reading_scale}
 use Rattle.fr_course.specs.declared.stamps.Delays.{Delays}

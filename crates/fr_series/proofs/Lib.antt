@@ -6,13 +6,13 @@ pub mod Following
 pub mod Doubles
 pub mod SeriesRows
 pub mod Worlds
-pub mod CheckGaps
-pub mod SharpCovering
 pub mod SharpDecided
 pub mod SharpFollowing
-pub mod SharpStaying
 pub mod SharpWorlds
-pub mod SharpFigures
+pub mod SharpStaying
+pub mod Courses
+pub mod Keeping
+pub mod SharpFound
 pub mod SharpPlaces
 pub mod SeriesFigures
 pub mod Stops

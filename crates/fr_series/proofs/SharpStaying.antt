@@ -1,6 +1,6 @@
 -- A run that is sharply covered keeps the sharper precision from its first double cycle in sharp sync on, and its series says so.
 use Rattle.std.proofs.Common.{◌≡◌, ◌⊎◌, inl, inr, List, ℕ, zero, suc, ◌+◌, ◌-◌, ◌*◌, ◌/◌, ◌%◌, ◌==◌, ◌<◌, ◌≤◌, ℤ, pos, Bool, true, false, [], ◌∷◌, length, Option, Some, None, refl, ap, sym, ◌∙◌, subst, arith}
-use Rattle.std.specs.Prelude.{◌≤ℤ◌, nat_lt, int_lt, is_none, unwrap_or, IfSome, if◌then◌else◌}
+use Rattle.std.specs.Prelude.{◌≤ℤ◌, nat_lt, int_lt, is_none, unwrap_or, IfSome, if◌then◌else◌, unwrap_or}
 use Rattle.std.specs.Option.{option_map, option_or}
 use Rattle.std.proofs.lemmas.List.{length-map}
 use Rattle.fr_cluster.specs.Sane.{IsSane}
@@ -8,8 +8,8 @@ use Rattle.fr_cluster.specs.Values.{Values, amount}
 use Rattle.fr_cluster.specs.declared.names.ParamName.TheVariants as name
 use Rattle.fr_coverage.specs.Coverage.{some_join}
 use Rattle.fr_coverage.specs.Decided.{setting_of}
-use Rattle.fr_coverage.specs.Flutter.{flutter_of}
-use Rattle.fr_coverage.specs.Order.{FindsGapOfRun}
+use Rattle.fr_coverage.specs.Flutter.{flutter_from}
+use Rattle.fr_coverage.specs.Order.{FindsGapFrom}
 use Rattle.fr_coverage.specs.declared.gap.Gap.{Gap}
 use Rattle.fr_drift.specs.Questions.{doubles_of}
 use Rattle.fr_drift.specs.View.{DriftView}
@@ -31,18 +31,19 @@ use Rattle.fr_promise.specs.JoinedHistories.{first_rates_last}
 use Rattle.fr_bound.specs.SharpBounds.{sharp_precision}
 use Rattle.fr_sharp.specs.SharpFiles.{CoveredFilesKeepSharply}
 use Rattle.fr_sharp.specs.SharpStatement.{has_arbitrary, KeepsSharply}
-use Rattle.fr_promise.specs.SharpTested.{IsFirstSharpSync, first_sharp_sync_of, is_in_sharp_sync, sharp_sync_bounds_of}
+use Rattle.fr_promise.specs.SharpTested.{IsFirstSharpSyncBy, first_sharp_sync_by, sharp_sync_bounds_of}
 use Rattle.fr_promise.proofs.FirstRates.{first_rates_last_so}
-use Rattle.fr_promise.proofs.FreeLemmas.{first_sharp_sync_is, first_sharp_sync_is_one, never_sharp_sync}
-use Rattle.fr_series.specs.Basis.{basis_of, sharp_figures_of, sharp_held}
-use Rattle.fr_series.specs.Figures.{DoubleTest, above_from, figures_by}
+use Rattle.fr_promise.proofs.FreeLemmas.{first_sharp_sync_by_is, first_sharp_sync_is_one, never_sharp_sync}
+use Rattle.fr_series.specs.Basis.{basis_of, first_sharp_of, scale_from, sharp_figures_of, sharp_held}
+use Rattle.fr_series.specs.Figures.{above_from, above_since, greatest_since}
 use Rattle.fr_series.specs.Scale.{above_at, first_above}
 use Rattle.fr_series.specs.SharpAnswer.{FitsToJoin, KeepsAndTells, TellsSharply}
-use Rattle.fr_series.specs.SharpCovered.{first_sharp_gap, IsCoveredSharply}
+use Rattle.fr_sharp.specs.SharpCovered.{first_sharp_gap, IsCoveredSharply}
 use Rattle.fr_series.specs.SharpText.{sharp_within_text}
 use Rattle.fr_series.specs.declared.scale.Scale.{Scale}
+use Rattle.fr_series.specs.declared.tally.SharpFigures.{SharpFigures}
 use Rattle.fr_series.proofs.Above.{none_above}
-use Rattle.fr_series.proofs.SharpCovering.{no_sharp_gap}
+use Rattle.fr_sharp.proofs.SharpCovering.{no_sharp_gap}
 
 -- ---- where the skew is above a limit
 
@@ -170,9 +171,20 @@ none_late : (upto long : ℕ) (above : Option Peak) → long ≤ upto → ((peak
 none_late upto long None all late = refl
 none_late upto long (Some peak) all late = let is = late peak refl in let far = is.0 in let less = is.1 in absurd (omega (arith, all, far, less))
 
-tells_by : (p : Values) (bounds : SyncBounds) (limit : ℤ) (test : DoubleTest) (lasts : Option ℕ) (doubles first : ℕ) (h : Cycles) → length h ≡ 2 * doubles
-    → ((k : ℕ) → first ≤ k → k < doubles → IfSome lasts (λ held. k - first < held) → IsApart p limit h k) → TellsSharply lasts doubles first (figures_by (scale_by p bounds limit) test (Some first) h)
-tells_by p bounds limit test None doubles first h whole apart =
+-- the figures, where a double cycle is the first one in sharp sync
+abbrev told_at : Scale → Option Peak → ℕ → Cycles → SharpFigures
+told_at scale greatest first h = record { synced = Some first; greatest = greatest; above = above_since scale (told_of h) (Some first) }
+
+abbrev figures_at : Values → DriftView → ScriptView → Cycles → Option ℕ → SharpFigures
+figures_at p d s h found = record {
+  synced = found;
+  greatest = greatest_since (grid_for p) (told_of h) found;
+  above = above_since (scale_from p d s (unwrap_or found 0)) (told_of h) found;
+}
+
+tells_by : (p : Values) (bounds : SyncBounds) (limit : ℤ) (greatest : Option Peak) (lasts : Option ℕ) (doubles first : ℕ) (h : Cycles) → length h ≡ 2 * doubles
+    → ((k : ℕ) → first ≤ k → k < doubles → IfSome lasts (λ held. k - first < held) → IsApart p limit h k) → TellsSharply lasts doubles first (told_at (scale_by p bounds limit) greatest first h)
+tells_by p bounds limit greatest None doubles first h whole apart =
     let upto : ℕ = length h in
     let below : IsBelow p limit (2 * first) upto (told_of h) = below_by p limit first upto h (λ k low high in_h. apart k low (omega (arith, in_h, whole)) tt) in
     let long : length (told_of h) ≡ length h = length-map h (λ (c : Cycle). c.told) in
@@ -180,7 +192,7 @@ tells_by p bounds limit test None doubles first h whole apart =
     let late : (peak : Peak) → above ≡ Some peak → IsLate upto (length (told_of h)) peak = λ peak found. above_late p bounds limit (2 * first) upto (told_of h) peak below found in
     let none : above ≡ None = none_late upto (length (told_of h)) above (omega (arith, long)) late in
     record { within = λ all. ap (sharp_within_text (Some first)) none; late = λ peak found. tt }
-tells_by p bounds limit test (Some lasts) doubles first h whole apart =
+tells_by p bounds limit greatest (Some lasts) doubles first h whole apart =
     let upto : ℕ = 2 * (first + lasts) in
     let below : IsBelow p limit (2 * first) upto (told_of h) = below_by p limit first upto h (λ k low high in_h. apart k low (omega (arith, in_h, whole)) (omega (arith, high, low))) in
     let long : length (told_of h) ≡ length h = length-map h (λ (c : Cycle). c.told) in
@@ -191,15 +203,15 @@ tells_by p bounds limit test (Some lasts) doubles first h whole apart =
     }
 
 -- the first double cycle in sharp sync is the one that is found
-found_is : (beside : Bool) (p : Values) (flutter : ℕ) (h : Cycles) (first : ℕ) → IsFirstSharpSync beside p flutter h first → (found : Option ℕ) → first_sharp_sync_of beside p flutter h ≡ found
-    → first_sharp_sync_of beside p flutter h ≡ Some first
+found_is : (beside : Bool) (p : Values) (flutter : ℕ → ℕ) (h : Cycles) (first : ℕ) → IsFirstSharpSyncBy beside p flutter h first → (found : Option ℕ) → first_sharp_sync_by beside p flutter h ≡ found
+    → first_sharp_sync_by beside p flutter h ≡ Some first
 found_is beside p flutter h first at None is = absurd (never_sharp_sync beside p flutter h is first at.unfollowed)
 found_is beside p flutter h first at (Some other) is =
-    is ∙ ap (λ (k : ℕ). Some k) (first_sharp_sync_is_one beside p flutter h other first (first_sharp_sync_is beside p flutter h other is) at)
+    is ∙ ap (λ (k : ℕ). Some k) (first_sharp_sync_is_one beside p flutter h other first (first_sharp_sync_by_is beside p flutter h other is) at)
 
 -- in which double cycles since then the skew is not above the sharper precision, where no node joins and where one does
-apart_alone : (p : Values) (d : DriftView) (s : ScriptView) (h : Cycles) (first : ℕ) → KeepsSharply (has_arbitrary p s) (setting_of p d s) (flutter_of p d s) h first
-    → (k : ℕ) → first ≤ k → k < doubles_of d → IfSome (sync_lasts p (flutter_of p d s)) (λ held. k - first < held) → IsApart p (pos (sharp_precision (has_arbitrary p s) p (flutter_of p d s))) h k
+apart_alone : (p : Values) (d : DriftView) (s : ScriptView) (h : Cycles) (first : ℕ) → KeepsSharply (has_arbitrary p s) (setting_of p d s) (flutter_from p d s first) h first
+    → (k : ℕ) → first ≤ k → k < doubles_of d → IfSome (sync_lasts p (flutter_from p d s first)) (λ held. k - first < held) → IsApart p (pos (sharp_precision (has_arbitrary p s) p (flutter_from p d s first))) h k
 apart_alone p d s h first kept k low high held =
     let near = kept.keeps k low high held in
     record { even = λ macrotick in_cycle. near.skew macrotick false in_cycle; odd = λ macrotick in_cycle. near.skew macrotick true in_cycle }
@@ -209,10 +221,10 @@ earlier_lasts : (lasts : Option ℕ) (m n : ℕ) → m ≤ n → IfSome lasts (�
 earlier_lasts None m n less held = tt
 earlier_lasts (Some many) m n less held = omega (arith, less, held)
 
-apart_joined : (p : Values) (d : DriftView) (s : ScriptView) (h : Cycles) (first : ℕ) → KeepsSharplyJoined (has_arbitrary p s) (setting_of p d s) (flutter_of p d s) h first
-    → (k : ℕ) → first ≤ k → k < doubles_of d → IfSome (first_rates_last p (flutter_of p d s)) (λ held. k - first < held) → IsApart p (pos (sharp_precision (has_arbitrary p s) p (flutter_of p d s))) h k
+apart_joined : (p : Values) (d : DriftView) (s : ScriptView) (h : Cycles) (first : ℕ) → KeepsSharplyJoined (has_arbitrary p s) (setting_of p d s) (flutter_from p d s first) h first
+    → (k : ℕ) → first ≤ k → k < doubles_of d → IfSome (first_rates_last p (flutter_from p d s first)) (λ held. k - first < held) → IsApart p (pos (sharp_precision (has_arbitrary p s) p (flutter_from p d s first))) h k
 apart_joined p d s h first kept k low high held =
-    let flutter : ℕ = flutter_of p d s in
+    let flutter : ℕ = flutter_from p d s first in
     let passed : ℕ = k - first in
     let same : first + passed ≡ k = omega (arith, low) in
     let last = λ (m : ℕ) (most : m ≤ passed). (first_rates_last_so p flutter m).1 (earlier_lasts (first_rates_last p flutter) m passed most held) in
@@ -222,47 +234,47 @@ apart_joined p d s h first kept k low high held =
     subst At same (record { even = λ macrotick in_cycle. near.skew macrotick false in_cycle; odd = λ macrotick in_cycle. near.skew macrotick true in_cycle })
 
 -- what is told, for any number of double cycles for which it is so
-told_for : (p : Values) (d : DriftView) (s : ScriptView) (h : Cycles) (first : ℕ) (lasts : Option ℕ) → length h ≡ 2 * doubles_of d → IsFirstSharpSync (has_arbitrary p s) p (flutter_of p d s) h first
-    → ((k : ℕ) → first ≤ k → k < doubles_of d → IfSome lasts (λ held. k - first < held) → IsApart p (pos (sharp_precision (has_arbitrary p s) p (flutter_of p d s))) h k)
-    → TellsSharply lasts (doubles_of d) first (sharp_figures_of (has_arbitrary p s) p (flutter_of p d s) h)
+told_for : (p : Values) (d : DriftView) (s : ScriptView) (h : Cycles) (first : ℕ) (lasts : Option ℕ) → length h ≡ 2 * doubles_of d
+    → IsFirstSharpSyncBy (has_arbitrary p s) p (flutter_from p d s) h first
+    → ((k : ℕ) → first ≤ k → k < doubles_of d → IfSome lasts (λ held. k - first < held) → IsApart p (pos (sharp_precision (has_arbitrary p s) p (flutter_from p d s first))) h k)
+    → TellsSharply lasts (doubles_of d) first (sharp_figures_of p d s h)
 told_for p d s h first lasts whole at apart =
     let beside : Bool = has_arbitrary p s in
-    let flutter : ℕ = flutter_of p d s in
+    let flutter : ℕ = flutter_from p d s first in
     let limit : ℤ = pos (sharp_precision beside p flutter) in
     let bounds : SyncBounds = sharp_sync_bounds_of beside p flutter in
-    let test : DoubleTest = is_in_sharp_sync beside p flutter in
-    let P : Option ℕ → Type 0 = λ found. TellsSharply lasts (doubles_of d) first (figures_by (scale_by p bounds limit) test found h) in
-    let is : first_sharp_sync_of beside p flutter h ≡ Some first = found_is beside p flutter h first at (first_sharp_sync_of beside p flutter h) refl in
-    subst P (sym is) (tells_by p bounds limit test lasts (doubles_of d) first h whole apart)
+    let P : Option ℕ → Type 0 = λ found. TellsSharply lasts (doubles_of d) first (figures_at p d s h found) in
+    let is : first_sharp_of p d s h ≡ Some first = found_is beside p (flutter_from p d s) h first at (first_sharp_of p d s h) refl in
+    subst P (sym is) (tells_by p bounds limit (greatest_since (grid_for p) (told_of h) (Some first)) lasts (doubles_of d) first h whole apart)
 
 pub stays_sharp : CoveredFilesKeepSharply → CoveredFilesKeepSharplyJoined → (p : Values) (d : DriftView) (s : ScriptView) (h : Cycles) (first : ℕ) → IsSane p → FitsToJoin p d s
-    → FindsGapOfRun p d s → IsCoveredSharply p d s (flutter_of p d s)
-    → IsLawful (setting_of p d s) h → length h ≡ 2 * doubles_of d → IsFirstSharpSync (has_arbitrary p s) p (flutter_of p d s) h first → KeepsAndTells p d s h first
+    → FindsGapFrom p d s first → IsCoveredSharply p d s first (flutter_from p d s first)
+    → IsLawful (setting_of p d s) h → length h ≡ 2 * doubles_of d → IsFirstSharpSyncBy (has_arbitrary p s) p (flutter_from p d s) h first → KeepsAndTells p d s h first
 stays_sharp keeps joined p d s h first sane fits finds covered lawful whole at =
     record { keeps = alone_keeps; joined = joined_keeps; tells = by (some_join p s) refl }
   where
-    alone_keeps : some_join p s ≡ false → KeepsSharply (has_arbitrary p s) (setting_of p d s) (flutter_of p d s) h first
-    alone_keeps none = keeps p d s (flutter_of p d s) h first sane (covered.alone none) (record { lawful = lawful; whole = whole }) at.unfollowed.synced
+    alone_keeps : some_join p s ≡ false → KeepsSharply (has_arbitrary p s) (setting_of p d s) (flutter_from p d s first) h first
+    alone_keeps none = keeps p d s first (flutter_from p d s first) h first sane (covered.alone none) (record { lawful = lawful; whole = whole }) (omega arith) at.unfollowed.synced
 
-    joined_keeps : some_join p s ≡ true → KeepsSharplyJoined (has_arbitrary p s) (setting_of p d s) (flutter_of p d s) h first
-    joined_keeps some = joined p d s (flutter_of p d s) h first sane (fits some).0 (fits some).1 (covered.joined some) (record { lawful = lawful; whole = whole }) at.unfollowed
+    joined_keeps : some_join p s ≡ true → KeepsSharplyJoined (has_arbitrary p s) (setting_of p d s) (flutter_from p d s first) h first
+    joined_keeps some = joined p d s first (flutter_from p d s first) h first sane (fits some).0 (fits some).1 (covered.joined some) (record { lawful = lawful; whole = whole }) (omega arith) at.unfollowed
 
-    found : is_none (first_sharp_gap p d s (flutter_of p d s)) ≡ true
-    found = ap (λ (gap : Option Gap). is_none gap) (no_sharp_gap p d s (flutter_of p d s) sane finds covered)
+    found : is_none (first_sharp_gap p d s first (flutter_from p d s first)) ≡ true
+    found = ap (λ (gap : Option Gap). is_none gap) (no_sharp_gap p d s first (flutter_from p d s first) sane finds covered)
 
-    by : (joins : Bool) → some_join p s ≡ joins → TellsSharply (basis_of p d s).lasts (doubles_of d) first (sharp_figures_of (has_arbitrary p s) p (flutter_of p d s) h)
+    by : (joins : Bool) → some_join p s ≡ joins → TellsSharply (basis_of p d s first).lasts (doubles_of d) first (sharp_figures_of p d s h)
     by false none =
         let beside : Bool = has_arbitrary p s in
-        let flutter : ℕ = flutter_of p d s in
-        let T : Option ℕ → Type 0 = λ lasts. TellsSharply lasts (doubles_of d) first (sharp_figures_of beside p flutter h) in
-        let held : (basis_of p d s).lasts ≡ sync_lasts p flutter =
-        ap (λ (b : Bool). sharp_held b (is_none (first_sharp_gap p d s flutter)) beside p flutter) none
+        let flutter : ℕ = flutter_from p d s first in
+        let T : Option ℕ → Type 0 = λ lasts. TellsSharply lasts (doubles_of d) first (sharp_figures_of p d s h) in
+        let held : (basis_of p d s first).lasts ≡ sync_lasts p flutter =
+        ap (λ (b : Bool). sharp_held b (is_none (first_sharp_gap p d s first flutter)) beside p flutter) none
         ∙ ap (λ (b : Bool). sharp_held false b beside p flutter) found
         ∙ ap (λ (holds : Bool). if holds then sync_lasts p flutter else Some 0) ((covered.alone none).checks 2 (omega arith) (omega arith)) in
         subst T (sym held) (told_for p d s h first (sync_lasts p flutter) whole at (apart_alone p d s h first (alone_keeps none)))
     by true some =
         let beside : Bool = has_arbitrary p s in
-        let flutter : ℕ = flutter_of p d s in
-        let T : Option ℕ → Type 0 = λ lasts. TellsSharply lasts (doubles_of d) first (sharp_figures_of beside p flutter h) in
-        let held : (basis_of p d s).lasts ≡ first_rates_last p flutter = ap (λ (b : Bool). sharp_held b (is_none (first_sharp_gap p d s flutter)) beside p flutter) some in
+        let flutter : ℕ = flutter_from p d s first in
+        let T : Option ℕ → Type 0 = λ lasts. TellsSharply lasts (doubles_of d) first (sharp_figures_of p d s h) in
+        let held : (basis_of p d s first).lasts ≡ first_rates_last p flutter = ap (λ (b : Bool). sharp_held b (is_none (first_sharp_gap p d s first flutter)) beside p flutter) some in
         subst T (sym held) (told_for p d s h first (first_rates_last p flutter) whole at (apart_joined p d s h first (joined_keeps some)))

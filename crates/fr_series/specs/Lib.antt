@@ -8,7 +8,6 @@ pub mod Writing
 pub mod SeriesMeaning
 pub mod Basis
 pub mod SharpAnswer
-pub mod SharpCovered
 pub mod SharpLosses
 pub mod SharpMeaning
 pub mod SharpText

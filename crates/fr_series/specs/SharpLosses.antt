@@ -1,23 +1,26 @@
 -- What a sharper series tells of what a run loses, and what that means.
-use Rattle.std.specs.Prelude.{◌≡◌, ◌↔◌, ◌+◌, ◌<◌, ℕ, pos, Bool, true, false, List, ◌++◌, codes, Option, Some, None, if◌then◌else◌}
+use Rattle.std.specs.Prelude.{◌≡◌, ◌↔◌, ◌+◌, ◌-◌, ◌<◌, ◌≤◌, ℕ, pos, Bool, true, false, List, ◌++◌, codes, Option, Some, None, if◌then◌else◌}
 use Rattle.std.specs.Fmt.{decimal}
 use Rattle.fr_cluster.specs.Values.{Values}
-use Rattle.fr_coverage.specs.Coverage.{gap_of_run}
+use Rattle.fr_coverage.specs.Coverage.{gap_from}
 use Rattle.fr_coverage.specs.Decided.{setting_of}
-use Rattle.fr_coverage.specs.Flutter.{flutter_of}
+use Rattle.fr_coverage.specs.Flutter.{flutter_from}
 use Rattle.fr_drift.specs.Questions.{doubles_of}
 use Rattle.fr_drift.specs.View.{DriftView}
 use Rattle.fr_script.specs.View.{ScriptView}
 use Rattle.fr_history.specs.Cycles.{Cycles}
 use Rattle.fr_bound.specs.declared.judging.Heard.{Heard}
 use Rattle.fr_bound.specs.declared.judging.Heard.TheVariants as heard
-use Rattle.fr_precision.specs.Among.{apart_through_losses}
+use Rattle.fr_bound.specs.SharpBounds.{most_flutter}
+use Rattle.fr_sharp.specs.LossSteps.{LossDouble}
+use Rattle.fr_sharp.specs.Bearing.{KeepsThrough}
 use Rattle.fr_sharp.specs.LossRuns.{is_through_losses, losses_of, AreLosses}
-use Rattle.fr_sharp.specs.LossStatement.{run_apart, whole_in, IsCoveredThroughLosses}
-use Rattle.fr_runs.specs.SharpHistories.{IsInSharpSyncAt, KeepsApart}
+use Rattle.fr_sharp.specs.LossStatement.{run_apart, run_spread, whole_in, IsCoveredThroughLosses}
+use Rattle.fr_runs.specs.SharpHistories.{IsInSharpSyncAt}
 use Rattle.fr_precision.specs.SharpRun.{WalkLastsAfter}
 use Rattle.fr_sharp.specs.SharpStatement.{has_arbitrary}
-use Rattle.fr_sharp.specs.Traffic.{all_trusted, heard_in, traffic_in}
+use Rattle.fr_sharp.specs.Traffic.{all_bear_from, heard_in, none_lacks, traffic_in}
+use Rattle.fr_series.specs.Basis.{basis_of}
 use Rattle.fr_series.specs.declared.basis.Basis.{Basis}
 use Rattle.fr_series.specs.declared.kept.Kept.{Kept}
 
@@ -27,13 +30,38 @@ use Rattle.fr_series.specs.declared.kept.Kept.{Kept}
 abbrev pub bound_of : Bool → ℕ → Option ℕ
 bound_of through apart = if through then Some apart else None
 
--- whether all is heard in a double cycle, what is heard in it, and its number by what was heard since the first
-abbrev pub kept_by : Values → ScriptView → Basis → ℕ → Kept
-kept_by p s basis double = record {
+-- by what was heard since the first double cycle in sharp sync, if there is one up to it
+abbrev pub bound_since : Values → DriftView → ScriptView → Option ℕ → ℕ → Option ℕ
+bound_since p d s None double = None
+bound_since p d s (Some first) double =
+    bound_of (basis_of p d s first).through (run_apart p s first (flutter_from p d s first) double)
+
+-- whether all is heard in a double cycle, what is heard in it, and its number
+abbrev pub kept_by : Values → DriftView → ScriptView → Option ℕ → ℕ → Kept
+kept_by p d s synced double = record {
   whole = whole_in p s double;
   heard = heard_in (traffic_in p s) double;
-  bound = bound_of basis.through (apart_through_losses (has_arbitrary p s) p basis.flutter (heard_in (traffic_in p s)) double);
+  bound = bound_since p d s synced double;
 }
+
+-- ---- the same, one double cycle after another
+
+-- from which double cycle on a run is asked, if it is
+abbrev pub from_of : Option Basis → Option ℕ
+from_of None = None
+from_of (Some basis) = Some basis.from
+
+-- what it rests on from there on is held, with how far clocks may lie apart in a double cycle by what was heard since
+pub record IsHeldBy (p : Values) (d : DriftView) (s : ScriptView) (double : ℕ) (basis : Basis) (spread : LossDouble) : Type 0 where
+  pub is : basis ≡ basis_of p d s basis.from
+  pub most : basis.flutter ≤ most_flutter
+  pub low : basis.from ≤ double
+  pub passed : spread.passed ≡ double - basis.from
+  pub apart : spread.spread ≡ run_spread p s basis.from basis.flutter double
+
+abbrev pub IsHeldSince : Values → DriftView → ScriptView → ℕ → Option Basis → LossDouble → Type 0
+IsHeldSince p d s double None spread = Unit {0}
+IsHeldSince p d s double (Some basis) spread = IsHeldBy p d s double basis spread
 
 -- ---- the texts
 
@@ -70,19 +98,20 @@ lost_text basis =
 
 -- ---- what they mean
 
--- of a run with its own flutter: what it loses means what it is called; a bound is told exactly where it is covered through losses; and
--- then, from each double cycle in sharp sync on and as long as the walk lasts, no macroticks lie further apart than by the number of
--- their double cycle, nor than the greatest of these, no term is cut or missing, and every correct node is active
-pub record TellsLosses (p : Values) (d : DriftView) (s : ScriptView) (h : Cycles) : Type 0 where
+-- of a run from a double cycle on, with its own flutter: what it loses means what it is called; a bound is told exactly where it is
+-- covered through losses; and then, from each double cycle in sharp sync on in which no node lacks values and as long as the walk lasts,
+-- no macroticks lie further apart than by the number of their double cycle, nor than the greatest of these, no term is cut, none is
+-- missing but where a node has no value of its kind, and every correct node is active
+pub record TellsLosses (p : Values) (d : DriftView) (s : ScriptView) (from : ℕ) (h : Cycles) : Type 0 where
   pub lost :
-      AreLosses (has_arbitrary p s) p (flutter_of p d s) (whole_in p s) (heard_in (traffic_in p s)) (all_trusted (traffic_in p s)) (doubles_of d)
-      (losses_of p d s (flutter_of p d s))
+      AreLosses (has_arbitrary p s) p from (flutter_from p d s from) (whole_in p s) (heard_in (traffic_in p s)) (all_bear_from p (traffic_in p s) from)
+      (doubles_of d) (losses_of p d s from (flutter_from p d s from))
   pub through :
-      is_through_losses p s (flutter_of p d s) (gap_of_run p d s) (losses_of p d s (flutter_of p d s)) ≡ true
-      ↔ IsCoveredThroughLosses p d s (flutter_of p d s) (losses_of p d s (flutter_of p d s)).reach
+      is_through_losses p s (flutter_from p d s from) (gap_from p d s from) (losses_of p d s from (flutter_from p d s from)) ≡ true
+      ↔ IsCoveredThroughLosses p d s from (flutter_from p d s from) (losses_of p d s from (flutter_from p d s from)).reach
   pub keeps :
-      IsCoveredThroughLosses p d s (flutter_of p d s) (losses_of p d s (flutter_of p d s)).reach → (double passed : ℕ)
-      → IsInSharpSyncAt (has_arbitrary p s) p (flutter_of p d s) (pos 0) h double → double + passed < doubles_of d
-      → WalkLastsAfter p (flutter_of p d s) passed
-      → KeepsApart (setting_of p d s) h (double + passed) (run_apart p s (flutter_of p d s) (double + passed))
-      × KeepsApart (setting_of p d s) h (double + passed) (losses_of p d s (flutter_of p d s)).peak
+      IsCoveredThroughLosses p d s from (flutter_from p d s from) (losses_of p d s from (flutter_from p d s from)).reach → (double passed : ℕ)
+      → from ≤ double → IsInSharpSyncAt (has_arbitrary p s) p (flutter_from p d s from) (pos 0) h double → none_lacks (traffic_in p s) double ≡ true
+      → double + passed < doubles_of d → WalkLastsAfter p (flutter_from p d s from) passed
+      → KeepsThrough (setting_of p d s) h (double + passed) (run_apart p s from (flutter_from p d s from) (double + passed))
+      × KeepsThrough (setting_of p d s) h (double + passed) (losses_of p d s from (flutter_from p d s from)).peak

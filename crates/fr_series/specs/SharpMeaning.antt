@@ -1,10 +1,10 @@
 -- What the figures of a sharper series mean, as facts about the files and about the cycles of the run, beside the search for them.
-use Rattle.std.specs.Prelude.{◌≡◌, ◌≢◌, ◌⊎◌, ℕ, ◌<◌, ◌≤◌, ℤ, pos, ◌<ℤ◌, ◌≤ℤ◌, Bool, true, length, Option, Some, None}
+use Rattle.std.specs.Prelude.{◌≡◌, ◌≢◌, ◌⊎◌, ℕ, ◌<◌, ◌≤◌, ℤ, pos, ◌<ℤ◌, ◌≤ℤ◌, Bool, true, length, Option, Some, None, unwrap_or}
 use Rattle.fr_cluster.specs.Values.{Values, amount}
 use Rattle.fr_cluster.specs.declared.names.ParamName.TheVariants as name
 use Rattle.fr_coverage.specs.Coverage.{some_join}
-use Rattle.fr_coverage.specs.Flutter.{flutter_of, IsFlutterOf}
-use Rattle.fr_coverage.specs.Order.{IsFirstGapOfRun}
+use Rattle.fr_coverage.specs.Flutter.{flutter_from, fluttering_from, IsFlutterOf, TellsFluttering}
+use Rattle.fr_coverage.specs.Order.{IsFirstGapFrom}
 use Rattle.fr_coverage.specs.declared.gap.Gap.{Gap}
 use Rattle.fr_drift.specs.Questions.{doubles_of}
 use Rattle.fr_drift.specs.View.{DriftView}
@@ -18,11 +18,11 @@ use Rattle.fr_bound.specs.SharpBounds.{sharp_near, sharp_precision}
 use Rattle.fr_bound.specs.SharpChecks.{FirstSharpFailing, SharpChecksHold}
 use Rattle.fr_promise.specs.SharpJoining.{FirstSharpJoinFailing, SharpJoinChecksHold}
 use Rattle.fr_sharp.specs.SharpStatement.{has_arbitrary}
-use Rattle.fr_promise.specs.SharpTested.{IsFirstSharpSync, IsUnfollowedSharpSyncAt}
-use Rattle.fr_series.specs.Basis.{sharp_figures_of}
-use Rattle.fr_series.specs.SharpCovered.{failed_sharp, failed_sharp_join, first_sharp_gap, IsCoveredSharply}
+use Rattle.fr_promise.specs.SharpTested.{IsFirstSharpSyncBy, IsUnfollowedSharpSyncAt}
+use Rattle.fr_series.specs.Basis.{asked_from, sharp_figures_of}
+use Rattle.fr_sharp.specs.SharpCovered.{failed_sharp, failed_sharp_join, first_sharp_gap, IsCoveredSharply}
 use Rattle.fr_series.specs.SharpLosses.{TellsLosses}
-use Rattle.fr_series.specs.declared.figures.Figures.{Figures}
+use Rattle.fr_series.specs.declared.tally.SharpFigures.{SharpFigures}
 
 -- ---- why a run is not sharply covered
 
@@ -40,28 +40,29 @@ pub record IsSharpJoinGap (p : Values) (d : DriftView) (s : ScriptView) (flutter
   pub failing : FirstSharpJoinFailing number (has_arbitrary p s) flutter p
   pub told : gap ≡ failed_sharp_join (has_arbitrary p s) p flutter number
 
--- the checks that are asked hold, and it is the first gap of the run itself
-pub record IsSharpRunGap (p : Values) (d : DriftView) (s : ScriptView) (flutter : ℕ) (gap : Gap) : Type 0 where
+-- the checks that are asked hold, and it is the first gap of the run from a double cycle on
+pub record IsSharpRunGap (p : Values) (d : DriftView) (s : ScriptView) (from flutter : ℕ) (gap : Gap) : Type 0 where
   pub checks : SharpChecksHold flutter (sharp_near (has_arbitrary p s) p flutter) p
   pub to_join : some_join p s ≡ true → SharpJoinChecksHold (has_arbitrary p s) flutter p
-  pub first : IsFirstGapOfRun p d s gap
+  pub first : IsFirstGapFrom p d s from gap
 
 -- a check fails, one of nodes that join does where one does, or the run itself has a gap
-abbrev pub IsFirstSharpGap : Values → DriftView → ScriptView → ℕ → Gap → Type 0
-IsFirstSharpGap p d s flutter gap =
-    IsSharpCheckGap p d s flutter gap ⊎ IsSharpJoinGap p d s flutter gap ⊎ IsSharpRunGap p d s flutter gap
+abbrev pub IsFirstSharpGap : Values → DriftView → ScriptView → ℕ → ℕ → Gap → Type 0
+IsFirstSharpGap p d s from flutter gap =
+    IsSharpCheckGap p d s flutter gap ⊎ IsSharpJoinGap p d s flutter gap ⊎ IsSharpRunGap p d s from flutter gap
 
 -- what is said where a gap is named, and where none is
-abbrev pub IsSharpGapFound : Values → DriftView → ScriptView → ℕ → Option Gap → Type 0
-IsSharpGapFound p d s flutter None = IsCoveredSharply p d s flutter
-IsSharpGapFound p d s flutter (Some gap) = IsFirstSharpGap p d s flutter gap
+abbrev pub IsSharpGapFound : Values → DriftView → ScriptView → ℕ → ℕ → Option Gap → Type 0
+IsSharpGapFound p d s from flutter None = IsCoveredSharply p d s from flutter
+IsSharpGapFound p d s from flutter (Some gap) = IsFirstSharpGap p d s from flutter gap
 
 -- ---- sharp sync
 
--- what is said where a double cycle in sharp sync is named, and where none is: one in which no node follows
-abbrev pub IsSharpSyncFound : Bool → Values → ℕ → Cycles → Option ℕ → Type 0
-IsSharpSyncFound beside p flutter h None = (double : ℕ) → IsUnfollowedSharpSyncAt beside p flutter h double → ⊥
-IsSharpSyncFound beside p flutter h (Some double) = IsFirstSharpSync beside p flutter h double
+-- what is said where a double cycle in sharp sync is named, and where none is: one in which no node follows, by the numbers for the
+-- flutter from it on
+abbrev pub IsSharpSyncFound : Bool → Values → (ℕ → ℕ) → Cycles → Option ℕ → Type 0
+IsSharpSyncFound beside p flutter h None = (double : ℕ) → IsUnfollowedSharpSyncAt beside p (flutter double) h double → ⊥
+IsSharpSyncFound beside p flutter h (Some double) = IsFirstSharpSyncBy beside p flutter h double
 
 -- ---- the skew since then
 
@@ -105,20 +106,25 @@ IsAboveSince p h limit (Some double) (Some place) = IsFirstSkewAbove p h (even_c
 -- ---- all of them
 
 -- what the figures of sharp sync mean: the first double cycle in which no node follows, the greatest skew since then with its first
--- place, and the first place at which it is above the sharper precision
-pub record AreSharpFiguresOf (beside : Bool) (p : Values) (flutter : ℕ) (h : Cycles) (figures : Figures) : Type 0 where
-  pub synced : IsSharpSyncFound beside p flutter h figures.synced
+-- place, and the first place at which it is above the sharper precision for the flutter from there on
+pub record AreSharpFiguresOf (p : Values) (d : DriftView) (s : ScriptView) (h : Cycles) (figures : SharpFigures) : Type 0 where
+  pub synced : IsSharpSyncFound (has_arbitrary p s) p (flutter_from p d s) h figures.synced
   pub greatest : IsGreatestSince p (told_of h) figures.synced figures.greatest
-  pub above : IsAboveSince p (told_of h) (pos (sharp_precision beside p flutter)) figures.synced figures.above
+  pub above :
+      IsAboveSince p (told_of h) (pos (sharp_precision (has_arbitrary p s) p (flutter_from p d s (unwrap_or figures.synced 0))))
+      figures.synced figures.above
 
--- what a sharper series tells of a run: its flutter, why it is not sharply covered, the figures of sharp sync, and what it loses; an
--- accepted drift file has one double cycle or more
+-- what a sharper series tells of a run from its first double cycle in sharp sync on, and of all of it where there is none: its flutter
+-- with the place, why it is not sharply covered, the figures of sharp sync, and what it loses; an accepted drift file has one double
+-- cycle or more
 pub record AreSharpFigures (params : Values) (drift : DriftView) (script : ScriptView) (h : Cycles) : Type 0 where
-  pub flutter : IsFlutterOf params drift script (flutter_of params drift script)
+  pub flutter : IsFlutterOf params drift script (asked_from params drift script h) (flutter_from params drift script (asked_from params drift script h))
+  pub fluttering :
+      TellsFluttering params drift script (asked_from params drift script h)
+      (fluttering_from params drift script (asked_from params drift script h))
   pub gap :
-      IsSharpGapFound params drift script (flutter_of params drift script)
-      (first_sharp_gap params drift script (flutter_of params drift script))
-  pub sharp :
-      AreSharpFiguresOf (has_arbitrary params script) params (flutter_of params drift script) h
-      (sharp_figures_of (has_arbitrary params script) params (flutter_of params drift script) h)
-  pub losses : 1 ≤ doubles_of drift → TellsLosses params drift script h
+      IsSharpGapFound params drift script (asked_from params drift script h)
+      (flutter_from params drift script (asked_from params drift script h))
+      (first_sharp_gap params drift script (asked_from params drift script h) (flutter_from params drift script (asked_from params drift script h)))
+  pub sharp : AreSharpFiguresOf params drift script h (sharp_figures_of params drift script h)
+  pub losses : 1 ≤ doubles_of drift → TellsLosses params drift script (asked_from params drift script h) h

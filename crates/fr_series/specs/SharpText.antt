@@ -1,11 +1,14 @@
 -- The sharper series of a run as a text, line by line.
-use Rattle.std.specs.Prelude.{ℕ, ℤ, ◌+◌, ◌*◌, ◌/◌, Bool, true, false, List, [], ◌∷◌, ◌++◌, codes, length, Option, Some, None}
+use Rattle.std.specs.Prelude.{ℕ, ℤ, ◌+◌, ◌*◌, ◌/◌, Bool, true, false, List, [], ◌∷◌, ◌++◌, codes, length, Option, Some, None, unwrap_or}
 use Rattle.std.specs.Fmt.{decimal, signed_decimal}
+use Rattle.fr_base.specs.Channels.{letter}
 use Rattle.fr_base.specs.declared.node_row.NodeRow.{NodeRow}
 use Rattle.fr_bound.specs.Sync.{is_in_sync}
 use Rattle.fr_cluster.specs.Values.{Values}
 use Rattle.fr_coverage.specs.Decided.{setting_of}
+use Rattle.fr_coverage.specs.Flutter.{flutter_from}
 use Rattle.fr_coverage.specs.Phrases.{gap_text}
+use Rattle.fr_coverage.specs.declared.gap.Fluttering.{Fluttering}
 use Rattle.fr_coverage.specs.declared.gap.Gap.{Gap}
 use Rattle.fr_drift.specs.Questions.{doubles_of}
 use Rattle.fr_drift.specs.View.{DriftView}
@@ -13,12 +16,12 @@ use Rattle.fr_script.specs.View.{ScriptView}
 use Rattle.fr_time.specs.Position.{grid_for}
 use Rattle.fr_time.specs.declared.grid.Grid.{Grid}
 use Rattle.fr_skew.specs.declared.peak.Peak.{Peak}
-use Rattle.fr_history.specs.History.{History, Record}
-use Rattle.fr_history.specs.Cycles.{Cycles, told_of}
+use Rattle.fr_history.specs.Cycles.{Cycles}
 use Rattle.fr_history.specs.Next.{cycles_of}
 use Rattle.fr_text.specs.Pieces.{line}
 use Rattle.fr_promise.specs.SharpTested.{is_in_sharp_sync}
-use Rattle.fr_series.specs.Basis.{basis_of, tally_of}
+use Rattle.fr_sharp.specs.SharpStatement.{has_arbitrary}
+use Rattle.fr_series.specs.Basis.{asked_from, basis_of, first_sharp_of, tally_of}
 use Rattle.fr_series.specs.Scale.{peak_by}
 use Rattle.fr_series.specs.SharpLosses.{bound_or_none, hearing_text, kept_by, lost_text}
 use Rattle.fr_series.specs.SeriesText.{above_text, greatest_text, series_head, series_row, synced_text, within_text, yes_or_no}
@@ -42,23 +45,33 @@ sharp_double_by grid in_sync sharp kept cycle even odd =
     line (sharp_row cycle in_sync sharp kept (peak_by grid cycle even))
     ++ line (sharp_row (cycle + 1) in_sync sharp kept (peak_by grid (cycle + 1) odd))
 
-abbrev pub sharp_double_text : (ℕ → Kept) → Bool → Values → ℕ → ℕ → Record → Record → List ℕ
-sharp_double_text kept beside p flutter cycle even odd =
-    sharp_double_by (grid_for p) (is_in_sync p even.rows odd.rows) (is_in_sharp_sync beside p flutter even.rows odd.rows) (kept (cycle / 2))
-    cycle even.rows odd.rows
+-- by the first double cycle in sharp sync before a double cycle, and by the first one up to it: the numbers are those from that first
+-- one on, and else those from the double cycle itself on
+abbrev pub sharp_double_text : Values → DriftView → ScriptView → Option ℕ → Option ℕ → ℕ → List NodeRow → List NodeRow → List ℕ
+sharp_double_text p d s before synced double even odd =
+    sharp_double_by (grid_for p) (is_in_sync p even odd)
+    (is_in_sharp_sync (has_arbitrary p s) p (flutter_from p d s (unwrap_or before double)) even odd) (kept_by p d s synced double)
+    (2 * double) even odd
 
--- the cycles of a history of whole double cycles, by what each of these hears and keeps
-unfoldable pub sharp_rows : (ℕ → Kept) → Bool → Values → ℕ → History → List ℕ
-sharp_rows kept beside p flutter [] = []
-sharp_rows kept beside p flutter (r ∷ []) = []
-sharp_rows kept beside p flutter (odd ∷ even ∷ h) =
-    sharp_rows kept beside p flutter h ++ sharp_double_text kept beside p flutter (length h) even odd
+-- whole double cycles of a run
+unfoldable pub sharp_rows : Values → DriftView → ScriptView → Cycles → List ℕ
+sharp_rows p d s [] = []
+sharp_rows p d s (c ∷ []) = []
+sharp_rows p d s (odd ∷ even ∷ h) =
+    sharp_rows p d s h
+    ++ sharp_double_text p d s (first_sharp_of p d s h) (first_sharp_of p d s (odd ∷ even ∷ h)) (length h / 2) even.told.rows odd.told.rows
 
 -- ---- the lines at the end
 
--- the flutter of the run, in ticks
-abbrev pub flutter_text : ℕ → List ℕ
-flutter_text flutter = codes "flutter," ++ decimal flutter ++ codes ",,,"
+-- the flutter, in ticks, and its place: the last double cycle in which a delay flutters so, and the first such delay in it
+abbrev pub place_text : Fluttering → List ℕ
+place_text place =
+    codes "delay " ++ decimal place.sender ++ codes " " ++ decimal place.receiver ++ codes " " ++ letter place.channel ++ codes " "
+    ++ decimal place.double
+
+abbrev pub flutter_text : Option Fluttering → List ℕ
+flutter_text None = codes "flutter,0,,,"
+flutter_text (Some place) = codes "flutter," ++ decimal place.ticks ++ codes ",,," ++ place_text place
 
 -- the sharper precision, in ticks, and whether it is that beside arbitrary sync nodes
 abbrev pub beside_or_alone : Bool → List ℕ
@@ -101,22 +114,22 @@ older_end tally =
 
 unfoldable pub sharp_end : Basis → Tally → List ℕ
 sharp_end basis tally =
-    line (flutter_text basis.flutter)
-    ++ line (sharp_precision_text basis.scales.sharp.precision basis.beside)
+    line (flutter_text basis.fluttering)
+    ++ line (sharp_precision_text basis.precision basis.beside)
     ++ line (sharp_covered_text basis.gap)
     ++ line (sharp_synced_text tally.sharp.synced basis.lasts)
     ++ line (sharp_greatest_text tally.sharp.greatest)
     ++ line (sharp_within_text tally.sharp.synced tally.sharp.above)
     ++ line (lost_text basis)
 
--- the sharper series of some cycles
-unfoldable pub sharp_series_by : Values → ScriptView → Basis → Cycles → List ℕ
-sharp_series_by p s basis h =
+-- the sharper series of some cycles, with what it rests on from their first double cycle in sharp sync on
+unfoldable pub sharp_series_by : Values → DriftView → ScriptView → Cycles → List ℕ
+sharp_series_by p d s h =
     line sharp_head
-    ++ sharp_rows (kept_by p s basis) basis.beside p basis.flutter (told_of h)
-    ++ older_end (tally_of basis.beside p basis.flutter h)
-    ++ sharp_end basis (tally_of basis.beside p basis.flutter h)
+    ++ sharp_rows p d s h
+    ++ older_end (tally_of p d s h)
+    ++ sharp_end (basis_of p d s (asked_from p d s h)) (tally_of p d s h)
 
 -- that of the run of some parameters, a drift and a script, over all its cycles
 abbrev pub sharp_series_text : Values → DriftView → ScriptView → List ℕ
-sharp_series_text p d s = sharp_series_by p s (basis_of p d s) (cycles_of (setting_of p d s) (2 * doubles_of d))
+sharp_series_text p d s = sharp_series_by p d s (cycles_of (setting_of p d s) (2 * doubles_of d))

@@ -7,11 +7,8 @@ use Rattle.fr_history.specs.Cycles.{told_of}
 use Rattle.fr_history.specs.Next.{cycles_of}
 use Rattle.fr_text.specs.Pieces.{line}
 use Rattle.fr_world.specs.World.{WorldView, setting_after}
-use Rattle.fr_series.specs.Basis.{basis_of}
 use Rattle.fr_series.specs.SeriesText.{series_head, series_rows, series_text}
-use Rattle.fr_series.specs.SharpLosses.{kept_by}
 use Rattle.fr_series.specs.SharpText.{sharp_head, sharp_rows, sharp_series_text}
-use Rattle.fr_series.specs.declared.basis.Basis.{Basis}
 
 -- ---- a text with lines for each double cycle
 
@@ -62,11 +59,9 @@ abbrev pub SeriesEnds : Result (Unit {0}) PutFault → WorldView → WorldView �
 SeriesEnds result w after before now = WritingEnds (line series_head) (rows_before w) (series_text w.params w.drift w.script) result w after before now
 
 -- the same lines of a sharper series, and what became of the world whose sharper series is written
-abbrev pub sharp_rows_before : Basis → WorldView → ℕ → List ℕ
-sharp_rows_before basis w double =
-    sharp_rows (kept_by w.params w.script basis) basis.beside w.params basis.flutter (told_of (cycles_of (setting_after w) (2 * double)))
+abbrev pub sharp_rows_before : WorldView → ℕ → List ℕ
+sharp_rows_before w double = sharp_rows w.params w.drift w.script (cycles_of (setting_after w) (2 * double))
 
 abbrev pub SharpSeriesEnds : Result (Unit {0}) PutFault → WorldView → WorldView → Sunk → Sunk → Type 0
 SharpSeriesEnds result w after before now =
-    WritingEnds (line sharp_head) (sharp_rows_before (basis_of w.params w.drift w.script) w) (sharp_series_text w.params w.drift w.script)
-    result w after before now
+    WritingEnds (line sharp_head) (sharp_rows_before w) (sharp_series_text w.params w.drift w.script) result w after before now

@@ -1,35 +1,24 @@
-ghost use Rattle.std.specs.Prelude.{◌≡◌, ◌≤◌};
-ghost use Rattle.fr_series.specs.Basis.{basis_of, scales_of, sharp_held, sharp_scale_of, sync_held, AreScales};
-ghost use Rattle.fr_series.specs.Scale.{IsScale};
+ghost use Rattle.std.specs.Prelude.{◌≡◌, ◌≤◌, IfSome};
+ghost use Rattle.fr_coverage.specs.Flutter.{fluttering_from, ticks_of};
+ghost use Rattle.fr_series.specs.Basis.{basis_by, basis_of, sharp_held, sync_held};
 ghost use Rattle.fr_bound.specs.SharpBounds.{most_flutter};
-ghost use Rattle.fr_time.specs.Position.{grid_for};
 
-use crate::scale::Scale;
-use crate::sharp_covered::first_sharp_gap;
-use crate::through::is_through;
 use fr_bound::{sharp_bounds, sharp_side};
 use fr_cluster::Params;
-use fr_coverage::{Gap, flutter, some_join};
+use fr_coverage::{Fluttering, Gap, flutter, some_join, ticks_of};
 use fr_drift::Drift;
 use fr_promise::first_rates_last;
 use fr_script::Script;
-use fr_sharp::{has_arbitrary, lasts_by, run_losses};
-use fr_skew::{SyncBounds, sync_bounds};
-use fr_time::grid_of;
-
-/// The numbers of a cluster, and the sharper ones.
-#[derive(Clone, Copy, Debug, PartialEq, Eq)]
-pub struct Scales {
-    /// Those of the series.
-    pub older: Scale,
-    /// The sharper ones, beside arbitrary sync nodes or without, for the flutter of a run.
-    pub sharp: Scale,
-}
+use fr_sharp::{first_sharp_gap, has_arbitrary, is_through, lasts_by, run_losses};
 
 /// What a sharper series rests on, besides the cycles of its run.
 #[derive(Clone, Copy, Debug, PartialEq, Eq)]
 pub struct Basis {
-    /// How far delays differ between the two cycles of a double cycle of the run, in ticks, 0 to 1,000,000,000.
+    /// From which double cycle on it is asked.
+    pub from: u32,
+    /// Where delays differ most between the two cycles of a double cycle from there on, if they do.
+    pub fluttering: Option<Fluttering>,
+    /// By how many ticks, 0 to 1,000,000,000.
     pub flutter: u64,
     /// Whether some sync node is arbitrary.
     pub beside: bool,
@@ -49,34 +38,51 @@ pub struct Basis {
     pub peak: u128,
     /// The first such double cycle.
     pub place: u32,
-    /// What its double cycles and skews are held against.
-    pub scales: Scales,
+    /// The sharper precision, in ticks.
+    pub precision: i64,
 }
 
 impl Basis {
-    /// That of the run of some files.
-    pub fn of(params: &Params, drift: &Drift, script: &Script) -> Basis
-        ensures value { result ≡ basis_of params.now drift.now script.now }
-        ensures proper { AreScales (grid_for params.now) result.scales }
+    /// That of the run of some files from a double cycle on.
+    pub fn of(params: &Params, drift: &Drift, script: &Script, from: u32) -> Basis
+        ensures value { result ≡ basis_of params.now drift.now script.now from }
         ensures flutter { result.flutter ≤ most_flutter }
     {
-        let flutter = flutter(params, drift, script);
-        let beside = has_arbitrary(params, script);
-        let losses = run_losses(params, drift, script, flutter);
-        let gap = first_sharp_gap(params, drift, script, flutter);
-        let joins = some_join(&params.nodes, script);
-        Basis {
-            flutter,
-            beside,
-            lasts: sharp_held(params, joins, gap.is_none(), beside, flutter),
-            gap,
-            lost: losses.doubles,
-            last_lost: losses.last,
-            through: is_through(params, drift, script, flutter, &losses),
-            peak: losses.peak,
-            place: losses.place,
-            scales: scales_for(params, beside, flutter),
-        }
+        let place = flutter(params, drift, script, from);
+        basis_by(params, drift, script, from, place)
+    }
+}
+
+fn basis_by(
+    params: &Params,
+    drift: &Drift,
+    script: &Script,
+    from: u32,
+    place: Option<Fluttering>,
+) -> Basis
+    requires value { place ≡ fluttering_from params.now drift.now script.now from }
+    requires most { IfSome place (λ place. place.ticks ≤ 1_000_000_000) }
+    ensures value { result ≡ basis_by params.now drift.now script.now from (ticks_of place) }
+    ensures flutter { result.flutter ≤ most_flutter }
+{
+    let flutter = ticks_of(&place);
+    let beside = has_arbitrary(params, script);
+    let losses = run_losses(params, drift, script, from, flutter);
+    let gap = first_sharp_gap(params, drift, script, from, flutter);
+    let joins = some_join(&params.nodes, script);
+    Basis {
+        from,
+        fluttering: place,
+        flutter,
+        beside,
+        lasts: sharp_held(params, joins, gap.is_none(), beside, flutter),
+        gap,
+        lost: losses.doubles,
+        last_lost: losses.last,
+        through: is_through(params, drift, script, flutter, &losses, from),
+        peak: losses.peak,
+        place: losses.place,
+        precision: sharp_bounds(params, beside, flutter).precision,
     }
 }
 
@@ -105,36 +111,5 @@ fn sync_held(params: &Params, covered: bool, beside: bool, flutter: u64) -> Opti
         lasts_by(params, covered, flutter)
     } else {
         Some(0)
-    }
-}
-
-fn scales_for(params: &Params, beside: bool, flutter: u64) -> Scales
-    requires { flutter ≤ most_flutter }
-    ensures value { result ≡ scales_of beside params.now flutter }
-    ensures proper { AreScales (grid_for params.now) result }
-{
-    Scales {
-        older: Scale::of(params),
-        sharp: sharp_scale(params, beside, flutter),
-    }
-}
-
-fn sharp_scale(params: &Params, beside: bool, flutter: u64) -> Scale
-    requires { flutter ≤ most_flutter }
-    ensures value { result ≡ sharp_scale_of beside params.now flutter }
-    ensures proper { IsScale result }
-{
-    let sharp = sharp_bounds(params, beside, flutter);
-    let older = sync_bounds(params);
-    Scale {
-        grid: grid_of(params),
-        bounds: SyncBounds {
-            pi: sharp.pi,
-            lambda: sharp.lambda,
-            shortest: older.shortest,
-            longest: older.longest,
-            micros: older.micros,
-        },
-        precision: sharp.precision,
     }
 }

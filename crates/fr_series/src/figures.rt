@@ -58,7 +58,7 @@ impl Figures {
     }
 }
 
-fn next_synced(double: u32, free: bool, synced: Option<u32>) -> Option<u32>
+pub(crate) fn next_synced(double: u32, free: bool, synced: Option<u32>) -> Option<u32>
     ensures { result ≡ next_synced double free synced }
 {
     match synced {
@@ -77,7 +77,7 @@ fn next_lost(double: u32, in_sync: bool, lost: Option<u32>) -> Option<u32>
     }
 }
 
-fn next_greatest(
+pub(crate) fn next_greatest(
     scale: &Scale,
     double: u32,
     even: &[NodeRow],
@@ -100,7 +100,7 @@ fn next_greatest(
     }
 }
 
-fn next_above(
+pub(crate) fn next_above(
     scale: &Scale,
     double: u32,
     even: &[NodeRow],

@@ -1,16 +1,14 @@
-ghost use Rattle.std.specs.Prelude.{◌≡◌, ◌≤◌, ◌<◌, ◌+◌};
-ghost use Rattle.fr_precision.specs.Among.{spread_through_losses};
+ghost use Rattle.std.specs.Prelude.{◌≡◌, ◌≤◌, ◌<◌, ◌+◌, None, Some, IfSome};
 ghost use Rattle.fr_sharp.specs.LossStatement.{whole_in};
-ghost use Rattle.fr_sharp.specs.SharpStatement.{has_arbitrary};
 ghost use Rattle.fr_sharp.specs.Traffic.{heard_in, traffic_in};
-ghost use Rattle.fr_bound.specs.SharpBounds.{most_flutter};
-ghost use Rattle.fr_series.specs.SharpLosses.{bound_of, kept_by};
+ghost use Rattle.fr_series.specs.SharpLosses.{bound_of, bound_since, from_of, kept_by, IsHeldSince, IsHeldBy};
 
 use crate::basis::Basis;
 use fr_bound::Heard;
 use fr_cluster::Params;
 use fr_script::Script;
 use fr_sharp::{LossSpread, all_reach, heard_in};
+use fr_world::World;
 
 /// What the nodes hear in a double cycle, and how far macroticks may lie apart in it.
 #[derive(Clone, Copy, Debug, PartialEq, Eq)]
@@ -19,38 +17,90 @@ pub struct Kept {
     pub whole: bool,
     /// What is heard in it: all of all, without arbitrary sync nodes; of any two nodes enough in common; or what there is.
     pub heard: Heard,
-    /// How far macroticks may lie apart in it, in ticks, where the run is covered through losses.
+    /// How far macroticks may lie apart in it, in ticks, from the first double cycle in sharp sync on, where the run is
+    /// covered through losses from there on.
     pub bound: Option<u128>,
 }
 
-// What the next double cycle hears and keeps, by what was heard before it; goes on to the one behind it.
+// What a run rests on from its first double cycle in sharp sync on, by the first one up to a double cycle, if there is one:
+// from there on numbers by what is heard are counted.
+pub(crate) fn begun(
+    world: &World,
+    basis: Option<Basis>,
+    synced: Option<u32>,
+    double: u32,
+    spread: &mut LossSpread,
+) -> Option<Basis>
+    requires held { IsHeldSince world.now.params world.now.drift world.now.script double basis spread.old }
+    requires same { IfSome basis (λ basis. synced ≡ Some basis.from) }
+    requires starts { basis ≡ None → IfSome synced (λ first. first ≡ double) }
+    ensures held { IsHeldSince world.now.params world.now.drift world.now.script double result spread.new }
+    ensures same { from_of result ≡ synced }
+{
+    match basis {
+        Some(_) => basis,
+        None => match synced {
+            None => None,
+            Some(_) => Some(begin(world, double, spread)),
+        },
+    }
+}
+
+// What a run rests on from a double cycle on.
+fn begin(world: &World, double: u32, spread: &mut LossSpread) -> Basis
+    ensures held { IsHeldBy world.now.params world.now.drift world.now.script double result spread.new }
+    ensures from { result.from ≡ double }
+{
+    let basis = Basis::of(world.params(), world.drift(), world.script(), double);
+    *spread = LossSpread::first(world.params(), basis.beside, basis.flutter);
+    basis
+}
+
+// What a double cycle hears and keeps; goes on to the one behind it.
 pub(crate) fn next_kept(
-    params: &Params,
-    script: &Script,
-    basis: &Basis,
+    world: &World,
+    basis: &Option<Basis>,
     double: u32,
     spread: &mut LossSpread,
 ) -> Kept
-    requires flutter { basis.now.flutter ≤ most_flutter }
     requires double { double < 100_000 }
-    requires passed { spread.old.passed ≡ double }
-    requires spread { spread.old.spread ≡
-        spread_through_losses (has_arbitrary params.now script.now) params.now basis.now.flutter
-        (heard_in (traffic_in params.now script.now)) double }
-    ensures kept { result ≡ kept_by params.now script.now basis.now double }
-    ensures passed { spread.new.passed ≡ double + 1 }
-    ensures spread { spread.new.spread ≡
-        spread_through_losses (has_arbitrary params.now script.now) params.now basis.now.flutter
-        (heard_in (traffic_in params.now script.now)) (double + 1) }
+    requires held { IsHeldSince world.now.params world.now.drift world.now.script double basis.now spread.old }
+    ensures kept { result ≡ kept_by world.now.params world.now.drift world.now.script (from_of basis.now) double }
+    ensures held { IsHeldSince world.now.params world.now.drift world.now.script (double + 1) basis.now spread.new }
 {
+    let params = world.params();
+    let script = world.script();
     let whole = is_whole(params, script, double);
     let heard = heard_in(params, script, double, whole);
-    let apart = spread.apart(params, basis.flutter, heard);
-    spread.step(params, basis.flutter, heard);
     Kept {
         whole,
         heard,
-        bound: bound_of(basis.through, apart),
+        bound: next_bound(world, basis, double, heard, spread),
+    }
+}
+
+// Its number, where there is one; goes on to the one behind it.
+fn next_bound(
+    world: &World,
+    basis: &Option<Basis>,
+    double: u32,
+    heard: Heard,
+    spread: &mut LossSpread,
+) -> Option<u128>
+    requires double { double < 100_000 }
+    requires heard { heard ≡ heard_in (traffic_in world.now.params world.now.script) double }
+    requires held { IsHeldSince world.now.params world.now.drift world.now.script double basis.now spread.old }
+    ensures bound { result ≡
+        bound_since world.now.params world.now.drift world.now.script (from_of basis.now) double }
+    ensures held { IsHeldSince world.now.params world.now.drift world.now.script (double + 1) basis.now spread.new }
+{
+    match basis {
+        None => None,
+        Some(basis) => {
+            let apart = spread.apart(world.params(), basis.flutter, heard);
+            spread.step(world.params(), basis.flutter, heard);
+            bound_of(basis.through, apart)
+        }
     }
 }
 

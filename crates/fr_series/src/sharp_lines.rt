@@ -12,11 +12,11 @@ use crate::kept::Kept;
 use crate::lines::yes_or_no;
 use crate::tally::Tally;
 use fr_bound::Heard;
-use fr_coverage::{Gap, gap_line};
+use fr_coverage::{Fluttering, Gap, gap_line};
 use fr_sharp::Digits;
 use fr_skew::Peak;
 use fr_text::Piece::{Natural, Signed, Word};
-use fr_text::{Line, Piece, line_of};
+use fr_text::{Line, Piece, letter_of, line_of};
 
 pub(crate) fn sharp_head_line() -> Line
     ensures { result ≡ line sharp_head }
@@ -125,8 +125,8 @@ pub(crate) fn sharp_lines(basis: &Basis, tally: &Tally) -> [Option<Line>; 7]
 {
     let figures = tally.sharp;
     [
-        Some(flutter_line(basis.flutter)),
-        Some(precision_line(basis.scales.sharp.precision, basis.beside)),
+        Some(flutter_line(basis.fluttering)),
+        Some(precision_line(basis.precision, basis.beside)),
         Some(covered_line(basis.gap)),
         Some(sharp_synced_line(figures.synced, basis.lasts)),
         Some(greatest_line(b"sharp ", figures.greatest)),
@@ -191,10 +191,24 @@ fn above_line(front: &[u8], above: Option<Peak>) -> Line
     }
 }
 
-fn flutter_line(flutter: u64) -> Line
-    ensures { result ≡ line (flutter_text flutter) }
+fn flutter_line(place: Option<Fluttering>) -> Line
+    ensures { result ≡ line (flutter_text place) }
 {
-    line_of(&[Word(b"flutter,"), Natural(flutter), Word(b",,,")])
+    match place {
+        None => line_of(&[Word(b"flutter,0,,,")]),
+        Some(place) => line_of(&[
+            Word(b"flutter,"),
+            Natural(place.ticks),
+            Word(b",,,delay "),
+            Natural(u64::from(place.sender.0)),
+            Word(b" "),
+            Natural(u64::from(place.receiver.0)),
+            Word(b" "),
+            letter_of(place.channel),
+            Word(b" "),
+            Natural(u64::from(place.double)),
+        ]),
+    }
 }
 
 fn precision_line(precision: i64, beside: bool) -> Line

@@ -1,28 +1,26 @@
 ghost use Rattle.std.specs.Prelude.{◌≡◌, ◌+◌, ◌*◌, ◌<◌, ◌≤◌, All, [], IsOk};
 ghost use Rattle.fr_base.specs.Device.{Puts};
 ghost use Rattle.fr_drift.specs.Questions.{doubles_of};
-ghost use Rattle.fr_history.specs.Cycles.{told_of};
 ghost use Rattle.fr_history.specs.Next.{cycles_of};
-ghost use Rattle.fr_bound.specs.SharpBounds.{most_flutter};
 ghost use Rattle.fr_skew.specs.Sync.{are_in_sync_by_even};
 ghost use Rattle.fr_time.specs.Placed.{IsPlacedRow};
-ghost use Rattle.fr_time.specs.Position.{grid_for};
 ghost use Rattle.fr_world.specs.World.{setting_after};
-ghost use Rattle.fr_series.specs.Basis.{scales_of, tallied, tally_of, AreScales};
+ghost use Rattle.fr_series.specs.Basis.{tally_of, AreScales};
 ghost use Rattle.fr_series.specs.Scale.{IsScale};
-ghost use Rattle.fr_series.specs.SharpLosses.{kept_by};
 ghost use Rattle.fr_series.specs.SharpText.{sharp_rows, sharp_series_text};
 ghost use Rattle.fr_series.specs.Stopping.{RowsEnd, SharpSeriesEnds, sharp_rows_before};
-ghost use Rattle.fr_series.specs.Writing.{IsAtDouble, is_double_followed, rows_of, sharp_text_of_double};
+ghost use Rattle.fr_series.specs.Writing.{sharp_double_at, sharp_text_of_double, IsAtDouble, IsKnown};
 
-use crate::basis::{Basis, Scales};
-use crate::kept::{Kept, next_kept};
+use crate::basis::Basis;
+use crate::course::Course;
+use crate::kept::{Kept, begun, next_kept};
+use crate::known::Known;
 use crate::scale::Scale;
 use crate::sharp_lines::{older_lines, sharp_cycle_line, sharp_head_line, sharp_lines};
 use crate::tally::Tally;
 use crate::writing::{are_in_sync, next_rows};
 use fr_base::{NodeRow, PutFault, RowList, Sink};
-use fr_sharp::{LossSpread, has_arbitrary};
+use fr_sharp::LossSpread;
 use fr_skew::in_sync_by_even;
 use fr_text::{put_line, put_lines};
 use fr_world::World;
@@ -37,10 +35,11 @@ pub fn write_sharp_series<O: Sink>(world: &mut World, out: &mut O) -> Result<(),
         (sharp_series_text world.old.params world.old.drift world.old.script) }
     ensures ran { SharpSeriesEnds result world.old world.new (O.state out.old) (O.state out.new) }
 {
-    let basis = Basis::of(world.params(), world.drift(), world.script());
     let mut tally = Tally::none();
     put_line(&sharp_head_line(), out)?;
-    write_sharp_rows(world, &basis, &mut tally, out)?;
+    write_sharp_rows(world, &mut tally, out)?;
+    let from = tally.sharp.synced.unwrap_or(0);
+    let basis = Basis::of(world.params(), world.drift(), world.script(), from);
     put_lines(&older_lines(&tally), out)?;
     put_lines(&sharp_lines(&basis, &tally), out)
 }
@@ -48,32 +47,29 @@ pub fn write_sharp_series<O: Sink>(world: &mut World, out: &mut O) -> Result<(),
 // Writes the lines of all cycles, and gathers the figures.
 fn write_sharp_rows<O: Sink>(
     world: &mut World,
-    basis: &Basis,
     tally: &mut Tally,
     out: &mut O,
 ) -> Result<(), PutFault>
     requires fresh { world.old.cycles ≡ 0 }
-    requires scales { basis.now.scales ≡ scales_of basis.now.beside world.old.params basis.now.flutter }
-    requires proper { AreScales (grid_for world.old.params) basis.now.scales }
-    requires flutter { basis.now.flutter ≤ most_flutter }
-    requires none { tally.old ≡ tally_of basis.now.beside world.old.params basis.now.flutter [] }
-    ensures ran { RowsEnd (sharp_rows_before basis.now world.old) result world.old world.new
+    requires none { tally.old ≡ tally_of world.old.params world.old.drift world.old.script [] }
+    ensures ran { RowsEnd (sharp_rows_before world.old) result world.old world.new
         (O.state out.old) (O.state out.new) }
     ensures text { Puts result (O.state out.old) (O.state out.new)
-        (sharp_rows (kept_by world.old.params world.old.script basis.now)
-        basis.now.beside world.old.params basis.now.flutter
-        (told_of (cycles_of (setting_after world.old) (2 * doubles_of world.old.drift)))) }
+        (sharp_rows world.old.params world.old.drift world.old.script
+        (cycles_of (setting_after world.old) (2 * doubles_of world.old.drift))) }
     ensures tally { IsOk result →
-        tally.new ≡ tally_of basis.now.beside world.old.params basis.now.flutter
+        tally.new ≡ tally_of world.old.params world.old.drift world.old.script
         (cycles_of (setting_after world.old) (2 * doubles_of world.old.drift)) }
 {
-    let scales = basis.scales;
     let doubles = world.drift().doubles();
-    let beside = has_arbitrary(world.params(), world.script());
-    let mut spread = LossSpread::first(world.params(), beside, basis.flutter);
+    let mut known = Known {
+        older: Scale::of(world.params()),
+        course: Course::from(world.params(), world.drift(), world.script(), 0),
+        basis: None,
+    };
+    let mut spread = LossSpread::first(world.params(), false, 0);
     for double in 0..doubles {
-        let kept = next_kept(world.params(), world.script(), basis, double, &mut spread);
-        write_sharp_double(world, &scales, kept, double, tally, out)?;
+        write_sharp_double(world, &mut known, &mut spread, tally, double, out)?;
     }
     Ok(())
 }
@@ -81,76 +77,79 @@ fn write_sharp_rows<O: Sink>(
 // Runs a double cycle, and writes its lines.
 fn write_sharp_double<O: Sink>(
     world: &mut World,
-    scales: &Scales,
-    kept: Kept,
-    double: u32,
+    known: &mut Known,
+    spread: &mut LossSpread,
     tally: &mut Tally,
+    double: u32,
     out: &mut O,
 ) -> Result<(), PutFault>
     requires at { IsAtDouble world.old double }
-    requires proper { AreScales (grid_for world.old.params) scales.now }
+    requires known { IsKnown world.old double known.old spread.old tally.old }
     ensures ran { world.new ≡ record world.old { cycles = world.old.cycles + 2 } }
-    ensures tally { tally.new ≡ tallied scales.now double
-        (rows_of world.old world.old.cycles) (rows_of world.old (world.old.cycles + 1))
-        (is_double_followed world.old world.old.cycles) tally.old }
-    ensures text { Puts result (O.state out.old) (O.state out.new)
-        (sharp_text_of_double scales.now kept double
-        (rows_of world.old world.old.cycles) (rows_of world.old (world.old.cycles + 1))) }
+    ensures known { IsKnown world.old (double + 1) known.new spread.new tally.new }
+    ensures text { Puts result (O.state out.old) (O.state out.new) (sharp_double_at world.old double) }
 {
     let mut even = RowList::new();
     let mut odd = RowList::new();
     let followed = next_rows(world, &mut even);
     let following = next_rows(world, &mut odd);
-    put_sharp_double(
-        scales,
-        kept,
+    let (even, odd) = (even.as_slice(), odd.as_slice());
+    let Known {
+        older,
+        course,
+        basis,
+    } = *known;
+    *tally = tally.followed(
+        &older,
+        &course.scale,
         double,
-        even.as_slice(),
-        odd.as_slice(),
+        even,
+        odd,
         followed || following,
-        tally,
-        out,
-    )
+    );
+    let synced = tally.sharp.synced;
+    let basis = begun(world, basis, synced, double, spread);
+    let kept = next_kept(world, &basis, double, spread);
+    *known = Known {
+        older,
+        course: course.behind(
+            world.params(),
+            world.drift(),
+            world.script(),
+            synced,
+            double,
+        ),
+        basis,
+    };
+    put_sharp_double(&older, &course.scale, kept, double, even, odd, out)
 }
 
-// Writes the lines of a double cycle, by the rows of its two cycles, and gathers its figures with whether a node follows
-// in it.
+// Writes the lines of a double cycle, by the rows of its two cycles.
 fn put_sharp_double<O: Sink>(
-    scales: &Scales,
+    older: &Scale,
+    sharper: &Scale,
     kept: Kept,
     double: u32,
     even: &[NodeRow],
     odd: &[NodeRow],
-    following: bool,
-    tally: &mut Tally,
     out: &mut O,
 ) -> Result<(), PutFault>
-    requires scales { AreScales scales.now.older.grid scales.now }
+    requires scales { AreScales older.now sharper.now }
     requires double { double < 100_000 }
-    requires even { All (IsPlacedRow scales.now.older.grid) even.now }
-    requires odd { All (IsPlacedRow scales.now.older.grid) odd.now }
-    ensures tally { tally.new ≡ tallied scales.now double even.now odd.now following tally.old }
+    requires even { All (IsPlacedRow older.now.grid) even.now }
+    requires odd { All (IsPlacedRow older.now.grid) odd.now }
     ensures text { Puts result (O.state out.old) (O.state out.new)
-        (sharp_text_of_double scales.now kept double even.now odd.now) }
+        (sharp_text_of_double older.now sharper.now kept double even.now odd.now) }
 {
-    let scale = &scales.older;
-    let in_sync = are_in_sync(scale, even, odd);
-    let sharp = are_in_sharp_sync(&scales.sharp, even, odd);
-    let Tally {
-        older,
-        sharp: sharper,
-    } = *tally;
-    *tally = Tally {
-        older: older.followed(scale, double, even, odd, in_sync, following),
-        sharp: sharper.followed(&scales.sharp, double, even, odd, sharp, following),
-    };
+    let in_sync = are_in_sync(older, even, odd);
+    let sharp = are_in_sharp_sync(sharper, even, odd);
     let cycle = 2 * double;
     put_line(
-        &sharp_cycle_line(cycle, in_sync, sharp, kept, scale.peak(cycle, even)),
+        &sharp_cycle_line(cycle, in_sync, sharp, kept, older.peak(cycle, even)),
         out,
     )?;
     put_line(
-        &sharp_cycle_line(cycle + 1, in_sync, sharp, kept, scale.peak(cycle + 1, odd)),
+        &sharp_cycle_line(cycle + 1, in_sync, sharp, kept, older.peak(cycle + 1, odd)),
         out,
     )
 }

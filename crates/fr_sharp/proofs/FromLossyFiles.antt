@@ -1,56 +1,74 @@
 -- The run that files decide where frames are lost: it is as the law of losses asks for, so it keeps to the numbers by what is heard.
-use Rattle.std.proofs.Common.{◌≡◌, ℕ, ◌+◌, ◌<◌, ◌≤◌, Bool, true, false, ◌&&◌, refl, sym, ◌∙◌, subst, arith}
+use Rattle.std.proofs.Common.{◌≡◌, ℕ, zero, suc, ◌+◌, ◌-◌, ◌<◌, ◌≤◌, Bool, true, false, not, ◌==◌, ◌&&◌, ◌||◌, refl, ap, sym, ◌∙◌, subst, arith}
 use Rattle.std.specs.Prelude.{nat_eq, nat_le, if◌then◌else◌}
+use Rattle.std.proofs.lemmas.Bool.{and_parts}
 use Rattle.std.proofs.lemmas.Bool.Decides.{nat_tests}
 use Rattle.fr_cluster.specs.Values.{Values}
 use Rattle.fr_cluster.specs.declared.nodes.NodeSpec.{NodeSpec}
 use Rattle.fr_drift.specs.Questions.{doubles_of}
 use Rattle.fr_drift.specs.View.{DriftView}
 use Rattle.fr_script.specs.View.{ScriptView, is_arbitrary, join_of}
+use Rattle.fr_bound.specs.Judged.{heard_spread}
+use Rattle.fr_bound.specs.declared.settling.Spread.{Spread}
 use Rattle.fr_bound.specs.declared.judging.Heard.{Heard}
 use Rattle.fr_bound.specs.declared.judging.Heard.TheVariants as heard
 use Rattle.fr_coverage.specs.Decided.{setting_of}
-use Rattle.fr_coverage.specs.Flutter.{flutter_of}
+use Rattle.fr_coverage.specs.Flutter.{flutter_from}
 use Rattle.fr_coverage.specs.Links.{is_sync}
 use Rattle.fr_precision.specs.Among.{spread_through_losses, LaterSpreadsAreLess}
 use Rattle.fr_sharp.specs.Losses.{HistoriesKeepThroughLosses}
-use Rattle.fr_sharp.specs.LossStatement.{whole_in, without_losses, CoveredFilesKeepThroughLosses, FilesKeepThroughLosses, LossyFilesGiveRuns}
-use Rattle.fr_sharp.specs.Traffic.{all_linked, arbitrary_count, heard_in, lists_meet, traffic_in, Traffic}
+use Rattle.fr_sharp.specs.LossStatement.{spread_since, whole_in, without_losses, CoveredFilesAreAwake, CoveredFilesKeepThroughLosses, FilesKeepThroughLosses, LossyFilesGiveRuns}
+use Rattle.fr_sharp.specs.Traffic.{all_bear, all_linked, arbitrary_count, heard_in, lists_meet, none_lacks, traffic_in, Traffic}
 use Rattle.fr_bound.specs.SharpSpreads.{sharply_near_in}
 use Rattle.fr_sharp.specs.SharpStatement.{has_arbitrary}
-use Rattle.fr_runs.specs.SteadyRuns.{IsTimedSetting}
+use Rattle.fr_runs.specs.SteadyRuns.{IsTimedFrom}
 use Rattle.fr_sharp.proofs.FromFiles.{arbitrary_is_told, files_are_steady}
 use Rattle.fr_promise.proofs.JoinBounds.{near_grows}
 use Rattle.fr_sharp.proofs.TrafficCounts.{some_counted}
 
 -- what is stated of oscillators and delays does not speak of what is lost
-same_times : (p : Values) (d : DriftView) (s : ScriptView) (flutter : ℕ) → IsTimedSetting (setting_of p d (without_losses s)) flutter → IsTimedSetting (setting_of p d s) flutter
+same_times : (p : Values) (d : DriftView) (s : ScriptView) (from flutter : ℕ) → IsTimedFrom (setting_of p d (without_losses s)) from flutter → IsTimedFrom (setting_of p d s) from flutter
 unfolding is_arbitrary join_of
-same_times p d s flutter t = record {
+same_times p d s from flutter t = record {
   sane = t.sane;
   few = t.few;
   least = t.least;
   most = t.most;
   changes = t.changes;
-  delays = λ sender receiver slot ch cycle link share within.
-      t.delays sender receiver slot ch cycle (record { sends = link.sends; hears = link.hears; key = link.key; other = link.other }) share within;
-  flutters = λ sender receiver slot ch double link share within.
-      t.flutters sender receiver slot ch double (record { sends = link.sends; hears = link.hears; key = link.key; other = link.other }) share within;
+  delays = λ sender receiver slot ch cycle link share behind within.
+      t.delays sender receiver slot ch cycle (record { sends = link.sends; hears = link.hears; key = link.key; other = link.other }) share behind within;
+  flutters = λ sender receiver slot ch double link share behind within.
+      t.flutters sender receiver slot ch double (record { sends = link.sends; hears = link.hears; key = link.key; other = link.other }) share behind within;
 }
 
-same_flutter : (p : Values) (d : DriftView) (s : ScriptView) → flutter_of p d (without_losses s) ≡ flutter_of p d s
-unfolding is_arbitrary flutter_of
-same_flutter p d s = refl
+same_flutter : (p : Values) (d : DriftView) (s : ScriptView) (from : ℕ) → flutter_from p d (without_losses s) from ≡ flutter_from p d s from
+unfolding is_arbitrary flutter_from
+same_flutter p d s from = refl
 
 pub lossy_files_give_runs : LossyFilesGiveRuns
-lossy_files_give_runs p d s flutter reach h sane covered run =
+lossy_files_give_runs p d s from flutter reach h sane covered run =
     let Fits : ℕ → Type 0 = λ n. n ≤ flutter in
-    let steady = files_are_steady p d (without_losses s) flutter sane covered.none (subst Fits (sym (same_flutter p d s)) covered.flutters) in
+    let steady = files_are_steady p d (without_losses s) from flutter sane covered.none (subst Fits (sym (same_flutter p d s from)) covered.flutters) in
     record {
-      run = record { covered = same_times p d s flutter steady.timed; none_joins = covered.none_joins; lawful = run.lawful; whole = run.whole };
+      run = record { covered = same_times p d s from flutter steady.timed; none_joins = covered.none_joins; lawful = run.lawful; whole = run.whole };
       arbitrary = arbitrary_is_told p d s;
-      trusted = covered.trusted;
+      borne = λ double late less.
+          let t : Traffic = traffic_in p s in
+          (and_parts (all_bear p t double) (not (double == from) || none_lacks t double) (covered.borne double late less)).0;
     }
+
+-- in the first double cycle that it is asked of none lacks values
+pub covered_files_are_awake : CoveredFilesAreAwake
+covered_files_are_awake p d s from flutter reach covered short =
+    let t : Traffic = traffic_in p s in
+    right (from == from) (none_lacks t from) (itself from) (and_parts (all_bear p t from) (not (from == from) || none_lacks t from) (covered.borne from (omega arith) short)).1
+  where
+    itself : (n : ℕ) → (n == n) ≡ true
+    itself n = grind arith
+
+    right : (a b : Bool) → a ≡ true → (not a || b) ≡ true → b ≡ true
+    right true b is either = either
+    right false b is either = absurd (cc)
 
 -- ---- beside arbitrary nodes nothing is clean
 
@@ -85,26 +103,50 @@ whole_is_clean p s alone double whole =
     none : (n : ℕ) → nat_le 1 n ≡ false → nat_eq n 0 ≡ true
     none n few = grind (arith, nat_tests)
 
+-- ---- what was heard since a later double cycle says no more than what was heard since an earlier one
+
+-- the numbers do not look beyond what is heard
+same_heard : (beside : Bool) (p : Values) (flutter : ℕ) (one other : ℕ → Heard) → ((m : ℕ) → one m ≡ other m) → (k : ℕ)
+    → spread_through_losses beside p flutter one k ≡ spread_through_losses beside p flutter other k
+unfolding spread_through_losses
+same_heard beside p flutter one other same zero = refl
+same_heard beside p flutter one other same (suc k) =
+    ap (λ (w : Heard). heard_spread w p flutter (spread_through_losses beside p flutter one k)) (same k)
+    ∙ ap (heard_spread (other k) p flutter) (same_heard beside p flutter one other same k)
+
+pub later_since : LaterSpreadsAreLess → (beside : Bool) (p : Values) (from flutter : ℕ) (what : ℕ → Heard) (double k : ℕ) → from ≤ double → (beside ≡ true → (m : ℕ) → what m ≡ heard.Clean → ⊥)
+    → ((spread_through_losses beside p flutter (λ m. what (double + m)) k).starts ≤ (spread_since beside p from flutter what (double + k)).starts)
+    × ((spread_through_losses beside p flutter (λ m. what (double + m)) k).lengths ≤ (spread_since beside p from flutter what (double + k)).lengths)
+later_since later beside p from flutter what double k late none =
+    let gap : ℕ = double - from in
+    let less = later beside p flutter (λ m. what (from + m)) gap k (λ some m clean. none some (from + m) clean) in
+    let same : spread_through_losses beside p flutter (λ m. what (from + (gap + m))) k ≡ spread_through_losses beside p flutter (λ m. what (double + m)) k =
+    same_heard beside p flutter (λ m. what (from + (gap + m))) (λ m. what (double + m)) (λ m. let at : from + (gap + m) ≡ double + m = omega (arith, late) in ap what at) k in
+    let end : gap + k ≡ (double + k) - from = omega (arith, late) in
+    let Less : Spread → ℕ → Type 0 = λ now n.
+    (now.starts ≤ (spread_through_losses beside p flutter (λ m. what (from + m)) n).starts) × (now.lengths ≤ (spread_through_losses beside p flutter (λ m. what (from + m)) n).lengths) in
+    subst (λ (n : ℕ). Less (spread_through_losses beside p flutter (λ m. what (double + m)) k) n) end (subst (λ (now : Spread). Less now (gap + k)) same less)
+
 -- ---- the promise
 
 module _ (keep : HistoriesKeepThroughLosses) (later : LaterSpreadsAreLess) where
   pub covered_files_keep_through_losses : CoveredFilesKeepThroughLosses
-  covered_files_keep_through_losses p d s flutter reach h double sane covered run sync passed within before =
-      keep (has_arbitrary p s) (setting_of p d s) flutter h double reach (lossy_files_give_runs p d s flutter reach h sane covered run) covered.checks near sync passed within
-      before
+  covered_files_keep_through_losses p d s from flutter reach h double sane covered run late sync awake passed within before =
+      keep (has_arbitrary p s) (setting_of p d s) from flutter h double reach (lossy_files_give_runs p d s from flutter reach h sane covered run) late covered.checks near sync awake passed
+      within before
     where
       what : ℕ → Heard
       what m = heard_in (traffic_in p s) m
 
       near : (k : ℕ) → double + k < doubles_of d → sharply_near_in p (spread_through_losses (has_arbitrary p s) p flutter (λ m. heard_in (traffic_in p s) (double + m)) k) ≤ reach
       near k short =
-          let below = later (has_arbitrary p s) p flutter what double k (none_is_clean p s) in
+          let below = later_since later (has_arbitrary p s) p from flutter what double k late (none_is_clean p s) in
           let now = spread_through_losses (has_arbitrary p s) p flutter (λ m. heard_in (traffic_in p s) (double + m)) k in
-          let all = spread_through_losses (has_arbitrary p s) p flutter what (double + k) in
+          let all = spread_since (has_arbitrary p s) p from flutter what (double + k) in
           let grows = near_grows p now.starts now.lengths all.starts all.lengths sane below.0 below.1 in
-          let le = covered.near (double + k) short in
+          let le = covered.near (double + k) (omega (arith, late)) short in
           omega (arith, grows, le)
 
   pub files_keep_through_losses_lem : FilesKeepThroughLosses
-  files_keep_through_losses_lem p d s drift script flutter reach h double sane drift_file script_file covered run sync passed within before =
-      covered_files_keep_through_losses p d s flutter reach h double sane covered run sync passed within before
+  files_keep_through_losses_lem p d s drift script from flutter reach h double sane drift_file script_file covered run late sync awake passed within before =
+      covered_files_keep_through_losses p d s from flutter reach h double sane covered run late sync awake passed within before

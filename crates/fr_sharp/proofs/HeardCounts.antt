@@ -296,3 +296,6 @@ module _ (rate : Bool) (t : Traffic) (double : ℕ) where
   pub two_cost : (b c : NodeSpec) → Contains t.nodes b → Contains t.nodes c → t.is_arbitrary b.id ≡ false → t.is_arbitrary c.id ≡ false → b.id ≢ c.id
       → missed_or_discarded rate t double b + missed_or_discarded rate t double c ≤ (costs_of rate t double t.nodes).most + (costs_of rate t double t.nodes).second
   two_cost b c here there correct also other = (greatest t.nodes).two b c here there correct also other
+
+  pub one_cost : (b : NodeSpec) → Contains t.nodes b → t.is_arbitrary b.id ≡ false → missed_or_discarded rate t double b ≤ (costs_of rate t double t.nodes).most
+  one_cost b here correct = (greatest t.nodes).one b here correct

@@ -35,11 +35,11 @@ use Rattle.fr_precision.specs.Steady.{PlacesEven}
 use Rattle.fr_runs.specs.SteadyRuns.{row_hearers, row_members, AreRowsInReach}
 use Rattle.fr_sharp.specs.Traffic.{all_trusted, costs_of, has_value, lists_meet, most_count, sender_count, is_correct_sender, traffic_of}
 use Rattle.fr_sharp.proofs.HeardCounts.{count_three, discards_more, is_passed, passes_at, passes_is, two_cost, IsPassed}
-use Rattle.fr_sharp.proofs.HeardInPart.{offsets_heard, rates_heard}
+use Rattle.fr_sharp.proofs.HeardInPart.{offsets_heard, placed_of, rates_heard}
 use Rattle.fr_sharp.proofs.HeardValues.{most_values, senders_counted, surely_heard, value_by}
 use Rattle.fr_precision.proofs.RoundLemmas.{acts_early, all_given, map_contains, sender_among}
 use Rattle.fr_sharp.proofs.RowsInPart.{round_trusted}
-use Rattle.fr_runs.proofs.RowsSupplied.{timed_rows, LawfulRows}
+use Rattle.fr_runs.proofs.RowsSupplied.{timed_rows_from, LawfulRows}
 use Rattle.fr_promise.proofs.RunDoubles.{all_have, AllHave}
 
 -- ---- the values of some senders, split in two
@@ -200,7 +200,7 @@ hear_in_common r flutter rows n m s here there enough also =
         micro = one.regular.odd_micro;
         hears =
             hears_both Sender (Deviates n) (heard_at r offsets) (both_at r offsets other_offsets) (alone_at r offsets other_offsets) (in_one r offsets other_offsets) range (offsets_of n)
-            (offsets_heard r flutter n s.round one (s.trusted n here).0);
+            (offsets_heard r flutter n s.round (placed_of r flutter n one) (s.trusted n here).0);
         is_term = offset_term_is_there p.offset_limit (offsets_of n);
         applied = one.applied;
       };
@@ -208,7 +208,7 @@ hear_in_common r flutter rows n m s here there enough also =
         micro = two.regular.odd_micro;
         hears =
             hears_both Sender (Deviates m) (heard_at r other_offsets) (both_at r offsets other_offsets) (alone_at r other_offsets offsets) (in_other r offsets other_offsets) range (offsets_of m)
-            (offsets_heard r flutter m s.round two (s.trusted m there).0);
+            (offsets_heard r flutter m s.round (placed_of r flutter m two) (s.trusted m there).0);
         is_term = offset_term_is_there p.offset_limit (offsets_of m);
         applied = two.applied;
       };
@@ -216,14 +216,14 @@ hear_in_common r flutter rows n m s here there enough also =
         micro = one.regular.odd_micro;
         hears =
             hears_both Sender (Places n) (heard_at r rates) (both_at r rates other_rates) (alone_at r rates other_rates) (in_one r rates other_rates) range (rates_of n)
-            (rates_heard r flutter n s.round one (s.trusted n here).1);
+            (rates_heard r flutter n s.round (placed_of r flutter n one) (s.trusted n here).1);
         is_term = rate_term_is_there n.odd.rate p.damping p.rate_limit (rates_of n);
       };
       other_by_rate = record {
         micro = two.regular.odd_micro;
         hears =
             hears_both Sender (Places m) (heard_at r other_rates) (both_at r rates other_rates) (alone_at r other_rates rates) (in_other r rates other_rates) range (rates_of m)
-            (rates_heard r flutter m s.round two (s.trusted m there).1);
+            (rates_heard r flutter m s.round (placed_of r flutter m two) (s.trusted m there).1);
         is_term = rate_term_is_there m.odd.rate p.damping p.rate_limit (rates_of m);
       };
     }
@@ -336,5 +336,5 @@ module _ (x : Setting) (flutter : ℕ) (h : Cycles) (even odd : Cycle) (double :
           )
 
 pub rows_meet : RowsMeet
-rows_meet x flutter h earlier even odd double reach one other none_joins w d trusted offsets_meet rates_meet r here there =
-    members_meet x flutter earlier even odd double reach (timed_rows x flutter h w double earlier even odd d) r (all_have x earlier none_joins) one other trusted offsets_meet rates_meet here there
+rows_meet x from flutter h earlier even odd double reach one other none_joins w late d trusted offsets_meet rates_meet r here there =
+    members_meet x flutter earlier even odd double reach (timed_rows_from x from flutter h w double late earlier even odd d) r (all_have x earlier none_joins) one other trusted offsets_meet rates_meet here there

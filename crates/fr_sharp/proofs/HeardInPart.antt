@@ -20,7 +20,10 @@ use Rattle.fr_midpoint.specs.Midpoint.{discarded, half_of_sum}
 use Rattle.fr_midpoint.specs.Receivers.{Hears}
 use Rattle.fr_measure.specs.Values.{change_at, is_own, least_of, mean_of, offset_at, rate_at, values_of}
 use Rattle.fr_correct.proofs.There.{offset_term_is_there, rate_term_is_there}
-use Rattle.fr_precision.specs.Offsets.{IsDeviation}
+use Rattle.fr_correct.specs.Terms.{offset_term_of, rate_term_of}
+use Rattle.fr_precision.specs.Lengths.{IsSteadyRound}
+use Rattle.fr_precision.specs.Offsets.{IsDeviation, IsOffsetRound}
+use Rattle.fr_precision.specs.Placement.{IsRegular}
 use Rattle.fr_precision.specs.Round.{offsets_of, rates_of, sender_at, sender_with, sync_count, Hearer, IsRound, IsSender, Round}
 use Rattle.fr_precision.specs.Rows.{Sender}
 use Rattle.fr_precision.specs.Step.{IsAmong, Member}
@@ -28,9 +31,9 @@ use Rattle.fr_precision.proofs.OffsetLaws.{micro_lasts, own_value_is_deviation}
 use Rattle.fr_precision.proofs.Counting.{count_le}
 use Rattle.fr_precision.proofs.Parting.{filter_map_counts, parted, AreTold, IsParted}
 use Rattle.fr_precision.proofs.RoundSenders.{sender_found, sender_is, IsFrom}
-use Rattle.fr_precision.proofs.Values.{acts_before, change_from, other_of, other_value, own_value}
+use Rattle.fr_precision.proofs.Values.{acts_before, change_from, other_of, other_value, own_value, own_is}
 use Rattle.fr_precision.specs.Among.{ComputesOwn}
-use Rattle.fr_precision.specs.Hearing.{IsHeardInPart}
+use Rattle.fr_precision.specs.Hearing.{AreSteadyPairs, IsHeardInPart}
 use Rattle.fr_sharp.specs.Losses.{heard_at, heard_of, IsSuppliedInPart, IsTrustedOf, RoundsInPartComputeOwn}
 use Rattle.fr_bound.specs.SharpBounds.{last_action}
 use Rattle.fr_precision.specs.SharpRound.{as_member}
@@ -72,10 +75,6 @@ pub mean_there : (a b : Option ℤ) (v : ℤ) → mean_of a b ≡ Some v → ((x
 mean_there None b v is = inr (v, is)
 mean_there (Some a) b v is = inl (a, refl)
 
-own_is : (own : Option ℕ) (index : ℕ) → is_own own index ≡ true → own ≡ Some index
-own_is None index is = absurd (cc)
-own_is (Some own) index is = let e : own ≡ index = grind arith in ap Some e
-
 -- ---- the senders of whom there is a value
 
 heard_is : (r : Round) (at : ℕ → Option ℤ) (index : ℕ) (sender : Sender) (o : Option ℤ) → at index ≡ o → heard_at r at index ≡ Some sender
@@ -90,7 +89,7 @@ heard_found : (r : Round) (at : ℕ → Option ℤ) (index : ℕ) (v : ℤ) → 
 heard_found r at index v some = ap (λ (o : Option ℤ). if is_some o then sender_at r index else None) some
 
 -- what holds of each sender holds of each of those
-all_heard : (r : Round) (at : ℕ → Option ℤ) (P : Sender → Type 0) → ((index : ℕ) (sender : Sender) → IsFrom r index sender → P sender) → All P (heard_of r at)
+pub all_heard : (r : Round) (at : ℕ → Option ℤ) (P : Sender → Type 0) → ((index : ℕ) (sender : Sender) → IsFrom r index sender → P sender) → All P (heard_of r at)
 all_heard r at P each =
     all_given (heard_at r at) P (range_with_len 0 15)
     (λ index sender some. each index sender (sender_is r index sender (heard_is r at index sender (at index) refl some).2))
@@ -206,7 +205,17 @@ module _ (r : Round) (n : Hearer) (is : IsRound r) (hears : IsHeardInPart r n) w
 
 -- ---- offsets and rates
 
-module _ (r : Round) (flutter : ℕ) (n : Hearer) (is : IsRound r) (s : IsSuppliedInPart r flutter n) where
+-- a receiver whose deviations are placed, however many it has
+pub record IsPlacedInPart (r : Round) (flutter : ℕ) (n : Hearer) : Type 0 where
+  pub regular : IsRegular r.params n.even n.odd
+  pub applied : n.odd.offset ≡ (offset_term_of r.params.offset_limit (offsets_of n)).value
+  pub hears : IsHeardInPart r n
+  pub steady : AreSteadyPairs r flutter n
+
+pub placed_of : (r : Round) (flutter : ℕ) (n : Hearer) → IsSuppliedInPart r flutter n → IsPlacedInPart r flutter n
+placed_of r flutter n s = record { regular = s.regular; applied = s.applied; hears = s.hears; steady = s.steady }
+
+module _ (r : Round) (flutter : ℕ) (n : Hearer) (is : IsRound r) (s : IsPlacedInPart r flutter n) where
   Offset : Sender → ℤ → Type 0
   Offset sender value = IsDeviation r.params true sender.action n.odd sender.odd value
 
@@ -316,15 +325,32 @@ module _ (r : Round) (flutter : ℕ) (n : Hearer) (is : IsRound r) (s : IsSuppli
       hears_heard r n is s.hears (λ sender value. PlacesEven r.params flutter sender n.odd value) rates
       (λ index sender v from some. rate_by index sender v (is_own n.own index) from refl some) (λ index v some no_sender. rate_other index v (is_own n.own index) refl some no_sender) trusted
 
+  -- its terms are then of them
+  pub offset_round : IsTrustedOf r offsets → IsOffsetRound r.params (heard_of r offsets) n.odd (offsets_of n) (offset_term_of r.params.offset_limit (offsets_of n))
+  offset_round trusted = record {
+    micro = s.regular.odd_micro;
+    hears = offsets_heard trusted;
+    is_term = offset_term_is_there r.params.offset_limit (offsets_of n);
+    applied = s.applied;
+  }
+
+  pub rate_round : IsTrustedOf r rates
+      → IsSteadyRound r.params flutter (heard_of r rates) n.odd (rates_of n) (rate_term_of n.odd.rate r.params.damping r.params.rate_limit (rates_of n))
+  rate_round trusted = record {
+    micro = s.regular.odd_micro;
+    hears = rates_heard trusted;
+    is_term = rate_term_is_there n.odd.rate r.params.damping r.params.rate_limit (rates_of n);
+  }
+
   -- without arbitrary sync nodes both lists are, where each has a value
-  pub both_trusted : sync_count r.params r.is_arbitrary ≡ 0 → IsTrustedOf r offsets × IsTrustedOf r rates
-  both_trusted none = (
+  pub both_trusted : sync_count r.params r.is_arbitrary ≡ 0 → 1 ≤ length (offsets_of n) → 1 ≤ length (rates_of n) → IsTrustedOf r offsets × IsTrustedOf r rates
+  both_trusted none some_offsets some_rates = (
     trusted_alone r n is s.hears Offset offsets
         (λ index sender v from some. offset_by index sender v (is_own n.own index) from refl some) (λ index v some no_sender. offset_other index v (is_own n.own index) refl some no_sender)
-        none s.some_offsets,
+        none some_offsets,
     trusted_alone r n is s.hears Rate rates
         (λ index sender v from some. rate_by index sender v (is_own n.own index) from refl some) (λ index v some no_sender. rate_other index v (is_own n.own index) refl some no_sender)
-        none s.some_rates,
+        none some_rates,
   )
 
 -- ---- a round
@@ -345,6 +371,7 @@ rounds_in_part_compute_own r flutter rows node s here =
         let offsets = offset_at n.look n.own in
         let rates = rate_at n.look n.own in
         let trusted = s.trusted n among in
+        let placed = placed_of r flutter n supplied in
         record {
           regular = supplied.regular;
           offset_senders = heard_of r offsets;
@@ -354,15 +381,6 @@ rounds_in_part_compute_own r flutter rows node s here =
           offsets_among = all_heard r offsets (IsAmong nodes) (sender_among r rows s.among);
           rates_among = all_heard r rates (IsAmong nodes) (sender_among r rows s.among);
           acts = all_heard r offsets (λ (sender : Sender). IsBetween (pos 0) (pos (last_action p)) sender.action) (acts_early r s.round.sane);
-          by_offset = record {
-            micro = supplied.regular.odd_micro;
-            hears = offsets_heard r flutter n s.round supplied trusted.0;
-            is_term = offset_term_is_there p.offset_limit (offsets_of n);
-            applied = supplied.applied;
-          };
-          by_rate = record {
-            micro = supplied.regular.odd_micro;
-            hears = rates_heard r flutter n s.round supplied trusted.1;
-            is_term = rate_term_is_there n.odd.rate p.damping p.rate_limit (rates_of n);
-          };
+          by_offset = offset_round r flutter n s.round placed trusted.0;
+          by_rate = rate_round r flutter n s.round placed trusted.1;
         }

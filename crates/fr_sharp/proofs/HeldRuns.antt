@@ -26,20 +26,20 @@ use Rattle.fr_precision.specs.Step.{IsAmong, IsFollowed, Member}
 use Rattle.fr_precision.proofs.Senders.{All-along}
 use Rattle.fr_history.specs.Cycles.{Cycles}
 use Rattle.fr_runs.proofs.Parts.{cycle_within}
-use Rattle.fr_runs.proofs.Rows.{contains_map}
+use Rattle.fr_precision.proofs.RoundLemmas.{contains_map}
 use Rattle.fr_sharp.specs.HeldHistories.{HeldHistoriesKeepSharpSync, HistoriesKeepForEver, IsHeldAt}
 use Rattle.fr_sharp.specs.HeldWalks.{beyond_for_ever, micros_of, oscillators_stay, sync_lasts, walk_is_held, IsHighLevel, IsLowLevel, LevelsAreThere, LevelsHold, LieBetween}
 use Rattle.fr_precision.specs.Lengths.{IsAboutCycle, IsNextEven, KeepSenders}
 use Rattle.fr_sharp.specs.SharpFiles.{SyncLastsOn}
-use Rattle.fr_runs.specs.SharpHistories.{members_at, senders_at, IsInSharpSyncAt, IsSteadyRun, KeepsApart, KeepsSharpPrecision}
+use Rattle.fr_runs.specs.SharpHistories.{members_at, senders_at, IsInSharpSyncAt, IsSteadyRunFrom, KeepsApart, KeepsSharpPrecision}
 use Rattle.fr_precision.specs.SharpRun.{AllUncut, IsNextDouble}
 use Rattle.fr_precision.specs.SharpStep.{ComputesSharply, IsSharpDouble}
 use Rattle.fr_precision.specs.Steady.{PlacesEven}
 use Rattle.fr_sharp.proofs.HeldSenders.{micros_are_own, own_are_proper, own_micros, some_sender, unchanged}
 use Rattle.fr_precision.proofs.OlderLemmas.{first_check_lasts_on}
-use Rattle.fr_sharp.proofs.RunCycles.{histories_keep_sharp_precision, keeps_by_cycle}
+use Rattle.fr_promise.proofs.RunCycles.{histories_keep_sharp_precision, keeps_by_cycle}
 use Rattle.fr_promise.proofs.RunDoubles.{all_have, senders_found}
-use Rattle.fr_sharp.proofs.RunSync.{active, found_at, heard, next_at, rows_at, stay, step_comes_to, step_keeps_apart, sync_at, sync_of_members, uncut}
+use Rattle.fr_promise.proofs.RunSync.{active, found_at, heard, next_at, rows_at, stay, step_comes_to, step_keeps_apart, sync_at, sync_of_members, uncut}
 use Rattle.fr_precision.proofs.Signed.{signed_of}
 use Rattle.fr_precision.proofs.StepLemmas.{among_rows, sharp_is_wider}
 
@@ -228,7 +228,7 @@ odd_is_even p even odd still regular =
 
 -- ---- a run
 
-module _ (beside : Bool) (x : Setting) (flutter : ℕ) (h : Cycles) (w : IsSteadyRun beside x flutter h) (checks : SharpChecksHold flutter (sharp_near beside x.params flutter) x.params)
+module _ (beside : Bool) (x : Setting) (from flutter : ℕ) (h : Cycles) (w : IsSteadyRunFrom beside x from flutter h) (checks : SharpChecksHold flutter (sharp_near beside x.params flutter) x.params)
     (held : walk_is_held x.params flutter ≡ true) where
   abbrev evens : ℕ → List NodeRow
   evens k = map (λ (node : Member). node.even) (members_at x h k)
@@ -237,32 +237,32 @@ module _ (beside : Bool) (x : Setting) (flutter : ℕ) (h : Cycles) (w : IsStead
   numbers = held_numbers x.params flutter w.covered.timed.sane held
 
   -- the microticks of the senders, and that there is one
-  micros_at : (k : ℕ) → k < x.doubles → micros_of (senders_at x h k) ≡ own_micros x
-  micros_at k within =
-      let f = found_at beside x flutter h w k within in
+  micros_at : (k : ℕ) → from ≤ k → k < x.doubles → micros_of (senders_at x h k) ≡ own_micros x from
+  micros_at k late within =
+      let f = found_at beside x from flutter h w k within in
       ap micros_of (senders_found x h k f.earlier f.even f.odd f.is)
-      ∙ micros_are_own x flutter f.earlier f.even f.odd k (rows_at beside x flutter h w k f.earlier f.even f.odd f.is) (all_have x f.earlier w.none_joins) numbers.still
+      ∙ micros_are_own x from flutter f.earlier f.even f.odd k w.covered.timed late (rows_at beside x from flutter h w k late f.earlier f.even f.odd f.is) (all_have x f.earlier w.none_joins) numbers.still
 
-  some_at : (k : ℕ) → k < x.doubles → 1 ≤ length (senders_at x h k)
-  some_at k within =
-      let f = found_at beside x flutter h w k within in
+  some_at : (k : ℕ) → from ≤ k → k < x.doubles → 1 ≤ length (senders_at x h k)
+  some_at k late within =
+      let f = found_at beside x from flutter h w k within in
       let Some_in : List Sender → Type 0 = λ senders. 1 ≤ length senders in
       subst Some_in (sym (senders_found x h k f.earlier f.even f.odd f.is))
-      (some_sender x flutter f.earlier f.even f.odd k (rows_at beside x flutter h w k f.earlier f.even f.odd f.is) (all_have x f.earlier w.none_joins) numbers.still)
+      (some_sender x from flutter f.earlier f.even f.odd k w.covered.timed late (rows_at beside x from flutter h w k late f.earlier f.even f.odd f.is) (all_have x f.earlier w.none_joins) numbers.still)
 
-  counted_at : (k : ℕ) → k < x.doubles → length (senders_at x h k) ≡ length (own_micros x)
-  counted_at k within = sym (length-map (senders_at x h k) (λ (sender : Sender). sender.even.length)) ∙ ap (λ (micros : List ℤ). length micros) (micros_at k within)
+  counted_at : (k : ℕ) → from ≤ k → k < x.doubles → length (senders_at x h k) ≡ length (own_micros x from)
+  counted_at k late within = sym (length-map (senders_at x h k) (λ (sender : Sender). sender.even.length)) ∙ ap (λ (micros : List ℤ). length micros) (micros_at k late within)
 
   abbrev crowd : ℕ
-  crowd = length (own_micros x) / 3
+  crowd = length (own_micros x from) / 3
 
   -- ---- from one double cycle to the next
 
-  module _ (hold : LevelsHold) (low high : ℤ) (lows : IsLowLevel x.params flutter crowd (own_micros x) low) (highs : IsHighLevel x.params flutter crowd (own_micros x) high) where
+  module _ (hold : LevelsHold) (low high : ℤ) (lows : IsLowLevel x.params flutter crowd (own_micros x from) low) (highs : IsHighLevel x.params flutter crowd (own_micros x from) high) where
     near : AreNearLevels x.params low high
     near = record { below = lows.below; from = lows.near; above = highs.above; to = highs.near }
 
-    module _ (k : ℕ) (within : k < x.doubles) (sync : IsInSharpSyncAt beside x.params flutter (less_than_micro x.params) h k) (between : LieBetween x.params low high (map (λ (node : Member). node.even) (members_at x h k))) where
+    module _ (k : ℕ) (late : from ≤ k) (within : k < x.doubles) (sync : IsInSharpSyncAt beside x.params flutter (less_than_micro x.params) h k) (between : LieBetween x.params low high (map (λ (node : Member). node.even) (members_at x h k))) where
       abbrev nodes : List Member
       nodes = members_at x h k
 
@@ -273,17 +273,17 @@ module _ (beside : Bool) (x : Setting) (flutter : ℕ) (h : Cycles) (w : IsStead
       next = less_than_micro x.params +ℤ rate_walk x.params flutter
 
       heard_here : IsSharpDouble beside x.params flutter senders nodes (pos (last_action x.params))
-      heard_here = heard beside x flutter h w k (less_than_micro x.params) next checks numbers.before numbers.after numbers.later (itself next) sync
+      heard_here = heard beside x from flutter h w k late (less_than_micro x.params) next checks numbers.before numbers.after numbers.later (itself next) sync
 
       stay_here : (node : Member) → Contains nodes node → node.rate_term.outcome ≡ Within
       stay_here node here =
-          (stay beside x flutter h w k (less_than_micro x.params) next checks numbers.before numbers.after numbers.later (itself next) sync node node here here).come.range.uncut
+          (stay beside x from flutter h w k late (less_than_micro x.params) next checks numbers.before numbers.after numbers.later (itself next) sync node node here here).come.range.uncut
 
       uncut_here : AllUncut nodes
-      uncut_here = uncut beside x flutter h w k (less_than_micro x.params) next checks numbers.before numbers.after numbers.later (itself next) sync
+      uncut_here = uncut beside x from flutter h w k late (less_than_micro x.params) next checks numbers.before numbers.after numbers.later (itself next) sync
 
       pub keeps_here : KeepsApart x h k (sharp_precision beside x.params flutter)
-      keeps_here = step_keeps_apart beside x flutter h w k (less_than_micro x.params) next checks numbers.before numbers.after numbers.later (itself next) sync
+      keeps_here = step_keeps_apart beside x from flutter h w k late (less_than_micro x.params) next checks numbers.before numbers.after numbers.later (itself next) sync
 
       node_lies : (node : Member) → Contains nodes node → Lies x.params low high node.even
       unfolding Lies
@@ -304,8 +304,8 @@ module _ (beside : Bool) (x : Setting) (flutter : ℕ) (h : Cycles) (w : IsStead
       crowd_holds node here =
           let c = All-contains (ComputesSharply x.params flutter senders) nodes node heard_here.computes here in
           let few = discarded_few beside x.params flutter senders node.odd node.rates c.by_rate.hears (heard_here.keep node node here here).1 in
-          let counted = counted_at k within in
-          third (discarded (length node.rates)) (length (own_micros x)) (subst (λ (m : ℕ). 3 * discarded (length node.rates) ≤ m) counted few)
+          let counted = counted_at k late within in
+          third (discarded (length node.rates)) (length (own_micros x from)) (subst (λ (m : ℕ). 3 * discarded (length node.rates) ≤ m) counted few)
 
       -- the next even row of a node
       follows : (node : Member) (even odd : NodeRow) → Contains nodes node → IsFollowed x.params node even odd → Lies x.params low high even
@@ -315,14 +315,14 @@ module _ (beside : Bool) (x : Setting) (flutter : ℕ) (h : Cycles) (w : IsStead
           let c = All-contains (ComputesSharply p flutter senders) nodes node heard_here.computes here in
           let own = node_lies node here in
           let same = sym (odd_is_even p node.even node.odd numbers.still c.regular) in
-          let micros = sym (micros_at k within) in
+          let micros = sym (micros_at k late within) in
           let after : IsNextEven p node.odd node.rate_term even = record {
             rate = followed.next.even_rate;
             micro = followed.next.even_micro;
             steady = followed.next.even_steady;
           } in
           hold p flutter crowd senders low high node.odd node.rates node.rate_term even w.covered.timed.sane held
-          (subst (λ (some : List ℤ). All (λ (micro : ℤ). pos (shortest_micro p) ≤ℤ micro) some) micros (own_are_proper x flutter w.covered.timed (omega (arith, within))))
+          (subst (λ (some : List ℤ). All (λ (micro : ℤ). pos (shortest_micro p) ≤ℤ micro) some) micros (own_are_proper x from flutter w.covered.timed (omega (arith, late, within))))
           (subst (λ (some : List ℤ). IsLowLevel p flutter crowd some low) micros lows)
           (subst (λ (some : List ℤ). IsHighLevel p flutter crowd some high) micros highs) senders_lie (subst (λ (z : ℤ). low <ℤ z) same own.0) (subst (λ (z : ℤ). z <ℤ high) same own.1)
           (crowd_holds node here) c.by_rate (stay_here node here) after
@@ -330,8 +330,8 @@ module _ (beside : Bool) (x : Setting) (flutter : ℕ) (h : Cycles) (w : IsStead
       module _ (later : suc k < x.doubles) where
         next_here : IsNextDouble x.params nodes (members_at x h (suc k))
         next_here =
-            let f = found_at beside x flutter h w (suc k) later in
-            next_at beside x flutter h w k (active beside x flutter h w k (less_than_micro x.params) next checks numbers.before numbers.after numbers.later (itself next) sync) uncut_here f.earlier f.even f.odd f.is
+            let f = found_at beside x from flutter h w (suc k) later in
+            next_at beside x from flutter h w k late (active beside x from flutter h w k late (less_than_micro x.params) next checks numbers.before numbers.after numbers.later (itself next) sync) uncut_here f.earlier f.even f.odd f.is
 
         pub next_between : LieBetween x.params low high (map (λ (node : Member). node.even) (members_at x h (suc k)))
         unfolding Lies
@@ -355,9 +355,9 @@ module _ (beside : Bool) (x : Setting) (flutter : ℕ) (h : Cycles) (w : IsStead
 
         pub next_sync : IsInSharpSyncAt beside x.params flutter (less_than_micro x.params) h (suc k)
         next_sync =
-            let reached = step_comes_to beside x flutter h w k (less_than_micro x.params) next checks numbers.before numbers.after numbers.later (itself next) sync later in
-            let own = sync_of_members beside x flutter h w (suc k) next later reached in
-            sync_at beside x flutter h w (suc k) (less_than_micro x.params) later
+            let reached = step_comes_to beside x from flutter h w k late (less_than_micro x.params) next checks numbers.before numbers.after numbers.later (itself next) sync later in
+            let own = sync_of_members beside x from flutter h w (suc k) next later reached in
+            sync_at beside x from flutter h w (suc k) (less_than_micro x.params) later
             (record {
               active_even = own.active_even;
               active_odd = own.active_odd;
@@ -366,18 +366,18 @@ module _ (beside : Bool) (x : Setting) (flutter : ℕ) (h : Cycles) (w : IsStead
 
     -- ---- from the first on
 
-    module _ (double : ℕ) (first : IsInSharpSyncAt beside x.params flutter (pos 0) h double) where
+    module _ (double : ℕ) (late : from ≤ double) (first : IsInSharpSyncAt beside x.params flutter (pos 0) h double) where
       first_between : double < x.doubles → LieBetween x.params low high (evens double)
       unfolding Lies
       first_between within =
           All-along (λ (row : NodeRow). IsAboutCycle x.params (pos 0) (cycle_length_of x.params row)) (λ (row : NodeRow). (low <ℤ cycle_length_of x.params row) × (cycle_length_of x.params row <ℤ high)) (evens double)
-          (λ row about. about_between x.params low high near row about) (sync_of_members beside x flutter h w double (pos 0) within first).rows.about
+          (λ row about. about_between x.params low high near row about) (sync_of_members beside x from flutter h w double (pos 0) within first).rows.about
 
       first_sync : double < x.doubles → IsInSharpSyncAt beside x.params flutter (less_than_micro x.params) h double
       first_sync within =
           let p : Values = x.params in
-          let own = sync_of_members beside x flutter h w double (pos 0) within first in
-          sync_at beside x flutter h w double (less_than_micro p) within
+          let own = sync_of_members beside x from flutter h w double (pos 0) within first in
+          sync_at beside x from flutter h w double (less_than_micro p) within
           (record {
             active_even = own.active_even;
             active_odd = own.active_odd;
@@ -398,47 +398,47 @@ module _ (beside : Bool) (x : Setting) (flutter : ℕ) (h : Cycles) (w : IsStead
           let now : double + passed < x.doubles = omega (arith, within) in
           let later : suc (double + passed) < x.doubles = omega (arith, within) in
           let state = state_after passed now in
-          subst State one (next_sync (double + passed) now state.0 state.1 later, next_between (double + passed) now state.0 state.1 later)
+          subst State one (next_sync (double + passed) (omega (arith, late)) now state.0 state.1 later, next_between (double + passed) (omega (arith, late)) now state.0 state.1 later)
 
       pub held_after : (passed : ℕ) → double + passed < x.doubles → IsHeldAt beside x flutter h (double + passed)
       held_after passed within =
           let state = state_after passed within in
           let In : ℤ → Type 0 = λ beyond. IsInSharpSyncAt beside x.params flutter beyond h (double + passed) in
-          record { synced = subst In (sym (held_beyond x.params flutter held)) state.0; keeps = keeps_here (double + passed) within state.0 state.1 }
+          record { synced = subst In (sym (held_beyond x.params flutter held)) state.0; keeps = keeps_here (double + passed) (omega (arith, late)) within state.0 state.1 }
 
 -- ---- the laws
 
-within_run : (beside : Bool) (x : Setting) (flutter : ℕ) (h : Cycles) (double : ℕ) (beyond : ℤ) → IsSteadyRun beside x flutter h → IsInSharpSyncAt beside x.params flutter beyond h double → double < x.doubles
-within_run beside x flutter h double beyond w sync =
+within_run : (beside : Bool) (x : Setting) (from flutter : ℕ) (h : Cycles) (double : ℕ) (beyond : ℤ) → IsSteadyRunFrom beside x from flutter h → IsInSharpSyncAt beside x.params flutter beyond h double → double < x.doubles
+within_run beside x from flutter h double beyond w sync =
     let below : 2 * double < length h = cycle_within h (2 * double) sync.even sync.has_even in
     let whole : length h ≡ 2 * x.doubles = w.whole in
     omega (arith, below, whole)
 
 pub held_histories_lem : LevelsAreThere → LevelsHold → HeldHistoriesKeepSharpSync
-held_histories_lem there hold beside x flutter h double w checks held sync passed within =
+held_histories_lem there hold beside x from flutter h double w late checks held sync passed within =
     let p : Values = x.params in
-    let first = within_run beside x flutter h double (pos 0) w sync in
-    let some = subst (λ (m : ℕ). 1 ≤ m) (counted_at beside x flutter h w checks held double first) (some_at beside x flutter h w checks held double first) in
-    let levels = there p flutter (length (own_micros x) / 3) (own_micros x) w.covered.timed.sane held some (thirds (length (own_micros x))) (own_are_proper x flutter w.covered.timed (omega (arith, first))) in
-    held_after beside x flutter h w checks held hold levels.0.0 levels.1.0 levels.0.1 levels.1.1 double sync passed within
+    let first = within_run beside x from flutter h double (pos 0) w sync in
+    let some = subst (λ (m : ℕ). 1 ≤ m) (counted_at beside x from flutter h w checks held double late first) (some_at beside x from flutter h w checks held double late first) in
+    let levels = there p flutter (length (own_micros x from) / 3) (own_micros x from) w.covered.timed.sane held some (thirds (length (own_micros x from))) (own_are_proper x from flutter w.covered.timed (omega (arith, late, first))) in
+    held_after beside x from flutter h w checks held hold levels.0.0 levels.1.0 levels.0.1 levels.1.1 double late sync passed within
 
 pub keep_for_ever_lem : LevelsAreThere → LevelsHold → HistoriesKeepForEver
-keep_for_ever_lem there hold beside x flutter h double w checks lasts sync = by (walk_is_held x.params flutter) refl
+keep_for_ever_lem there hold beside x from flutter h double w late checks lasts sync = by (walk_is_held x.params flutter) refl
   where
     all_checks : sharp_holds_of 1 flutter (sharp_near beside x.params flutter) x.params ≡ true → (k : ℕ) → 1 ≤ k → k ≤ 5 → sharp_holds_of k flutter (sharp_near beside x.params flutter) x.params ≡ true
-    all_checks first k from to = split (cases_eq k 1)
+    all_checks first k low high = split (cases_eq k 1)
       where
         split : (k ≡ 1) ⊎ (k ≡ 1 → ⊥) → sharp_holds_of k flutter (sharp_near beside x.params flutter) x.params ≡ true
         split (inl one) = let Holds : ℕ → Type 0 = λ n. sharp_holds_of n flutter (sharp_near beside x.params flutter) x.params ≡ true in subst Holds (sym one) first
-        split (inr more) = checks k (omega (arith, from, more)) to
+        split (inr more) = checks k (omega (arith, low, more)) high
 
     by : (b : Bool) → walk_is_held x.params flutter ≡ b → KeepsSharpPrecision beside x flutter (beyond_for_ever x.params flutter) h double
     by true held =
         let at : (k : ℕ) → double ≤ k → k < x.doubles → IsHeldAt beside x flutter h k =
-        λ k from within. subst (IsHeldAt beside x flutter h) (rest k double from) (held_histories_lem there hold beside x flutter h double w checks held sync (k - double) (short k double x.doubles from within)) in
-        keeps_by_cycle beside x flutter (beyond_for_ever x.params flutter) h double w (within_run beside x flutter h double (pos 0) w sync) (λ k from within. (at k from within).synced) (λ k from within. (at k from within).keeps)
+        λ k after within. subst (IsHeldAt beside x flutter h) (rest k double after) (held_histories_lem there hold beside x from flutter h double w late checks held sync (k - double) (short k double x.doubles after within)) in
+        keeps_by_cycle beside x from flutter (beyond_for_ever x.params flutter) h double w (within_run beside x from flutter h double (pos 0) w sync) (λ k after within. (at k after within).synced) (λ k after within. (at k after within).keeps)
     by false never =
         let Keeps : ℤ → Type 0 = λ beyond. KeepsSharpPrecision beside x flutter beyond h double in
         let none : walk_lasts x.params flutter ≡ None = sym (never_lasts x.params flutter never) ∙ lasts in
         let first = (first_check_lasts_on x.params flutter (sharp_near beside x.params flutter) w.covered.timed.sane).1 none in
-        subst Keeps (sym (never_beyond x.params flutter never)) (histories_keep_sharp_precision beside x flutter h double w (all_checks first) sync)
+        subst Keeps (sym (never_beyond x.params flutter never)) (histories_keep_sharp_precision beside x from flutter h double w late (all_checks first) sync)

@@ -37,7 +37,8 @@ use Rattle.fr_runs.specs.Gathered.{round_at}
 use Rattle.fr_runs.specs.Rounds.{IsDoubleOf}
 use Rattle.fr_runs.proofs.Parts.{even_is, odd_is}
 use Rattle.fr_precision.specs.Among.{ComputesOwn}
-use Rattle.fr_sharp.specs.JudgedSteps.{AppliesMidpoints, ComputeBy, GoesOnJudged, IsHeardIn, IsLawfulStatedRun, IsRoundBy, JudgedGoesOn, KnownIsMet, SharpSyncIsKnown, StatedRunsAreKnown, UnfollowedGoesOn}
+use Rattle.fr_sharp.specs.JudgedSteps.{AppliesMidpoints, ComputeBy, GoesOnJudged, IsHeardIn, IsRoundBy, JudgedGoesOn, KnownIsMet, SharpSyncIsKnown, StatedRunsAreKnown, UnfollowedGoesOn}
+use Rattle.fr_runs.specs.SharpHistories.{IsLawfulStatedRunFrom}
 use Rattle.fr_precision.specs.Lengths.{CanWalk, IsAboutCycle}
 use Rattle.fr_runs.specs.SharpHistories.{members_at, senders_at, BeginsActive, EachHasRow, IsKnownAt, KeepsApart}
 use Rattle.fr_precision.specs.SharpRun.{AllUncut}
@@ -50,10 +51,10 @@ use Rattle.fr_runs.proofs.RowsSupplied.{round_in_reach}
 use Rattle.fr_promise.proofs.RunDoubles.{members_found}
 use Rattle.fr_sharp.proofs.RunSettles.{timed_begin_active}
 use Rattle.fr_sharp.proofs.RunStated.{first_sharp}
-use Rattle.fr_sharp.proofs.RunSync.{none_cuts}
+use Rattle.fr_promise.proofs.RunSync.{none_cuts}
 use Rattle.fr_precision.proofs.SettlingLemmas.{next_spread_draws}
 use Rattle.fr_precision.proofs.StepLemmas.{macroticks_stay_sharp, next_is_near, spreads_shrink_in_reach}
-use Rattle.fr_sharp.proofs.TimedRuns.{acting_with, each_alone, each_later, evens_of, found_of, have_rows, heard_of, keeps_apart_of, lawful_run, next_of, odds_of, rates_of_double, rows_of}
+use Rattle.fr_promise.proofs.TimedRuns.{acting_with, each_alone, each_later, evens_of, found_of, have_rows, heard_of, keeps_apart_of, lawful_run, next_of, odds_of, rates_of_double, rows_of}
 
 -- ---- the numbers
 
@@ -133,7 +134,7 @@ rate_middle old damping limit values term from (inr some) uncut =
 
 -- ---- a double cycle that is judged
 
-module _ (x : Setting) (flutter : ℕ) (h : Cycles) (double : ℕ) (known : Known) (w : IsLawfulStatedRun x flutter h) (short : double < x.doubles) (each : EachHasRow x h double) (at : IsKnownAt x h double known) (judged : IsJudgedDouble x.params flutter known) where
+module _ (x : Setting) (from flutter : ℕ) (h : Cycles) (double : ℕ) (known : Known) (w : IsLawfulStatedRunFrom x from flutter h) (late : from ≤ double) (short : double < x.doubles) (each : EachHasRow x h double) (at : IsKnownAt x h double known) (judged : IsJudgedDouble x.params flutter known) where
   abbrev p : Values
   p = x.params
 
@@ -188,9 +189,9 @@ module _ (x : Setting) (flutter : ℕ) (h : Cycles) (double : ℕ) (known : Know
 
   same_cycles : (earlier : Cycles) (even odd : Cycle) → IsDoubleOf h double earlier even odd → (at.even ≡ even) × (at.odd ≡ odd)
   same_cycles earlier even odd d =
-      let late : odd_cycle double ≡ suc (2 * double) = omega arith in
+      let at_odd : odd_cycle double ≡ suc (2 * double) = omega arith in
       let first : Some at.even ≡ Some even = sym at.has_even ∙ even_is h double earlier even odd d in
-      let second : Some at.odd ≡ Some odd = sym at.has_odd ∙ ap (cycle_at h) late ∙ odd_is h double earlier even odd d in
+      let second : Some at.odd ≡ Some odd = sym at.has_odd ∙ ap (cycle_at h) at_odd ∙ odd_is h double earlier even odd d in
       (cc, cc)
 
   active : BeginsActive h double
@@ -200,12 +201,12 @@ module _ (x : Setting) (flutter : ℕ) (h : Cycles) (double : ℕ) (known : Know
 
   sharp : Sharp_in (map (λ (node : Member). node.even) nodes)
   sharp =
-      let f = found_of x flutter h w double short in
+      let f = found_of x from flutter h w double short in
       let same = same_cycles f.earlier f.even f.odd f.is in
-      subst Sharp_in (sym (evens_of x flutter h w double f.earlier f.even f.odd f.is)) (subst (λ (c : Cycle). Sharp_in c.told.rows) same.0 at.rows)
+      subst Sharp_in (sym (evens_of x from flutter h w double f.earlier f.even f.odd f.is)) (subst (λ (c : Cycle). Sharp_in c.told.rows) same.0 at.rows)
 
   acting : ActInReach x.params (pos reach) last nodes
-  acting = acting_with x flutter h w double starts lengths beyond reach short can_walk (judged_suffices x.params flutter known judged).0 limit (itself reach) sharp
+  acting = acting_with x from flutter h w double starts lengths beyond reach late short can_walk (judged_suffices x.params flutter known judged).0 limit (itself reach) sharp
     where
       itself : (n : ℕ) → n ≤ n
       itself n = omega arith
@@ -214,7 +215,7 @@ module _ (x : Setting) (flutter : ℕ) (h : Cycles) (double : ℕ) (known : Know
 
   heard_all : (beside : Bool) → MayHaveArbitrary beside x → IsWhole x double → IsSharpDouble beside x.params flutter senders nodes last
   heard_all beside may links =
-      heard_of x flutter h w beside double beyond (pos reach) may short links limit room (judged_suffices x.params flutter known judged).0 active sharp.about acting
+      heard_of x from flutter h w beside double beyond (pos reach) late may short links limit room (judged_suffices x.params flutter known judged).0 active sharp.about acting
 
   in_reach : (earlier : Cycles) (even odd : Cycle) → IsDoubleOf h double earlier even odd → AreRowsInReach x earlier even odd (pos reach)
   in_reach earlier even odd d =
@@ -223,7 +224,7 @@ module _ (x : Setting) (flutter : ℕ) (h : Cycles) (double : ℕ) (known : Know
       record {
         active_even = both.0;
         active_odd = both.1;
-        rates = rates_of_double x flutter h w double beyond (judged_suffices x.params flutter known judged).0 sharp.about earlier even odd d;
+        rates = rates_of_double x from flutter h w double beyond late (judged_suffices x.params flutter known judged).0 sharp.about earlier even odd d;
         limit = limit;
         room = room;
         acts = subst Acts (members_found x h double earlier even odd d) acting;
@@ -231,25 +232,25 @@ module _ (x : Setting) (flutter : ℕ) (h : Cycles) (double : ℕ) (known : Know
 
   heard_own : MayHaveArbitrary false x → NoneIsDeaf x double → (node : Member) → Contains nodes node → ComputesOwn x.params flutter nodes last node
   heard_own none hears node here =
-      let f = found_of x flutter h w double short in
+      let f = found_of x from flutter h w double short in
       let same = members_found x h double f.earlier f.even f.odd f.is in
       let Has : List Member → Type 0 = λ some. Contains some node in
       let Own : List Member → Type 0 = λ some. ComputesOwn x.params flutter some last node in
       subst Own (sym same)
       (
-      computes_own x flutter f.earlier f.even f.odd double (pos reach) (rows_of x flutter h w double f.earlier f.even f.odd f.is) (in_reach f.earlier f.even f.odd f.is) node
-      (have_rows x flutter h w double each f.earlier f.even f.odd f.is) none hears (subst Has same here)
+      computes_own x flutter f.earlier f.even f.odd double (pos reach) (rows_of x from flutter h w double late f.earlier f.even f.odd f.is) (in_reach f.earlier f.even f.odd f.is) node
+      (have_rows x from flutter h w double each f.earlier f.even f.odd f.is) none hears (subst Has same here)
       )
 
   round_by : (what : Heard) → IsHeardIn what x double → (earlier : Cycles) (even odd : Cycle) → IsDoubleOf h double earlier even odd
       → IsRoundBy what (round_at x earlier even odd) flutter (pos reach) (row_hearers x earlier even odd)
   round_by Clean is earlier even odd d =
-      round_in_reach x flutter earlier even odd double (pos reach) (rows_of x flutter h w double earlier even odd d) (in_reach earlier even odd d) is.1 false is.0
+      round_in_reach x flutter earlier even odd double (pos reach) (rows_of x from flutter h w double late earlier even odd d) (in_reach earlier even odd d) is.1 false is.0
   round_by Meeting is earlier even odd d =
-      round_in_reach x flutter earlier even odd double (pos reach) (rows_of x flutter h w double earlier even odd d) (in_reach earlier even odd d) is true tt
+      round_in_reach x flutter earlier even odd double (pos reach) (rows_of x from flutter h w double late earlier even odd d) (in_reach earlier even odd d) is true tt
   round_by Poor is earlier even odd d =
-      round_in_part x flutter earlier even odd double (pos reach) (rows_of x flutter h w double earlier even odd d) (in_reach earlier even odd d)
-      (have_rows x flutter h w double each earlier even odd d) is.0 is.1
+      round_in_part x flutter earlier even odd double (pos reach) (rows_of x from flutter h w double late earlier even odd d) (in_reach earlier even odd d)
+      (have_rows x from flutter h w double each earlier even odd d) is.0 is.1
 
   computes_by : (what : Heard) → IsHeardIn what x double → ComputeBy what x.params flutter senders nodes last
   computes_by Clean is = heard_all false is.0 is.1
@@ -271,8 +272,8 @@ module _ (x : Setting) (flutter : ℕ) (h : Cycles) (double : ℕ) (known : Know
         takes : (beyond +ℤ walk) ≤ℤ next
         takes = none_above (beyond +ℤ walk)
 
-        from : pos 0 ≤ℤ next
-        from = omega (arith, ints)
+        some : pos 0 ≤ℤ next
+        some = omega (arith, ints)
 
         itself : (n : ℕ) → n ≤ n
         itself n = omega arith
@@ -281,7 +282,7 @@ module _ (x : Setting) (flutter : ℕ) (h : Cycles) (double : ℕ) (known : Know
             → ComeSharply x.params (next_sharp_spread beside x.params flutter known.spread).starts (next_sharp_spread beside x.params flutter known.spread).lengths next one other
         all beside heard =
             spreads_shrink_in_reach beside x.params flutter senders nodes starts lengths (next_sharp_spread beside x.params flutter known.spread).starts
-            (next_sharp_spread beside x.params flutter known.spread).lengths beyond walk next (pos reach) last one other is_limit acting from takes
+            (next_sharp_spread beside x.params flutter known.spread).lengths beyond walk next (pos reach) last one other is_limit acting some takes
             (next_spread_draws beside x.params flutter known.spread) sharp heard here there
 
         by : (what : Heard) → ComputeBy what x.params flutter senders nodes last
@@ -290,7 +291,7 @@ module _ (x : Setting) (flutter : ℕ) (h : Cycles) (double : ℕ) (known : Know
         by Meeting heard = all true heard
         by Poor own =
             lost_spreads_grow x.params flutter nodes starts lengths (lost_starts x.params starts lengths) (lost_lengths x.params flutter lengths) beyond walk next (pos reach) last one other
-            is_limit acting from takes (itself (lost_starts x.params starts lengths)) (itself (lost_lengths x.params flutter lengths)) sharp own here there
+            is_limit acting some takes (itself (lost_starts x.params starts lengths)) (itself (lost_lengths x.params flutter lengths)) sharp own here there
 
     uncut : AllUncut nodes
     uncut = none_cuts x.params next_starts next_lengths next nodes come
@@ -308,11 +309,11 @@ module _ (x : Setting) (flutter : ℕ) (h : Cycles) (double : ℕ) (known : Know
 
     keeps : KeepsApart x h double (apart_through what x.params flutter known)
     keeps =
-        keeps_apart_of x flutter h w double (apart_through what x.params flutter known) short each active uncut
-        (λ one other macrotick is_odd here there from to.
+        keeps_apart_of x from flutter h w double (apart_through what x.params flutter known) late short each active uncut
+        (λ one other macrotick is_odd here there low high.
         let fits = both (sharply_apart_in x.params known.spread) (next_starts + longest_micro x.params) in
         macroticks_stay_sharp x.params starts lengths next_starts next_lengths beyond next nodes one other (apart_through what x.params flutter known) macrotick is_odd sane sharp all_regular here there
-        (come one other here there) fits.0 fits.1 from to)
+        (come one other here there) fits.0 fits.1 low high)
       where
         both : (a b : ℕ) → (a ≤ max a b) × (b ≤ max a b)
         both a b = (grind arith, grind arith)
@@ -348,17 +349,17 @@ module _ (x : Setting) (flutter : ℕ) (h : Cycles) (double : ℕ) (known : Know
 
     next_known : suc double < x.doubles → IsKnownAt x h (suc double) (known_after what x.params flutter known)
     next_known later =
-        let f = found_of x flutter h w (suc double) later in
-        let goes = next_of x flutter h w double each active uncut f.earlier f.even f.odd f.is in
-        let late : odd_cycle (suc double) ≡ suc (2 * suc double) = omega arith in
+        let f = found_of x from flutter h w (suc double) later in
+        let goes = next_of x from flutter h w double late each active uncut f.earlier f.even f.odd f.is in
+        let at_odd : odd_cycle (suc double) ≡ suc (2 * suc double) = omega arith in
         let Followed : Member → Type 0 = λ node. IsFollowed x.params node (goes.next_even node) (goes.next_odd node) in
-        let evens : map goes.next_even nodes ≡ f.even.told.rows = sym goes.evens ∙ evens_of x flutter h w (suc double) f.earlier f.even f.odd f.is in
-        let odds : map goes.next_odd nodes ≡ f.odd.told.rows = sym goes.odds ∙ odds_of x flutter h w (suc double) f.earlier f.even f.odd f.is in
+        let evens : map goes.next_even nodes ≡ f.even.told.rows = sym goes.evens ∙ evens_of x from flutter h w (suc double) f.earlier f.even f.odd f.is in
+        let odds : map goes.next_odd nodes ≡ f.odd.told.rows = sym goes.odds ∙ odds_of x from flutter h w (suc double) f.earlier f.even f.odd f.is in
         record {
           even = f.even;
           odd = f.odd;
           has_even = even_is h (suc double) f.earlier f.even f.odd f.is;
-          has_odd = ap (cycle_at h) late ∙ odd_is h (suc double) f.earlier f.even f.odd f.is;
+          has_odd = ap (cycle_at h) at_odd ∙ odd_is h (suc double) f.earlier f.even f.odd f.is;
           active_even =
               subst Active_in evens (All-map (λ (row : NodeRow). row.state ≡ Active) goes.next_even nodes (All-along Followed (λ node. (goes.next_even node).state ≡ Active) nodes (λ node is. is.active_even) goes.followed));
           active_odd =
@@ -381,13 +382,13 @@ module _ (x : Setting) (flutter : ℕ) (h : Cycles) (double : ℕ) (known : Know
       }
 
 pub unfollowed_goes_on_lem : UnfollowedGoesOn
-unfollowed_goes_on_lem what x flutter h double known w short is each at judged =
-    (judged_by x flutter h double known w short each at judged what is, λ later. each_later x flutter h w double each)
+unfollowed_goes_on_lem what x from flutter h double known w late short is each at judged =
+    (judged_by x from flutter h double known w late short each at judged what is, λ later. each_later x from flutter h w double each)
 
 pub judged_goes_on_lem : JudgedGoesOn
-judged_goes_on_lem what x flutter h double known w short is at judged =
-    let run = lawful_run x flutter h w in
-    judged_by x flutter h double known run short (each_alone x flutter h run w.none_joins double) at judged what is
+judged_goes_on_lem what x from flutter h double known w late short is at judged =
+    let run = lawful_run x from flutter h w in
+    judged_by x from flutter h double known run late short (each_alone x from flutter h run w.none_joins double) at judged what is
 
 -- ---- what is known in two ways
 
@@ -437,7 +438,7 @@ sharp_sync_is_known_lem beside x flutter past h double s = record {
 
 pub stated_runs_are_known_lem : StatedRunsAreKnown
 stated_runs_are_known_lem x flutter start rate h w near some =
-    let f = found_of x flutter h (lawful_run x flutter h w) 0 some in
+    let f = found_of x 0 flutter h (lawful_run x 0 flutter h w) 0 some in
     let active = timed_begin_active x flutter h w f.earlier f.even f.odd f.is in
     record {
       even = f.even;

@@ -13,11 +13,12 @@ use Rattle.fr_bound.specs.SharpSpreads.{next_lost_spread}
 use Rattle.fr_bound.specs.declared.judging.Heard.{Heard}
 use Rattle.fr_bound.specs.declared.judging.Heard.TheVariants as heard
 use Rattle.fr_precision.specs.Among.{apart_through_losses, lost_spread, spread_through_losses, LaterSpreadsAreLess, SpreadsAreBelowLost}
+use Rattle.fr_sharp.specs.Bearing.{KeepsThrough}
 use Rattle.fr_sharp.specs.LossBursts.{BurstsCostNoMore, BurstsKeepThePeak, IsInBurst, LosesInBursts}
 use Rattle.fr_sharp.specs.LossCosts.{heard_behind}
 use Rattle.fr_sharp.specs.Losses.{lost_apart, HistoriesKeepThroughLosses}
 use Rattle.fr_sharp.specs.LossStatement.{whole_in}
-use Rattle.fr_runs.specs.SharpHistories.{IsInSharpSyncAt, KeepsApart}
+use Rattle.fr_runs.specs.SharpHistories.{IsInSharpSyncAt}
 use Rattle.fr_sharp.specs.SharpStatement.{has_arbitrary}
 use Rattle.fr_sharp.specs.Traffic.{heard_in, traffic_in}
 use Rattle.fr_bound.specs.SharpSpreads.{sharply_near_in}
@@ -118,14 +119,14 @@ bursts_cost_no_more p flutter count whole cost k sane bursts is =
 
 -- ---- of files
 
-pub keeps_wider : (x : Setting) (h : Cycles) (double apart wide : ℕ) → apart ≤ wide → KeepsApart x h double apart → KeepsApart x h double wide
+pub keeps_wider : (x : Setting) (h : Cycles) (double apart wide : ℕ) → apart ≤ wide → KeepsThrough x h double apart → KeepsThrough x h double wide
 keeps_wider x h double apart wide le keeps = record { skew = λ macrotick is_odd less. further _ (keeps.skew macrotick is_odd less); ends = keeps.ends }
   where
     further : (z : ℤ) → z ≤ℤ pos apart → z ≤ℤ pos wide
     further z below = omega (arith, ints, below, le)
 
 -- macroticks lie no further apart by lesser spreads
-apart_below : (p : Values) (s t next other : Spread) → IsBelow s t → next.starts ≤ other.starts → max (Far p s) (next.starts + longest_micro p) ≤ max (Far p t) (other.starts + longest_micro p)
+pub apart_below : (p : Values) (s t next other : Spread) → IsBelow s t → next.starts ≤ other.starts → max (Far p s) (next.starts + longest_micro p) ≤ max (Far p t) (other.starts + longest_micro p)
 apart_below p s t next other below le = both (Far p s) (Far p t) next.starts other.starts (longest_micro p) (far_grows p s t below) le
   where
     both : (a b s t q : ℕ) → a ≤ b → s ≤ t → max a (s + q) ≤ max b (t + q)
@@ -151,10 +152,10 @@ below_lost below p flutter what whole k clean =
     apart_below p (spread_through_losses false p flutter what k) (lost_spread p flutter whole k) (spread_through_losses false p flutter what (suc k)) (lost_spread p flutter whole (suc k)) (record { start = one.0; long = one.1 }) two.0
 
 pub bursts_keep_the_peak : HistoriesKeepThroughLosses → LaterSpreadsAreLess → SpreadsAreBelowLost → BurstsKeepThePeak
-bursts_keep_the_peak keep later below p d s flutter count cost h double passed sane bursts is covered alone run sync within lasts =
+bursts_keep_the_peak keep later below p d s from flutter count cost h double passed sane bursts is covered alone run late sync awake within lasts =
     let what : ℕ → Heard = λ m. heard_in (traffic_in p s) m in
     let synced : IsInSharpSyncAt (has_arbitrary p s) p flutter (pos 0) h double = subst (λ (b : Bool). IsInSharpSyncAt b p flutter (pos 0) h double) (sym alone) sync in
-    let keeps = covered_files_keep_through_losses keep later p d s flutter cost.reach h double sane covered run synced passed within lasts in
+    let keeps = covered_files_keep_through_losses keep later p d s from flutter cost.reach h double sane covered run late synced awake passed within lasts in
     let one = later_apart later (has_arbitrary p s) p flutter what double passed (none_is_clean p s) in
     let other = below_lost below p flutter what (whole_in p s) (double + passed) (whole_is_clean p s alone) in
     let same : apart_through_losses (has_arbitrary p s) p flutter what (double + passed) ≡ apart_through_losses false p flutter what (double + passed) = ap (λ (b : Bool). apart_through_losses b p flutter what (double + passed)) alone in

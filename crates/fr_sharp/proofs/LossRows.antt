@@ -5,7 +5,7 @@ use Rattle.fr_precision.proofs.Worked.{node}
 use Rattle.fr_precision.specs.Among.{every_second, lost_spread}
 use Rattle.fr_sharp.specs.LossCosts.{apart_in_a_row}
 use Rattle.fr_bound.specs.SharpBounds.{sharp_precision}
-use Rattle.fr_sharp.proofs.SharpRows.{set_of}
+use Rattle.fr_promise.proofs.SharpRows.{set_of}
 
 -- oscillators of 100 ppm, damping 2
 abbrev cluster : Values

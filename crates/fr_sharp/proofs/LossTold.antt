@@ -1,12 +1,11 @@
 -- What a run loses means what it is called, and where it is covered through losses it keeps to its bounds.
-use Rattle.std.proofs.Common.{◌≡◌, ◌⊎◌, ℕ, zero, suc, ◌+◌, ◌*◌, ◌<◌, ◌≤◌, Bool, true, false, not, ◌&&◌, ◌||◌, Option, Some, None, List, [], ◌∷◌, inl, inr, refl, ap, ap₂, sym, ◌∙◌, add-one, arith}
+use Rattle.std.proofs.Common.{◌≡◌, ◌⊎◌, ℕ, zero, suc, ◌+◌, ◌-◌, ◌*◌, ◌<◌, ◌≤◌, Bool, true, false, not, ◌&&◌, ◌||◌, Option, Some, None, List, [], ◌∷◌, inl, inr, refl, ap, ap₂, sym, ◌∙◌, subst, add-one, arith}
 use Rattle.std.specs.Prelude.{Contains, max, nat_lt, if◌then◌else◌}
 use Rattle.std.specs.List.{list_all}
 use Rattle.std.proofs.lemmas.Bool.{and_parts, cases_Bool, cases_eq, not-true, or_cases}
 use Rattle.fr_base.specs.declared.channel.Channel.{Channel}
 use Rattle.fr_base.specs.declared.channel.Channel.TheVariants as channel
-use Rattle.fr_cluster.proofs.Elements.{Contains-here, Contains-none, Contains-there}
-use Rattle.fr_cluster.proofs.KeyNodes.{Contains-cons_cases}
+use Rattle.fr_cluster.proofs.Elements.{Contains-here, Contains-there}
 use Rattle.fr_cluster.specs.Values.{Values}
 use Rattle.fr_cluster.specs.declared.nodes.NodeSpec.{NodeSpec}
 use Rattle.fr_drift.specs.Questions.{doubles_of}
@@ -14,29 +13,31 @@ use Rattle.fr_drift.specs.View.{DriftView}
 use Rattle.fr_script.specs.Deeds.{deed_in}
 use Rattle.fr_script.specs.Events.{event_of}
 use Rattle.fr_script.specs.View.{ScriptView, deed_of, is_arbitrary, join_of}
-use Rattle.fr_coverage.specs.Coverage.{gap_of_run, some_join}
+use Rattle.fr_coverage.specs.Coverage.{gap_from, some_join}
 use Rattle.fr_coverage.specs.Decided.{setting_of}
-use Rattle.fr_coverage.specs.Flutter.{flutter_of}
+use Rattle.fr_coverage.specs.Flutter.{flutter_from}
 use Rattle.fr_coverage.specs.Links.{is_carried, is_carried_on, is_free, is_link, is_sync, shares}
-use Rattle.fr_coverage.specs.Order.{FindsGapOfRun, HasNoGapOfRun, IsChangeGap, IsCountGap, IsDelayGap, IsEarlierGap, IsGapOfRun, IsLengthGap, IsLinkGap}
+use Rattle.fr_coverage.specs.Order.{FindsGapFrom, HasNoGapFrom, IsBehind, IsChangeGap, IsCountGap, IsDelayGap, IsEarlierGap, IsFirstGapFrom, IsGapOfRun, IsLengthGap, IsLinkGap}
 use Rattle.fr_coverage.specs.declared.gap.Gap.{Gap}
 use Rattle.fr_coverage.specs.declared.gap.Gap.TheVariants as gap
 use Rattle.fr_bound.specs.declared.settling.Spread.{Spread}
 use Rattle.fr_bound.specs.Judged.{heard_spread}
 use Rattle.fr_bound.specs.declared.judging.Heard.{Heard}
+use Rattle.fr_bound.specs.declared.judging.Heard.TheVariants as heard
 use Rattle.fr_precision.specs.Among.{apart_through_losses, spread_through_losses, LaterSpreadsAreLess}
 use Rattle.fr_sharp.specs.LossCosts.{limits_hold}
 use Rattle.fr_sharp.specs.Losses.{HistoriesKeepThroughLosses}
 use Rattle.fr_sharp.specs.LossRuns.{all_reach, is_link_at_most, is_through_losses, losses_by, losses_of, lost_before, next_losses, reaches, reaches_each, through_checks, through_nodes, AreLosses, IsLastLost, LossesAreTold, RunsKeepTheirBounds}
 use Rattle.fr_sharp.specs.LossSteps.{heard_apart}
-use Rattle.fr_sharp.specs.LossStatement.{whole_in, without_losses, IsCoveredThroughLosses}
+use Rattle.fr_sharp.specs.LossStatement.{apart_since, whole_in, without_losses, IsCoveredThroughLosses}
 use Rattle.fr_bound.specs.SharpChecks.{sharp_holds_of, SharpChecksHold}
 use Rattle.fr_bound.specs.SharpSpreads.{sharply_near_in}
 use Rattle.fr_sharp.specs.SharpStatement.{has_arbitrary}
-use Rattle.fr_sharp.specs.Traffic.{all_trusted, heard_in, traffic_in}
+use Rattle.fr_sharp.specs.Traffic.{all_bear_from, heard_in, traffic_in}
 use Rattle.fr_sharp.specs.declared.losses_of_runs.RunLosses.{RunLosses}
-use Rattle.fr_sharp.proofs.FromLossyFiles.{covered_files_keep_through_losses, none_is_clean}
-use Rattle.fr_sharp.proofs.LossBurstLaws.{keeps_wider, later_apart}
+use Rattle.fr_sharp.proofs.FromLossyFiles.{covered_files_keep_through_losses, later_since, none_is_clean}
+use Rattle.fr_sharp.proofs.LossBurstLaws.{apart_below, keeps_wider}
+use Rattle.fr_sharp.proofs.HeardCounts.{all_pass}
 
 -- ---- the figures of the first so many double cycles
 
@@ -63,61 +64,69 @@ no_more a b c one other = omega (arith, one, other)
 both_true : (a b : Bool) → a ≡ true → b ≡ true → (a && b) ≡ true
 both_true a b one other = rw (one, other) refl
 
--- where the greatest of numbers stands, and that it is 0 where there are none
-abbrev IsPlaced : (ℕ → ℕ) → ℕ → ℕ → ℕ → Type 0
-IsPlaced number zero peak place = (peak ≡ 0) × (place ≡ 0)
-IsPlaced number (suc n) peak place = (place < suc n) × (number place ≡ peak) × ((k : ℕ) → k < place → number k < peak)
+-- where the greatest of numbers stands, counted from a double cycle on, and that it is 0 where there are none
+abbrev IsPlaced : (ℕ → ℕ) → ℕ → ℕ → ℕ → ℕ → Type 0
+IsPlaced number from zero peak place = (peak ≡ 0) × (place ≡ from)
+IsPlaced number from (suc n) peak place =
+    (from ≤ place) × (place < from + suc n) × (number (place - from) ≡ peak) × ((k : ℕ) → k < place - from → number k < peak)
 
-placed_next : (number : ℕ → ℕ) (n peak place : ℕ) (t : Bool) → nat_lt peak (number n) ≡ t → IsPlaced number n peak place
-    → ((k : ℕ) → k < n → number k ≤ peak) → IsPlaced number (suc n) (if t then number n else peak) (if t then n else place)
-placed_next number zero peak place true is placed most = (omega arith, refl, λ k less. absurd (omega (arith, less)))
-placed_next number zero peak place false is placed most =
+placed_next : (number : ℕ → ℕ) (from n peak place : ℕ) (t : Bool) → nat_lt peak (number n) ≡ t → IsPlaced number from n peak place
+    → ((k : ℕ) → k < n → number k ≤ peak) → IsPlaced number from (suc n) (if t then number n else peak) (if t then from + n else place)
+placed_next number from zero peak place true is placed most =
+    let none : (from + 0) - from ≡ 0 = omega arith in
+    (omega arith, omega arith, ap number none, λ k less. absurd (omega (arith, less)))
+placed_next number from zero peak place false is placed most =
     let none = placed.0 in
     let at = placed.1 in
     let small : number 0 ≤ peak = grind arith in
-    let first : number place ≡ number 0 = ap number at in
-    (omega (arith, at), omega (arith, none, small, first), λ k less. absurd (omega (arith, less, at)))
-placed_next number (suc n) peak place true is placed most =
+    let start : place - from ≡ 0 = omega (arith, at) in
+    let first : number (place - from) ≡ number 0 = ap number start in
+    (omega (arith, at), omega (arith, at), omega (arith, none, small, first), λ k less. absurd (omega (arith, less, at)))
+placed_next number from (suc n) peak place true is placed most =
     let more : peak < number (suc n) = grind arith in
-    (omega arith, refl, λ k less. let le = most k less in omega (arith, le, more))
-placed_next number (suc n) peak place false is placed most =
-    let within = placed.0 in
-    (omega (arith, within), placed.1, placed.2)
+    let last : (from + suc n) - from ≡ suc n = omega arith in
+    (omega arith, omega arith, ap number last, λ k less. let le = most k (omega (arith, less)) in omega (arith, le, more))
+placed_next number from (suc n) peak place false is placed most =
+    let within = placed.1 in
+    (placed.0, omega (arith, within), placed.2, placed.3)
 
-last_next : (whole : ℕ → Bool) (n : ℕ) (b : Bool) → whole n ≡ b → (o : Option ℕ) → IsLastLost whole n o → IsLastLost whole (suc n) (if b then o else Some n)
-last_next whole n true is None before = λ k less. by k (below_next k n less)
+last_next : (whole : ℕ → Bool) (from n : ℕ) (b : Bool) → from ≤ n → whole n ≡ b → (o : Option ℕ) → IsLastLost whole from n o → IsLastLost whole from (suc n) (if b then o else Some n)
+last_next whole from n true behind is None before = λ k late less. by k late (below_next k n less)
   where
-    by : (k : ℕ) → (k ≡ n) ⊎ (k < n) → whole k ≡ true
-    by k (inl same) = ap whole same ∙ is
-    by k (inr earlier) = before k earlier
-last_next whole n true is (Some last) before =
-    let within = before.0 in
-    (omega (arith, within), before.1, λ k later less. by k later (below_next k n less))
+    by : (k : ℕ) → from ≤ k → (k ≡ n) ⊎ (k < n) → whole k ≡ true
+    by k late (inl same) = ap whole same ∙ is
+    by k late (inr earlier) = before k late earlier
+last_next whole from n true behind is (Some last) before =
+    let within = before.1 in
+    (before.0, omega (arith, within), before.2, λ k later less. by k later (below_next k n less))
   where
     by : (k : ℕ) → last < k → (k ≡ n) ⊎ (k < n) → whole k ≡ true
     by k later (inl same) = ap whole same ∙ is
-    by k later (inr earlier) = before.2 k later earlier
-last_next whole n false is o before = (omega arith, is, λ k later less. absurd (omega (arith, later, less)))
+    by k later (inr earlier) = before.3 k later earlier
+last_next whole from n false behind is o before = (behind, omega arith, is, λ k later less. absurd (omega (arith, later, less)))
 
-module _ (beside : Bool) (p : Values) (flutter : ℕ) (whole : ℕ → Bool) (what : ℕ → Heard) (trusted : ℕ → Bool) where
+module _ (beside : Bool) (p : Values) (from flutter : ℕ) (whole : ℕ → Bool) (what : ℕ → Heard) (trusted : ℕ → Bool) where
   abbrev at : ℕ → RunLosses
-  at n = losses_by beside p flutter whole what trusted n
+  at n = losses_by beside p from flutter whole what trusted n
 
   abbrev apart : ℕ → ℕ
-  apart n = apart_through_losses beside p flutter what n
+  apart n = apart_through_losses beside p flutter (λ m. what (from + m)) n
 
   abbrev near : ℕ → ℕ
-  near n = sharply_near_in p (spread_through_losses beside p flutter what n)
+  near n = sharply_near_in p (spread_through_losses beside p flutter (λ m. what (from + m)) n)
 
-  counted : (n : ℕ) → (at n).doubles ≡ lost_before whole n
+  counted : (n : ℕ) → (at n).doubles ≡ lost_before (λ m. whole (from + m)) n
   unfolding losses_by lost_before
   counted zero = refl
-  counted (suc n) = ap (λ (m : ℕ). if whole n then m else m + 1) (counted n)
+  counted (suc n) = ap (λ (m : ℕ). if whole (from + n) then m else m + 1) (counted n)
 
-  last_is : (n : ℕ) → IsLastLost whole n (at n).last
+  last_is : (n : ℕ) → IsLastLost whole from (from + n) (at n).last
   unfolding losses_by
-  last_is zero = λ k less. absurd (omega (arith, less))
-  last_is (suc n) = last_next whole n (whole n) refl (at n).last (last_is n)
+  last_is zero = λ k late less. absurd (omega (arith, late, less))
+  last_is (suc n) =
+      let next : suc (from + n) ≡ from + suc n = omega arith in
+      let Last : ℕ → Type 0 = λ doubles. IsLastLost whole from doubles (at (suc n)).last in
+      subst Last next (last_next whole from (from + n) (whole (from + n)) (omega arith) refl (at n).last (last_is n))
 
   greatest : (n k : ℕ) → k < n → apart k ≤ (at n).peak
   unfolding losses_by
@@ -130,10 +139,15 @@ module _ (beside : Bool) (p : Values) (flutter : ℕ) (whole : ℕ → Bool) (wh
       by up (inl same) before = no_more (apart k) (apart n) (at (suc n)).peak (let e : apart k ≡ apart n = ap apart same in omega (arith, e)) up.1
       by up (inr earlier) before = no_more (apart k) (at n).peak (at (suc n)).peak (before earlier) up.0
 
-  placed : (n : ℕ) → IsPlaced apart n (at n).peak (at n).place
+  placed : (n : ℕ) → IsPlaced apart from n (at n).peak (at n).place
   unfolding losses_by
   placed zero = (refl, refl)
-  placed (suc n) = placed_next apart n (at n).peak (at n).place (nat_lt (at n).peak (apart n)) refl (placed n) (greatest n)
+  placed (suc n) = placed_next apart from n (at n).peak (at n).place (nat_lt (at n).peak (apart n)) refl (placed n) (greatest n)
+
+  placed_at : (n : ℕ) → 1 ≤ n
+      → (from ≤ (at n).place) × ((at n).place < from + n) × (apart ((at n).place - from) ≡ (at n).peak) × ((k : ℕ) → k < (at n).place - from → apart k < (at n).peak)
+  placed_at zero some = absurd (omega (arith, some))
+  placed_at (suc n) some = placed (suc n)
 
   nearest : (n k : ℕ) → k < n → near k ≤ (at n).reach
   unfolding losses_by
@@ -151,36 +165,48 @@ module _ (beside : Bool) (p : Values) (flutter : ℕ) (whole : ℕ → Bool) (wh
   least (suc n) reach most =
       widest (at n).reach (near n) reach (least n reach (λ k less. most k (omega (arith, less)))) (most n (omega arith))
 
-  all_trust : (n : ℕ) → (at n).trusted ≡ true → (k : ℕ) → k < n → trusted k ≡ true
+  all_trust : (n : ℕ) → (at n).trusted ≡ true → (k : ℕ) → k < n → trusted (from + k) ≡ true
   unfolding losses_by
   all_trust zero is k less = absurd (omega (arith, less))
   all_trust (suc n) is k less =
-      let parts = and_parts (at n).trusted (trusted n) is in
+      let parts = and_parts (at n).trusted (trusted (from + n)) is in
       by parts.1 (below_next k n less) (all_trust n parts.0 k)
     where
-      by : trusted n ≡ true → (k ≡ n) ⊎ (k < n) → (k < n → trusted k ≡ true) → trusted k ≡ true
-      by here (inl same) before = ap trusted same ∙ here
+      by : trusted (from + n) ≡ true → (k ≡ n) ⊎ (k < n) → (k < n → trusted (from + k) ≡ true) → trusted (from + k) ≡ true
+      by here (inl same) before = ap (λ (m : ℕ). trusted (from + m)) same ∙ here
       by here (inr earlier) before = before earlier
 
-  trust : (n : ℕ) → ((k : ℕ) → k < n → trusted k ≡ true) → (at n).trusted ≡ true
+  trust : (n : ℕ) → ((k : ℕ) → k < n → trusted (from + k) ≡ true) → (at n).trusted ≡ true
   unfolding losses_by
   trust zero each = refl
-  trust (suc n) each = both_true (at n).trusted (trusted n) (trust n (λ k less. each k (omega (arith, less)))) (each n (omega arith))
+  trust (suc n) each = both_true (at n).trusted (trusted (from + n)) (trust n (λ k less. each k (omega (arith, less)))) (each n (omega arith))
 
-  pub are_losses : (n : ℕ) → 1 ≤ n → AreLosses beside p flutter whole what trusted n (at n)
-  are_losses zero some = absurd (omega (arith, some))
-  are_losses (suc n) some = record {
-    count = counted (suc n);
-    last = last_is (suc n);
-    greatest = greatest (suc n);
-    place = (placed (suc n)).0;
-    reached = (placed (suc n)).1;
-    first = (placed (suc n)).2;
-    near = nearest (suc n);
-    least = least (suc n);
-    always_trusted = all_trust (suc n);
-    all_are_trusted = trust (suc n);
-  }
+  pub are_losses : (doubles : ℕ) → from < doubles → AreLosses beside p from flutter whole what trusted doubles (at (doubles - from))
+  are_losses doubles some =
+      let n : ℕ = doubles - from in
+      let end : from + n ≡ doubles = omega (arith, some) in
+      let Last : ℕ → Type 0 = λ m. IsLastLost whole from m (at n).last in
+      let place = placed_at n (omega (arith, some)) in
+      let within = place.1 in
+      record {
+        count = counted n;
+        last = subst Last end (last_is n);
+        greatest = λ k late less. greatest n (k - from) (omega (arith, late, less));
+        behind = place.0;
+        place = omega (arith, within, end);
+        reached = place.2;
+        first = λ k late less. place.3 (k - from) (omega (arith, late, less));
+        near = λ k late less. nearest n (k - from) (omega (arith, late, less));
+        least = λ reach most.
+            least n reach
+            (λ k less.
+            let here : (from + k) - from ≡ k = omega arith in
+            subst (λ (m : ℕ). near m ≤ reach) here (most (from + k) (omega arith) (omega (arith, less))));
+        always_trusted = λ is k late less.
+            let here : from + (k - from) ≡ k = omega (arith, late) in
+            subst (λ (m : ℕ). trusted m ≡ true) here (all_trust n is (k - from) (omega (arith, late, less)));
+        all_are_trusted = λ each. trust n (λ k less. each (from + k) (omega arith) (omega (arith, less)));
+      }
 
 -- ---- one double cycle more
 
@@ -207,44 +233,40 @@ pub apart_on : (beside : Bool) (p : Values) (flutter : ℕ) (what : ℕ → Hear
 apart_on beside p flutter what n hears now apart is now_is far =
     far ∙ ap (λ (h : Heard). heard_apart h p flutter now) is ∙ ap (heard_apart (what n) p flutter) now_is ∙ here_apart beside p flutter what n
 
-next_by : (beside : Bool) (p : Values) (flutter : ℕ) (whole : ℕ → Bool) (what : ℕ → Heard) (trusted : ℕ → Bool) (k : ℕ)
-    → next_losses (whole k) (trusted k) k (apart_through_losses beside p flutter what k) (sharply_near_in p (spread_through_losses beside p flutter what k)) (losses_by beside p flutter whole what trusted k)
-    ≡ losses_by beside p flutter whole what trusted (suc k)
+next_by : (beside : Bool) (p : Values) (from flutter : ℕ) (whole : ℕ → Bool) (what : ℕ → Heard) (trusted : ℕ → Bool) (k : ℕ)
+    → next_losses (whole (from + k)) (trusted (from + k)) (from + k) (apart_through_losses beside p flutter (λ m. what (from + m)) k)
+    (sharply_near_in p (spread_through_losses beside p flutter (λ m. what (from + m)) k)) (losses_by beside p from flutter whole what trusted k)
+    ≡ losses_by beside p from flutter whole what trusted (suc k)
 unfolding losses_by
-next_by beside p flutter whole what trusted k = refl
+next_by beside p from flutter whole what trusted k = refl
 
-module _ (beside : Bool) (p : Values) (flutter : ℕ) (whole : ℕ → Bool) (what : ℕ → Heard) (trusted : ℕ → Bool) where
-  pub losses_on : (n : ℕ) (all trust : Bool) (hears : Heard) (apart near : ℕ) (now : Spread) (was : RunLosses) → all ≡ whole n → trust ≡ trusted n → hears ≡ what n
-      → now ≡ spread_through_losses beside p flutter what n → apart ≡ heard_apart hears p flutter now → near ≡ sharply_near_in p now → was ≡ losses_by beside p flutter whole what trusted n
-      → next_losses all trust n apart near was ≡ losses_by beside p flutter whole what trusted (n + 1)
+module _ (beside : Bool) (p : Values) (from flutter : ℕ) (whole : ℕ → Bool) (what : ℕ → Heard) (trusted : ℕ → Bool) where
+  abbrev since : ℕ → Heard
+  since m = what (from + m)
+
+  pub losses_on : (n : ℕ) (all trust : Bool) (hears : Heard) (apart near : ℕ) (now : Spread) (was : RunLosses) → all ≡ whole (from + n) → trust ≡ trusted (from + n) → hears ≡ what (from + n)
+      → now ≡ spread_through_losses beside p flutter (λ m. what (from + m)) n → apart ≡ heard_apart hears p flutter now → near ≡ sharply_near_in p now
+      → was ≡ losses_by beside p from flutter whole what trusted n → next_losses all trust (from + n) apart near was ≡ losses_by beside p from flutter whole what trusted (n + 1)
   losses_on n all trust hears apart near now was all_is trust_is is now_is apart_is near_is was_is =
-      let far : apart ≡ apart_through_losses beside p flutter what n = apart_on beside p flutter what n hears now apart is now_is apart_is in
-      let close : near ≡ sharply_near_in p (spread_through_losses beside p flutter what n) = near_is ∙ ap (sharply_near_in p) now_is in
-      ap (λ (b : Bool). next_losses b trust n apart near was) all_is ∙ ap (λ (b : Bool). next_losses (whole n) b n apart near was) trust_is
-      ∙ ap (λ (a : ℕ). next_losses (whole n) (trusted n) n a near was) far
-      ∙ ap (λ (a : ℕ). next_losses (whole n) (trusted n) n (apart_through_losses beside p flutter what n) a was) close
-      ∙ ap (next_losses (whole n) (trusted n) n (apart_through_losses beside p flutter what n) (sharply_near_in p (spread_through_losses beside p flutter what n))) was_is
-      ∙ next_by beside p flutter whole what trusted n
-      ∙ ap (losses_by beside p flutter whole what trusted) (sym (add-one n))
+      let double : ℕ = from + n in
+      let far : apart ≡ apart_through_losses beside p flutter since n = apart_on beside p flutter since n hears now apart is now_is apart_is in
+      let close : near ≡ sharply_near_in p (spread_through_losses beside p flutter since n) = near_is ∙ ap (sharply_near_in p) now_is in
+      ap (λ (b : Bool). next_losses b trust double apart near was) all_is ∙ ap (λ (b : Bool). next_losses (whole double) b double apart near was) trust_is
+      ∙ ap (λ (a : ℕ). next_losses (whole double) (trusted double) double a near was) far
+      ∙ ap (λ (a : ℕ). next_losses (whole double) (trusted double) double (apart_through_losses beside p flutter since n) a was) close
+      ∙ ap (next_losses (whole double) (trusted double) double (apart_through_losses beside p flutter since n) (sharply_near_in p (spread_through_losses beside p flutter since n))) was_is
+      ∙ next_by beside p from flutter whole what trusted n
+      ∙ ap (losses_by beside p from flutter whole what trusted) (sym (add-one n))
 
 pub losses_are_told_lem : LossesAreTold
-losses_are_told_lem p d s flutter some =
-    are_losses (has_arbitrary p s) p flutter (whole_in p s) (heard_in (traffic_in p s)) (all_trusted (traffic_in p s)) (doubles_of d) some
+losses_are_told_lem p d s from flutter some =
+    are_losses (has_arbitrary p s) p from flutter (whole_in p s) (heard_in (traffic_in p s)) (all_bear_from p (traffic_in p s) from) (doubles_of d) some
 
 -- ---- the run without what it loses
 
 each_passes : {X : Type 0} (test : X → Bool) (xs : List X) → ((x : X) → Contains xs x → test x ≡ true) → list_all test xs ≡ true
 each_passes test [] all = refl
 each_passes test (y ∷ xs) all = both_true (test y) (list_all test xs) (all y (Contains-here y xs)) (each_passes test xs (λ x among. all x (Contains-there y xs x among)))
-
-all_pass : {X : Type 0} (test : X → Bool) (xs : List X) (x : X) → list_all test xs ≡ true → Contains xs x → test x ≡ true
-all_pass test [] x all among = absurd (Contains-none x among)
-all_pass test (y ∷ xs) x all among =
-    let parts = and_parts (test y) (list_all test xs) all in
-    elim (Contains-cons_cases y xs x among) [
-      | inl same ↦ sym (ap test same) ∙ parts.0
-      | inr more ↦ all_pass test xs x parts.1 more
-    ]
 
 neither : (a b : Bool) → (a || b) ≡ false → (a ≡ false) × (b ≡ false)
 neither false false is = (refl, refl)
@@ -376,21 +398,21 @@ module _ (p : Values) (d : DriftView) (s : ScriptView) where
   earlier (gap.Delay sender receiver ch cycle ticks) a b n other = refl
   earlier (gap.Link sender receiver double) a b n other = absurd (cc)
 
-  module _ (finds : FindsGapOfRun p d s) where
-    none_before : (found : Option Gap) → gap_of_run p d s ≡ found → is_link_at_most found ≡ true → (g : Gap) → IsGapOfRun p d s g → is_link_at_most (Some g) ≡ false → ⊥
-    none_before None is at_most g found other = finds.0 is g found
-    none_before (Some (gap.Link a b n)) is at_most g found other = (finds.1 (gap.Link a b n) is).first g found (earlier g a b n other)
-    none_before (Some (gap.Check number left right)) is at_most g found other = absurd (cc)
-    none_before (Some (gap.Count correct arbitrary)) is at_most g found other = absurd (cc)
-    none_before (Some (gap.Length node cycle ticks)) is at_most g found other = absurd (cc)
-    none_before (Some (gap.Change node cycle ticks)) is at_most g found other = absurd (cc)
-    none_before (Some (gap.Delay sender receiver ch cycle ticks)) is at_most g found other = absurd (cc)
+  module _ (from : ℕ) (finds : FindsGapFrom p d s from) where
+    none_before : (found : Option Gap) → gap_from p d s from ≡ found → is_link_at_most found ≡ true → (g : Gap) → IsGapOfRun p d s g → IsBehind from g → is_link_at_most (Some g) ≡ false → ⊥
+    none_before None is at_most g found behind other = finds.none.0 is g found behind
+    none_before (Some (gap.Link a b n)) is at_most g found behind other = (finds.first (gap.Link a b n) is).first g found behind (earlier g a b n other)
+    none_before (Some (gap.Check number left right)) is at_most g found behind other = absurd (cc)
+    none_before (Some (gap.Count correct arbitrary)) is at_most g found behind other = absurd (cc)
+    none_before (Some (gap.Length node cycle ticks)) is at_most g found behind other = absurd (cc)
+    none_before (Some (gap.Change node cycle ticks)) is at_most g found behind other = absurd (cc)
+    none_before (Some (gap.Delay sender receiver ch cycle ticks)) is at_most g found behind other = absurd (cc)
 
-    bare : is_link_at_most (gap_of_run p d s) ≡ true → all_reach p.nodes s None ≡ true → HasNoGapOfRun p d (without_losses s)
-    bare at_most all g found = by found
+    bare : is_link_at_most (gap_from p d s from) ≡ true → all_reach p.nodes s None ≡ true → HasNoGapFrom p d (without_losses s) from
+    bare at_most all g found behind = by found
       where
         none : IsGapOfRun p d s g → is_link_at_most (Some g) ≡ false → ⊥
-        none = none_before (gap_of_run p d s) refl at_most g
+        none gap other = none_before (gap_from p d s from) refl at_most g gap behind other
 
         by : IsGapOfRun p d (without_losses s) g → ⊥
         by (inl c) = none (inl (count_of_bare g c)) (ap (λ (x : Gap). is_link_at_most (Some x)) c.told)
@@ -399,19 +421,22 @@ module _ (p : Values) (d : DriftView) (s : ScriptView) where
         by (inr (inr (inr (inl c)))) = none (inr (inr (inr (inl (delay_of_bare g c))))) (ap (λ (x : Gap). is_link_at_most (Some x)) c.told)
         by (inr (inr (inr (inr c)))) = no_link all g c
 
-    at_most_link : HasNoGapOfRun p d (without_losses s) → (found : Option Gap) → gap_of_run p d s ≡ found → is_link_at_most found ≡ true
+    at_most_link : HasNoGapFrom p d (without_losses s) from → (found : Option Gap) → gap_from p d s from ≡ found → is_link_at_most found ≡ true
     at_most_link none None is = refl
-    at_most_link none (Some g) is = by (finds.1 g is).is_gap
+    at_most_link none (Some g) is = by first.is_gap
       where
+        first : IsFirstGapFrom p d s from g
+        first = finds.first g is
+
         by : IsGapOfRun p d s g → is_link_at_most (Some g) ≡ true
-        by (inl c) = absurd (none g (inl (count_bare g c)))
-        by (inr (inl c)) = absurd (none g (inr (inl (length_bare g c))))
-        by (inr (inr (inl c))) = absurd (none g (inr (inr (inl (change_bare g c)))))
-        by (inr (inr (inr (inl c)))) = absurd (none g (inr (inr (inr (inl (delay_bare g c))))))
+        by (inl c) = absurd (none g (inl (count_bare g c)) first.behind)
+        by (inr (inl c)) = absurd (none g (inr (inl (length_bare g c))) first.behind)
+        by (inr (inr (inl c))) = absurd (none g (inr (inr (inl (change_bare g c)))) first.behind)
+        by (inr (inr (inr (inl c)))) = absurd (none g (inr (inr (inr (inl (delay_bare g c))))) first.behind)
         by (inr (inr (inr (inr c)))) = ap (λ (x : Gap). is_link_at_most (Some x)) c.told
 
-  all_share : 1 ≤ doubles_of d → HasNoGapOfRun p d (without_losses s) → all_reach p.nodes s None ≡ true
-  all_share some none =
+  all_share : (from : ℕ) → from < doubles_of d → HasNoGapFrom p d (without_losses s) from → all_reach p.nodes s None ≡ true
+  all_share from some none =
       each_passes (reaches_each p.nodes s None) p.nodes
       (λ a first. each_passes (λ (b : NodeSpec). not (is_link s a b) || reaches s a b None) p.nodes
       (λ b second. unless (is_link s a b) (reaches s a b None) (λ link. shared a b first second link (cases_Bool (reaches s a b None)))))
@@ -421,21 +446,21 @@ module _ (p : Values) (d : DriftView) (s : ScriptView) where
       shared a b first second link (inr is) =
           let parts = neither (shares a b channel.A) (shares a b channel.B) is in
           let f : Channel → ℕ → Bool = λ ch n. is_free (without_losses s) a.id b.id ch n in
-          let T : Bool → Bool → Bool = λ x y. (x && f channel.A (2 * 0) && f channel.A (2 * 0 + 1)) || (y && f channel.B (2 * 0) && f channel.B (2 * 0 + 1)) in
-          let broken : is_carried (without_losses s) a b 0 ≡ false = ap₂ T parts.0 parts.1 in
+          let T : Bool → Bool → Bool = λ x y. (x && f channel.A (2 * from) && f channel.A (2 * from + 1)) || (y && f channel.B (2 * from) && f channel.B (2 * from + 1)) in
+          let broken : is_carried (without_losses s) a b from ≡ false = ap₂ T parts.0 parts.1 in
           absurd
-          (none (gap.Link a.id b.id 0)
+          (none (gap.Link a.id b.id from)
           (inr (inr (inr (inr (record {
             sender = a;
             receiver = b;
             sender_there = first;
             receiver_there = second;
             link = link_bare a b true link;
-            double = 0;
+            double = from;
             within = some;
             broken = broken;
             told = refl;
-          }))))))
+          }))))) (omega arith))
 
 -- ---- covered through losses
 
@@ -464,45 +489,58 @@ hold_checks p flutter reach hold =
 not_false : (a : Bool) → a ≡ false → not a ≡ true
 not_false a is = rw is refl
 
-module _ (p : Values) (d : DriftView) (s : ScriptView) (flutter : ℕ) (finds : FindsGapOfRun p d s) (some : 1 ≤ doubles_of d) where
+module _ (p : Values) (d : DriftView) (s : ScriptView) (from flutter : ℕ) (finds : FindsGapFrom p d s from) (some : from < doubles_of d) where
   abbrev losses : RunLosses
-  losses = losses_of p d s flutter
+  losses = losses_of p d s from flutter
 
-  told : AreLosses (has_arbitrary p s) p flutter (whole_in p s) (heard_in (traffic_in p s)) (all_trusted (traffic_in p s)) (doubles_of d) losses
-  told = losses_are_told_lem p d s flutter some
+  told : AreLosses (has_arbitrary p s) p from flutter (whole_in p s) (heard_in (traffic_in p s)) (all_bear_from p (traffic_in p s) from) (doubles_of d) losses
+  told = losses_are_told_lem p d s from flutter some
 
-  pub through_is_covered : flutter_of p d s ≤ flutter → is_through_losses p s flutter (gap_of_run p d s) losses ≡ true → IsCoveredThroughLosses p d s flutter losses.reach
+  pub through_is_covered : flutter_from p d s from ≤ flutter → is_through_losses p s flutter (gap_from p d s from) losses ≡ true → IsCoveredThroughLosses p d s from flutter losses.reach
   through_is_covered flutters is =
-      let first = and_parts losses.trusted (through_checks p flutter losses.reach && through_nodes p s (gap_of_run p d s)) is in
-      let second = and_parts (through_checks p flutter losses.reach) (through_nodes p s (gap_of_run p d s)) first.1 in
-      let fourth = and_parts (not (some_join p s)) (is_link_at_most (gap_of_run p d s) && all_reach p.nodes s None) second.1 in
-      let fifth = and_parts (is_link_at_most (gap_of_run p d s)) (all_reach p.nodes s None) fourth.1 in
+      let first = and_parts losses.trusted (through_checks p flutter losses.reach && through_nodes p s (gap_from p d s from)) is in
+      let second = and_parts (through_checks p flutter losses.reach) (through_nodes p s (gap_from p d s from)) first.1 in
+      let fourth = and_parts (not (some_join p s)) (is_link_at_most (gap_from p d s from) && all_reach p.nodes s None) second.1 in
+      let fifth = and_parts (is_link_at_most (gap_from p d s from)) (all_reach p.nodes s None) fourth.1 in
       record {
         checks = checks_hold p flutter losses.reach second.0;
         near = told.near;
         none_joins = not-true (some_join p s) fourth.0;
-        none = bare p d s finds fifth.0 fifth.1;
+        none = bare p d s from finds fifth.0 fifth.1;
         flutters = flutters;
-        trusted = told.always_trusted first.0;
+        borne = told.always_trusted first.0;
       }
 
-  pub covered_is_through : IsCoveredThroughLosses p d s flutter losses.reach → is_through_losses p s flutter (gap_of_run p d s) losses ≡ true
+  pub covered_is_through : IsCoveredThroughLosses p d s from flutter losses.reach → is_through_losses p s flutter (gap_from p d s from) losses ≡ true
   covered_is_through covered =
-      both_true losses.trusted (through_checks p flutter losses.reach && through_nodes p s (gap_of_run p d s)) (told.all_are_trusted covered.trusted)
-      (both_true (through_checks p flutter losses.reach) (through_nodes p s (gap_of_run p d s)) (hold_checks p flutter losses.reach covered.checks)
-      (both_true (not (some_join p s)) (is_link_at_most (gap_of_run p d s) && all_reach p.nodes s None) (not_false (some_join p s) covered.none_joins)
-      (both_true (is_link_at_most (gap_of_run p d s)) (all_reach p.nodes s None) (at_most_link p d s finds covered.none (gap_of_run p d s) refl) (all_share p d s some covered.none))))
+      both_true losses.trusted (through_checks p flutter losses.reach && through_nodes p s (gap_from p d s from)) (told.all_are_trusted covered.borne)
+      (both_true (through_checks p flutter losses.reach) (through_nodes p s (gap_from p d s from)) (hold_checks p flutter losses.reach covered.checks)
+      (both_true (not (some_join p s)) (is_link_at_most (gap_from p d s from) && all_reach p.nodes s None) (not_false (some_join p s) covered.none_joins)
+      (both_true (is_link_at_most (gap_from p d s from)) (all_reach p.nodes s None) (at_most_link p d s from finds covered.none (gap_from p d s from) refl) (all_share p d s from some covered.none))))
 
 -- ---- what such a run keeps
 
+-- the number of a double cycle by what was heard since a later one is no greater than by what was heard since an earlier one
+apart_later : LaterSpreadsAreLess → (beside : Bool) (p : Values) (from flutter : ℕ) (what : ℕ → Heard) (double k : ℕ) → from ≤ double → (beside ≡ true → (m : ℕ) → what m ≡ heard.Clean → ⊥)
+    → apart_through_losses beside p flutter (λ m. what (double + m)) k ≤ apart_since beside p from flutter what (double + k)
+apart_later later beside p from flutter what double k late none =
+    let now = later_since later beside p from flutter what double k late none in
+    let next = later_since later beside p from flutter what double (suc k) late none in
+    let one : (double + suc k) - from ≡ suc ((double + k) - from) = omega (arith, late) in
+    let all : ℕ → Spread = λ n. spread_through_losses beside p flutter (λ m. what (from + m)) n in
+    let At : ℕ → Type 0 = λ n. (spread_through_losses beside p flutter (λ m. what (double + m)) (suc k)).starts ≤ (all n).starts in
+    apart_below p (spread_through_losses beside p flutter (λ m. what (double + m)) k) (all ((double + k) - from)) (spread_through_losses beside p flutter (λ m. what (double + m)) (suc k))
+    (all (suc ((double + k) - from))) (record { start = now.0; long = now.1 }) (subst At one next.0)
+
 pub runs_keep_their_bounds : HistoriesKeepThroughLosses → LaterSpreadsAreLess → RunsKeepTheirBounds
-runs_keep_their_bounds keep later p d s flutter h double passed sane covered run sync within lasts =
-    let reach = (losses_of p d s flutter).reach in
+runs_keep_their_bounds keep later p d s from flutter h double passed sane covered run late sync awake within lasts =
+    let reach = (losses_of p d s from flutter).reach in
     let beside = has_arbitrary p s in
     let what : ℕ → Heard = λ m. heard_in (traffic_in p s) m in
     let now = apart_through_losses beside p flutter (λ m. heard_in (traffic_in p s) (double + m)) passed in
-    let all = apart_through_losses beside p flutter what (double + passed) in
-    let keeps = covered_files_keep_through_losses keep later p d s flutter reach h double sane covered run sync passed within lasts in
-    let bound = keeps_wider (setting_of p d s) h (double + passed) now all (later_apart later beside p flutter what double passed (none_is_clean p s)) keeps in
-    let most = greatest beside p flutter (whole_in p s) what (all_trusted (traffic_in p s)) (doubles_of d) (double + passed) within in
-    (bound, keeps_wider (setting_of p d s) h (double + passed) all (losses_of p d s flutter).peak most bound)
+    let all = apart_since beside p from flutter what (double + passed) in
+    let keeps = covered_files_keep_through_losses keep later p d s from flutter reach h double sane covered run late sync awake passed within lasts in
+    let bound = keeps_wider (setting_of p d s) h (double + passed) now all (apart_later later beside p from flutter what double passed late (none_is_clean p s)) keeps in
+    let told = losses_are_told_lem p d s from flutter (omega (arith, late, within)) in
+    let most = told.greatest (double + passed) (omega (arith, late)) within in
+    (bound, keeps_wider (setting_of p d s) h (double + passed) all (losses_of p d s from flutter).peak most bound)

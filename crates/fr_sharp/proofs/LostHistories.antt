@@ -1,46 +1,151 @@
 -- A lawful history in which frames are lost keeps to the numbers by what was heard.
-use Rattle.std.proofs.Common.{◌≡◌, ◌⊎◌, ℕ, suc, ◌+◌, ◌-◌, ◌*◌, ◌<◌, ◌≤◌, Bool, true, false, ℤ, pos, List, map, refl, sym, subst, lit≤, arith}
-use Rattle.std.specs.Prelude.{Contains, max}
+use Rattle.std.proofs.Common.{◌≡◌, ◌⊎◌, ℕ, zero, suc, ◌+◌, ◌-◌, ◌*◌, ◌<◌, ◌≤◌, ◌&&◌, ◌||◌, Bool, true, false, not, ℤ, pos, List, [], ◌∷◌, ◌++◌, All, length, map, inl, inr, refl, ap, ap₂, sym, ◌∙◌, subst, lit≤, arith, if◌then◌else◌}
+use Rattle.std.specs.Prelude.{Contains, max, nat_eq, nat_lt}
+use Rattle.std.proofs.lemmas.Bool.{cases_eq}
+use Rattle.std.proofs.lemmas.Bool.Decides.{nat_tests}
+use Rattle.std.proofs.lemmas.List.{length-append}
+use Rattle.std.proofs.lemmas.List.Elements.{All-contains, All-contains_itself}
+use Rattle.std.proofs.lemmas.List.Sorted.{length_permutation}
+use Rattle.std.proofs.lemmas.Slice.Zip.{AllZip-long}
+use Rattle.fr_base.specs.declared.node_row.NodeRow.{NodeRow}
+use Rattle.fr_base.specs.declared.state.Outcome.TheVariants.{Within, Missing}
+use Rattle.fr_base.specs.declared.state.State.TheVariants.{Active}
+use Rattle.fr_cluster.specs.Questions.{own_index}
 use Rattle.fr_cluster.specs.Sane.{IsSane}
-use Rattle.fr_cluster.specs.Setting.{Setting}
-use Rattle.fr_cluster.specs.Values.{Values}
+use Rattle.fr_cluster.specs.Setting.{Setting, correct_nodes}
+use Rattle.fr_cluster.specs.Values.{Values, amount}
+use Rattle.fr_cluster.specs.declared.names.ParamName.TheVariants as name
+use Rattle.fr_cluster.specs.declared.nodes.NodeSpec.{NodeSpec}
+use Rattle.fr_cluster.proofs.Elements.{Contains-here, Contains-there}
+use Rattle.fr_correct.specs.Terms.{offset_term_of, rate_term_of}
+use Rattle.fr_correct.specs.declared.term.Term.{Term}
+use Rattle.fr_correct.proofs.There.{offset_term_is_there, rate_term_is_there}
+use Rattle.fr_measure.specs.Deviations.{rate_values_by}
+use Rattle.fr_measure.specs.Values.{offset_at, rate_at}
+use Rattle.fr_midpoint.specs.Receivers.{Hears}
+use Rattle.fr_poc.specs.Control.{Status, step_of}
+use Rattle.fr_poc.specs.Limits.{limits_of}
 use Rattle.fr_bound.specs.Bounds.{longest_micro}
 use Rattle.fr_bound.specs.Checks.{holds_of}
-use Rattle.fr_precision.specs.Offsets.{LimitSuffices}
+use Rattle.fr_precision.specs.Offsets.{IsDeviation, LimitSuffices}
 use Rattle.fr_precision.specs.Reception.{LeavesRoom}
+use Rattle.fr_precision.specs.Round.{offsets_of, rates_of}
 use Rattle.fr_precision.specs.Rows.{Sender}
-use Rattle.fr_precision.specs.Step.{Member}
-use Rattle.fr_history.specs.Cycles.{Cycle, Cycles}
+use Rattle.fr_precision.specs.SharpRound.{as_member}
+use Rattle.fr_precision.specs.Steady.{PlacesEven}
+use Rattle.fr_precision.specs.Step.{IsFollowed, Member}
+use Rattle.fr_precision.proofs.Senders.{All-along}
+use Rattle.fr_history.specs.Cycles.{Cycle, Cycles, told_of}
+use Rattle.fr_history.specs.History.{row_for}
+use Rattle.fr_history.specs.Laws.{row_laws}
+use Rattle.fr_history.specs.Rows.{offset_after}
+use Rattle.fr_history.specs.Standing.{row_nodes}
+use Rattle.fr_history.specs.Terms.{offset_term_in, rate_term_in, status_in}
+use Rattle.fr_history.proofs.Lists.{map-map}
+use Rattle.fr_runs.specs.Gathered.{round_at, row_hearer}
+use Rattle.fr_runs.specs.Numbers.{rate_term_told}
 use Rattle.fr_runs.specs.Rounds.{IsDoubleOf}
+use Rattle.fr_runs.proofs.Courses.{is_correct_row, row_term_is}
+use Rattle.fr_runs.proofs.Nodes.{correct_node}
+use Rattle.fr_runs.proofs.Outcomes.{status_step}
+use Rattle.fr_precision.proofs.RoundLemmas.{contains_map, map_contains}
+use Rattle.fr_runs.proofs.Rows.{each_row, has_row as row_there, row_runs_by}
+use Rattle.fr_runs.proofs.RowsSupplied.{LawfulRows}
+use Rattle.fr_runs.proofs.Whole.{prior_of}
 use Rattle.fr_bound.specs.declared.judging.Heard.{Heard}
 use Rattle.fr_bound.specs.declared.judging.Heard.TheVariants.{Clean, Meeting, Poor}
-use Rattle.fr_precision.specs.Among.{apart_through_losses, lost_spread, spread_through_losses, AreLossyDoubles, ComputesOwn, GoInReach, HearInCommon, HeardSo, LossyDoublesKeep, LossyDoublesStayApart, SpreadsGo}
-use Rattle.fr_sharp.specs.JudgedSteps.{IsLawfulStatedRun}
+use Rattle.fr_precision.specs.Among.{apart_through_losses, lost_spread, most_change, spread_through_losses, AreLossyDoubles, ComputesOrKeeps, ComputesOwn, GoInReach, HearInCommon, HeardSo, LossyDoublesKeep, LossyDoublesStayApart, SpreadsGo}
+use Rattle.fr_sharp.specs.Bearing.{borne, borne_outcome, KeepsThrough}
+use Rattle.fr_runs.specs.SharpHistories.{IsLawfulStatedRunFrom}
 use Rattle.fr_precision.specs.Lengths.{walked_after}
-use Rattle.fr_sharp.specs.Losses.{HistoriesKeepThroughLosses, IsLossyRun, SharpAfterTwoWhole}
+use Rattle.fr_sharp.specs.Losses.{HistoriesKeepThroughLosses, IsLossyRunFrom, SharpAfterTwoWhole}
 use Rattle.fr_bound.specs.SharpBounds.{last_action, odd_spread, precision_by, sharp_lambda, sharp_pi, sharp_precision}
 use Rattle.fr_bound.specs.SharpChecks.{SharpChecksHold}
-use Rattle.fr_runs.specs.SharpHistories.{members_at, senders_at, BeginsActive, IsInSharpSyncAt, KeepsApart}
-use Rattle.fr_precision.specs.SharpRun.{BeginSharp, WalkLastsAfter}
+use Rattle.fr_runs.specs.SharpHistories.{members_at, senders_at, BeginsActive, IsInSharpSyncAt}
+use Rattle.fr_precision.specs.SharpRun.{AllUncut, AreActiveAfter, BeginSharp, IsNextDouble, KeepsSharp, WalkLastsAfter}
 use Rattle.fr_bound.specs.SharpSpreads.{sharply_near_in}
-use Rattle.fr_precision.specs.SharpStep.{ActInReach, AreSharp, IsInSharpSync}
-use Rattle.fr_runs.specs.SteadyRuns.{AreRowsInReach}
-use Rattle.fr_sharp.specs.Traffic.{heard_in, lists_meet, traffic_of}
+use Rattle.fr_precision.specs.SharpStep.{ActInReach, AreSharp, ComputesSharply, IsInSharpSync, IsSharpDouble}
+use Rattle.fr_runs.specs.SteadyRuns.{row_members, AreRowsInReach}
+use Rattle.fr_sharp.specs.Traffic.{all_trusted, bears, heard_in, is_deaf, lacking_for, lacks_values, lists_meet, may_lack, none_lacks, traffic_of, trusts_or_lacks}
 use Rattle.fr_promise.proofs.AmongNumbers.{heard_again}
 use Rattle.fr_precision.proofs.BoundLemmas.{key_slots_act_early, sharp_checks_suffice_lem}
-use Rattle.fr_precision.proofs.LastingLemmas.{near_fits, up_to}
+use Rattle.fr_precision.proofs.LastingLemmas.{earlier as earlier_walk, near_fits, up_to}
 use Rattle.fr_precision.proofs.RateRange.{walked_suffices}
+use Rattle.fr_sharp.proofs.BearingKinds.{meeting_trusts}
+use Rattle.fr_sharp.proofs.BearingRows.{bears_at, is_trusted_there, kept_member, kept_offset, kept_rate, no_values, rows_bear}
+use Rattle.fr_sharp.proofs.BearingStatus.{calm_outcome, limits_in_order, stands_on, stands_within, StandsBy}
+use Rattle.fr_sharp.proofs.HeardCounts.{all_pass}
 use Rattle.fr_sharp.proofs.HeardInCommon.{rows_meet}
+use Rattle.fr_sharp.proofs.HeardInPart.{heard_some}
 use Rattle.fr_sharp.proofs.HeardKinds.{clean_is, meeting_is}
 use Rattle.fr_sharp.proofs.RowsInPart.{rows_compute_own}
-use Rattle.fr_promise.proofs.RunDoubles.{members_found}
-use Rattle.fr_sharp.proofs.RunSync.{none_cuts}
-use Rattle.fr_sharp.proofs.TimedRuns.{acting_of, active_in_sync, active_of, each_alone, follows_of, found_of, heard_of, keeps_apart_of, lawful_run, members_in_sync, part, rates_of_double}
+use Rattle.fr_promise.proofs.RunDoubles.{all_among, all_have, evens_are, followed_at, member_among, members_found, next_row, next_rows_are, none_early, none_late, odds_are, AllHave, IsCalm}
+use Rattle.fr_promise.proofs.RunSync.{none_cuts}
+use Rattle.fr_promise.proofs.TimedRuns.{acting_of, active_in_sync, active_of, found_of, heard_of, lawful_run, members_in_sync, part, rates_of_double, rows_of, spread_in}
 
-module _ (keep : LossyDoublesKeep) (stay : LossyDoublesStayApart) (goes : SpreadsGo) (beside : Bool) (x : Setting) (flutter : ℕ) (h : Cycles) (double reach : ℕ) (w : IsLossyRun beside x flutter h)
+-- the rows of nodes are the same as they are borne
+evens_same : (ns : List Member) → map (λ (node : Member). node.even) (map borne ns) ≡ map (λ (node : Member). node.even) ns
+evens_same ns = map-map (λ (node : Member). node.even) borne ns
+
+odds_same : (ns : List Member) → map (λ (node : Member). node.odd) (map borne ns) ≡ map (λ (node : Member). node.odd) ns
+odds_same ns = map-map (λ (node : Member). node.odd) borne ns
+
+plain_active : (k : ℕ) (ns : List Member) → AreActiveAfter k (map borne ns) → AreActiveAfter k ns
+plain_active zero ns active = tt
+plain_active (suc k) ns active =
+    let Are : List NodeRow → Type 0 = λ rows. All (λ (row : NodeRow). row.state ≡ Active) rows in
+    (subst Are (evens_same ns) active.0, subst Are (odds_same ns) active.1)
+
+-- where each is borne as it is, all are
+same_members : (ns : List Member) → ((node : Member) → Contains ns node → borne node ≡ node) → map borne ns ≡ ns
+same_members [] each = refl
+same_members (node ∷ ns) each =
+    let one = each node (Contains-here node ns) in
+    let rest = same_members ns (λ n among. each n (Contains-there node ns n among)) in
+    ap₂ (λ (n : Member) (more : List Member). n ∷ more) one rest
+
+some_values : (Says : Sender → ℤ → Type 0) (senders : List Sender) (values : List ℤ) → Hears Sender Says senders values → 1 ≤ length senders → 1 ≤ length values
+some_values Says senders values hears some =
+    let long = AllZip-long Says senders hears.said hears.each in
+    let size = length_permutation (hears.said ++ hears.further) values hears.parts in
+    let both = length-append hears.said hears.further in
+    omega (arith, some, long, size, both)
+
+kept_own : (p : Values) (flutter : ℕ) (ns : List Member) (last : ℤ) (node : Member) → ComputesOwn p flutter ns last node → borne node ≡ node
+kept_own p flutter ns last node own =
+    let offsets = some_values (λ sender value. IsDeviation p true sender.action node.odd sender.odd value) own.offset_senders node.offsets own.by_offset.hears own.some_offsets in
+    let rates = some_values (λ sender value. PlacesEven p flutter sender node.odd value) own.rate_senders node.rates own.by_rate.hears own.some_rates in
+    kept_member node offsets (kept_offset p.offset_limit node.offsets node.offset_term offsets own.by_offset.is_term)
+    (kept_rate node.odd.rate p.damping p.rate_limit node.rates node.rate_term rates own.by_rate.is_term)
+
+kept_clean : (p : Values) (flutter : ℕ) (senders : List Sender) (ns : List Member) (last : ℤ) → IsSharpDouble false p flutter senders ns last → (node : Member) → Contains ns node → borne node ≡ node
+kept_clean p flutter senders ns last double node here =
+    let own = All-contains (ComputesSharply p flutter senders) ns node double.computes here in
+    let some = (double.keep node node here here).0.0 in
+    let offsets = some_values (λ sender value. IsDeviation p true sender.action node.odd sender.odd value) senders node.offsets own.by_offset.hears some in
+    let rates = some_values (λ sender value. PlacesEven p flutter sender node.odd value) senders node.rates own.by_rate.hears some in
+    kept_member node offsets (kept_offset p.offset_limit node.offsets node.offset_term offsets own.by_offset.is_term)
+    (kept_rate node.odd.rate p.damping p.rate_limit node.rates node.rate_term rates own.by_rate.is_term)
+
+borne_follows : (p : Values) (node : Member) (even odd : NodeRow) → IsFollowed p node even odd → IsFollowed p (borne node) even odd
+borne_follows p node even odd is = record {
+  start = is.start;
+  next = record {
+    even_rate = is.next.even_rate;
+    odd_rate = is.next.odd_rate;
+    even_micro = is.next.even_micro;
+    odd_micro = is.next.odd_micro;
+    even_steady = is.next.even_steady;
+    odd_steady = is.next.odd_steady;
+  };
+  active_even = is.active_even;
+  active_odd = is.active_odd;
+}
+
+module _ (keep : LossyDoublesKeep) (stay : LossyDoublesStayApart) (goes : SpreadsGo) (beside : Bool) (x : Setting) (from flutter : ℕ) (h : Cycles) (double reach : ℕ) (w : IsLossyRunFrom beside x from flutter h) (late : from ≤ double)
     (checks : SharpChecksHold flutter reach x.params)
     (fits : (k : ℕ) → double + k < x.doubles → sharply_near_in x.params (spread_through_losses beside x.params flutter (λ m. heard_in (traffic_of x) (double + m)) k) ≤ reach)
-    (sync : IsInSharpSyncAt beside x.params flutter (pos 0) h double) (short : double < x.doubles) where
+    (sync : IsInSharpSyncAt beside x.params flutter (pos 0) h double) (awake : none_lacks (traffic_of x) double ≡ true) (short : double < x.doubles) where
   abbrev on : ℕ → Heard
   on k = heard_in (traffic_of x) (double + k)
 
@@ -50,8 +155,11 @@ module _ (keep : LossyDoublesKeep) (stay : LossyDoublesStayApart) (goes : Spread
   abbrev lengths : ℕ → ℕ
   lengths k = (spread_through_losses beside x.params flutter (λ m. heard_in (traffic_of x) (double + m)) k).lengths
 
+  abbrev plain : ℕ → List Member
+  plain k = members_at x h (double + k)
+
   abbrev nodes : ℕ → List Member
-  nodes k = members_at x h (double + k)
+  nodes k = map borne (members_at x h (double + k))
 
   abbrev senders : ℕ → List Sender
   senders k = senders_at x h (double + k)
@@ -59,8 +167,8 @@ module _ (keep : LossyDoublesKeep) (stay : LossyDoublesStayApart) (goes : Spread
   abbrev last : ℤ
   last = pos (last_action x.params)
 
-  run : IsLawfulStatedRun x flutter h
-  run = lawful_run x flutter h w.run
+  run : IsLawfulStatedRunFrom x from flutter h
+  run = lawful_run x from flutter h w.run
 
   sane : IsSane x.params
   sane = w.run.covered.sane
@@ -75,16 +183,21 @@ module _ (keep : LossyDoublesKeep) (stay : LossyDoublesStayApart) (goes : Spread
   room = (sharp_checks_suffice_lem x.params flutter reach sane checks).1
 
   own_sync : IsInSharpSync beside x.params flutter (pos 0) (map (λ (node : Member). node.even) (members_at x h double)) (map (λ (node : Member). node.odd) (members_at x h double))
-  own_sync = members_in_sync x flutter h run beside double (pos 0) short sync
+  own_sync = members_in_sync x from flutter h run beside double (pos 0) short sync
 
   active : BeginsActive h double
-  active = active_in_sync x flutter h run beside double (pos 0) own_sync
+  active = active_in_sync x from flutter h run beside double (pos 0) own_sync
+
+  plain_begin : (k : ℕ) → BeginSharp x.params flutter starts lengths nodes k → BeginSharp x.params flutter starts lengths plain k
+  plain_begin k begin =
+      let Are : List NodeRow → Type 0 = λ rows. AreSharp x.params (starts k) (lengths k) (walked_after x.params flutter k) rows in
+      record { sharp = subst Are (evens_same (plain k)) begin.sharp; active = plain_active k (plain k) begin.active }
 
   active_at : (k : ℕ) → BeginSharp x.params flutter starts lengths nodes k → BeginsActive h (double + k)
-  active_at k begin = active_of x flutter h run double starts lengths active k begin
+  active_at k begin = active_of x from flutter h run double starts lengths active k (plain_begin k begin)
 
-  acting : (k : ℕ) → double + k < x.doubles → WalkLastsAfter x.params flutter k → BeginSharp x.params flutter starts lengths nodes k → ActInReach x.params (pos reach) last (nodes k)
-  acting k within before begin = acting_of x flutter h run double starts lengths reach k second limit (fits k within) within before begin
+  acting : (k : ℕ) → double + k < x.doubles → WalkLastsAfter x.params flutter k → BeginSharp x.params flutter starts lengths nodes k → ActInReach x.params (pos reach) last (plain k)
+  acting k within before begin = acting_of x from flutter h run double starts lengths reach k late second limit (fits k within) within before (plain_begin k begin)
 
   -- the rows of a later double cycle, in reach of each other
   rows_in_reach : (k : ℕ) (within : double + k < x.doubles) → WalkLastsAfter x.params flutter k → BeginSharp x.params flutter starts lengths nodes k → (earlier : Cycles) (even odd : Cycle)
@@ -96,110 +209,439 @@ module _ (keep : LossyDoublesKeep) (stay : LossyDoublesStayApart) (goes : Spread
         active_even = both.0;
         active_odd = both.1;
         rates =
-            rates_of_double x flutter h run (double + k) (walked_after x.params flutter k) (walked_suffices x.params flutter k sane second before) begin.sharp.about earlier even odd d;
+            rates_of_double x from flutter h run (double + k) (walked_after x.params flutter k) (omega (arith, late)) (walked_suffices x.params flutter k sane second before) (plain_begin k begin).sharp.about earlier even odd d;
         limit = limit;
         room = room;
         acts = subst Acts (members_found x h (double + k) earlier even odd d) (acting k within before begin);
       }
 
-  own_at : (k : ℕ) → double + k < x.doubles → WalkLastsAfter x.params flutter k → BeginSharp x.params flutter starts lengths nodes k → (node : Member) → Contains (nodes k) node
-      → ComputesOwn x.params flutter (nodes k) last node
-  own_at k within before begin node here =
+  -- where each trusts its lists
+  own_at : (k : ℕ) → all_trusted (traffic_of x) (double + k) ≡ true → double + k < x.doubles → WalkLastsAfter x.params flutter k → BeginSharp x.params flutter starts lengths nodes k → (node : Member) → Contains (plain k) node
+      → ComputesOwn x.params flutter (plain k) last node
+  own_at k trusted within before begin node here =
       let p : Values = x.params in
-      let f = found_of x flutter h run (double + k) within in
+      let f = found_of x from flutter h run (double + k) within in
       let same = members_found x h (double + k) f.earlier f.even f.odd f.is in
       let Has : List Member → Type 0 = λ some. Contains some node in
       let Own : List Member → Type 0 = λ some. ComputesOwn p flutter some last node in
       subst Own (sym same)
       (
-      rows_compute_own x flutter h f.earlier f.even f.odd (double + k) (pos reach) node w.run.none_joins (part x flutter h run) f.is (w.trusted (double + k) within)
+      rows_compute_own x from flutter h f.earlier f.even f.odd (double + k) (pos reach) node w.run.none_joins (part x from flutter h run) (omega (arith, late)) f.is trusted
       (rows_in_reach k within before begin f.earlier f.even f.odd f.is) (subst Has same here)
       )
 
-  meet_at : (k : ℕ) → lists_meet false (traffic_of x) (double + k) ≡ true → lists_meet true (traffic_of x) (double + k) ≡ true → double + k < x.doubles → WalkLastsAfter x.params flutter k
-      → BeginSharp x.params flutter starts lengths nodes k → (one other : Member) → Contains (nodes k) one → Contains (nodes k) other
-      → (one ≡ other) ⊎ HearInCommon x.params flutter (nodes k) last one other
-  meet_at k offsets rates within before begin one other here there =
+  meet_at : (k : ℕ) → all_trusted (traffic_of x) (double + k) ≡ true → lists_meet false (traffic_of x) (double + k) ≡ true → lists_meet true (traffic_of x) (double + k) ≡ true → double + k < x.doubles
+      → WalkLastsAfter x.params flutter k → BeginSharp x.params flutter starts lengths nodes k → (one other : Member) → Contains (plain k) one → Contains (plain k) other
+      → (one ≡ other) ⊎ HearInCommon x.params flutter (plain k) last one other
+  meet_at k trusted offsets rates within before begin one other here there =
       let p : Values = x.params in
-      let f = found_of x flutter h run (double + k) within in
+      let f = found_of x from flutter h run (double + k) within in
       let same = members_found x h (double + k) f.earlier f.even f.odd f.is in
       let Has : Member → List Member → Type 0 = λ node some. Contains some node in
       let Meet : List Member → Type 0 = λ some. (one ≡ other) ⊎ HearInCommon p flutter some last one other in
       subst Meet (sym same)
       (
-      rows_meet x flutter h f.earlier f.even f.odd (double + k) (pos reach) one other w.run.none_joins (part x flutter h run) f.is (w.trusted (double + k) within) offsets rates
+      rows_meet x from flutter h f.earlier f.even f.odd (double + k) (pos reach) one other w.run.none_joins (part x from flutter h run) (omega (arith, late)) f.is trusted offsets rates
       (rows_in_reach k within before begin f.earlier f.even f.odd f.is) (subst (Has one) same here) (subst (Has other) same there)
+      )
+
+  bear_at : (k : ℕ) → double + k < x.doubles → WalkLastsAfter x.params flutter k → BeginSharp x.params flutter starts lengths nodes k → (node : Member) → Contains (nodes k) node
+      → ComputesOrKeeps x.params flutter (nodes k) last node
+  bear_at k within before begin node here =
+      let p : Values = x.params in
+      let f = found_of x from flutter h run (double + k) within in
+      let same = members_found x h (double + k) f.earlier f.even f.odd f.is in
+      let Has : List Member → Type 0 = λ some. Contains (map borne some) node in
+      let Own : List Member → Type 0 = λ some. ComputesOrKeeps p flutter (map borne some) last node in
+      subst Own (sym same)
+      (
+      rows_bear x from flutter h f.earlier f.even f.odd (double + k) (pos reach) node w.run.none_joins (part x from flutter h run) (omega (arith, late)) f.is (w.borne (double + k) (omega (arith, late)) within)
+      (rows_in_reach k within before begin f.earlier f.even f.odd f.is) (subst Has same here)
       )
 
   heard_by : (k : ℕ) (what : Heard) → on k ≡ what → double + k < x.doubles → WalkLastsAfter x.params flutter k → BeginSharp x.params flutter starts lengths nodes k
       → HeardSo what x.params flutter (senders k) (nodes k) last
   heard_by k Clean is within before begin =
       let clean = clean_is x (double + k) is in
-      heard_of x flutter h run false (double + k) (walked_after x.params flutter k) (pos reach) clean.1 within clean.0 limit room
-      (walked_suffices x.params flutter k sane second before) (active_at k begin) begin.sharp.about (acting k within before begin)
+      let own =
+      heard_of x from flutter h run false (double + k) (walked_after x.params flutter k) (pos reach) (omega (arith, late)) clean.1 within clean.0 limit room
+      (walked_suffices x.params flutter k sane second before) (active_at k begin) (plain_begin k begin).sharp.about (acting k within before begin) in
+      let Sharp : List Member → Type 0 = λ some. IsSharpDouble false x.params flutter (senders k) some last in
+      subst Sharp (sym (same_members (plain k) (kept_clean x.params flutter (senders k) (plain k) last own))) own
   heard_by k Meeting is within before begin =
       let meet = meeting_is x (double + k) is in
-      (λ node here. own_at k within before begin node here, λ one other here there. meet_at k meet.0 meet.1 within before begin one other here there)
-  heard_by k Poor is within before begin = λ node here. own_at k within before begin node here
+      let trusted = meeting_trusts x.params (traffic_of x) (double + k) (w.borne (double + k) (omega (arith, late)) within) meet.0 meet.1 in
+      let own = own_at k trusted within before begin in
+      let same = same_members (plain k) (λ node here. kept_own x.params flutter (plain k) last node (own node here)) in
+      let So : List Member → Type 0 = λ some. HeardSo Meeting x.params flutter (senders k) some last in
+      subst So (sym same) (own, λ one other here there. meet_at k trusted meet.0 meet.1 within before begin one other here there)
+  heard_by k Poor is within before begin = λ node here. bear_at k within before begin node here
+
+  -- ---- how a double cycle ends
+
+  -- none of its terms is outside its limit, as nodes are borne
+  module _ (k : ℕ) (within : double + k < x.doubles) (before : WalkLastsAfter x.params flutter k) (begin : BeginSharp x.params flutter starts lengths nodes k) (uncut : AllUncut (nodes k))
+      (earlier : Cycles) (even odd : Cycle) (d : IsDoubleOf h (double + k) earlier even odd) where
+    rows : LawfulRows x flutter earlier even odd (double + k)
+    rows = rows_of x from flutter h run (double + k) (omega (arith, late)) earlier even odd d
+
+    have : AllHave x earlier
+    have = all_have x earlier w.run.none_joins
+
+    member : NodeSpec → Member
+    member node = as_member x.params (row_hearer x even odd node.id)
+
+    uncut_at : (node : NodeSpec) → Contains (row_nodes x earlier) node
+        → (borne_outcome (as_member x.params (row_hearer x even odd node.id)).offset_term.outcome ≡ Within) × (borne_outcome (as_member x.params (row_hearer x even odd node.id)).rate_term.outcome ≡ Within)
+    uncut_at node among =
+        let Uncut : List Member → Type 0 = λ some. AllUncut (map borne some) in
+        let own = as_member x.params (row_hearer x even odd node.id) in
+        All-contains (λ (m : Member). (m.offset_term.outcome ≡ Within) × (m.rate_term.outcome ≡ Within)) (map borne (row_members x earlier even odd)) (borne own)
+        (subst Uncut (members_found x h (double + k) earlier even odd d) uncut)
+        (contains_map borne (row_members x earlier even odd) own (member_among x flutter earlier even odd (double + k) rows node among))
+
+    calm_at : (node : NodeSpec) → Contains (row_nodes x earlier) node → IsCalm (as_member x.params (row_hearer x even odd node.id))
+    calm_at node among =
+        let own = as_member x.params (row_hearer x even odd node.id) in
+        let both = uncut_at node among in
+        (calm_outcome own.offset_term.outcome both.0, calm_outcome own.rate_term.outcome both.1)
+
+    reach_is : AreRowsInReach x earlier even odd (pos reach)
+    reach_is = rows_in_reach k within before begin earlier even odd d
+
+    bears_it : (node : NodeSpec) → Contains (row_nodes x earlier) node
+        → (trusts_or_lacks false (traffic_of x) (double + k) node ≡ true) × (trusts_or_lacks true (traffic_of x) (double + k) node ≡ true)
+        × ((not (lacks_values (traffic_of x) (double + k) node) || may_lack x.params (traffic_of x) (double + k) node) ≡ true)
+    bears_it node among =
+        let correct = correct_node x node (is_correct_row x earlier node among) in
+        bears_at x flutter earlier even odd (double + k) (pos reach) rows reach_is have node among
+        (all_pass (bears x.params (traffic_of x) (double + k)) x.params.nodes node (w.borne (double + k) (omega (arith, late)) within) correct.there)
+
+    -- a term lies within its limit where the node has values, and is missing where it has none
+    offset_is : (node : NodeSpec) → Contains (row_nodes x earlier) node → is_deaf false (traffic_of x) (double + k) node ≡ false → (as_member x.params (row_hearer x even odd node.id)).offset_term.outcome ≡ Within
+    offset_is node among hears =
+        let p : Values = x.params in
+        let n = row_hearer x even odd node.id in
+        let trusted = is_trusted_there x flutter earlier even odd (double + k) (pos reach) rows reach_is have false node among (bears_it node among).0 hears in
+        let some = heard_some (round_at x earlier even odd) (offset_at n.look n.own) trusted.some in
+        ap (λ (t : Term). t.outcome) (sym (kept_offset p.offset_limit (offsets_of n) (offset_term_of p.offset_limit (offsets_of n)) some (offset_term_is_there p.offset_limit (offsets_of n))))
+        ∙ (uncut_at node among).0
+
+    rate_is : (node : NodeSpec) → Contains (row_nodes x earlier) node → is_deaf true (traffic_of x) (double + k) node ≡ false → (as_member x.params (row_hearer x even odd node.id)).rate_term.outcome ≡ Within
+    rate_is node among hears =
+        let p : Values = x.params in
+        let n = row_hearer x even odd node.id in
+        let trusted = is_trusted_there x flutter earlier even odd (double + k) (pos reach) rows reach_is have true node among (bears_it node among).1 hears in
+        let some = heard_some (round_at x earlier even odd) (rate_at n.look n.own) trusted.some in
+        let term = rate_term_of n.odd.rate p.damping p.rate_limit (rates_of n) in
+        ap (λ (t : Term). t.outcome) (sym (kept_rate n.odd.rate p.damping p.rate_limit (rates_of n) term some (rate_term_is_there n.odd.rate p.damping p.rate_limit (rates_of n))))
+        ∙ (uncut_at node among).1
+
+    offset_gone : (node : NodeSpec) → Contains (row_nodes x earlier) node → is_deaf false (traffic_of x) (double + k) node ≡ true → (as_member x.params (row_hearer x even odd node.id)).offset_term.outcome ≡ Missing
+    offset_gone node among deaf =
+        ap (λ (values : List ℤ). (offset_term_of x.params.offset_limit values).outcome) (no_values x flutter earlier even odd (double + k) (pos reach) rows reach_is have false node among deaf)
+
+    rate_gone : (node : NodeSpec) → Contains (row_nodes x earlier) node → is_deaf true (traffic_of x) (double + k) node ≡ true → (as_member x.params (row_hearer x even odd node.id)).rate_term.outcome ≡ Missing
+    rate_gone node among deaf =
+        let n = row_hearer x even odd node.id in
+        ap (λ (values : List ℤ). (rate_term_of n.odd.rate x.params.damping x.params.rate_limit values).outcome) (no_values x flutter earlier even odd (double + k) (pos reach) rows reach_is have true node among deaf)
+
+    -- operation control takes one step
+    abbrev status_before : NodeSpec → Status
+    status_before node = status_in x.params (told_of earlier) node.id
+
+    abbrev status_behind : NodeSpec → Status
+    status_behind node = status_in x.params (told_of (odd ∷ even ∷ earlier)) node.id
+
+    step_is : (node : NodeSpec) → Contains (row_nodes x earlier) node
+        → status_in x.params (told_of (odd ∷ even ∷ earlier)) node.id
+        ≡ step_of (limits_of x.params) (status_in x.params (told_of earlier) node.id) (as_member x.params (row_hearer x even odd node.id)).offset_term.outcome (as_member x.params (row_hearer x even odd node.id)).rate_term.outcome
+    step_is node among =
+        let p : Values = x.params in
+        let has = row_there (row_nodes x earlier) odd.told.rows node rows.two.odd_rows.nodes among in
+        let row = row_for odd.told.rows node.id in
+        let own = as_member p (row_hearer x even odd node.id) in
+        let was = status_in p (told_of earlier) node.id in
+        let rate = (rate_term_in p (told_of (even ∷ earlier)) odd.told.devs row).outcome in
+        status_step x earlier even odd (double + k) node.id row rows.counted has.is
+        ∙ ap (λ (n : ℕ). step_of (limits_of p) was (offset_term_in p (told_of (even ∷ earlier)) odd.told.devs n).outcome rate) has.number
+        ∙ ap (λ (t : Term). step_of (limits_of p) was own.offset_term.outcome t.outcome) (row_term_is x earlier even odd node.id has.number)
+
+    active_before : (node : NodeSpec) → Contains (row_nodes x earlier) node → (status_in x.params (told_of earlier) node.id).state ≡ Active
+    active_before node among =
+        let early = row_runs_by (row_laws x earlier) (offset_after x.params (told_of earlier) even.told) (row_nodes x earlier) even.told.rows node rows.two.even_rows among in
+        sym early.state ∙ each_row (row_nodes x earlier) even.told.rows (λ row. row.state ≡ Active) node rows.two.even_rows.nodes among (active_at k begin earlier even odd d).0
+
+    within_both : (node : NodeSpec) → Contains (row_nodes x earlier) node → (missed : ℕ) → lacks_values (traffic_of x) (double + k) node ≡ false
+        → StandsBy (status_in x.params (told_of (odd ∷ even ∷ earlier)) node.id) missed
+    within_both node among missed hears =
+        let both = neither (is_deaf false (traffic_of x) (double + k) node) (is_deaf true (traffic_of x) (double + k) node) hears in
+        let own = as_member x.params (row_hearer x even odd node.id) in
+        let By : Status → Type 0 = λ status. StandsBy status missed in
+        subst By (sym (step_is node among))
+        (
+        stands_within (limits_of x.params) (status_in x.params (told_of earlier) node.id) own.offset_term.outcome own.rate_term.outcome missed (active_before node among) (offset_is node among both.0)
+        (rate_is node among both.1)
+        )
+      where
+        neither : (a b : Bool) → (a || b) ≡ false → (a ≡ false) × (b ≡ false)
+        neither false false fails = (refl, refl)
+        neither false true fails = absurd (cc)
+        neither true b fails = absurd (cc)
+
+    misses_one : (node : NodeSpec) → Contains (row_nodes x earlier) node → (missed : ℕ) → (status_in x.params (told_of earlier) node.id).bad ≤ missed → suc missed < (limits_of x.params).passive
+        → StandsBy (status_in x.params (told_of (odd ∷ even ∷ earlier)) node.id) (suc missed)
+    misses_one node among missed few less =
+        let both = uncut_at node among in
+        let own = as_member x.params (row_hearer x even odd node.id) in
+        let By : Status → Type 0 = λ status. StandsBy status (suc missed) in
+        subst By (sym (step_is node among))
+        (
+        stands_on (limits_of x.params) (status_in x.params (told_of earlier) node.id) own.offset_term.outcome own.rate_term.outcome missed (limits_in_order x.params sane) (active_before node among) few less
+        both.0 both.1
+        )
+
+  -- so each stands behind a double cycle
+  Stands : ℕ → Type 0
+  Stands k =
+      (earlier : Cycles) (even odd : Cycle) → IsDoubleOf h (double + k) earlier even odd → (node : NodeSpec) → Contains (row_nodes x earlier) node
+      → StandsBy (status_in x.params (told_of (odd ∷ even ∷ earlier)) node.id) (lacking_for (traffic_of x) node (double + k))
 
   within_run : (k : ℕ) → k < x.doubles - double → double + k < x.doubles
   within_run k less = omega (arith, less)
-
-  are : AreLossyDoubles x.params flutter (x.doubles - double) on starts lengths senders nodes last
-  are = record {
-    sane = sane;
-    second = second;
-    heard = λ k less before begin. heard_by k (on k) refl (within_run k less) before begin;
-    follows = λ k less before begin uncut. follows_of x flutter h run (each_alone x flutter h run w.run.none_joins) double starts lengths active k less begin uncut;
-  }
-
-  go : GoInReach x.params flutter (x.doubles - double) on starts lengths (pos reach) last
-  go = record {
-    goes = λ k. goes beside x.params flutter on k;
-    suffices = limit;
-    early = (key_slots_act_early x.params sane).1;
-    fits = λ k less. near_fits x.params (starts k) (lengths k) reach sane (fits k (within_run k less));
-  }
 
   first : AreSharp x.params (starts 0) (lengths 0) (pos 0) (map (λ (node : Member). node.even) (nodes 0))
   unfolding spread_through_losses
   first =
       let same : double ≡ double + 0 = omega arith in
-      let At : ℕ → Type 0 = λ m. AreSharp x.params (sharp_pi beside x.params flutter) (sharp_lambda beside x.params flutter) (pos 0) (map (λ (node : Member). node.even) (members_at x h m)) in
-      subst At same own_sync.rows
+      let At : ℕ → Type 0 = λ m. AreSharp x.params (sharp_pi beside x.params flutter) (sharp_lambda beside x.params flutter) (pos 0) (map (λ (node : Member). node.even) (map borne (members_at x h m))) in
+      let Are : List NodeRow → Type 0 = λ rows. AreSharp x.params (sharp_pi beside x.params flutter) (sharp_lambda beside x.params flutter) (pos 0) rows in
+      subst At same (subst Are (sym (evens_same (members_at x h double))) own_sync.rows)
 
-  pub keeps_through : (passed : ℕ) → double + passed < x.doubles → WalkLastsAfter x.params flutter passed → KeepsApart x h (double + passed) (apart_through_losses beside x.params flutter on passed)
+  -- ---- the next double cycle, where each stands behind one
+
+  next_by : (k : ℕ) → double + k < x.doubles → WalkLastsAfter x.params flutter k → BeginSharp x.params flutter starts lengths nodes k → AllUncut (nodes k) → Stands k
+      → (earlier : Cycles) (even odd : Cycle) → IsDoubleOf h (suc (double + k)) earlier even odd → IsNextDouble x.params (nodes k) (map borne (members_at x h (suc (double + k))))
+  unfolding Stands
+  next_by k within before begin uncut stands [] even odd d = let counted : 0 ≡ 2 * suc (double + k) = d.counted in absurd (omega (arith, counted))
+  next_by k within before begin uncut stands (o ∷ []) even odd d = let counted : 1 ≡ 2 * suc (double + k) = d.counted in absurd (omega (arith, counted))
+  next_by k within before begin uncut stands (o ∷ e ∷ earlier) even odd d =
+      let p : Values = x.params in
+      let was = prior_of h (double + k) earlier e o even odd d in
+      let both = active_at k begin earlier e o was in
+      let s = rows_of x from flutter h run (double + k) (omega (arith, late)) earlier e o was in
+      let t = rows_of x from flutter h run (suc (double + k)) (omega (arith, late)) (o ∷ e ∷ earlier) even odd d in
+      let all = all_have x earlier w.run.none_joins in
+      let members = row_members x earlier e o in
+      let later = row_members x (o ∷ e ∷ earlier) even odd in
+      let calm = calm_at k within before begin uncut earlier e o was in
+      let stays = λ (node : NodeSpec) (among : Contains (row_nodes x earlier) node). (stands earlier e o was node among).0 in
+      let Followed : Member → Type 0 = λ node. IsFollowed p node (next_row even node) (next_row odd node) in
+      let own : IsNextDouble p (map borne members) (map borne later) = record {
+        next_even = next_row even;
+        next_odd = next_row odd;
+        followed =
+            All-along (Contains (map borne members)) Followed (map borne members)
+            (λ node here.
+            let m = map_contains borne members node here in
+            subst Followed m.2
+            (borne_follows p m.0 (next_row even m.0) (next_row odd m.0) (followed_at x flutter earlier e o (double + k) s both.0 both.1 calm stays even odd t all m.0 m.1)))
+            (All-contains_itself (map borne members));
+        evens =
+            evens_same later ∙ evens_are x flutter (o ∷ e ∷ earlier) even odd (suc (double + k)) t
+            ∙ sym (map-map (next_row even) borne members ∙ next_rows_are x flutter earlier e o (double + k) s both.0 both.1 calm stays even odd t all even t.two.even_rows.nodes);
+        odds =
+            odds_same later ∙ odds_are x flutter (o ∷ e ∷ earlier) even odd (suc (double + k)) t
+            ∙ sym (map-map (next_row odd) borne members ∙ next_rows_are x flutter earlier e o (double + k) s both.0 both.1 calm stays even odd t all odd t.two.odd_rows.nodes);
+      } in
+      let First : List Member → Type 0 = λ some. IsNextDouble p (map borne some) (map borne (members_at x h (suc (double + k)))) in
+      let Second : List Member → Type 0 = λ some. IsNextDouble p (map borne members) (map borne some) in
+      subst First (sym (members_found x h (double + k) earlier e o was)) (subst Second (sym (members_found x h (suc (double + k)) (o ∷ e ∷ earlier) even odd d)) own)
+
+  follows_stood : (k : ℕ) → double + suc k < x.doubles → WalkLastsAfter x.params flutter k → BeginSharp x.params flutter starts lengths nodes k → AllUncut (nodes k) → Stands k
+      → IsNextDouble x.params (nodes k) (nodes (suc k))
+  follows_stood k short before begin uncut stands =
+      let one : suc (double + k) ≡ double + suc k = omega arith in
+      let later : suc (double + k) < x.doubles = omega (arith, short) in
+      let f = found_of x from flutter h run (suc (double + k)) later in
+      let At : ℕ → Type 0 = λ m. IsNextDouble x.params (nodes k) (map borne (members_at x h m)) in
+      subst At one (next_by k (omega (arith, short)) before begin uncut stands f.earlier f.even f.odd f.is)
+
+  -- ---- one double cycle after another
+
+  Until : ℕ → Type 0
+  Until n = (j : ℕ) → j < n → double + j < x.doubles → WalkLastsAfter x.params flutter j → Stands j
+
+  module _ (n : ℕ) (until : Until n) (within : double + n < x.doubles) where
+    within_of : (k : ℕ) → k < suc n → double + k < x.doubles
+    within_of k less = omega (arith, less, within)
+
+    are : AreLossyDoubles x.params flutter (suc n) on starts lengths senders nodes last
+    unfolding Until
+    are = record {
+      sane = sane;
+      second = second;
+      heard = λ k less before begin. heard_by k (on k) refl (within_of k less) before begin;
+      follows = λ k less before begin uncut.
+          let here = sooner_than k n less in
+          follows_stood k (within_of (suc k) less) before begin uncut (until k here.0 (within_of k here.1) before);
+    }
+      where
+        sooner_than : (k n : ℕ) → suc k < suc n → (k < n) × (k < suc n)
+        sooner_than k n less = (omega (arith, less), omega (arith, less))
+
+    go : GoInReach x.params flutter (suc n) on starts lengths (pos reach) last
+    go = record {
+      goes = λ k. goes beside x.params flutter on k;
+      suffices = limit;
+      early = (key_slots_act_early x.params sane).1;
+      fits = λ k less. near_fits x.params (starts k) (lengths k) reach sane (fits k (within_of k less));
+    }
+
+    keeps : KeepsSharp x.params flutter starts lengths nodes n
+    keeps = keep x.params flutter (suc n) on starts lengths senders nodes (pos reach) last are go first n (omega arith)
+
+    begins : WalkLastsAfter x.params flutter n → BeginSharp x.params flutter starts lengths nodes n
+    begins before = keeps.begins (up_to x.params flutter n before)
+
+    uncut_of : WalkLastsAfter x.params flutter n → AllUncut (nodes n)
+    uncut_of before = none_cuts x.params (starts (suc n)) (lengths (suc n)) (walked_after x.params flutter (suc n)) (nodes n) (keeps.come before)
+
+  awake_at : (node : NodeSpec) → Contains (correct_nodes x) node → lacks_values (traffic_of x) double node ≡ false
+  awake_at node there =
+      let correct = correct_node x node there in
+      let is = all_pass (λ (b : NodeSpec). x.is_arbitrary b.id || not (lacks_values (traffic_of x) double b)) x.params.nodes node awake correct.there in
+      right (x.is_arbitrary node.id) (lacks_values (traffic_of x) double node) correct.correct is
+    where
+      right : (a b : Bool) → a ≡ false → (a || not b) ≡ true → b ≡ false
+      right false false fails is = refl
+      right false true fails is = absurd (cc)
+      right true b fails is = absurd (cc)
+
+  stand_at : (n : ℕ) → Until n → double + n < x.doubles → WalkLastsAfter x.params flutter n → Stands n
+  unfolding Stands Until lacking_for
+  stand_at zero until within before earlier even odd d node among =
+      let same : double ≡ double + 0 = omega arith in
+      let hears = ap (λ (m : ℕ). lacks_values (traffic_of x) m node) (sym same) ∙ awake_at node (is_correct_row x earlier node among) in
+      within_both 0 within before (begins 0 until within before) (uncut_of 0 until within before) earlier even odd d node among (lacking_for (traffic_of x) node (double + 0)) hears
+  stand_at (suc m) until within before [] even odd d node among = let counted : 0 ≡ 2 * (double + suc m) = d.counted in absurd (omega (arith, counted))
+  stand_at (suc m) until within before (o ∷ []) even odd d node among = let counted : 1 ≡ 2 * (double + suc m) = d.counted in absurd (omega (arith, counted))
+  stand_at (suc m) until within before (o ∷ e ∷ earlier) even odd d node among = by (lacks_values (traffic_of x) (double + suc m) node) refl
+    where
+      number : double + suc m ≡ suc (double + m)
+      number = omega arith
+
+      lacking : lacks_values (traffic_of x) (double + suc m) node ≡ true → lacking_for (traffic_of x) node (double + suc m) ≡ suc (lacking_for (traffic_of x) node (double + m))
+      lacking lacks =
+          let also : lacks_values (traffic_of x) (suc (double + m)) node ≡ true = ap (λ (n : ℕ). lacks_values (traffic_of x) n node) (sym number) ∙ lacks in
+          ap (lacking_for (traffic_of x) node) number ∙ ap (λ (b : Bool). if b then suc (lacking_for (traffic_of x) node (double + m)) else 0) also
+
+      passes : (a b c : Bool) → a ≡ true → (not a || (b && c)) ≡ true → c ≡ true
+      passes true true c lacks is = is
+      passes true false c lacks is = absurd (cc)
+      passes false b c lacks is = absurd (cc)
+
+      fewer : (n limit missed : ℕ) → n ≡ suc missed → nat_lt n limit ≡ true → suc missed < limit
+      fewer n limit missed same is = grind (arith, nat_tests)
+
+      by : (lacks : Bool) → lacks_values (traffic_of x) (double + suc m) node ≡ lacks
+          → StandsBy (status_in x.params (told_of (odd ∷ even ∷ o ∷ e ∷ earlier)) node.id) (lacking_for (traffic_of x) node (double + suc m))
+      by false hears =
+          within_both (suc m) within before (begins (suc m) until within before) (uncut_of (suc m) until within before) (o ∷ e ∷ earlier) even odd d node among
+          (lacking_for (traffic_of x) node (double + suc m)) hears
+      by true lacks =
+          let p : Values = x.params in
+          let t = traffic_of x in
+          let Of : ℕ → Type 0 = λ n. IsDoubleOf h n (o ∷ e ∷ earlier) even odd in
+          let was = prior_of h (double + m) earlier e o even odd (subst Of number d) in
+          let walk = earlier_walk p flutter m (up_to p flutter (suc m) before) in
+          let there = all_among x earlier node (all_have x earlier w.run.none_joins) (is_correct_row x (o ∷ e ∷ earlier) node among) in
+          let stood = until m (omega arith) (omega (arith, within)) walk earlier e o was node there in
+          let missed = lacking_for t node (double + m) in
+          let begin = begins (suc m) until within before in
+          let uncut = uncut_of (suc m) until within before in
+          let bears = bears_it (suc m) within before begin uncut (o ∷ e ∷ earlier) even odd d node among in
+          let may = passes (lacks_values t (double + suc m) node) (nat_eq (most_change p) 0) (nat_lt (lacking_for t node (double + suc m)) (amount p name.gMaxWithoutClockCorrectionPassive)) lacks bears.2 in
+          let less = fewer (lacking_for t node (double + suc m)) (amount p name.gMaxWithoutClockCorrectionPassive) missed (lacking lacks) may in
+          let By : ℕ → Type 0 = λ n. StandsBy (status_in p (told_of (odd ∷ even ∷ o ∷ e ∷ earlier)) node.id) n in
+          subst By (sym (lacking lacks)) (misses_one (suc m) within before begin uncut (o ∷ e ∷ earlier) even odd d node among missed stood.1 less)
+
+  until_of : (n : ℕ) → Until n
+  unfolding Until
+  until_of zero j less within before = absurd (omega (arith, less))
+  until_of (suc n) j less within before = by (until_of n) (cases_eq j n)
+    where
+      by : Until n → (j ≡ n) ⊎ (j ≡ n → ⊥) → Stands j
+      by until (inl same) =
+          let Within : ℕ → Type 0 = λ m. double + m < x.doubles in
+          subst Stands (sym same) (stand_at n until (subst Within same within) (subst (WalkLastsAfter x.params flutter) same before))
+      by until (inr other) = until j (omega (arith, less, other)) within before
+
+  -- the terms by the row's own number
+  rate_told_is : (earlier : Cycles) (even odd : Cycle) (m : ℕ) → LawfulRows x flutter earlier even odd m → (node : NodeSpec) → Contains (row_nodes x earlier) node
+      → (rate_term_told x even odd node).outcome ≡ (as_member x.params (row_hearer x even odd node.id)).rate_term.outcome
+  rate_told_is earlier even odd m rows node among =
+      let p : Values = x.params in
+      ap (λ (id : ℕ). (rate_term_of (row_for odd.told.rows node.id).rate p.damping p.rate_limit (rate_values_by p even.told.devs odd.told.devs id (own_index p node.id))).outcome)
+      (row_there (row_nodes x earlier) odd.told.rows node rows.two.odd_rows.nodes among).number
+
+  pub keeps_through : (passed : ℕ) → double + passed < x.doubles → WalkLastsAfter x.params flutter passed → KeepsThrough x h (double + passed) (apart_through_losses beside x.params flutter on passed)
+  unfolding Stands
   keeps_through passed within before =
       let p : Values = x.params in
-      let less : passed < x.doubles - double = omega (arith, within) in
-      let keeps = keep p flutter (x.doubles - double) on starts lengths senders nodes (pos reach) last are go first passed less in
-      let begin = keeps.begins (up_to p flutter passed before) in
+      let until = until_of passed in
+      let begin = begins passed until within before in
+      let uncut = uncut_of passed until within before in
       let apart = apart_through_losses beside p flutter on passed in
       let one = most (precision_by p (starts passed) (lengths passed)) (starts (suc passed) + longest_micro p) in
-      keeps_apart_of x flutter h run (double + passed) apart within (each_alone x flutter h run w.run.none_joins (double + passed)) (active_at passed begin)
-      (none_cuts p (starts (suc passed)) (lengths (suc passed)) (walked_after p flutter (suc passed)) (nodes passed) (keeps.come before))
-      (λ one_node other macrotick is_odd here there from to.
-      stay p flutter (x.doubles - double) on starts lengths senders nodes (pos reach) last are go first passed apart one_node other macrotick is_odd less before one.0 one.1 here there from to)
+      let f = found_of x from flutter h run (double + passed) within in
+      record {
+        skew =
+            spread_in x from flutter h run (double + passed) apart (omega (arith, late)) f.earlier f.even f.odd f.is
+            (λ one_node other macrotick is_odd here there low high.
+            stay p flutter (suc passed) on starts lengths senders nodes (pos reach) last (are passed until within) (go passed until within) first passed apart (borne one_node) (borne other) macrotick is_odd (omega arith) before one.0 one.1
+            (contains_map borne (plain passed) one_node here) (contains_map borne (plain passed) other there) low high);
+        ends = λ earlier even odd d.
+            let both = active_at passed begin earlier even odd d in
+            let s = rows_of x from flutter h run (double + passed) (omega (arith, late)) earlier even odd d in
+            let stands = stand_at passed until within before earlier even odd d in
+            let have = all_have x earlier w.run.none_joins in
+            let stays = λ (node : NodeSpec) (among : Contains (row_nodes x earlier) node). (stands node among).0 in
+            let calm = calm_at passed within before begin uncut earlier even odd d in
+            record {
+              offset_within = λ node there hears. offset_is passed within before begin uncut earlier even odd d node (all_among x earlier node have there) hears;
+              offset_missing = λ node there deaf. offset_gone passed within before begin uncut earlier even odd d node (all_among x earlier node have there) deaf;
+              rate_within = λ node there hears.
+                  let among = all_among x earlier node have there in
+                  rate_told_is earlier even odd (double + passed) s node among ∙ rate_is passed within before begin uncut earlier even odd d node among hears;
+              rate_missing = λ node there deaf.
+                  let among = all_among x earlier node have there in
+                  rate_told_is earlier even odd (double + passed) s node among ∙ rate_gone passed within before begin uncut earlier even odd d node among deaf;
+              uncut_even = none_early x flutter earlier even odd (double + passed) s both.0 both.1 calm stays;
+              uncut_odd = none_late x flutter earlier even odd (double + passed) s both.0 both.1 calm stays;
+              active = λ node there. stays node (all_among x earlier node have there);
+            };
+      }
     where
       most : (a b : ℕ) → (a ≤ max a b) × (b ≤ max a b)
       most a b = (grind arith, grind arith)
 
 pub histories_keep_through_losses_lem : LossyDoublesKeep → LossyDoublesStayApart → SpreadsGo → HistoriesKeepThroughLosses
-histories_keep_through_losses_lem keep stay goes beside x flutter h double reach w checks fits sync passed within before =
-    keeps_through keep stay goes beside x flutter h double reach w checks fits sync (omega (arith, within)) passed within before
+histories_keep_through_losses_lem keep stay goes beside x from flutter h double reach w late checks fits sync awake passed within before =
+    keeps_through keep stay goes beside x from flutter h double reach w late checks fits sync awake (omega (arith, within)) passed within before
 
 -- ---- back in sharp sync
 
 pub sharp_after_two_whole : SharpAfterTwoWhole
 sharp_after_two_whole p flutter whole passed first second third =
     let now = heard_again p flutter whole passed first second in
-    let then = heard_again p flutter whole (suc passed) second third in
+    let later = heard_again p flutter whole (suc passed) second third in
     let pi = sharp_pi false p flutter in
     let Apart : ℕ → ℕ → ℕ → Type 0 = λ s l n. max (precision_by p s l) (n + longest_micro p) ≡ sharp_precision false p flutter in
     let By_next : ℕ → Type 0 = λ n. Apart pi (sharp_lambda false p flutter) n in
     let By_lengths : ℕ → Type 0 = λ l. Apart pi l (lost_spread p flutter whole (suc (suc (suc passed)))).starts in
     let By_starts : ℕ → Type 0 = λ s. Apart s (lost_spread p flutter whole (suc (suc passed))).lengths (lost_spread p flutter whole (suc (suc (suc passed)))).starts in
-    subst By_starts (sym now.1) (subst By_lengths (sym now.0) (subst By_next (sym then.1) (settled pi (sharp_lambda false p flutter) (odd_spread p (sharp_lambda false p flutter)) (longest_micro p))))
+    subst By_starts (sym now.1) (subst By_lengths (sym now.0) (subst By_next (sym later.1) (settled pi (sharp_lambda false p flutter) (odd_spread p (sharp_lambda false p flutter)) (longest_micro p))))
   where
     settled : (s l o q : ℕ) → max (s + l + o + 2 * q) (s + q) ≡ s + l + o + 2 * q
     settled s l o q = grind arith

@@ -25,16 +25,16 @@ use Rattle.fr_runs.proofs.Doubles.{odd_length}
 use Rattle.fr_runs.proofs.Fed.{row_itself}
 use Rattle.fr_runs.proofs.Going.{is_row_node}
 use Rattle.fr_runs.proofs.Nodes.{correct_node}
-use Rattle.fr_runs.proofs.Rows.{contains_map, map_contains}
+use Rattle.fr_precision.proofs.RoundLemmas.{contains_map, map_contains}
 use Rattle.fr_runs.proofs.RowsHeard.{RowLink}
 use Rattle.fr_sharp.specs.Losses.{IsRoundInPart, IsSuppliedInPart, IsTrustedOf, RowsComputeOwn}
 use Rattle.fr_sharp.specs.Traffic.{all_trusted, traffic_of}
 use Rattle.fr_bound.specs.SharpBounds.{last_action}
 use Rattle.fr_precision.specs.Among.{ComputesOwn}
 use Rattle.fr_runs.specs.SteadyRuns.{row_hearers, row_members, AreRowsInReach, HearsSome, MayHaveArbitrary, NoneIsDeaf}
-use Rattle.fr_sharp.proofs.HeardInPart.{both_trusted, heard_some, rounds_in_part_compute_own}
+use Rattle.fr_sharp.proofs.HeardInPart.{both_trusted, heard_some, placed_of, rounds_in_part_compute_own}
 use Rattle.fr_sharp.proofs.HeardValues.{change_some, least_some, mean_some, own_of, own_or_other, own_there, rows_trusted}
-use Rattle.fr_runs.proofs.RowsSupplied.{few_in, frames_stored, looked_up, odd_active, pairs_steady, row_regular, rows_heard_in_part, timed_rows, LawfulRows}
+use Rattle.fr_runs.proofs.RowsSupplied.{few_in, frames_stored, looked_up, odd_active, pairs_steady, row_regular, rows_heard_in_part, timed_rows_from, LawfulRows}
 use Rattle.fr_promise.proofs.RunDoubles.{all_among, all_have, AllHave}
 
 -- ---- a list of values is not empty
@@ -123,10 +123,10 @@ module _ (x : Setting) (flutter : ℕ) (h : Cycles) (even odd : Cycle) (double :
     some_rates = some_rates;
   }
 
-  round_is : IsRound (round_at x h even odd)
+  pub round_is : IsRound (round_at x h even odd)
   round_is = record {
     sane = sane;
-    few = few_in x flutter h s.covered;
+    few = few_in x double flutter h s.covered;
     regular = λ node there has. row_regular x flutter h even odd double s r.rates node (is_row_node x h node there has);
   }
 
@@ -151,7 +151,10 @@ module _ (x : Setting) (flutter : ℕ) (h : Cycles) (even odd : Cycle) (double :
   -- where no node is deaf, without arbitrary sync nodes
   pub round_in_part : MayHaveArbitrary false x → NoneIsDeaf x double → IsRoundInPart (round_at x h even odd) flutter (row_hearers x h even odd)
   round_in_part none hears =
-      round_with supplied (λ node among. both_trusted (round_at x h even odd) flutter (row_hearer x even odd node.id) round_is (supplied node among) none)
+      round_with supplied (λ node among.
+      let own = supplied node among in
+      let n = row_hearer x even odd node.id in
+      both_trusted (round_at x h even odd) flutter n round_is (placed_of (round_at x h even odd) flutter n own) none own.some_offsets own.some_rates)
     where
       supplied : (node : NodeSpec) → Contains (row_nodes x h) node → IsSuppliedInPart (round_at x h even odd) flutter (row_hearer x even odd node.id)
       supplied node among =
@@ -180,6 +183,6 @@ computes_own x flutter earlier even odd double reach s r node all none hears her
     (round_in_part x flutter earlier even odd double reach s r all none hears) here
 
 pub rows_compute_own : RowsComputeOwn
-rows_compute_own x flutter h earlier even odd double reach node none_joins w d trusted r here =
+rows_compute_own x from flutter h earlier even odd double reach node none_joins w late d trusted r here =
     rounds_in_part_compute_own (round_at x earlier even odd) flutter (row_hearers x earlier even odd) node
-    (round_trusted x flutter earlier even odd double reach (timed_rows x flutter h w double earlier even odd d) r (all_have x earlier none_joins) trusted) here
+    (round_trusted x flutter earlier even odd double reach (timed_rows_from x from flutter h w double late earlier even odd d) r (all_have x earlier none_joins) trusted) here

@@ -1,5 +1,5 @@
 -- A lawful history that no node joins comes into sharp sync, from stated numbers and from sync in the older sense.
-use Rattle.std.proofs.Common.{◌≡◌, ℕ, zero, suc, ◌+◌, ◌-◌, ◌*◌, ◌<◌, Bool, true, ℤ, pos, Some, List, All, [], ◌∷◌, length, map, refl, ap, sym, ◌∙◌, subst, lit≤, arith}
+use Rattle.std.proofs.Common.{◌≡◌, ℕ, zero, suc, ◌+◌, ◌-◌, ◌*◌, ◌<◌, ◌≤◌, Bool, true, ℤ, pos, Some, List, All, [], ◌∷◌, length, map, refl, ap, sym, ◌∙◌, subst, lit≤, arith}
 use Rattle.std.specs.Prelude.{◌≤ℤ◌, Contains}
 use Rattle.std.proofs.lemmas.Int.{ints}
 use Rattle.fr_base.specs.Within.{IsWithin}
@@ -23,7 +23,7 @@ use Rattle.fr_precision.proofs.Senders.{All-along}
 use Rattle.fr_precision.proofs.StepLaws.{nodes_near, reach_fits, sync_is_spread}
 use Rattle.fr_history.specs.Cycles.{Cycle, Cycles, cycle_at, told_of}
 use Rattle.fr_history.specs.Laws.{row_laws}
-use Rattle.fr_history.specs.Terms.{outcomes_in, status_in}
+use Rattle.fr_history.specs.Terms.{status_in}
 use Rattle.fr_runs.specs.Rounds.{IsDoubleOf}
 use Rattle.fr_runs.proofs.Doubles.{even_length, status_even}
 use Rattle.fr_runs.proofs.Outcomes.{begun_active}
@@ -40,23 +40,23 @@ use Rattle.fr_precision.proofs.BoundLemmas.{key_slots_act_early, sharp_checks_su
 use Rattle.fr_precision.proofs.LastingLemmas.{sharp_spreads_keep, stays_at_rest, up_to, AllActive}
 use Rattle.fr_precision.proofs.OlderLemmas.{lasts_on, older_sync_settles}
 use Rattle.fr_runs.proofs.RowsSupplied.{covered_runs_are_steady}
-use Rattle.fr_sharp.proofs.RunSync.{acting_by, active_by, are_doubles, doubles_in_reach, evens_at, found_at, keeps_apart, none_cuts, odds_at, regular_at, stays_at, timed}
-use Rattle.fr_sharp.proofs.TimedRuns.{lawful_run, rows_of}
+use Rattle.fr_promise.proofs.RunSync.{acting_by, active_by, are_doubles, doubles_in_reach, evens_at, found_at, keeps_apart, none_cuts, odds_at, regular_at, stays_at, timed}
+use Rattle.fr_promise.proofs.TimedRuns.{lawful_run, rows_of}
 use Rattle.fr_precision.proofs.SettlingLemmas.{older_way_fits}
 use Rattle.fr_precision.proofs.StepLemmas.{runs_of}
+use Rattle.fr_runs.proofs.Whole.{no_outcomes}
 
 -- ---- the first double cycle
 
-no_outcomes : (x : Setting) (node : ℕ) → outcomes_in x.params [] node ≡ []
-unfolding outcomes_in
-no_outcomes x node = refl
+pub none_before : (n : ℕ) → 0 ≤ n
+none_before n = omega arith
 
 first_active : (x : Setting) (node : ℕ) → (status_in x.params (told_of []) node).state ≡ Active
 first_active x node = begun_active x [] node (no_outcomes x node)
 
 pub timed_begin_active : (x : Setting) (flutter : ℕ) (h : Cycles) → IsStatedRun x flutter h → BeginsActive h 0
 timed_begin_active x flutter h w [] even odd d =
-    let s = rows_of x flutter h (lawful_run x flutter h w) 0 [] even odd d in (
+    let s = rows_of x 0 flutter h (lawful_run x 0 flutter h w) 0 (none_before 0) [] even odd d in (
       All-along (λ row. row.state ≡ (row_laws x []).state row.node) (λ row. row.state ≡ Active) even.told.rows (λ row is. is ∙ first_active x row.node) s.two.even_rows.states,
       All-along (λ row. row.state ≡ (row_laws x (even ∷ [])).state row.node) (λ row. row.state ≡ Active) odd.told.rows
           (λ row is. is ∙ status_even x (told_of []) even.told row.node (even_length 0 0 refl) ∙ first_active x row.node) s.two.odd_rows.states,
@@ -66,7 +66,7 @@ timed_begin_active x flutter h w (c ∷ earlier) even odd d =
     absurd (omega (arith, counted))
 
 pub histories_begin_active : HistoriesBeginActive
-histories_begin_active beside x flutter h w = timed_begin_active x flutter h (timed beside x flutter h w)
+histories_begin_active beside x flutter h w = timed_begin_active x flutter h (timed beside x 0 flutter h w)
 
 -- ---- what is said of the nodes of the step, in the history
 
@@ -76,11 +76,11 @@ module _ (beside : Bool) (x : Setting) (flutter : ℕ) (h : Cycles) (w : IsStead
 
   members_active : (passed : ℕ) → double + passed < x.doubles → BeginsActive h (double + passed) → AllActive (nodes passed)
   members_active passed within active =
-      let f = found_at beside x flutter h w (double + passed) within in
+      let f = found_at beside x 0 flutter h w (double + passed) within in
       let both = active f.earlier f.even f.odd f.is in
       let Are : List NodeRow → Type 0 = λ rows. All (λ (row : NodeRow). row.state ≡ Active) rows in (
-        subst Are (sym (evens_at beside x flutter h w (double + passed) f.earlier f.even f.odd f.is)) both.0,
-        subst Are (sym (odds_at beside x flutter h w (double + passed) f.earlier f.even f.odd f.is)) both.1,
+        subst Are (sym (evens_at beside x 0 flutter h w (double + passed) f.earlier f.even f.odd f.is)) both.0,
+        subst Are (sym (odds_at beside x 0 flutter h w (double + passed) f.earlier f.even f.odd f.is)) both.1,
       )
 
   apart_at : (passed apart : ℕ) → double + passed < x.doubles
@@ -90,7 +90,7 @@ module _ (beside : Bool) (x : Setting) (flutter : ℕ) (h : Cycles) (w : IsStead
       → IsWithin (pos apart) (gap_of x.params is_odd macrotick (row_in is_odd one.even one.odd) (row_in is_odd other.even other.odd)))
       → KeepsApart x h (double + passed) apart
   apart_at passed apart within active kept before precise =
-      keeps_apart beside x flutter h w (double + passed) apart within (active (kept.keeps.begins (up_to x.params flutter passed before)))
+      keeps_apart beside x 0 flutter h w (double + passed) apart (none_before (double + passed)) within (active (kept.keeps.begins (up_to x.params flutter passed before)))
       (
       none_cuts x.params (starts_from beside x.params flutter start rate (suc passed)) (lengths_from beside x.params flutter start rate (suc passed)) (walked_after x.params flutter (suc passed)) (nodes passed)
       (kept.keeps.come before)
@@ -103,13 +103,13 @@ module _ (beside : Bool) (x : Setting) (flutter : ℕ) (h : Cycles) (w : IsStead
   spreads_at passed within active kept = record {
     begins = λ before even is.
         let p : Values = x.params in
-        let f = found_at beside x flutter h w (double + passed) within in
+        let f = found_at beside x 0 flutter h w (double + passed) within in
         let found : Some f.even ≡ Some even = sym (even_is h (double + passed) f.earlier f.even f.odd f.is) ∙ is in
         let same : f.even ≡ even = cc in
         let At : List NodeRow → Type 0 = λ rows.
         AreSharp p (starts_from beside p flutter start rate passed) (lengths_from beside p flutter start rate passed) (walked_after p flutter passed) rows in
         let Of : Cycle → Type 0 = λ c. At c.told.rows in
-        subst Of same (subst At (evens_at beside x flutter h w (double + passed) f.earlier f.even f.odd f.is) (kept.keeps.begins before).sharp);
+        subst Of same (subst At (evens_at beside x 0 flutter h w (double + passed) f.earlier f.even f.odd f.is) (kept.keeps.begins before).sharp);
     keeps = λ before. apart_at passed (sharply_apart_in x.params (sharp_spread_after beside x.params flutter start rate passed)) within active kept before (kept.precise before);
   }
 
@@ -136,22 +136,22 @@ module _ (beside : Bool) (x : Setting) (flutter start rate reach : ℕ) (h : Cyc
 
   begin : double < x.doubles → BeginWithin beside x.params flutter start rate reach (x.doubles - double) (λ k. senders_at x h (double + k)) (λ k. members_at x h (double + k))
   begin within = record {
-    doubles_are = doubles_in_reach beside x flutter h b.run double (starts_from beside x.params flutter start rate) (lengths_from beside x.params flutter start rate) reach second suffice.0 suffice.1 b.near active;
+    doubles_are = doubles_in_reach beside x 0 flutter h b.run double (starts_from beside x.params flutter start rate) (lengths_from beside x.params flutter start rate) reach (none_before double) second suffice.0 suffice.1 b.near active;
     checks = b.checks;
     near = λ k short. b.near k (omega (arith, short));
     first =
         let same : double + 0 ≡ double = omega arith in
-        let f = found_at beside x flutter h b.run double within in
+        let f = found_at beside x 0 flutter h b.run double within in
         let Rows : List NodeRow → Type 0 = λ rows. AreSharp x.params start rate (pos 0) rows in
         let At : ℕ → Type 0 = λ m. Rows (map (λ (node : Member). node.even) (members_at x h m)) in
         subst At (sym same)
-        (subst Rows (sym (evens_at beside x flutter h b.run double f.earlier f.even f.odd f.is)) (b.first f.even (even_is h double f.earlier f.even f.odd f.is)));
+        (subst Rows (sym (evens_at beside x 0 flutter h b.run double f.earlier f.even f.odd f.is)) (b.first f.even (even_is h double f.earlier f.even f.odd f.is)));
   }
 
   active_at : (k : ℕ)
       → BeginSharp x.params flutter (starts_from beside x.params flutter start rate) (lengths_from beside x.params flutter start rate) (λ k. members_at x h (double + k)) k → BeginsActive h (double + k)
   active_at k begins =
-      active_by beside x flutter h b.run double second (starts_from beside x.params flutter start rate) (lengths_from beside x.params flutter start rate) (pos reach) suffice.0 suffice.1 active k begins
+      active_by beside x 0 flutter h b.run double (none_before double) second (starts_from beside x.params flutter start rate) (lengths_from beside x.params flutter start rate) (pos reach) suffice.0 suffice.1 active k begins
 
   keeps_spreads : (passed : ℕ) → double + passed < x.doubles → KeepsToSpreadsAt beside x flutter start rate h double passed
   keeps_spreads passed within =
@@ -165,7 +165,7 @@ histories_keep_to_spreads beside x flutter start rate reach h double b passed wi
 
 pub histories_reach_sharp_sync : HistoriesReachSharpSync
 histories_reach_sharp_sync beside x flutter start rate reach h double rest b settled passed le within =
-    stays_at beside x flutter h b.run double passed within
+    stays_at beside x 0 flutter h b.run double passed (none_before double) within
     (
     stays_at_rest beside x.params flutter start rate rest (λ k. members_at x h (double + k)) passed
     (λ begins. members_active beside x flutter h b.run double start rate passed within (active_at beside x flutter start rate reach h double b passed begins)) settled le
@@ -180,7 +180,7 @@ histories_reach_sharp_sync beside x flutter start rate reach h double rest b set
 module _ (beside : Bool) (x : Setting) (flutter : ℕ) (h : Cycles) (double : ℕ) (o : IsOlderRun beside x flutter h double) (within : double < x.doubles) where
   run : IsSteadyRun beside x flutter h
   run = record {
-    covered = covered_runs_are_steady x flutter o.covered o.flutters;
+    covered = covered_runs_are_steady x 0 flutter o.covered o.flutters;
     arbitrary = o.arbitrary;
     none_joins = o.none_joins;
     lawful = o.lawful;
@@ -217,14 +217,14 @@ module _ (beside : Bool) (x : Setting) (flutter : ℕ) (h : Cycles) (double : �
   members_sync : IsInSync x.params (map (λ (node : Member). node.even) (members 0)) (map (λ (node : Member). node.odd) (members 0))
   members_sync =
       let same : double + 0 ≡ double = omega arith in
-      let f = found_at beside x flutter h run double within in
+      let f = found_at beside x 0 flutter h run double within in
       let Even : List NodeRow → Type 0 = λ rows. IsInSync x.params rows (map (λ (node : Member). node.odd) (members_at x h double)) in
       let Odd : List NodeRow → Type 0 = λ rows. IsInSync x.params f.even.told.rows rows in
       let At : ℕ → Type 0 = λ m. IsInSync x.params (map (λ (node : Member). node.even) (members_at x h m)) (map (λ (node : Member). node.odd) (members_at x h m)) in
       subst At (sym same)
       (
-      subst Even (sym (evens_at beside x flutter h run double f.earlier f.even f.odd f.is))
-      (subst Odd (sym (odds_at beside x flutter h run double f.earlier f.even f.odd f.is)) (older_sync f.earlier f.even f.odd f.is))
+      subst Even (sym (evens_at beside x 0 flutter h run double f.earlier f.even f.odd f.is))
+      (subst Odd (sym (odds_at beside x 0 flutter h run double f.earlier f.even f.odd f.is)) (older_sync f.earlier f.even f.odd f.is))
       )
 
   older_second : holds_of 2 x.params ≡ true
@@ -240,7 +240,7 @@ module _ (beside : Bool) (x : Setting) (flutter : ℕ) (h : Cycles) (double : �
       → ActInReach x.params (pos (precision_of x.params)) (pos (last_action x.params)) (members k)
   older_acting zero short before begins is_odd one other action here there from to =
       let sane : IsSane x.params = o.covered.sane in
-      let regular = regular_at beside x flutter h run (double + 0) 0 short older_second before begins.sharp.about in
+      let regular = regular_at beside x 0 flutter h run (double + 0) 0 (none_before (double + 0)) short older_second before begins.sharp.about in
       actions_stay_near x.params (pos (pi_of x.params)) (pos (lambda_of x.params)) (pos (precision_of x.params)) action is_odd one.even one.odd other.even other.odd sane
       (runs_of x.params one.even one.odd sane (regular one here)) (runs_of x.params other.even other.odd sane (regular other there))
       (
@@ -252,12 +252,12 @@ module _ (beside : Bool) (x : Setting) (flutter : ℕ) (h : Cycles) (double : �
       chain : (a b c : ℤ) → a ≤ℤ b → b ≤ℤ c → a ≤ℤ c
       chain a b c h k = omega (arith, ints, h, k)
   older_acting (suc k) short before begins is_odd one other action here there from to =
-      acting_by beside x flutter h run double starts lengths (precision_of x.params) (suc k) older_second older_limit (older_way_fits beside x.params flutter k o.covered.sane o.little).near_fits short before begins is_odd one other action here there
+      acting_by beside x 0 flutter h run double starts lengths (precision_of x.params) (suc k) (none_before double) older_second older_limit (older_way_fits beside x.params flutter k o.covered.sane o.little).near_fits short before begins is_odd one other action here there
       from to
 
   older_begin : BeginInSync beside x.params flutter (x.doubles - double) (λ k. senders_at x h (double + k)) members
   older_begin = record {
-    doubles_are = are_doubles beside x flutter h run double older_second starts lengths (pos (precision_of x.params)) older_limit older_room older_active older_acting;
+    doubles_are = are_doubles beside x 0 flutter h run double (none_before double) older_second starts lengths (pos (precision_of x.params)) older_limit older_room older_active older_acting;
     little = o.little;
     checks = o.covered.checks;
     sync = members_sync;
@@ -267,14 +267,14 @@ module _ (beside : Bool) (x : Setting) (flutter : ℕ) (h : Cycles) (double : �
   settles_at passed short =
       let kept : KeepsFromSync beside x.params flutter members passed =
       older_sync_settles beside x.params flutter (x.doubles - double) (λ k. senders_at x h (double + k)) members older_begin passed (omega (arith, short)) in
-      let active = active_by beside x flutter h run double older_second starts lengths (pos (precision_of x.params)) older_limit older_room older_active passed in
+      let active = active_by beside x 0 flutter h run double (none_before double) older_second starts lengths (pos (precision_of x.params)) older_limit older_room older_active passed in
       let before = lasts_on x.params flutter passed kept.still in
       record {
         still = kept.still;
         spreads = spreads_at beside x flutter h run double (pi_of x.params) (lambda_of x.params) passed short active kept.spreads;
         older = apart_at beside x flutter h run double (pi_of x.params) (lambda_of x.params) passed (precision_of x.params) short active kept.spreads before kept.older;
         reached = λ rest le settled.
-            stays_at beside x flutter h run double passed short
+            stays_at beside x 0 flutter h run double passed (none_before double) short
             (
             stays_at_rest beside x.params flutter (pi_of x.params) (lambda_of x.params) rest members passed
             (λ begins. members_active beside x flutter h run double (pi_of x.params) (lambda_of x.params) passed short (active begins)) settled le kept.spreads

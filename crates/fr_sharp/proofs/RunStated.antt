@@ -23,9 +23,9 @@ use Rattle.fr_sharp.specs.SettlingHistories.{first_length, AreStatedNear, Stated
 use Rattle.fr_bound.specs.SharpBounds.{sharp_lambda, sharp_pi}
 use Rattle.fr_runs.specs.SharpHistories.{IsStatedRun}
 use Rattle.fr_precision.specs.SharpStep.{AreSharp}
-use Rattle.fr_sharp.proofs.RunSettles.{timed_begin_active}
-use Rattle.fr_sharp.proofs.RunSync.{timed}
-use Rattle.fr_sharp.proofs.TimedRuns.{found_of, lawful_run, rows_of}
+use Rattle.fr_sharp.proofs.RunSettles.{none_before, timed_begin_active}
+use Rattle.fr_promise.proofs.RunSync.{timed}
+use Rattle.fr_promise.proofs.TimedRuns.{found_of, lawful_run, rows_of}
 
 -- rows lie as near as any two of the nodes that have them
 pub pairs_lie : (nodes : List NodeSpec) (f : NodeRow → ℤ) (bound : ℤ) (rows : List NodeRow) → Ascend nodes → AreRowsOf nodes rows
@@ -46,7 +46,7 @@ module _ (x : Setting) (flutter : ℕ) (h : Cycles) (w : IsStatedRun x flutter h
       let p : Values = x.params in
       let nodes = row_nodes x [] in
       let rows : List NodeRow = even.told.rows in
-      let s = rows_of x flutter h (lawful_run x flutter h w) 0 [] even odd d in
+      let s = rows_of x 0 flutter h (lawful_run x 0 flutter h w) 0 (none_before 0) [] even odd d in
       let ascend = rows_ascend x [] s.covered.sane in
       let are = s.two.even_rows.nodes in
       let runs = λ (node : NodeSpec) (among : Contains nodes node). row_runs_by (row_laws x []) (offset_after p (told_of []) even.told) nodes rows node s.two.even_rows among in
@@ -83,18 +83,18 @@ module _ (x : Setting) (flutter : ℕ) (h : Cycles) (w : IsStatedRun x flutter h
   first_sharp even is =
       let whole : length h ≡ 2 * x.doubles = w.whole in
       let below = cycle_within h 0 even is in
-      let f = found_of x flutter h (lawful_run x flutter h w) 0 (omega (arith, whole, below)) in
+      let f = found_of x 0 flutter h (lawful_run x 0 flutter h w) 0 (omega (arith, whole, below)) in
       let found : Some f.even ≡ Some even = sym (even_is h 0 f.earlier f.even f.odd f.is) ∙ is in
       let same : f.even ≡ even = cc in
       let At : Cycle → Type 0 = λ c. AreSharp x.params start rate (pos 0) c.told.rows in
       subst At same (first_rows f.earlier f.even f.odd f.is)
 
 pub stated_starts_are_sharp : StatedStartsAreSharp
-stated_starts_are_sharp beside x flutter start rate h even w near is = first_sharp x flutter h (timed beside x flutter h w) start rate near even is
+stated_starts_are_sharp beside x flutter start rate h even w near is = first_sharp x flutter h (timed beside x 0 flutter h w) start rate near even is
 
 pub timed_runs_begin_in_sharp_sync : TimedRunsBeginInSharpSync
 timed_runs_begin_in_sharp_sync beside x flutter h w near some =
-    let f = found_of x flutter h (lawful_run x flutter h w) 0 some in
+    let f = found_of x 0 flutter h (lawful_run x 0 flutter h w) 0 some in
     let active = timed_begin_active x flutter h w f.earlier f.even f.odd f.is in
     record {
       even = f.even;
@@ -109,4 +109,4 @@ timed_runs_begin_in_sharp_sync beside x flutter h w near some =
     }
 
 pub stated_runs_begin_in_sharp_sync : StatedRunsBeginInSharpSync
-stated_runs_begin_in_sharp_sync beside x flutter h w near some = timed_runs_begin_in_sharp_sync beside x flutter h (timed beside x flutter h w) near some
+stated_runs_begin_in_sharp_sync beside x flutter h w near some = timed_runs_begin_in_sharp_sync beside x flutter h (timed beside x 0 flutter h w) near some

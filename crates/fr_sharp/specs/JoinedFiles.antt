@@ -12,8 +12,8 @@ use Rattle.fr_drift.specs.View.{DriftView}
 use Rattle.fr_script.specs.Files.{IsScriptFile, ScriptFits}
 use Rattle.fr_script.specs.View.{ScriptView}
 use Rattle.fr_coverage.specs.Decided.{setting_of}
-use Rattle.fr_coverage.specs.Flutter.{flutter_of}
-use Rattle.fr_coverage.specs.Order.{HasNoGapOfRun}
+use Rattle.fr_coverage.specs.Flutter.{flutter_from}
+use Rattle.fr_coverage.specs.Order.{HasNoGapFrom}
 use Rattle.fr_history.specs.Cycles.{Cycles}
 use Rattle.fr_promise.specs.Statement.{IsRunOf}
 use Rattle.fr_runs.specs.Whole.{IsJoined}
@@ -25,12 +25,12 @@ use Rattle.fr_promise.specs.SharpJoining.{sharp_reach, SharpJoinChecksHold}
 use Rattle.fr_sharp.specs.SharpStatement.{has_arbitrary}
 use Rattle.fr_promise.specs.SharpTested.{IsUnfollowedSharpSyncAt}
 
--- the four sharper checks of nodes that join hold, and so those from 2 to 5 (`SharpJoinChecksSuffice`); the run itself has no gap;
--- and its delays flutter by no more than so many ticks. Correct nodes may join
-pub record IsSharplyCoveredToJoin (p : Values) (d : DriftView) (s : ScriptView) (flutter : ℕ) : Type 0 where
+-- the four sharper checks of nodes that join hold, and so those from 2 to 5 (`SharpJoinChecksSuffice`); and from a double cycle on the
+-- run itself has no gap, and its delays flutter by no more than so many ticks. Correct nodes may join
+pub record IsSharplyCoveredToJoin (p : Values) (d : DriftView) (s : ScriptView) (from flutter : ℕ) : Type 0 where
   pub checks : SharpJoinChecksHold (has_arbitrary p s) flutter p
-  pub none : HasNoGapOfRun p d s
-  pub flutters : flutter_of p d s ≤ flutter
+  pub none : HasNoGapFrom p d s from
+  pub flutters : flutter_from p d s from ≤ flutter
 
 -- what is kept from a double cycle on, whoever joins
 pub record KeepsSharplyJoined (beside : Bool) (x : Setting) (flutter : ℕ) (h : Cycles) (double : ℕ) : Type 0 where
@@ -64,19 +64,19 @@ pub record KeepsSharplyJoined (beside : Bool) (x : Setting) (flutter : ℕ) (h :
       FirstRatesLastToEnd x flutter double → (node : NodeSpec) (join : Join)
       → Contains (correct_nodes x) node → x.join node.id ≡ Some join → double ≤ join.double → IsJoined h node.id join
 
--- the promise: of three accepted files that are sharply covered to join, from each double cycle in sharp sync on in which no node
--- follows
+-- the promise: of three accepted files that are sharply covered to join from a double cycle on, from each one in sharp sync on from
+-- there, in which no node follows
 abbrev pub JoinedFilesKeepSharpPrecision : Type 0
 JoinedFilesKeepSharpPrecision =
-    (p : Values) (d : DriftView) (s : ScriptView) (drift script : List ℕ) (flutter : ℕ) (h : Cycles) (double : ℕ)
-    → IsSane p → IsDriftFile p d drift → IsScriptFile p s script → IsSharplyCoveredToJoin p d s flutter → IsRunOf (setting_of p d s) h
-    → IsUnfollowedSharpSyncAt (has_arbitrary p s) p flutter h double
+    (p : Values) (d : DriftView) (s : ScriptView) (drift script : List ℕ) (from flutter : ℕ) (h : Cycles) (double : ℕ)
+    → IsSane p → IsDriftFile p d drift → IsScriptFile p s script → IsSharplyCoveredToJoin p d s from flutter → IsRunOf (setting_of p d s) h
+    → from ≤ double → IsUnfollowedSharpSyncAt (has_arbitrary p s) p flutter h double
     → KeepsSharplyJoined (has_arbitrary p s) (setting_of p d s) flutter h double
 
 -- so it is of any sane parameters, and of a drift and a script that fit them, that are sharply covered to join
 abbrev pub CoveredFilesKeepSharplyJoined : Type 0
 CoveredFilesKeepSharplyJoined =
-    (p : Values) (d : DriftView) (s : ScriptView) (flutter : ℕ) (h : Cycles) (double : ℕ)
-    → IsSane p → DriftFits p d → ScriptFits p s → IsSharplyCoveredToJoin p d s flutter → IsRunOf (setting_of p d s) h
-    → IsUnfollowedSharpSyncAt (has_arbitrary p s) p flutter h double
+    (p : Values) (d : DriftView) (s : ScriptView) (from flutter : ℕ) (h : Cycles) (double : ℕ)
+    → IsSane p → DriftFits p d → ScriptFits p s → IsSharplyCoveredToJoin p d s from flutter → IsRunOf (setting_of p d s) h
+    → from ≤ double → IsUnfollowedSharpSyncAt (has_arbitrary p s) p flutter h double
     → KeepsSharplyJoined (has_arbitrary p s) (setting_of p d s) flutter h double

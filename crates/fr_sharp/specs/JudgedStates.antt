@@ -1,6 +1,6 @@
 -- A state of what is known that is carried from one double cycle to the next: met with what is seen of each, and stepped where what was
 -- met is judged. What is met is then known of the history, and a judged double cycle goes on so.
-use Rattle.std.specs.Prelude.{◌≡◌, ◌+◌, ◌<◌, ℕ, suc, Option, Some}
+use Rattle.std.specs.Prelude.{◌≡◌, ◌+◌, ◌<◌, ◌≤◌, ℕ, suc, Option, Some}
 use Rattle.fr_cluster.specs.Setting.{Setting}
 use Rattle.fr_cluster.specs.Values.{Values}
 use Rattle.fr_bound.specs.Judged.{known_after, met_with, IsJudgedDouble}
@@ -8,7 +8,7 @@ use Rattle.fr_bound.specs.declared.judging.Heard.{Heard}
 use Rattle.fr_bound.specs.declared.judging.Known.{Known}
 use Rattle.fr_history.specs.Cycles.{Cycles}
 use Rattle.fr_sharp.specs.JudgedSteps.{GoesOnJudged, IsHeardIn}
-use Rattle.fr_runs.specs.SharpHistories.{IsKnownAt, IsStatedRun}
+use Rattle.fr_runs.specs.SharpHistories.{IsKnownAt, IsStatedRunFrom}
 
 -- what is known of one is the step of what was met before it, and that is judged
 pub record IsSteppedFrom (p : Values) (flutter : ℕ) (what : Heard) (before : Option Known) (next : Known) : Type 0 where
@@ -30,7 +30,7 @@ pub record AreKnownFrom (x : Setting) (h : Cycles) (from : ℕ) (what : ℕ → 
 
 abbrev pub CarriedIsKnown : Type 0
 CarriedIsKnown =
-    (x : Setting) (flutter : ℕ) (h : Cycles) (from : ℕ) (what : ℕ → Heard) (seen known : ℕ → Option Known)
-    → IsStatedRun x flutter h → CarriesKnown x.params flutter what seen known → AreKnownFrom x h from what seen known
-    → (k : ℕ) (met : Known) → from + k < x.doubles → met_with (known k) (seen k) ≡ Some met
-    → IsKnownAt x h (from + k) met × (IsJudgedDouble x.params flutter met → GoesOnJudged (what k) x flutter h (from + k) met)
+    (x : Setting) (from flutter : ℕ) (h : Cycles) (double : ℕ) (what : ℕ → Heard) (seen known : ℕ → Option Known)
+    → IsStatedRunFrom x from flutter h → from ≤ double → CarriesKnown x.params flutter what seen known → AreKnownFrom x h double what seen known
+    → (k : ℕ) (met : Known) → double + k < x.doubles → met_with (known k) (seen k) ≡ Some met
+    → IsKnownAt x h (double + k) met × (IsJudgedDouble x.params flutter met → GoesOnJudged (what k) x flutter h (double + k) met)

@@ -21,10 +21,10 @@ use Rattle.fr_runs.specs.Rounds.{IsDoubleOf}
 use Rattle.fr_precision.specs.Among.{ComputesOwn}
 use Rattle.fr_sharp.specs.Losses.{IsRoundInPart}
 use Rattle.fr_sharp.specs.SettlingHistories.{AreStatedNear}
-use Rattle.fr_runs.specs.SharpHistories.{members_at, senders_at, EachHasRow, IsInSharpSyncAt, IsKnownAt, IsStatedRun, KeepsApart}
+use Rattle.fr_runs.specs.SharpHistories.{members_at, senders_at, EachHasRow, IsInSharpSyncAt, IsKnownAt, IsLawfulStatedRunFrom, IsStatedRun, IsStatedRunFrom, KeepsApart}
 use Rattle.fr_precision.specs.SharpRound.{IsRoundInReach}
 use Rattle.fr_precision.specs.SharpStep.{IsSharpDouble}
-use Rattle.fr_runs.specs.SteadyRuns.{row_hearers, AreRowsInReach, IsTimedSetting, IsWhole, MayHaveArbitrary, NoneIsDeaf}
+use Rattle.fr_runs.specs.SteadyRuns.{row_hearers, AreRowsInReach, IsTimedFrom, IsWhole, MayHaveArbitrary, NoneIsDeaf}
 
 -- what is heard in a double cycle of a run: of any two nodes one channel carries the frames of both cycles, without arbitrary sync
 -- nodes or beside them; or, without them, no node is left without any value
@@ -72,24 +72,18 @@ pub record GoesOnJudged (what : Heard) (x : Setting) (flutter : ℕ) (h : Cycles
 -- a double cycle of a lawful history that is judged goes on so
 abbrev pub JudgedGoesOn : Type 0
 JudgedGoesOn =
-    (what : Heard) (x : Setting) (flutter : ℕ) (h : Cycles) (double : ℕ) (known : Known)
-    → IsStatedRun x flutter h → double < x.doubles → IsHeardIn what x double
+    (what : Heard) (x : Setting) (from flutter : ℕ) (h : Cycles) (double : ℕ) (known : Known)
+    → IsStatedRunFrom x from flutter h → from ≤ double → double < x.doubles → IsHeardIn what x double
     → IsKnownAt x h double known → IsJudgedDouble x.params flutter known → GoesOnJudged what x flutter h double known
 
 -- ---- whoever joins
-
--- a whole lawful history of a run that nodes may join, in which frames may be lost, and what is stated of the run besides its checks
-pub record IsLawfulStatedRun (x : Setting) (flutter : ℕ) (h : Cycles) : Type 0 where
-  pub covered : IsTimedSetting x flutter
-  pub lawful : IsLawful x h
-  pub whole : length h ≡ 2 * x.doubles
 
 -- where each correct node has a row, a double cycle that is judged goes on in the same way, whoever has joined, and each has one in
 -- the next one
 abbrev pub UnfollowedGoesOn : Type 0
 UnfollowedGoesOn =
-    (what : Heard) (x : Setting) (flutter : ℕ) (h : Cycles) (double : ℕ) (known : Known)
-    → IsLawfulStatedRun x flutter h → double < x.doubles → IsHeardIn what x double → EachHasRow x h double
+    (what : Heard) (x : Setting) (from flutter : ℕ) (h : Cycles) (double : ℕ) (known : Known)
+    → IsLawfulStatedRunFrom x from flutter h → from ≤ double → double < x.doubles → IsHeardIn what x double → EachHasRow x h double
     → IsKnownAt x h double known → IsJudgedDouble x.params flutter known
     → GoesOnJudged what x flutter h double known × (suc double < x.doubles → EachHasRow x h (suc double))
 

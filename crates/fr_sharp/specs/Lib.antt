@@ -1,4 +1,5 @@
 -- what the public contract cites
+pub mod Bearing
 pub mod HeldHistories
 pub mod HeldWalks
 pub mod JoinedFiles
@@ -16,3 +17,4 @@ pub mod SharpStatement
 pub mod Traffic
 pub mod WayHistories
 pub mod WorkedRun
+pub mod SharpCovered

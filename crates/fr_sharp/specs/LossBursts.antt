@@ -14,8 +14,10 @@ use Rattle.fr_precision.specs.Among.{lost_spread}
 use Rattle.fr_sharp.specs.LossCosts.{IsLossCost}
 use Rattle.fr_sharp.specs.Losses.{lost_apart}
 use Rattle.fr_sharp.specs.LossStatement.{whole_in, IsCoveredThroughLosses}
-use Rattle.fr_runs.specs.SharpHistories.{IsInSharpSyncAt, KeepsApart}
+use Rattle.fr_runs.specs.SharpHistories.{IsInSharpSyncAt}
+use Rattle.fr_sharp.specs.Bearing.{KeepsThrough}
 use Rattle.fr_sharp.specs.SharpStatement.{has_arbitrary}
+use Rattle.fr_sharp.specs.Traffic.{none_lacks, traffic_in}
 use Rattle.fr_precision.specs.SharpRun.{WalkLastsAfter}
 use Rattle.fr_bound.specs.SharpSpreads.{sharply_near_in}
 
@@ -38,11 +40,12 @@ BurstsCostNoMore =
     → (lost_apart p flutter whole double ≤ cost.peak) × (sharply_near_in p (lost_spread p flutter whole double) ≤ cost.reach)
 
 -- so a run of files that are covered through losses, without arbitrary nodes, keeps within the peak, from each double cycle in sharp sync
--- on and as long as the walk lasts: no term is cut or missing, and every correct node is active
+-- on in which no node lacks values and as long as the walk lasts: no term is cut, none is missing but where a node has no value of its
+-- kind, and every correct node is active
 abbrev pub BurstsKeepThePeak : Type 0
 BurstsKeepThePeak =
-    (p : Values) (d : DriftView) (s : ScriptView) (flutter count : ℕ) (cost : LossCost) (h : Cycles) (double passed : ℕ)
+    (p : Values) (d : DriftView) (s : ScriptView) (from flutter count : ℕ) (cost : LossCost) (h : Cycles) (double passed : ℕ)
     → IsSane p → LosesInBursts (whole_in p s) count → IsLossCost p flutter count cost
-    → IsCoveredThroughLosses p d s flutter cost.reach → has_arbitrary p s ≡ false → IsRunOf (setting_of p d s) h
-    → IsInSharpSyncAt false p flutter (pos 0) h double → double + passed < doubles_of d → WalkLastsAfter p flutter passed
-    → KeepsApart (setting_of p d s) h (double + passed) cost.peak
+    → IsCoveredThroughLosses p d s from flutter cost.reach → has_arbitrary p s ≡ false → IsRunOf (setting_of p d s) h
+    → from ≤ double → IsInSharpSyncAt false p flutter (pos 0) h double → none_lacks (traffic_in p s) double ≡ true
+    → double + passed < doubles_of d → WalkLastsAfter p flutter passed → KeepsThrough (setting_of p d s) h (double + passed) cost.peak

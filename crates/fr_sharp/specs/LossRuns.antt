@@ -1,6 +1,6 @@
 -- What a run loses, by its files: in how many double cycles, how far macroticks may then lie apart in each, whether each correct node
--- trusts its lists in each, and whether the run is covered through losses.
-use Rattle.std.specs.Prelude.{◌≡◌, ◌↔◌, ◌+◌, ◌<◌, ◌≤◌, ℕ, zero, suc, pos, max, nat_lt, Bool, true, false, not, ◌&&◌, ◌||◌, if◌then◌else◌, List, Option, Some, None}
+-- bears each, and whether the run is covered through losses.
+use Rattle.std.specs.Prelude.{◌≡◌, ◌↔◌, ◌+◌, ◌-◌, ◌<◌, ◌≤◌, ℕ, zero, suc, pos, max, nat_lt, Bool, true, false, not, ◌&&◌, ◌||◌, if◌then◌else◌, List, Option, Some, None}
 use Rattle.std.specs.List.{list_all}
 use Rattle.fr_base.specs.declared.channel.Channel.{Channel}
 use Rattle.fr_base.specs.declared.channel.Channel.TheVariants as channel
@@ -10,9 +10,9 @@ use Rattle.fr_cluster.specs.declared.nodes.NodeSpec.{NodeSpec}
 use Rattle.fr_drift.specs.Questions.{doubles_of}
 use Rattle.fr_drift.specs.View.{DriftView}
 use Rattle.fr_script.specs.View.{ScriptView}
-use Rattle.fr_coverage.specs.Coverage.{gap_of_run, some_join}
+use Rattle.fr_coverage.specs.Coverage.{gap_from, some_join}
 use Rattle.fr_coverage.specs.Decided.{setting_of}
-use Rattle.fr_coverage.specs.Flutter.{flutter_of}
+use Rattle.fr_coverage.specs.Flutter.{flutter_from}
 use Rattle.fr_coverage.specs.Links.{is_carried_on, is_link, shares}
 use Rattle.fr_coverage.specs.declared.gap.Gap.{Gap}
 use Rattle.fr_coverage.specs.declared.gap.Gap.TheVariants as gap
@@ -20,11 +20,12 @@ use Rattle.fr_history.specs.Cycles.{Cycles}
 use Rattle.fr_promise.specs.Statement.{IsRunOf}
 use Rattle.fr_bound.specs.declared.judging.Heard.{Heard}
 use Rattle.fr_precision.specs.Among.{apart_through_losses, spread_through_losses}
+use Rattle.fr_sharp.specs.Bearing.{KeepsThrough}
 use Rattle.fr_sharp.specs.LossCosts.{limits_hold}
-use Rattle.fr_sharp.specs.LossStatement.{run_apart, whole_in, IsCoveredThroughLosses}
-use Rattle.fr_sharp.specs.Traffic.{all_trusted, heard_in, traffic_in}
+use Rattle.fr_sharp.specs.LossStatement.{apart_since, run_apart, spread_since, whole_in, IsCoveredThroughLosses}
+use Rattle.fr_sharp.specs.Traffic.{all_bear_from, heard_in, none_lacks, traffic_in}
 use Rattle.fr_bound.specs.SharpChecks.{sharp_holds_of}
-use Rattle.fr_runs.specs.SharpHistories.{IsInSharpSyncAt, KeepsApart}
+use Rattle.fr_runs.specs.SharpHistories.{IsInSharpSyncAt}
 use Rattle.fr_precision.specs.SharpRun.{WalkLastsAfter}
 use Rattle.fr_bound.specs.SharpSpreads.{sharply_near_in}
 use Rattle.fr_sharp.specs.SharpStatement.{has_arbitrary}
@@ -54,31 +55,34 @@ unfoldable pub lost_before : (ℕ → Bool) → ℕ → ℕ
 lost_before whole zero = 0
 lost_before whole (suc k) = if whole k then lost_before whole k else lost_before whole k + 1
 
--- the last of so many that does, if one does
-abbrev pub IsLastLost : (ℕ → Bool) → ℕ → Option ℕ → Type 0
-IsLastLost whole doubles None = (k : ℕ) → k < doubles → whole k ≡ true
-IsLastLost whole doubles (Some last) =
-    (last < doubles) × (whole last ≡ false) × ((k : ℕ) → last < k → k < doubles → whole k ≡ true)
+-- the last that does, from one on and below another, if one does
+abbrev pub IsLastLost : (ℕ → Bool) → ℕ → ℕ → Option ℕ → Type 0
+IsLastLost whole from doubles None = (k : ℕ) → from ≤ k → k < doubles → whole k ≡ true
+IsLastLost whole from doubles (Some last) =
+    (from ≤ last) × (last < doubles) × (whole last ≡ false) × ((k : ℕ) → last < k → k < doubles → whole k ≡ true)
 
--- in how many of the first so many, one or more, and the last of these; the greatest of the numbers by what was heard since the first,
--- and the first double cycle with it; a reach that takes in how far action points may lie apart; and whether each correct node trusts its
--- lists
-pub record AreLosses (beside : Bool) (p : Values) (flutter : ℕ) (whole : ℕ → Bool) (what : ℕ → Heard) (trusted : ℕ → Bool) (doubles : ℕ) (losses : RunLosses) : Type 0 where
-  pub count : losses.doubles ≡ lost_before whole doubles
-  pub last : IsLastLost whole doubles losses.last
-  pub greatest : (k : ℕ) → k < doubles → apart_through_losses beside p flutter what k ≤ losses.peak
+-- of the double cycles from one on, so many in all: in how many, one or more, and the last of these; the greatest of the numbers by what
+-- was heard since that one, and the first double cycle with it; a reach that takes in how far action points may lie apart; and whether
+-- each correct node trusts its lists
+pub record AreLosses (beside : Bool) (p : Values) (from flutter : ℕ) (whole : ℕ → Bool) (what : ℕ → Heard) (trusted : ℕ → Bool) (doubles : ℕ) (losses : RunLosses) : Type 0 where
+  pub count : losses.doubles ≡ lost_before (λ m. whole (from + m)) (doubles - from)
+  pub last : IsLastLost whole from doubles losses.last
+  pub greatest : (k : ℕ) → from ≤ k → k < doubles → apart_since beside p from flutter what k ≤ losses.peak
+  pub behind : from ≤ losses.place
   pub place : losses.place < doubles
-  pub reached : apart_through_losses beside p flutter what losses.place ≡ losses.peak
-  pub first : (k : ℕ) → k < losses.place → apart_through_losses beside p flutter what k < losses.peak
-  pub near : (k : ℕ) → k < doubles → sharply_near_in p (spread_through_losses beside p flutter what k) ≤ losses.reach
-  pub least : (reach : ℕ) → ((k : ℕ) → k < doubles → sharply_near_in p (spread_through_losses beside p flutter what k) ≤ reach) → losses.reach ≤ reach
-  pub always_trusted : losses.trusted ≡ true → (k : ℕ) → k < doubles → trusted k ≡ true
-  pub all_are_trusted : ((k : ℕ) → k < doubles → trusted k ≡ true) → losses.trusted ≡ true
+  pub reached : apart_since beside p from flutter what losses.place ≡ losses.peak
+  pub first : (k : ℕ) → from ≤ k → k < losses.place → apart_since beside p from flutter what k < losses.peak
+  pub near : (k : ℕ) → from ≤ k → k < doubles → sharply_near_in p (spread_since beside p from flutter what k) ≤ losses.reach
+  pub least :
+      (reach : ℕ) → ((k : ℕ) → from ≤ k → k < doubles → sharply_near_in p (spread_since beside p from flutter what k) ≤ reach)
+      → losses.reach ≤ reach
+  pub always_trusted : losses.trusted ≡ true → (k : ℕ) → from ≤ k → k < doubles → trusted k ≡ true
+  pub all_are_trusted : ((k : ℕ) → from ≤ k → k < doubles → trusted k ≡ true) → losses.trusted ≡ true
 
 -- ---- the same, one double cycle after another
 
-abbrev pub no_losses : RunLosses
-no_losses = record { doubles = 0; last = None; peak = 0; place = 0; reach = 0; trusted = true }
+abbrev pub no_losses : ℕ → RunLosses
+no_losses from = record { doubles = 0; last = None; peak = 0; place = from; reach = 0; trusted = true }
 
 abbrev pub next_losses : Bool → Bool → ℕ → ℕ → ℕ → RunLosses → RunLosses
 next_losses heard trusted double apart near was = record {
@@ -90,16 +94,17 @@ next_losses heard trusted double apart near was = record {
   trusted = was.trusted && trusted;
 }
 
-unfoldable pub losses_by : Bool → Values → ℕ → (ℕ → Bool) → (ℕ → Heard) → (ℕ → Bool) → ℕ → RunLosses
-losses_by beside p flutter whole what trusted zero = no_losses
-losses_by beside p flutter whole what trusted (suc k) =
-    next_losses (whole k) (trusted k) k (apart_through_losses beside p flutter what k) (sharply_near_in p (spread_through_losses beside p flutter what k))
-    (losses_by beside p flutter whole what trusted k)
+-- of so many double cycles from one on
+unfoldable pub losses_by : Bool → Values → ℕ → ℕ → (ℕ → Bool) → (ℕ → Heard) → (ℕ → Bool) → ℕ → RunLosses
+losses_by beside p from flutter whole what trusted zero = no_losses from
+losses_by beside p from flutter whole what trusted (suc k) =
+    next_losses (whole (from + k)) (trusted (from + k)) (from + k) (apart_through_losses beside p flutter (λ m. what (from + m)) k)
+    (sharply_near_in p (spread_through_losses beside p flutter (λ m. what (from + m)) k)) (losses_by beside p from flutter whole what trusted k)
 
--- what the run of some parameters, a drift and a script loses, where its delays flutter by so many ticks
-abbrev pub losses_of : Values → DriftView → ScriptView → ℕ → RunLosses
-losses_of p d s flutter =
-    losses_by (has_arbitrary p s) p flutter (whole_in p s) (heard_in (traffic_in p s)) (all_trusted (traffic_in p s)) (doubles_of d)
+-- what the run of some parameters, a drift and a script loses from a double cycle on, where its delays flutter by so many ticks
+abbrev pub losses_of : Values → DriftView → ScriptView → ℕ → ℕ → RunLosses
+losses_of p d s from flutter =
+    losses_by (has_arbitrary p s) p from flutter (whole_in p s) (heard_in (traffic_in p s)) (all_bear_from p (traffic_in p s) from) (doubles_of d - from)
 
 -- ---- whether it is covered through losses
 
@@ -126,28 +131,29 @@ is_through_losses p s flutter found losses = losses.trusted && (through_checks p
 
 -- ---- laws
 
--- what a run loses means what it is called
+-- what a run loses from a double cycle on means what it is called
 abbrev pub LossesAreTold : Type 0
 LossesAreTold =
-    (p : Values) (d : DriftView) (s : ScriptView) (flutter : ℕ)
-    → 1 ≤ doubles_of d
-    → AreLosses (has_arbitrary p s) p flutter (whole_in p s) (heard_in (traffic_in p s)) (all_trusted (traffic_in p s)) (doubles_of d)
-    (losses_of p d s flutter)
+    (p : Values) (d : DriftView) (s : ScriptView) (from flutter : ℕ)
+    → from < doubles_of d
+    → AreLosses (has_arbitrary p s) p from flutter (whole_in p s) (heard_in (traffic_in p s)) (all_bear_from p (traffic_in p s) from) (doubles_of d)
+    (losses_of p d s from flutter)
 
 -- what is said to be covered through losses is, with the reach of what it loses
 abbrev pub ThroughLossesIsTold : Type 0
 ThroughLossesIsTold =
-    (p : Values) (d : DriftView) (s : ScriptView) (flutter : ℕ)
-    → IsSane p → 1 ≤ doubles_of d → flutter_of p d s ≤ flutter
-    → is_through_losses p s flutter (gap_of_run p d s) (losses_of p d s flutter) ≡ true
-    ↔ IsCoveredThroughLosses p d s flutter (losses_of p d s flutter).reach
+    (p : Values) (d : DriftView) (s : ScriptView) (from flutter : ℕ)
+    → IsSane p → from < doubles_of d → flutter_from p d s from ≤ flutter
+    → is_through_losses p s flutter (gap_from p d s from) (losses_of p d s from flutter) ≡ true
+    ↔ IsCoveredThroughLosses p d s from flutter (losses_of p d s from flutter).reach
 
 -- then, from a double cycle in sharp sync on and as long as the walk lasts, no macroticks lie further apart in any than by the number of
 -- that double cycle, which is no greater than the greatest
 abbrev pub RunsKeepTheirBounds : Type 0
 RunsKeepTheirBounds =
-    (p : Values) (d : DriftView) (s : ScriptView) (flutter : ℕ) (h : Cycles) (double passed : ℕ)
-    → IsSane p → IsCoveredThroughLosses p d s flutter (losses_of p d s flutter).reach → IsRunOf (setting_of p d s) h
-    → IsInSharpSyncAt (has_arbitrary p s) p flutter (pos 0) h double → double + passed < doubles_of d → WalkLastsAfter p flutter passed
-    → KeepsApart (setting_of p d s) h (double + passed) (run_apart p s flutter (double + passed))
-    × KeepsApart (setting_of p d s) h (double + passed) (losses_of p d s flutter).peak
+    (p : Values) (d : DriftView) (s : ScriptView) (from flutter : ℕ) (h : Cycles) (double passed : ℕ)
+    → IsSane p → IsCoveredThroughLosses p d s from flutter (losses_of p d s from flutter).reach → IsRunOf (setting_of p d s) h
+    → from ≤ double → IsInSharpSyncAt (has_arbitrary p s) p flutter (pos 0) h double → none_lacks (traffic_in p s) double ≡ true
+    → double + passed < doubles_of d → WalkLastsAfter p flutter passed
+    → KeepsThrough (setting_of p d s) h (double + passed) (run_apart p s from flutter (double + passed))
+    × KeepsThrough (setting_of p d s) h (double + passed) (losses_of p d s from flutter).peak

@@ -1,7 +1,7 @@
 -- What is promised of a run in which frames are lost, by its files. The words of it, from the top: `IsLawful` (what a run is),
 -- `IsCoveredThroughLosses` (what is asked of the files), `apart_through_losses` (by what is heard, `heard_in`), `IsInSharpSyncAt`, `walk_lasts`,
--- `KeepsApart`.
-use Rattle.std.specs.Prelude.{◌≡◌, ◌+◌, ◌<◌, ◌≤◌, ℕ, pos, Bool, true, false, not, ◌||◌, List, []}
+-- `KeepsThrough`.
+use Rattle.std.specs.Prelude.{◌≡◌, ◌+◌, ◌-◌, ◌<◌, ◌≤◌, ℕ, pos, Bool, true, false, not, ◌||◌, List, []}
 use Rattle.std.specs.List.{list_all}
 use Rattle.fr_cluster.specs.Sane.{IsSane}
 use Rattle.fr_cluster.specs.Values.{Values}
@@ -12,17 +12,19 @@ use Rattle.fr_script.specs.Files.{IsScriptFile}
 use Rattle.fr_script.specs.View.{ScriptView}
 use Rattle.fr_coverage.specs.Coverage.{some_join}
 use Rattle.fr_coverage.specs.Decided.{setting_of}
-use Rattle.fr_coverage.specs.Flutter.{flutter_of}
+use Rattle.fr_coverage.specs.Flutter.{flutter_from}
 use Rattle.fr_coverage.specs.Links.{is_carried, is_link}
-use Rattle.fr_coverage.specs.Order.{HasNoGapOfRun}
+use Rattle.fr_coverage.specs.Order.{HasNoGapFrom}
 use Rattle.fr_history.specs.Cycles.{Cycles}
 use Rattle.fr_promise.specs.Statement.{IsRunOf}
+use Rattle.fr_bound.specs.declared.judging.Heard.{Heard}
 use Rattle.fr_bound.specs.declared.settling.Spread.{Spread}
 use Rattle.fr_precision.specs.Among.{apart_through_losses, spread_through_losses}
-use Rattle.fr_sharp.specs.Losses.{IsLossyRun}
-use Rattle.fr_sharp.specs.Traffic.{all_trusted, heard_in, traffic_in}
+use Rattle.fr_sharp.specs.Losses.{IsLossyRunFrom}
+use Rattle.fr_sharp.specs.Bearing.{KeepsThrough}
+use Rattle.fr_sharp.specs.Traffic.{all_bear_from, heard_in, none_lacks, traffic_in}
 use Rattle.fr_bound.specs.SharpChecks.{SharpChecksHold}
-use Rattle.fr_runs.specs.SharpHistories.{IsInSharpSyncAt, KeepsApart}
+use Rattle.fr_runs.specs.SharpHistories.{IsInSharpSyncAt}
 use Rattle.fr_precision.specs.SharpRun.{WalkLastsAfter}
 use Rattle.fr_bound.specs.SharpSpreads.{sharply_near_in}
 use Rattle.fr_sharp.specs.SharpStatement.{has_arbitrary}
@@ -35,50 +37,68 @@ without_losses s = record { arbitrary = s.arbitrary; joins = s.joins; on_a = [];
 abbrev pub whole_in : Values → ScriptView → ℕ → Bool
 whole_in p s double = list_all (λ a. list_all (λ b. not (is_link s a b) || is_carried s a b double) p.nodes) p.nodes
 
--- how far starts and even lengths may lie apart in a double cycle by what was heard since the first, and how far macroticks, in ticks
-abbrev pub run_spread : Values → ScriptView → ℕ → ℕ → Spread
-run_spread p s flutter double = spread_through_losses (has_arbitrary p s) p flutter (heard_in (traffic_in p s)) double
+-- how far starts and even lengths may lie apart in a double cycle by what was heard since an earlier one or since it, and how far
+-- macroticks, in ticks
+abbrev pub spread_since : Bool → Values → ℕ → ℕ → (ℕ → Heard) → ℕ → Spread
+spread_since beside p from flutter what double = spread_through_losses beside p flutter (λ m. what (from + m)) (double - from)
 
-abbrev pub run_apart : Values → ScriptView → ℕ → ℕ → ℕ
-run_apart p s flutter double = apart_through_losses (has_arbitrary p s) p flutter (heard_in (traffic_in p s)) double
+abbrev pub apart_since : Bool → Values → ℕ → ℕ → (ℕ → Heard) → ℕ → ℕ
+apart_since beside p from flutter what double = apart_through_losses beside p flutter (λ m. what (from + m)) (double - from)
+
+-- so by what is heard in a run
+abbrev pub run_spread : Values → ScriptView → ℕ → ℕ → ℕ → Spread
+run_spread p s from flutter double = spread_since (has_arbitrary p s) p from flutter (heard_in (traffic_in p s)) double
+
+abbrev pub run_apart : Values → ScriptView → ℕ → ℕ → ℕ → ℕ
+run_apart p s from flutter double = apart_since (has_arbitrary p s) p from flutter (heard_in (traffic_in p s)) double
 
 -- of the sharper checks those from 2 to 5 hold with a reach, in ticks, that takes in how far action points may lie apart in each double
--- cycle, by what was heard; no correct node joins; the run would have no gap if nothing were lost; its delays flutter by no more than so
--- many ticks; and in each double cycle each correct node has a value, and discards as many as there may be of arbitrary nodes
-pub record IsCoveredThroughLosses (p : Values) (d : DriftView) (s : ScriptView) (flutter reach : ℕ) : Type 0 where
+-- cycle from one on, by what was heard since; no correct node joins; from that double cycle on the run would have no gap if nothing
+-- were lost, and its delays flutter by no more than so many ticks; and each correct node bears each of these double cycles: it has values,
+-- and discards as many as there may be of arbitrary nodes, or lacks some as `bears` says, in the first of them none
+pub record IsCoveredThroughLosses (p : Values) (d : DriftView) (s : ScriptView) (from flutter reach : ℕ) : Type 0 where
   pub checks : SharpChecksHold flutter reach p
-  pub near : (double : ℕ) → double < doubles_of d → sharply_near_in p (run_spread p s flutter double) ≤ reach
+  pub near : (double : ℕ) → from ≤ double → double < doubles_of d → sharply_near_in p (run_spread p s from flutter double) ≤ reach
   pub none_joins : some_join p s ≡ false
-  pub none : HasNoGapOfRun p d (without_losses s)
-  pub flutters : flutter_of p d s ≤ flutter
-  pub trusted : (double : ℕ) → double < doubles_of d → all_trusted (traffic_in p s) double ≡ true
+  pub none : HasNoGapFrom p d (without_losses s) from
+  pub flutters : flutter_from p d s from ≤ flutter
+  pub borne : (double : ℕ) → from ≤ double → double < doubles_of d → all_bear_from p (traffic_in p s) from double ≡ true
 
 -- such files give a run as the law of losses asks for
 abbrev pub LossyFilesGiveRuns : Type 0
 LossyFilesGiveRuns =
-    (p : Values) (d : DriftView) (s : ScriptView) (flutter reach : ℕ) (h : Cycles)
-    → IsSane p → IsCoveredThroughLosses p d s flutter reach → IsRunOf (setting_of p d s) h
-    → IsLossyRun (has_arbitrary p s) (setting_of p d s) flutter h
+    (p : Values) (d : DriftView) (s : ScriptView) (from flutter reach : ℕ) (h : Cycles)
+    → IsSane p → IsCoveredThroughLosses p d s from flutter reach → IsRunOf (setting_of p d s) h
+    → IsLossyRunFrom (has_arbitrary p s) (setting_of p d s) from flutter h
 
 -- what is kept from a double cycle on, as long as the walk lasts, whatever frames are lost wherever and however many: no corresponding
--- macroticks lie further apart than so by what was heard since, in ticks, no term is cut or missing, and every correct node is active
+-- macroticks lie further apart than so by what was heard since, in ticks, no term is cut, none is missing but where a node has no value
+-- of its kind, and every correct node is active
 abbrev pub KeepsThroughLosses : Values → DriftView → ScriptView → ℕ → Cycles → ℕ → Type 0
 KeepsThroughLosses p d s flutter h double =
     (passed : ℕ) → double + passed < doubles_of d → WalkLastsAfter p flutter passed
-    → KeepsApart (setting_of p d s) h (double + passed)
+    → KeepsThrough (setting_of p d s) h (double + passed)
     (apart_through_losses (has_arbitrary p s) p flutter (λ m. heard_in (traffic_in p s) (double + m)) passed)
 
--- so it is of sane parameters, a drift and a script that are covered through losses, from each double cycle in sharp sync on
+-- so it is of sane parameters, a drift and a script that are covered through losses from a double cycle on, from each one in sharp sync
+-- on from there in which no node lacks values
 abbrev pub CoveredFilesKeepThroughLosses : Type 0
 CoveredFilesKeepThroughLosses =
-    (p : Values) (d : DriftView) (s : ScriptView) (flutter reach : ℕ) (h : Cycles) (double : ℕ)
-    → IsSane p → IsCoveredThroughLosses p d s flutter reach → IsRunOf (setting_of p d s) h
-    → IsInSharpSyncAt (has_arbitrary p s) p flutter (pos 0) h double → KeepsThroughLosses p d s flutter h double
+    (p : Values) (d : DriftView) (s : ScriptView) (from flutter reach : ℕ) (h : Cycles) (double : ℕ)
+    → IsSane p → IsCoveredThroughLosses p d s from flutter reach → IsRunOf (setting_of p d s) h
+    → from ≤ double → IsInSharpSyncAt (has_arbitrary p s) p flutter (pos 0) h double → none_lacks (traffic_in p s) double ≡ true
+    → KeepsThroughLosses p d s flutter h double
 
 -- the promise: and of three accepted files
 abbrev pub FilesKeepThroughLosses : Type 0
 FilesKeepThroughLosses =
-    (p : Values) (d : DriftView) (s : ScriptView) (drift script : List ℕ) (flutter reach : ℕ) (h : Cycles) (double : ℕ)
-    → IsSane p → IsDriftFile p d drift → IsScriptFile p s script → IsCoveredThroughLosses p d s flutter reach
-    → IsRunOf (setting_of p d s) h → IsInSharpSyncAt (has_arbitrary p s) p flutter (pos 0) h double
-    → KeepsThroughLosses p d s flutter h double
+    (p : Values) (d : DriftView) (s : ScriptView) (drift script : List ℕ) (from flutter reach : ℕ) (h : Cycles) (double : ℕ)
+    → IsSane p → IsDriftFile p d drift → IsScriptFile p s script → IsCoveredThroughLosses p d s from flutter reach
+    → IsRunOf (setting_of p d s) h → from ≤ double → IsInSharpSyncAt (has_arbitrary p s) p flutter (pos 0) h double
+    → none_lacks (traffic_in p s) double ≡ true → KeepsThroughLosses p d s flutter h double
+
+-- in the first double cycle from which files are covered so none does
+abbrev pub CoveredFilesAreAwake : Type 0
+CoveredFilesAreAwake =
+    (p : Values) (d : DriftView) (s : ScriptView) (from flutter reach : ℕ)
+    → IsCoveredThroughLosses p d s from flutter reach → from < doubles_of d → none_lacks (traffic_in p s) from ≡ true

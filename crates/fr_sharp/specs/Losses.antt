@@ -16,15 +16,16 @@ use Rattle.fr_runs.specs.Rounds.{IsDoubleOf}
 use Rattle.fr_midpoint.specs.Midpoint.{discarded}
 use Rattle.fr_measure.specs.Values.{offset_at, rate_at}
 use Rattle.fr_precision.specs.Among.{apart_through_losses, lost_spread, spread_through_losses, ComputesOwn, HearInCommon}
-use Rattle.fr_sharp.specs.Traffic.{all_trusted, heard_in, lists_meet, traffic_of}
+use Rattle.fr_sharp.specs.Bearing.{KeepsThrough}
+use Rattle.fr_sharp.specs.Traffic.{all_bear, all_trusted, heard_in, lists_meet, none_lacks, traffic_of}
 use Rattle.fr_precision.specs.Hearing.{AreSteadyPairs, IsHeardInPart}
 use Rattle.fr_bound.specs.SharpBounds.{last_action, precision_by, sharp_precision}
 use Rattle.fr_bound.specs.SharpChecks.{SharpChecksHold}
-use Rattle.fr_runs.specs.SharpHistories.{IsInSharpSyncAt, IsStatedRun, KeepsApart}
+use Rattle.fr_runs.specs.SharpHistories.{IsInSharpSyncAt, IsStatedRunFrom}
 use Rattle.fr_precision.specs.SharpRound.{as_member}
 use Rattle.fr_precision.specs.SharpRun.{WalkLastsAfter}
 use Rattle.fr_bound.specs.SharpSpreads.{sharply_near_in}
-use Rattle.fr_runs.specs.SteadyRuns.{row_members, AreRowsInReach, IsTimedPart, MayHaveArbitrary}
+use Rattle.fr_runs.specs.SteadyRuns.{row_members, AreRowsInReach, IsTimedPartFrom, MayHaveArbitrary}
 
 -- ---- a round
 
@@ -73,8 +74,8 @@ RoundsInPartComputeOwn =
 -- trusts its lists
 abbrev pub RowsComputeOwn : Type 0
 RowsComputeOwn =
-    (x : Setting) (flutter : ℕ) (h earlier : Cycles) (even odd : Cycle) (double : ℕ) (reach : ℤ) (node : Member)
-    → some_joins x ≡ false → IsTimedPart x flutter h → IsDoubleOf h double earlier even odd
+    (x : Setting) (from flutter : ℕ) (h earlier : Cycles) (even odd : Cycle) (double : ℕ) (reach : ℤ) (node : Member)
+    → some_joins x ≡ false → IsTimedPartFrom x from flutter h → from ≤ double → IsDoubleOf h double earlier even odd
     → all_trusted (traffic_of x) double ≡ true
     → AreRowsInReach x earlier even odd reach → Contains (row_members x earlier even odd) node
     → ComputesOwn x.params flutter (row_members x earlier even odd) (pos (last_action x.params)) node
@@ -82,18 +83,22 @@ RowsComputeOwn =
 -- and where the lists of any two correct nodes meet, any two of the nodes with rows have enough in common
 abbrev pub RowsMeet : Type 0
 RowsMeet =
-    (x : Setting) (flutter : ℕ) (h earlier : Cycles) (even odd : Cycle) (double : ℕ) (reach : ℤ) (one other : Member)
-    → some_joins x ≡ false → IsTimedPart x flutter h → IsDoubleOf h double earlier even odd
+    (x : Setting) (from flutter : ℕ) (h earlier : Cycles) (even odd : Cycle) (double : ℕ) (reach : ℤ) (one other : Member)
+    → some_joins x ≡ false → IsTimedPartFrom x from flutter h → from ≤ double → IsDoubleOf h double earlier even odd
     → all_trusted (traffic_of x) double ≡ true
     → lists_meet false (traffic_of x) double ≡ true → lists_meet true (traffic_of x) double ≡ true
     → AreRowsInReach x earlier even odd reach → Contains (row_members x earlier even odd) one → Contains (row_members x earlier even odd) other
     → (one ≡ other) ⊎ HearInCommon x.params flutter (row_members x earlier even odd) (pos (last_action x.params)) one other
 
--- a whole lawful history of such a run, with arbitrary sync nodes or without; in each double cycle each correct node trusts its lists
-pub record IsLossyRun (beside : Bool) (x : Setting) (flutter : ℕ) (h : Cycles) : Type 0 where
-  pub run : IsStatedRun x flutter h
+-- a whole lawful history of such a run, with arbitrary sync nodes or without; each correct node bears each of its double cycles from one
+-- on
+pub record IsLossyRunFrom (beside : Bool) (x : Setting) (from flutter : ℕ) (h : Cycles) : Type 0 where
+  pub run : IsStatedRunFrom x from flutter h
   pub arbitrary : MayHaveArbitrary beside x
-  pub trusted : (double : ℕ) → double < x.doubles → all_trusted (traffic_of x) double ≡ true
+  pub borne : (double : ℕ) → from ≤ double → double < x.doubles → all_bear x.params (traffic_of x) double ≡ true
+
+abbrev pub IsLossyRun : Bool → Setting → ℕ → Cycles → Type 0
+IsLossyRun beside x flutter h = IsLossyRunFrom beside x 0 flutter h
 
 -- how far macroticks may lie apart so many double cycles after one in sharp sync without arbitrary nodes, where all is heard in some and
 -- nothing is asked of others: as far as starts and lengths say, or as the next starts do
@@ -102,17 +107,18 @@ lost_apart p flutter whole passed =
     max (precision_by p (lost_spread p flutter whole passed).starts (lost_spread p flutter whole passed).lengths)
     ((lost_spread p flutter whole (suc passed)).starts + longest_micro p)
 
--- from a double cycle in sharp sync on, with lengths in their range, and under the checks but the first with a reach for all that
--- follows: whatever is lost, no macroticks lie further apart than that, no term is cut or missing, and each node is active
+-- from a double cycle in sharp sync on in which no node lacks values, with lengths in their range, and under the checks but the first
+-- with a reach for all that follows: whatever is lost, no macroticks lie further apart than that, no term is cut, none is missing but
+-- where a node has no value of its kind, and each node is active
 abbrev pub HistoriesKeepThroughLosses : Type 0
 HistoriesKeepThroughLosses =
-    (beside : Bool) (x : Setting) (flutter : ℕ) (h : Cycles) (double reach : ℕ)
-    → IsLossyRun beside x flutter h → SharpChecksHold flutter reach x.params
+    (beside : Bool) (x : Setting) (from flutter : ℕ) (h : Cycles) (double reach : ℕ)
+    → IsLossyRunFrom beside x from flutter h → from ≤ double → SharpChecksHold flutter reach x.params
     → ((k : ℕ) → double + k < x.doubles
     → sharply_near_in x.params (spread_through_losses beside x.params flutter (λ m. heard_in (traffic_of x) (double + m)) k) ≤ reach)
-    → IsInSharpSyncAt beside x.params flutter (pos 0) h double
+    → IsInSharpSyncAt beside x.params flutter (pos 0) h double → none_lacks (traffic_of x) double ≡ true
     → (passed : ℕ) → double + passed < x.doubles → WalkLastsAfter x.params flutter passed
-    → KeepsApart x h (double + passed) (apart_through_losses beside x.params flutter (λ m. heard_in (traffic_of x) (double + m)) passed)
+    → KeepsThrough x h (double + passed) (apart_through_losses beside x.params flutter (λ m. heard_in (traffic_of x) (double + m)) passed)
 
 -- where all was heard in the two double cycles before one and is heard in it, that is the sharper precision again
 abbrev pub SharpAfterTwoWhole : Type 0

@@ -103,7 +103,7 @@ TimedRunsBeginInSharpSync =
 -- this, and this is no more than twice the error of an arrival; and one of its double cycles is in sync in the older sense
 pub record IsOlderRun (beside : Bool) (x : Setting) (flutter : ℕ) (h : Cycles) (double : ℕ) : Type 0 where
   pub covered : IsCoveredByFiles x
-  pub flutters : FluttersWithin x flutter
+  pub flutters : FluttersWithin x 0 flutter
   pub little : flutter ≤ 2 * arrival_error x.params
   pub arbitrary : MayHaveArbitrary beside x
   pub none_joins : some_joins x ≡ false

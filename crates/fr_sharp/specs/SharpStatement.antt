@@ -12,9 +12,9 @@ use Rattle.fr_script.specs.Files.{IsScriptFile}
 use Rattle.fr_script.specs.View.{ScriptView, is_arbitrary}
 use Rattle.fr_coverage.specs.Coverage.{some_join}
 use Rattle.fr_coverage.specs.Decided.{setting_of}
-use Rattle.fr_coverage.specs.Flutter.{flutter_of}
+use Rattle.fr_coverage.specs.Flutter.{flutter_from}
 use Rattle.fr_coverage.specs.Links.{is_sync}
-use Rattle.fr_coverage.specs.Order.{HasNoGapOfRun}
+use Rattle.fr_coverage.specs.Order.{HasNoGapFrom}
 use Rattle.fr_history.specs.Cycles.{Cycles}
 use Rattle.fr_promise.specs.Statement.{IsRunOf}
 use Rattle.fr_sharp.specs.HeldWalks.{beyond_after, beyond_for_ever, sync_lasts, SyncLastsAfter, SyncLastsUpTo}
@@ -29,13 +29,13 @@ has_arbitrary_in nodes s = list_any (λ node. is_sync node && is_arbitrary s nod
 abbrev pub has_arbitrary : Values → ScriptView → Bool
 has_arbitrary p s = has_arbitrary_in p.nodes s
 
--- of the sharper checks those from 2 to 5 hold, with action points no further apart than in sharp sync; no correct node joins; the
--- run itself has no gap; and its delays flutter by no more than so many ticks
-pub record IsSharplyCovered (p : Values) (d : DriftView) (s : ScriptView) (flutter : ℕ) : Type 0 where
+-- of the sharper checks those from 2 to 5 hold, with action points no further apart than in sharp sync; no correct node joins; and
+-- from a double cycle on the run itself has no gap, and its delays flutter by no more than so many ticks
+pub record IsSharplyCovered (p : Values) (d : DriftView) (s : ScriptView) (from flutter : ℕ) : Type 0 where
   pub checks : SharpChecksHold flutter (sharp_near (has_arbitrary p s) p flutter) p
   pub none_joins : some_join p s ≡ false
-  pub none : HasNoGapOfRun p d s
-  pub flutters : flutter_of p d s ≤ flutter
+  pub none : HasNoGapFrom p d s from
+  pub flutters : flutter_from p d s from ≤ flutter
 
 -- what is kept from a double cycle on
 pub record KeepsSharply (beside : Bool) (x : Setting) (flutter : ℕ) (h : Cycles) (double : ℕ) : Type 0 where
@@ -53,10 +53,10 @@ pub record KeepsSharply (beside : Bool) (x : Setting) (flutter : ℕ) (h : Cycle
   pub always :
       sync_lasts x.params flutter ≡ None → KeepsSharpPrecision beside x flutter (beyond_for_ever x.params flutter) h double
 
--- the promise: of three accepted files that are sharply covered, from each double cycle in sharp sync on
+-- the promise: of three accepted files that are sharply covered from a double cycle on, from each one in sharp sync on from there
 abbrev pub FilesKeepSharpPrecision : Type 0
 FilesKeepSharpPrecision =
-    (p : Values) (d : DriftView) (s : ScriptView) (drift script : List ℕ) (flutter : ℕ) (h : Cycles) (double : ℕ)
-    → IsSane p → IsDriftFile p d drift → IsScriptFile p s script → IsSharplyCovered p d s flutter → IsRunOf (setting_of p d s) h
-    → IsInSharpSyncAt (has_arbitrary p s) p flutter (pos 0) h double
+    (p : Values) (d : DriftView) (s : ScriptView) (drift script : List ℕ) (from flutter : ℕ) (h : Cycles) (double : ℕ)
+    → IsSane p → IsDriftFile p d drift → IsScriptFile p s script → IsSharplyCovered p d s from flutter → IsRunOf (setting_of p d s) h
+    → from ≤ double → IsInSharpSyncAt (has_arbitrary p s) p flutter (pos 0) h double
     → KeepsSharply (has_arbitrary p s) (setting_of p d s) flutter h double

@@ -1,12 +1,13 @@
 -- What correct nodes have of the frames of correct sync nodes in a double cycle in which frames may be lost, and how that decides
 -- how near their clocks come, beside arbitrary sync nodes or without.
-use Rattle.std.specs.Prelude.{ℕ, ◌+◌, ◌*◌, ◌==◌, ◌&&◌, ◌||◌, nat_le, nat_lt, nat_eq, Bool, true, false, not, if◌then◌else◌, List, [], ◌∷◌, count_by}
-use Rattle.std.specs.List.{list_all}
+use Rattle.std.specs.Prelude.{ℕ, zero, suc, ◌+◌, ◌*◌, ◌==◌, ◌&&◌, ◌||◌, nat_le, nat_lt, nat_eq, Bool, true, false, not, if◌then◌else◌, List, [], ◌∷◌, count_by}
+use Rattle.std.specs.List.{list_all, list_any}
 use Rattle.fr_base.specs.Event.{Event}
 use Rattle.fr_base.specs.declared.channel.Channel.{Channel}
 use Rattle.fr_base.specs.declared.channel.Channel.TheVariants as channel
 use Rattle.fr_cluster.specs.Setting.{Setting}
-use Rattle.fr_cluster.specs.Values.{Values}
+use Rattle.fr_cluster.specs.Values.{Values, amount}
+use Rattle.fr_cluster.specs.declared.names.ParamName.TheVariants as name
 use Rattle.fr_cluster.specs.declared.nodes.NodeSpec.{NodeSpec}
 use Rattle.fr_midpoint.specs.Midpoint.{discarded}
 use Rattle.fr_bound.specs.declared.judging.Heard.{Heard}
@@ -15,6 +16,7 @@ use Rattle.fr_coverage.specs.Links.{is_regular, is_sync, shares}
 use Rattle.fr_script.specs.Events.{event_of}
 use Rattle.fr_script.specs.View.{ScriptView, is_arbitrary}
 use Rattle.fr_sharp.specs.declared.traffic.Costs.{Costs}
+use Rattle.fr_precision.specs.Among.{most_change}
 use Rattle.fr_runs.specs.SteadyRuns.{is_silent}
 
 -- the nodes of a cluster, which of them are arbitrary, and by cycle, sender, receiver and channel what becomes of frames
@@ -96,6 +98,57 @@ trusts t double b = t.is_arbitrary b.id || (is_trusted false t double b && is_tr
 
 abbrev pub all_trusted : Traffic → ℕ → Bool
 all_trusted t double = list_all (trusts t double) t.nodes
+
+-- ---- a node that hears nothing
+
+-- something may come of what an arbitrary node says on a channel, of the odd cycle or of both
+abbrev pub may_say : Bool → Traffic → NodeSpec → NodeSpec → ℕ → Channel → Bool
+may_say false t a b double ch = comes false (t.event (2 * double + 1) a.id b.id ch)
+may_say true t a b double ch = comes false (t.event (2 * double) a.id b.id ch) && comes false (t.event (2 * double + 1) a.id b.id ch)
+
+-- a receiver may have a value of a sync node, correct or arbitrary
+abbrev pub may_reach : Bool → Traffic → ℕ → NodeSpec → NodeSpec → Bool
+may_reach rate t double b a =
+    if t.is_arbitrary a.id
+    then may_say rate t a b double channel.A || may_say rate t a b double channel.B
+    else has_value rate false t double b a
+
+-- a node without a key slot has no such value where none of any sync node can come to it
+abbrev pub is_deaf : Bool → Traffic → ℕ → NodeSpec → Bool
+is_deaf rate t double b = not (is_sync b) && not (list_any (λ a. is_sync a && may_reach rate t double b a) t.nodes)
+
+-- it lacks values of one kind or the other; and in how many double cycles in a row it does, one of them the last
+abbrev pub lacks_values : Traffic → ℕ → NodeSpec → Bool
+lacks_values t double b = is_deaf false t double b || is_deaf true t double b
+
+unfoldable pub lacking_for : Traffic → NodeSpec → ℕ → ℕ
+lacking_for t b zero = if lacks_values t 0 b then 1 else 0
+lacking_for t b (suc k) = if lacks_values t (suc k) b then suc (lacking_for t b k) else 0
+
+-- of each kind it trusts its list or surely has none; and it lacks values while oscillators do not change alone, and in fewer double
+-- cycles in a row than operation control asks for to make it passive
+abbrev pub trusts_or_lacks : Bool → Traffic → ℕ → NodeSpec → Bool
+trusts_or_lacks rate t double b = is_deaf rate t double b || is_trusted rate t double b
+
+abbrev pub may_lack : Values → Traffic → ℕ → NodeSpec → Bool
+may_lack p t double b =
+    nat_eq (most_change p) 0 && nat_lt (lacking_for t b double) (amount p name.gMaxWithoutClockCorrectionPassive)
+
+abbrev pub bears : Values → Traffic → ℕ → NodeSpec → Bool
+bears p t double b =
+    t.is_arbitrary b.id
+    || ((trusts_or_lacks false t double b && trusts_or_lacks true t double b) && (not (lacks_values t double b) || may_lack p t double b))
+
+-- each correct node does; and none lacks values
+abbrev pub all_bear : Values → Traffic → ℕ → Bool
+all_bear p t double = list_all (bears p t double) t.nodes
+
+abbrev pub none_lacks : Traffic → ℕ → Bool
+none_lacks t double = list_all (λ b. t.is_arbitrary b.id || not (lacks_values t double b)) t.nodes
+
+-- asked from a double cycle on: in that one none lacks values
+abbrev pub all_bear_from : Values → Traffic → ℕ → ℕ → Bool
+all_bear_from p t from double = all_bear p t double && (not (double == from) || none_lacks t double)
 
 -- the two greatest numbers of correct nodes
 abbrev pub with_cost : ℕ → Costs → Costs

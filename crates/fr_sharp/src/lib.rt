@@ -5,6 +5,7 @@
 #![tactic(auto)]
 
 mod arbitrary;
+mod bearing;
 mod digits;
 mod files;
 mod heard;
@@ -19,9 +20,12 @@ mod loss_costs;
 mod loss_steps;
 mod losses_of_runs;
 mod lossy_files;
+mod sharp_covered;
+mod through;
 mod traffic;
 
 pub use arbitrary::has_arbitrary;
+pub use bearing::all_bear_from;
 pub use digits::Digits;
 pub use files::{
     covered_files_keep_sharply, files_are_steady, files_keep_sharp_precision, files_settle_sharply,
@@ -43,4 +47,6 @@ pub use loss_costs::{
 pub use loss_steps::LossSpread;
 pub use losses_of_runs::{RunLosses, losses_are_told, run_losses};
 pub use lossy_files::{files_keep_through_losses, lossy_files_give_runs};
-pub use traffic::{Costs, all_trusted, heard_in};
+pub use sharp_covered::first_sharp_gap;
+pub use through::is_through;
+pub use traffic::{Costs, heard_in};

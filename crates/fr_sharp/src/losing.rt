@@ -1,3 +1,4 @@
+ghost use Rattle.fr_sharp.specs.Bearing.{RowsBear, ThroughIsApart};
 ghost use Rattle.fr_sharp.specs.Losses.{HistoriesKeepThroughLosses, RoundsInPartComputeOwn, RowsComputeOwn, RowsMeet, SharpAfterTwoWhole};
 
 use fr_promise::{heard_numbers, losses_last};
@@ -5,19 +6,23 @@ use fr_promise::{heard_numbers, losses_last};
 /// The law of hearing where frames are lost: each receiver of a round that trusts its lists computes its terms from the
 /// values of senders of its own, those of whom it has one (sections 8.5 and 8.6). So do the nodes with rows in a double
 /// cycle of a lawful run that no node joins, whatever frames are lost in it; where lists meet, any two have enough in common.
+/// A node that surely hears nothing keeps its rate and its end.
 pub fn what_is_heard_suffices()
     ensures rounds { RoundsInPartComputeOwn }
     ensures rows { RowsComputeOwn }
     ensures meet { RowsMeet }
+    ensures bear { RowsBear }
 {}
 
 /// The law of losses in a run: in a lawful history that no node joins, from a double cycle in sharp sync on, whatever frames
-/// are lost in whichever double cycles, as long as each correct node trusts its lists, macroticks lie no further apart than
-/// the numbers by what was heard, in ticks, no term is cut or missing, and every node is active, as long as the walk lasts;
+/// are lost in whichever double cycles, as long as each correct node bears them, macroticks lie no further apart than the
+/// numbers by what was heard, in ticks, no term is cut, none is missing but where a node has no value of its kind, and every
+/// node is active, as long as the walk lasts;
 /// without arbitrary nodes, where all was heard in two double cycles, that is the sharper precision again.
 pub fn histories_keep_through_losses()
     ensures keep { HistoriesKeepThroughLosses }
     ensures again { SharpAfterTwoWhole }
+    ensures apart { ThroughIsApart }
 {
     losses_last();
     heard_numbers();

@@ -5,17 +5,19 @@ ghost use Rattle.fr_sharp.specs.LossSteps.{most_lost};
 ghost use Rattle.fr_bound.specs.SharpBounds.{most_flutter};
 
 use crate::arbitrary::has_arbitrary;
+use crate::bearing::all_bear_from;
 use crate::heard::all_reach;
 use crate::losing::histories_keep_through_losses;
 use crate::loss_steps::LossSpread;
-use crate::traffic::{all_trusted, heard_in};
+use crate::traffic::heard_in;
 use fr_cluster::Params;
-use fr_coverage::found_gap_of_run_is_first;
+use fr_coverage::found_gap_from_is_first;
 use fr_drift::Drift;
 use fr_promise::heard_numbers;
 use fr_script::Script;
 
-/// What a run loses, by its files, and how far apart that may take its clocks, from a double cycle in sharp sync on.
+/// What a run loses from a double cycle on, by its files, and how far apart that may take its clocks, from one in sharp sync
+/// on.
 #[derive(Clone, Copy, Debug, PartialEq, Eq)]
 pub struct RunLosses {
     /// In how many double cycles frames are lost: between two correct nodes no channel carries those of both cycles.
@@ -28,21 +30,31 @@ pub struct RunLosses {
     pub place: u32,
     /// How far instants of the same action point may lie apart, in ticks.
     pub reach: u128,
-    /// Whether in each double cycle each correct node has a value, and discards as many as there may be of arbitrary nodes.
+    /// Whether each correct node bears each double cycle: it has values, and discards as many as there may be of arbitrary
+    /// nodes, or lacks some as it may.
     pub trusted: bool,
 }
 
-/// What the run of some files loses, where its delays flutter by so many ticks, 0 to 1,000,000,000.
-pub fn run_losses(params: &Params, drift: &Drift, script: &Script, flutter: u64) -> RunLosses
+/// What the run of some files loses from a double cycle on, where its delays flutter by so many ticks, 0 to
+/// 1,000,000,000, from there on.
+pub fn run_losses(
+    params: &Params,
+    drift: &Drift,
+    script: &Script,
+    from: u32,
+    flutter: u64,
+) -> RunLosses
     requires { flutter ≤ most_flutter }
-    ensures value { result ≡ losses_of params.now drift.now script.now flutter }
+    ensures value { result ≡ losses_of params.now drift.now script.now from flutter }
     ensures most { result.reach ≤ most_lost }
 {
     let mut spread = LossSpread::first(params, has_arbitrary(params, script), flutter);
-    let mut losses = RunLosses::none();
-    for double in 0..drift.doubles() {
+    let mut losses = RunLosses::none(from);
+    let count = drift.doubles().saturating_sub(from);
+    for passed in 0..count {
+        let double = from + passed;
         let whole = is_whole(params, script, double);
-        let trusted = all_trusted(params, script, double);
+        let trusted = all_bear_from(params, script, from, double);
         let what = heard_in(params, script, double, whole);
         let apart = spread.apart(params, flutter, what);
         losses = losses.followed(double, whole, trusted, apart, spread.near(params));
@@ -60,15 +72,15 @@ fn is_whole(params: &Params, script: &Script, double: u32) -> bool
 }
 
 impl RunLosses {
-    // Those of no double cycle.
-    fn none() -> RunLosses
-        ensures { result ≡ no_losses }
+    // Those of no double cycle, before one.
+    fn none(from: u32) -> RunLosses
+        ensures { result ≡ no_losses from }
     {
         RunLosses {
             doubles: 0,
             last: None,
             peak: 0,
-            place: 0,
+            place: from,
             reach: 0,
             trusted: true,
         }
@@ -115,15 +127,15 @@ impl RunLosses {
     }
 }
 
-/// A law: what a run loses is what it is called; where it is said to be covered through losses, and there alone, it is; and
-/// then no macroticks lie further apart, in ticks, than the number of their double cycle by what was heard since the first,
-/// from each double cycle in sharp sync on and as long as the walk lasts.
+/// A law: what a run loses from a double cycle on is what it is called; where it is said to be covered through losses from
+/// there on, and there alone, it is; and then no macroticks lie further apart, in ticks, than the number of their double
+/// cycle by what was heard since that one, from each double cycle in sharp sync on and as long as the walk lasts.
 pub fn losses_are_told()
     ensures figures { LossesAreTold }
     ensures covered { ThroughLossesIsTold }
     ensures keeps { RunsKeepTheirBounds }
 {
-    found_gap_of_run_is_first();
+    found_gap_from_is_first();
     histories_keep_through_losses();
     heard_numbers();
 }

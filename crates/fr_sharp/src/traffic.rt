@@ -7,7 +7,7 @@ ghost use Rattle.fr_script.specs.View.{is_arbitrary};
 ghost use Rattle.fr_coverage.specs.Links.{is_sync};
 ghost use Rattle.fr_midpoint.specs.Midpoint.{discarded};
 ghost use Rattle.fr_sharp.specs.LossStatement.{whole_in};
-ghost use Rattle.fr_sharp.specs.Traffic.{all_linked, all_trusted, arbitrary_count, comes, costs_of, has_value, heard_in, is_trusted, lists_meet, missed_or_discarded, sender_count, is_correct_sender, traffic_in, traffic_with, trusts, value_on, with_cost};
+ghost use Rattle.fr_sharp.specs.Traffic.{all_linked, arbitrary_count, comes, costs_of, has_value, heard_in, is_trusted, lists_meet, missed_or_discarded, sender_count, is_correct_sender, traffic_in, traffic_with, value_on, with_cost};
 
 use crate::arbitrary::is_arbitrary_sync;
 use fr_base::Channel;
@@ -27,10 +27,10 @@ pub struct Costs {
 
 // What is asked of the frames of a double cycle: for rate values or for offset values, and whether they surely come.
 #[derive(Clone, Copy)]
-struct Asked {
-    rate: bool,
-    surely: bool,
-    double: u32,
+pub(crate) struct Asked {
+    pub(crate) rate: bool,
+    pub(crate) surely: bool,
+    pub(crate) double: u32,
 }
 
 /// What the correct nodes of a run hear in a double cycle, 0 to 100,000, by its files: all of all, without arbitrary sync
@@ -60,59 +60,7 @@ fn heard_by(nodes: &NodeList, script: &Script, double: u32, whole: bool) -> Hear
     }
 }
 
-/// Whether in a double cycle, 0 to 100,000, each correct node has an offset value and a rate value, and discards at each end
-/// as many of each as there may be of arbitrary nodes.
-pub fn all_trusted(params: &Params, script: &Script, double: u32) -> bool
-    requires { double ≤ 100_000 }
-    ensures { result ≡ all_trusted (traffic_in params.now script.now) double }
-{
-    let nodes = &params.nodes;
-    let _few = params.value(ParamName::gMacroPerCycle);
-    let arbitrary = arbitrary_count(nodes, script);
-    all_trust(nodes, script, double, arbitrary)
-}
-
-fn all_trust(nodes: &NodeList, script: &Script, double: u32, arbitrary: u64) -> bool
-    requires double { double ≤ 100_000 }
-    requires few { length nodes.now ≤ 64 }
-    requires arbitrary { arbitrary ≡ arbitrary_count (traffic_with nodes.now script.now) }
-    ensures { result ≡ all_trusted (traffic_with nodes.now script.now) double }
-{
-    for place in 0..nodes.len() {
-        match nodes.get(place) {
-            Some(node) => {
-                if !trusts(nodes, script, double, arbitrary, node) {
-                    return false;
-                }
-            }
-            None => {}
-        }
-    }
-    true
-}
-
-fn trusts(nodes: &NodeList, script: &Script, double: u32, arbitrary: u64, node: &NodeSpec) -> bool
-    requires double { double ≤ 100_000 }
-    requires few { length nodes.now ≤ 64 }
-    requires arbitrary { arbitrary ≡ arbitrary_count (traffic_with nodes.now script.now) }
-    ensures { result ≡ trusts (traffic_with nodes.now script.now) double node.now }
-{
-    let offset = Asked {
-        rate: false,
-        surely: true,
-        double,
-    };
-    let rate = Asked {
-        rate: true,
-        surely: true,
-        double,
-    };
-    script.arbitrary(node.id)
-        || (is_trusted(nodes, script, offset, arbitrary, node)
-            && is_trusted(nodes, script, rate, arbitrary, node))
-}
-
-fn is_trusted(
+pub(crate) fn is_trusted(
     nodes: &NodeList,
     script: &Script,
     asked: Asked,
@@ -313,7 +261,7 @@ fn senders(nodes: &NodeList, script: &Script) -> u64
     count
 }
 
-fn arbitrary_count(nodes: &NodeList, script: &Script) -> u64
+pub(crate) fn arbitrary_count(nodes: &NodeList, script: &Script) -> u64
     requires { length nodes.now ≤ 64 }
     ensures value { result ≡ arbitrary_count (traffic_with nodes.now script.now) }
     ensures most { result ≤ 64 }
@@ -347,7 +295,12 @@ fn is_heard(script: &Script, asked: Asked, receiver: &NodeSpec, sender: &NodeSpe
     is_correct_sender(script, sender) && has_value(script, asked, receiver, sender)
 }
 
-fn has_value(script: &Script, asked: Asked, receiver: &NodeSpec, sender: &NodeSpec) -> bool
+pub(crate) fn has_value(
+    script: &Script,
+    asked: Asked,
+    receiver: &NodeSpec,
+    sender: &NodeSpec,
+) -> bool
     requires { asked.double ≤ 100_000 }
     ensures { (nodes : List NodeSpec) → result ≡
         has_value asked.rate asked.surely (traffic_with nodes script.now) asked.double receiver.now sender.now }
@@ -388,7 +341,7 @@ fn value_on(
     }
 }
 
-fn comes_even(
+pub(crate) fn comes_even(
     script: &Script,
     asked: Asked,
     sender: &NodeSpec,
@@ -405,7 +358,7 @@ fn comes_even(
     )
 }
 
-fn comes_odd(
+pub(crate) fn comes_odd(
     script: &Script,
     asked: Asked,
     sender: &NodeSpec,
@@ -436,11 +389,5 @@ fn discarded_of(count: u64) -> u64
     ensures value { result ≡ discarded count }
     ensures most { result ≤ 2 }
 {
-    if count < 3 {
-        0
-    } else if count < 8 {
-        1
-    } else {
-        2
-    }
+    fr_midpoint::discarded_of(count as usize) as u64
 }

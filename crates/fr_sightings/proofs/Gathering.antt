@@ -13,7 +13,7 @@ use Rattle.fr_course.specs.Course.{course_from}
 use Rattle.fr_course.specs.Near.{IsNearCourse}
 use Rattle.fr_course.specs.declared.courses.Course.{Course}
 use Rattle.fr_course.specs.declared.intervals.Interval.{Interval}
-use Rattle.fr_course.specs.declared.scales.Scale.{Scale}
+use Rattle.fr_course.specs.Scales.{Scale}
 use Rattle.fr_sightings.specs.Ranges.{HasStaticKey, IsCourseAt}
 
 -- ---- key slots

@@ -4,8 +4,8 @@ use Rattle.std.specs.List.{filter}
 use Rattle.fr_course.specs.Computed.{deviation_seen, rate_value_seen}
 use Rattle.fr_course.specs.declared.courses.Course.{Course}
 use Rattle.fr_course.specs.declared.intervals.Interval.{Interval}
-use Rattle.fr_course.specs.declared.measuring.Measuring.{Measuring}
-use Rattle.fr_course.specs.declared.scales.Scale.{Scale}
+use Rattle.fr_course.specs.Measures.{Measuring}
+use Rattle.fr_course.specs.Scales.{Scale}
 use Rattle.fr_sightings.specs.declared.computed.Measured.{Measured}
 use Rattle.fr_sightings.specs.declared.computed.Measured.TheVariants as measured
 use Rattle.fr_sightings.specs.declared.sender.Sender.{Sender}

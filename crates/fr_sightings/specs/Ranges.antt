@@ -6,9 +6,9 @@ use Rattle.fr_cluster.specs.declared.names.ParamName.TheVariants as name
 use Rattle.fr_cluster.specs.declared.nodes.NodeSpec.{NodeSpec}
 use Rattle.fr_log.specs.Rows.{last_stamp}
 use Rattle.fr_log.specs.View.{LogView}
-use Rattle.fr_course.specs.Near.{IsNearCourse, IsReadingScale, IsSpan}
+use Rattle.fr_course.specs.Near.{IsNearCourse, IsSpan}
 use Rattle.fr_course.specs.declared.courses.Course.{Course}
-use Rattle.fr_course.specs.declared.scales.Scale.{Scale}
+use Rattle.fr_course.specs.Scales.{Scale}
 use Rattle.fr_sightings.specs.Senders.{double_of}
 use Rattle.fr_sightings.specs.declared.sender.Sender.{Sender}
 use Rattle.fr_sightings.specs.declared.sighting.Sighting.{Sighting}
@@ -53,5 +53,4 @@ pub record IsProperSender (scale : Scale) (s : Sender) : Type 0 where
 
 -- a scale is that of a cluster
 pub record IsScaleOf (p : Values) (scale : Scale) : Type 0 where
-  pub proper : IsReadingScale scale
   pub correction : scale.correction ≡ p.correction

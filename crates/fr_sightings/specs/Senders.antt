@@ -14,7 +14,7 @@ use Rattle.fr_log.specs.View.{LogView, delay_limits_of, is_arbitrary_in, jitter_
 use Rattle.fr_log.specs.declared.rows.DelayLimits.{DelayLimits}
 use Rattle.fr_course.specs.Readings.{meet_all}
 use Rattle.fr_course.specs.declared.intervals.Interval.{Interval}
-use Rattle.fr_course.specs.declared.scales.Scale.{Scale}
+use Rattle.fr_course.specs.Scales.{Scale}
 use Rattle.fr_course.specs.Course.{course_from, is_there, span_of, stamped}
 use Rattle.fr_course.specs.declared.courses.Course.{Course}
 use Rattle.fr_course.specs.declared.stamps.Delays.{Delays}

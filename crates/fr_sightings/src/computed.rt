@@ -1,7 +1,7 @@
 ghost use Rattle.std.specs.Prelude.{◌≡◌, ◌≤◌, ◌∷◌, pos, All, IfSome, length, map};
 ghost use Rattle.std.specs.List.{Contains};
 ghost use Rattle.fr_course.specs.Computed.{offset_computed, own_value, rate_computed};
-ghost use Rattle.fr_course.specs.Near.{EndWithin, IsMeasuring, IsNearCourse, IsReadingScale};
+ghost use Rattle.fr_course.specs.Near.{EndWithin, IsNearCourse};
 ghost use Rattle.fr_sightings.specs.Computing.{heard_courses, value_seen};
 ghost use Rattle.fr_sightings.specs.Ranges.{IsProperSender};
 
@@ -36,8 +36,6 @@ pub fn offset_computed(
     sender: &Sender,
     reception: Reception,
 ) -> Option<Interval>
-    requires scale { IsReadingScale scale.now }
-    requires measuring { IsMeasuring measuring.now }
     requires few { length senders.now ≤ 64 }
     requires senders { All (IsProperSender scale.now) senders.now }
     requires among { Contains senders.now sender.now }
@@ -60,8 +58,6 @@ pub fn rate_computed(
     sender: &Sender,
     reception: Reception,
 ) -> Option<Interval>
-    requires scale { IsReadingScale scale.now }
-    requires measuring { IsMeasuring measuring.now }
     requires few { length senders.now ≤ 64 }
     requires senders { All (IsProperSender scale.now) senders.now }
     requires among { Contains senders.now sender.now }
@@ -87,8 +83,6 @@ fn values_seen(
     senders: &[Sender],
     sender: &Sender,
 ) -> IntervalList
-    requires scale { IsReadingScale scale.now }
-    requires measuring { IsMeasuring measuring.now }
     requires few { length senders.now ≤ 64 }
     requires senders { All (IsProperSender scale.now) senders.now }
     requires sender { IsProperSender scale.now sender.now }
@@ -115,8 +109,6 @@ fn value_seen(
     receiver: &Course,
     sender: &Course,
 ) -> Interval
-    requires scale { IsReadingScale scale.now }
-    requires measuring { IsMeasuring measuring.now }
     requires receiver { IsNearCourse scale.now receiver.now }
     requires sender { IsNearCourse scale.now sender.now }
     ensures value { result ≡ value_seen measured scale.now measuring.now receiver.now sender.now }

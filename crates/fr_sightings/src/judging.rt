@@ -1,6 +1,5 @@
 ghost use Rattle.std.specs.Prelude.{◌≡◌, ◌≤◌, IfSome};
 ghost use Rattle.std.specs.Option.{option_copied};
-ghost use Rattle.fr_cluster.specs.Questions.{has_channel, node_of};
 ghost use Rattle.fr_frame.specs.Reading.{read_as, read_checked};
 ghost use Rattle.fr_reception.specs.Regular.{is_coldstart, is_sync_frame, regular_header};
 ghost use Rattle.fr_sightings.specs.Judging.{has_form_of, head_read, header_read, is_regular_of, is_same_indicator, judged_as, judgement_by, judgement_of, static_sending, whole_header};
@@ -145,7 +144,7 @@ fn static_sending(params: &Params, header: &Header) -> Option<Sending>
 fn is_regular_of(params: &Params, channel: Channel, header: &Header, sending: &Sending) -> bool
     ensures { result ≡ is_regular_of params.now channel header.now sending.now }
 {
-    has_channel(params, sending.node, channel) && has_form(params, header, sending)
+    params.has_channel(sending.node, channel) && has_form(params, header, sending)
 }
 
 // Whether a frame is one of a key slot.
@@ -153,19 +152,6 @@ fn is_sync_frame(kind: Kind) -> bool
     ensures { result ≡ is_sync_frame kind }
 {
     matches!(kind, Kind::SyncFrame)
-}
-
-// Whether there is a node and it has the channel.
-fn has_channel(params: &Params, node: NodeId, channel: Channel) -> bool
-    ensures { result ≡ has_channel (node_of params.now node) channel }
-{
-    match params.node(node) {
-        None => false,
-        Some(node) => match channel {
-            Channel::A => node.on_a,
-            Channel::B => node.on_b,
-        },
-    }
 }
 
 // Whether a header has the payload length and the indicators of the regular one.

@@ -27,7 +27,7 @@ pub use gathered::SightingList;
 pub use intervals::{SeenCycle, first_stamp, seen_box, seen_span};
 pub use laws::silence_ends_all;
 pub use looking::{Window, look_at, look_from};
-pub use nodes::{is_judged, keyed_count, node_at, node_count};
+pub use nodes::{is_judged, keyed_count};
 pub use sender::{Sender, no_course};
 pub use sending::{Observed, seen_senders};
 pub use sighting::{Fate, Sighting, Tally};

@@ -4,25 +4,6 @@ ghost use Rattle.fr_sightings.specs.Senders.{own_slot};
 use fr_cluster::{NodeSpec, Params};
 use fr_log::Log;
 
-/// How many nodes a cluster has.
-pub fn node_count(params: &Params) -> usize
-    ensures value { result ≡ length params.now.nodes }
-    ensures few { result ≤ 64 }
-{
-    params.nodes.len()
-}
-
-/// The node at a place.
-pub fn node_at(params: &Params, place: usize) -> &NodeSpec
-    requires { place < length params.now.nodes }
-    ensures { slice_get params.now.nodes place ≡ Some result.now }
-{
-    match params.nodes.get(place) {
-        Some(node) => node,
-        None => unreachable!(),
-    }
-}
-
 fn keyed(node: &NodeSpec) -> usize
     ensures value { result ≡ cond (is_some node.now.key) 1 0 }
     ensures most { result ≤ 1 }
@@ -36,8 +17,8 @@ pub fn keyed_count(params: &Params) -> usize
     ensures few { result ≤ 64 }
 {
     let mut count = 0;
-    for place in 0..node_count(params) {
-        count += keyed(node_at(params, place));
+    for place in 0..params.node_count() {
+        count += keyed(params.node_at(place));
     }
     count
 }

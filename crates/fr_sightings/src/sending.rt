@@ -5,7 +5,7 @@ ghost use Rattle.fr_base.specs.Within.{IsBetween};
 ghost use Rattle.fr_cluster.specs.Values.{amount};
 ghost use Rattle.fr_cluster.specs.declared.names.ParamName.TheVariants as name;
 ghost use Rattle.fr_course.specs.Course.{course_from};
-ghost use Rattle.fr_course.specs.Near.{IsBox, IsReadingScale, IsSpan};
+ghost use Rattle.fr_course.specs.Near.{IsBox, IsSpan};
 ghost use Rattle.fr_course.specs.declared.scales.Scale.{Scale as Measure};
 ghost use Rattle.fr_time.specs.Slots.{action_point_of};
 ghost use Rattle.fr_sightings.specs.Ranges.{AreLogStamps, HasStaticKey, IsCourseAt, IsProperSender, IsScaleOf};
@@ -16,7 +16,7 @@ use crate::sender::Sender;
 use crate::sighting::Sighting;
 use arrayvec::ArrayVec;
 use fr_base::{NodeId, ROW_ROOM, Slot};
-use fr_cluster::{NodeList, NodeSpec, Params};
+use fr_cluster::{NodeSpec, Params};
 use fr_course::{Course, Interval, Scale, course_from, is_there};
 use fr_log::Log;
 use fr_time::action_point;
@@ -27,6 +27,7 @@ pub struct Observed<'a> {
     pub scale: &'a Scale,
     pub params: &'a Params,
     pub log: &'a Log,
+    ghost of_cluster: { IsScaleOf params.now scale.now },
 }
 
 /// A node and the slot in which it sends sync frames.
@@ -44,7 +45,6 @@ fn course_by(
     odd: Option<Interval>,
     span: Option<Interval>,
 ) -> Option<Course>
-    requires scale { IsReadingScale scale.now }
     requires action { IsBetween (pos 0) scale.now.correction action }
     requires even { IfSome even IsBox }
     requires odd { IfSome odd IsBox }
@@ -73,7 +73,6 @@ fn course_in(
     double: u32,
     key: &KeySlot,
 ) -> Option<Course>
-    requires scale { IsScaleOf observed.now.params.now observed.now.scale.now }
     requires seen { AreLogStamps observed.now.log.now seen.now }
     requires double { double ≤ 1_000_000 }
     requires slot { key.now.slot ≤ amount observed.now.params.now name.gNumberOfStaticSlots }
@@ -121,7 +120,6 @@ fn known_course(
     double: u32,
     key: &KeySlot,
 ) -> Option<Course>
-    requires scale { IsScaleOf observed.now.params.now observed.now.scale.now }
     requires seen { AreLogStamps observed.now.log.now seen.now }
     requires double { double ≤ 1_000_000 }
     requires slot { key.now.slot ≤ amount observed.now.params.now name.gNumberOfStaticSlots }
@@ -166,7 +164,6 @@ fn seen_sender_by(
     double: u32,
     key: &KeySlot,
 ) -> Option<Sender>
-    requires scale { IsScaleOf observed.now.params.now observed.now.scale.now }
     requires here { AreLogStamps observed.now.log.now here.now }
     requires next { AreLogStamps observed.now.log.now next.now }
     requires double { double < 1_000_000 }
@@ -206,7 +203,6 @@ fn seen_sender(
     double: u32,
     node: &NodeSpec,
 ) -> Option<Sender>
-    requires scale { IsScaleOf observed.now.params.now observed.now.scale.now }
     requires here { AreLogStamps observed.now.log.now here.now }
     requires next { AreLogStamps observed.now.log.now next.now }
     requires double { double < 1_000_000 }
@@ -224,31 +220,13 @@ fn seen_sender(
     }
 }
 
-// How many nodes there are.
-fn node_count(params: &Params) -> usize
-    ensures value { result ≡ length params.now.nodes }
-    ensures few { result ≤ 64 }
-{
-    params.nodes.len()
-}
-
-fn node_at(nodes: &NodeList, place: usize) -> &NodeSpec
-    requires { place < length nodes.now }
-    ensures { slice_get nodes.now place ≡ Some result.now }
-{
-    match nodes.get(place) {
-        Some(node) => node,
-        None => unreachable!(),
-    }
-}
-
 // The node at a place; its key slot is a static one.
 fn static_node(params: &Params, place: usize) -> &NodeSpec
     requires { place < length params.now.nodes }
     ensures value { slice_get params.now.nodes place ≡ Some result.now }
     ensures key { HasStaticKey params.now result.now }
 {
-    node_at(&params.nodes, place)
+    params.nodes.node_at(place)
 }
 
 fn keep(sender: Option<Sender>, senders: &mut ArrayVec<Sender, ROW_ROOM>)
@@ -270,7 +248,6 @@ pub fn seen_senders(
     next: &[Sighting],
     double: u32,
 ) -> ArrayVec<Sender, ROW_ROOM>
-    requires scale { IsScaleOf observed.now.params.now observed.now.scale.now }
     requires here { AreLogStamps observed.now.log.now here.now }
     requires next { AreLogStamps observed.now.log.now next.now }
     requires double { double < 1_000_000 }
@@ -279,7 +256,7 @@ pub fn seen_senders(
     ensures proper { All (IsProperSender observed.now.scale.now) result.items }
 {
     let mut senders = ArrayVec::new();
-    for place in 0..node_count(observed.params) {
+    for place in 0..observed.params.node_count() {
         let node = static_node(observed.params, place);
         keep(
             seen_sender(observed, here, next, double, node),

@@ -3,7 +3,6 @@ ghost use Rattle.std.specs.List.{list_all};
 ghost use Rattle.fr_bound.specs.Bounds.{nominal, shortest_micro};
 ghost use Rattle.fr_cluster.specs.Values.{amount};
 ghost use Rattle.fr_cluster.specs.declared.names.ParamName.TheVariants as name;
-ghost use Rattle.fr_cluster.specs.Questions.{has_channel};
 ghost use Rattle.fr_log.specs.View.{AreDelayLimits};
 ghost use Rattle.fr_sightings.specs.Sure.{are_numbers_sure, clocks_off, is_named_as, is_node_sure, is_sure_on, is_sure_within, is_sync_as, off_schedule, reading_off};
 
@@ -82,20 +81,11 @@ fn is_sure_within(params: &Params, log: &Log, limits: Option<DelayLimits>) -> bo
     }
 }
 
-fn has_channel(node: &NodeSpec, channel: Channel) -> bool
-    ensures { result ≡ has_channel (Some node.now) channel }
-{
-    match channel {
-        Channel::A => node.on_a,
-        Channel::B => node.on_b,
-    }
-}
-
 // With those of a node's frames on a channel.
 fn is_sure_on(params: &Params, log: &Log, node: &NodeSpec, channel: Channel) -> bool
     ensures { result ≡ is_sure_on params.now log.now node.now channel }
 {
-    !has_channel(node, channel) || is_sure_within(params, log, log.limits_of(node.id, channel))
+    !node.has_channel(channel) || is_sure_within(params, log, log.limits_of(node.id, channel))
 }
 
 // With those of a node's frames, where they are judged.

@@ -290,7 +290,7 @@ fn next_from(nodes: &NodeList, standing: &Standing<'_>, node: u8, place: usize) 
     if place >= nodes.len() {
         return None;
     }
-    let spec = node_at(nodes, place);
+    let spec = nodes.node_at(place);
     if is_due_behind(standing, node, spec) {
         return Some(spec.id);
     }
@@ -375,15 +375,4 @@ pub(crate) fn is_among(named: &[NodeId], node: NodeId) -> bool
     ensures { result ≡ is_among named.now node }
 {
     named.iter().any(|other| *other == node)
-}
-
-// The node at a place.
-pub(crate) fn node_at(nodes: &NodeList, place: usize) -> &NodeSpec
-    requires { place < length nodes.now }
-    ensures { slice_get nodes.now place ≡ Some result.now }
-{
-    match nodes.get(place) {
-        Some(node) => node,
-        None => unreachable!(),
-    }
 }

@@ -11,7 +11,6 @@ ghost use Rattle.fr_text.specs.Pieces.{line};
 ghost use Rattle.fr_trace.specs.Text.{arbitrary_in, arbitrary_text, clock_text, cycle_text, dev_after, dev_front, devs_text, head_text, join_line, join_text, joining_in, joins_text, named_text, clock_rows_text, doubles_text};
 
 use crate::dev_line::DevLine;
-use crate::order::node_at;
 use fr_base::{Channel, CycleRow, Dev, NodeId, NodeRow, PutFault, Sink};
 use fr_cluster::{Join, NodeList, Params};
 use fr_drift::Drift;
@@ -87,7 +86,7 @@ fn put_named<O: Sink>(
     if place >= nodes.len() {
         return Ok(());
     }
-    put_node(node_at(nodes, place).id, script, spelt, out)?;
+    put_node(nodes.node_at(place).id, script, spelt, out)?;
     put_named(nodes, place + 1, script, spelt, out)
 }
 
@@ -122,7 +121,7 @@ fn put_joins<O: Sink>(
     if place >= nodes.len() {
         return Ok(());
     }
-    put_join(node_at(nodes, place).id, script, spelt, out)?;
+    put_join(nodes.node_at(place).id, script, spelt, out)?;
     put_joins(nodes, place + 1, script, spelt, out)
 }
 

@@ -20,7 +20,8 @@ use Rattle.fr_cluster.specs.declared.nodes.NodeSpec.{NodeSpec}
 use Rattle.fr_history.specs.History.{AreRowsOf, History, Record, record_at, row_for, row_of}
 use Rattle.fr_runs.proofs.Doubles.{even_length, odd_length}
 use Rattle.fr_runs.proofs.Receivers.{no_less, same_mapped}
-use Rattle.fr_runs.proofs.Rows.{Ascend, HasRow, all_rows, contains_map, has_row as row_there, map_contains, rows_are}
+use Rattle.fr_precision.proofs.RoundLemmas.{contains_map, map_contains}
+use Rattle.fr_runs.proofs.Rows.{Ascend, HasRow, all_rows, has_row as row_there, rows_are}
 use Rattle.fr_runs.proofs.Spread.{RowsLie, macrotick_within, spread_within}
 use Rattle.fr_correct.specs.declared.term.Term.{Term}
 use Rattle.fr_coverage.specs.Coverage.{outweighs}
@@ -61,6 +62,7 @@ use Rattle.fr_verdict.proofs.Recorded.{IsDouble, Passes, Rows, even_at, even_par
 use Rattle.fr_verdict.proofs.Standing.{AreTwo, Comes, comes_or_stays, has_row, lasting_has, nodes_in, nodes_stay}
 use Rattle.fr_verdict.proofs.Syncing.{early_not, is_in_sync_at}
 use Rattle.fr_verdict.proofs.Turning.{behind_active, goes_on, late_active, offset_applied, offset_told, rate_told}
+use Rattle.fr_precision.proofs.RoundSenders.{few_more as more_are_few}
 
 -- ---- what coverage says of the cluster
 
@@ -93,11 +95,6 @@ few_nodes p t counts = few_if (sync_count p (is_lasting t)) (sync_count p (is_na
     by_test : (b : Bool) → outweighs (sync_count p (is_lasting t)) (sync_count p (is_named t)) ≡ b → b ≡ true
     by_test true holds = refl
     by_test false fails = absurd (counts (gap.Count (sync_count p (is_lasting t)) (sync_count p (is_named t))) (record { few = fails; told = refl }))
-
-more_are_few : (correct more arbitrary : ℕ) → correct ≤ more → AreFew correct arbitrary → AreFew more arbitrary
-more_are_few correct more arbitrary le (inl none) = inl (none.0, omega (arith, le, none.1))
-more_are_few correct more arbitrary le (inr (inl one)) = inr (inl (one.0, omega (arith, le, one.1)))
-more_are_few correct more arbitrary le (inr (inr two)) = inr (inr (two.0, omega (arith, le, two.1)))
 
 -- where of the nodes of a list each that passes one test passes another, no fewer pass that
 count_along : (f g : NodeSpec → Bool) (nodes : List NodeSpec) → ((node : NodeSpec) → Contains nodes node → f node ≡ true → g node ≡ true) → count_by f nodes ≤ count_by g nodes

@@ -31,6 +31,8 @@ pub mod CoveredRuns
 pub mod VerdictTells
 pub mod FileRanges
 pub mod TraceRows
+pub mod TraceAlike
+pub mod AlikeFound
 pub mod TraceStep
 pub mod TraceSpreads
 pub mod TraceSync

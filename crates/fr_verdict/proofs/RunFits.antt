@@ -58,7 +58,7 @@ use Rattle.fr_midpoint.specs.Midpoint.{midpoint_of}
 use Rattle.fr_correct.specs.Terms.{offset_term_at}
 use Rattle.fr_runs.proofs.Lawful.{lawful_cycles_run}
 use Rattle.fr_runs.proofs.Rates.{begun_suffices, rates_stay_within}
-use Rattle.fr_runs.proofs.Rows.{contains_map}
+use Rattle.fr_precision.proofs.RoundLemmas.{contains_map}
 use Rattle.fr_runs.proofs.Standing.{told_has}
 use Rattle.fr_precision.proofs.RoundSenders.{and_then_some}
 use Rattle.fr_trace.specs.Text.{joining_in}

@@ -13,7 +13,7 @@ use Rattle.fr_time.specs.Slots.{action_point_of}
 use Rattle.fr_precision.specs.Instants.{gap_of, row_in}
 use Rattle.fr_precision.specs.Offsets.{LimitSuffices}
 use Rattle.fr_precision.specs.Placement.{IsRegular}
-use Rattle.fr_precision.specs.Round.{sender_with, senders_of, sync_count, Hearer}
+use Rattle.fr_precision.specs.Round.{sender_with, sync_count, Hearer}
 use Rattle.fr_precision.specs.Step.{Member}
 use Rattle.fr_precision.proofs.OffsetLaws.{deviation_within}
 use Rattle.fr_precision.proofs.Senders.{All-along}
@@ -21,7 +21,7 @@ use Rattle.std.proofs.lemmas.List.Elements.{All-contains_itself}
 use Rattle.fr_history.specs.History.{History, Record, row_for}
 use Rattle.fr_history.proofs.Lists.{map-map}
 use Rattle.fr_runs.proofs.Receivers.{no_less}
-use Rattle.fr_runs.proofs.Rows.{all_rows, contains_map, map_contains, rows_are}
+use Rattle.fr_runs.proofs.Rows.{all_rows, rows_are}
 use Rattle.fr_runs.proofs.Spread.{RowsLie}
 use Rattle.fr_trace.specs.Trace.{TraceView, is_named}
 use Rattle.fr_verdict.specs.Gaps.{is_lasting}
@@ -33,10 +33,10 @@ use Rattle.fr_verdict.proofs.Turning.{late_active, offset_applied}
 use Rattle.fr_precision.specs.Hearing.{AllowsArbitrary, AreSteadyPairs}
 use Rattle.fr_bound.specs.SharpBounds.{last_action}
 use Rattle.fr_precision.specs.SharpRound.{as_member, IsRoundInReach, IsSteadilySupplied}
-use Rattle.fr_precision.specs.SharpStep.{ActInReach, IsSharpDouble}
+use Rattle.fr_precision.specs.SharpStep.{ActInReach}
 use Rattle.fr_verdict.specs.SharpTraces.{recorded_flutter, MayNameArbitrary}
 use Rattle.fr_precision.proofs.BoundLemmas.{key_slots_act_early}
-use Rattle.fr_precision.proofs.RoundLemmas.{rounds_in_reach_are_sharp}
+use Rattle.fr_precision.proofs.RoundLemmas.{contains_map, map_contains}
 use Rattle.fr_precision.proofs.SteadyLemmas.{deviations_are_steady}
 
 -- the receivers, and the nodes of the step
@@ -122,7 +122,7 @@ module _ (p : Values) (t : TraceView) (h : History) (even odd : Record) (k : ℕ
       allows false none = none
       allows true any = any
 
-      round_in_reach : (beside : Bool) → MayNameArbitrary beside p t → AreFew (sync_count p (is_lasting t)) (sync_count p (is_named t))
+      pub round_in_reach : (beside : Bool) → MayNameArbitrary beside p t → AreFew (sync_count p (is_lasting t)) (sync_count p (is_named t))
           → IsRoundInReach beside (round_in p t even odd) (recorded_flutter p) reach (traced_hearers p t even odd)
       round_in_reach beside may few =
           let at : NodeSpec → Hearer = hearer_in p t even odd in
@@ -140,10 +140,6 @@ module _ (p : Values) (t : TraceView) (h : History) (even odd : Record) (k : ℕ
                 subst (IsSteadilySupplied (round_in p t even odd) (recorded_flutter p)) found.2 (supplied_at found.0 found.1);
             among = λ node slot sender. (at node, contains_map at (nodes_in p even) node (sends_in p t even node sender.there sender.rows), refl, refl);
           }
-
-      pub double_is_sharp : (beside : Bool) → MayNameArbitrary beside p t → AreFew (sync_count p (is_lasting t)) (sync_count p (is_named t))
-          → IsSharpDouble beside p (recorded_flutter p) (senders_of (round_in p t even odd)) (traced_members p t even odd) (pos (last_action p))
-      double_is_sharp beside may few = rounds_in_reach_are_sharp beside (round_in p t even odd) (recorded_flutter p) reach (traced_hearers p t even odd) (round_in_reach beside may few)
 
   -- ---- how far apart their clocks lie
 

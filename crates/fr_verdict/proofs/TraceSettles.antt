@@ -36,7 +36,10 @@ use Rattle.fr_precision.proofs.BoundLemmas.{first_check_stops_walk, key_slots_ac
 use Rattle.fr_precision.proofs.LastingLemmas.{first_spread_is, nothing, spread_draws}
 use Rattle.fr_precision.proofs.OlderLemmas.{does_not_walk, lasts_on, stays_in_range}
 use Rattle.fr_precision.proofs.StepLemmas.{in_sync_is_sharp, runs_of, sharp_is_wider}
-use Rattle.fr_verdict.proofs.TraceCycles.{traces_keep_sharp_precision}
+use Rattle.fr_precision.proofs.SettlingLemmas.{from_after}
+use Rattle.fr_verdict.proofs.TraceAlike.{as_said}
+use Rattle.fr_verdict.proofs.TraceCycles.{said_traces_keep_precision, traces_keep_sharp_precision}
+use Rattle.fr_verdict.specs.Alike.{PassingTracesKeepSharply}
 use Rattle.fr_verdict.proofs.TraceRows.{evens_are, members_regular, odds_are, traced_members}
 use Rattle.fr_verdict.proofs.TraceStep.{next_stands, passes, IsTracedStep}
 use Rattle.fr_verdict.proofs.TraceSync.{checked_traces_are_steady}
@@ -81,13 +84,13 @@ module _ (beside : Bool) (p : Values) (t : TraceView) (double : ℕ) (s : IsStea
 
     spread : AreSpread p (pos (pi_of p)) (pos (lambda_of p)) (map (λ (node : Member). node.even) members) (map (λ (node : Member). node.odd) members)
     spread =
-        let w = passes beside p t double s in
+        let w = passes beside p t double (as_said beside p t double s) in
         let Even : List NodeRow → Type 0 = λ rows. AreSpread p (pos (pi_of p)) (pos (lambda_of p)) rows (map (λ (node : Member). node.odd) members) in
         let Odd : List NodeRow → Type 0 = λ rows. AreSpread p (pos (pi_of p)) (pos (lambda_of p)) even.rows rows in
         subst Even (sym (evens_are p t h even odd k w d)) (subst Odd (sym (odds_are p t h even odd k w d)) (sync_is_spread p even.rows odd.rows sync))
 
     regular : (node : Member) → Contains members node → IsRegular p node.even node.odd
-    regular node here = All-contains (λ (node : Member). IsRegular p node.even node.odd) members node (members_regular p t h even odd k (passes beside p t double s) d) here
+    regular node here = All-contains (λ (node : Member). IsRegular p node.even node.odd) members node (members_regular p t h even odd k (passes beside p t double (as_said beside p t double s)) d) here
 
     acts : ActInReach p (pos (precision_of p)) (pos (last_action p)) members
     acts is_odd one other action here there first last =
@@ -105,6 +108,7 @@ module _ (beside : Bool) (p : Values) (t : TraceView) (double : ℕ) (s : IsStea
         let held = walk_is_held p flutter passed s.sane (older 2 (lit≤ tt) (lit≤ tt)) (lasts passed) in
         record {
           draws = spread_draws beside p flutter (pi_of p) (lambda_of p) passed;
+          least = (from_after beside p flutter (pi_of p) (lambda_of p) passed).lengths_from;
           walks = held.0;
           from = held.1;
           takes = held.2;
@@ -140,7 +144,7 @@ module _ (beside : Bool) (p : Values) (t : TraceView) (double : ℕ) (s : IsStea
         counted = omega (arith, counted);
       } in
       (
-      next_stands beside p t double s (double + passed) (at_least double passed) (double_within t g e o (double + passed) s.trace prior) g e o prior (starts passed) (lengths passed) (starts (suc passed))
+      next_stands beside p t double (as_said beside p t double s) (double + passed) (at_least double passed) (double_within t g e o (double + passed) s.trace prior) g e o prior (starts passed) (lengths passed) (starts (suc passed))
       (lengths (suc passed)) (walked passed) (walked (suc passed)) (pos (precision_of p))
       (step_of (double + passed) (at_least double passed) g e o prior passed (near_after passed g e o prior)) even odd (subst At one d)
       ).rows
@@ -213,3 +217,16 @@ passing_traces_come_sharp beside p t v double rest sane trace fits none may verd
 
     short : (k doubles long : ℕ) → long ≡ 2 * doubles → k < doubles → suc (2 * k) < long
     short k doubles long whole less = omega (arith, whole, less)
+
+pub passing_traces_keep_sharply : PassingTracesKeepSharply
+passing_traces_keep_sharply beside p t v synced double sane trace fits none verdict is from said begins =
+    let Synced : Option ℕ → Type 0 = IsSyncedFrom p t in
+    let first : IsFirstSynced p t synced = subst Synced is verdict.synced in
+    let s = checked_traces_are_steady true p t synced double sane trace fits none tt verdict.lawful (λ g gap. absurd (verdict.covered g gap)) first from in
+    let check = λ (number : ℕ) (low : 1 ≤ number) (high : number ≤ 5).
+    older_checks_suffice beside p (recorded_flutter p) number sane (le_itself (2 * arrival_error p)) low high (check_holds p t number verdict.covered low high) in
+    said_traces_keep_precision beside p t double (record { steady = s; alike = said }) (check 1 (lit≤ tt) (lit≤ tt))
+    (record { second = check 2 (lit≤ tt) (lit≤ tt); third = check 3 (lit≤ tt) (lit≤ tt) }) begins
+  where
+    le_itself : (n : ℕ) → n ≤ n
+    le_itself n = omega arith

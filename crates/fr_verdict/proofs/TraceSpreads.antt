@@ -18,16 +18,20 @@ use Rattle.fr_bound.specs.SharpSpreads.{sharply_apart_in}
 use Rattle.fr_bound.specs.SharpSpreads.{IsSharplySettled}
 use Rattle.fr_precision.specs.SharpSettling.{sharp_spread_after}
 use Rattle.fr_precision.specs.SharpStep.{AreSharp}
-use Rattle.fr_verdict.specs.SharpTraces.{recorded_flutter, IsRecordedNear, IsSteadyTrace, RecordsKeepApart, StaysRecordedInSharpSync, TracedWayHolds, TracesSettleSharply}
+use Rattle.fr_verdict.specs.SharpTraces.{recorded_flutter, IsRecordedNear, IsSteadyTrace, RecordsKeepApart, SettlesRecorded, StaysRecordedInSharpSync, TracedWayHolds, TracesSettleSharply}
 use Rattle.fr_precision.proofs.BoundLemmas.{key_slots_act_early, third_check_suffices, walk_is_held, walked_none}
 use Rattle.fr_precision.proofs.LastingLemmas.{earlier, first_spread_is, near_fits, nothing, settled_after, spread_draws, up_to}
-use Rattle.fr_precision.proofs.SettlingLemmas.{next_starts_fit}
+use Rattle.fr_precision.proofs.SettlingLemmas.{from_after, next_starts_fit}
 use Rattle.fr_precision.proofs.StepLemmas.{actions_lie_in_reach, sharp_is_wider}
+use Rattle.fr_verdict.proofs.TraceAlike.{as_said, IsSteadySaid}
 use Rattle.fr_verdict.proofs.TraceRows.{evens_are, members_regular, traced_members}
 use Rattle.fr_verdict.proofs.TraceStep.{ends_well, next_stands, passes, skews, IsNextRecorded, IsTracedStep}
 
-module _ (beside : Bool) (p : Values) (t : TraceView) (double : ℕ) (s : IsSteadyTrace beside p t double) (start rate reach : ℕ) (way : TracedWayHolds beside p start rate reach)
+module _ (beside : Bool) (p : Values) (t : TraceView) (double : ℕ) (said : IsSteadySaid beside p t double) (start rate reach : ℕ) (way : TracedWayHolds beside p start rate reach)
     (begins : IsRecordedNear p start rate (pos 0) t.history double) where
+  abbrev s : IsSteadyTrace true p t double
+  s = said.steady
+
   abbrev flutter : ℕ
   flutter = recorded_flutter p
 
@@ -55,11 +59,12 @@ module _ (beside : Bool) (p : Values) (t : TraceView) (double : ℕ) (s : IsStea
       → IsTracedStep beside p t even odd (starts passed) (lengths passed) (starts (suc passed)) (lengths (suc passed)) (walked passed) (walked (suc passed)) (pos reach)
   step_of k passed before h even odd d now =
       let held = walk_is_held p flutter passed s.sane second before in
-      let w = passes beside p t double s in
+      let w = passes beside p t double said in
       let sharp : AreSharp p (starts passed) (lengths passed) (walked passed) (map (λ (node : Member). node.even) (traced_members p t even odd)) =
       subst (AreSharp p (starts passed) (lengths passed) (walked passed)) (sym (evens_are p t h even odd k w d)) now.rows in
       record {
         draws = spread_draws beside p flutter start rate passed;
+        least = (from_after beside p flutter start rate passed).lengths_from;
         walks = held.0;
         from = held.1;
         takes = held.2;
@@ -113,7 +118,7 @@ module _ (beside : Bool) (p : Values) (t : TraceView) (double : ℕ) (s : IsStea
       } in
       let still = earlier p flutter passed before in
       let less : double + passed < t.doubles = omega (arith, within) in
-      next_stands beside p t double s (double + passed) (at_least double passed) less g e o prior (starts passed) (lengths passed) (starts (suc passed)) (lengths (suc passed)) (walked passed) (walked (suc passed)) (pos reach)
+      next_stands beside p t double said (double + passed) (at_least double passed) less g e o prior (starts passed) (lengths passed) (starts (suc passed)) (lengths (suc passed)) (walked passed) (walked (suc passed)) (pos reach)
       (step_of (double + passed) passed still g e o prior (stands_after passed less (up_to p flutter passed still) g e o prior)) even odd (subst At one d)
 
   -- ---- each of them
@@ -144,14 +149,14 @@ module _ (beside : Bool) (p : Values) (t : TraceView) (double : ℕ) (s : IsStea
       let up = up_to p flutter passed before in
       record {
         skew =
-            skews beside p t double s (double + passed) (at_least double passed) within part.earlier part.even part.odd d (starts passed) (lengths passed) (starts (suc passed)) (lengths (suc passed)) (walked passed)
+            skews beside p t double said (double + passed) (at_least double passed) within part.earlier part.even part.odd d (starts passed) (lengths passed) (starts (suc passed)) (lengths (suc passed)) (walked passed)
             (walked (suc passed)) (pos reach)
             (step_of (double + passed) passed before part.earlier part.even part.odd d (stands_after passed within up part.earlier part.even part.odd d))
             (sharply_apart_in p (sharp_spread_after beside p flutter start rate passed)) (le_itself (sharply_apart_in p (sharp_spread_after beside p flutter start rate passed)))
             (next_starts_fit beside p flutter start rate passed);
         ends = λ later h even odd parted counted.
             let own : IsDouble t h even odd (double + passed) = record { later = later; parted = parted; counted = counted } in
-            ends_well beside p t double s (double + passed) (at_least double passed) within h even odd own (starts passed) (lengths passed) (starts (suc passed)) (lengths (suc passed)) (walked passed) (walked (suc passed))
+            ends_well beside p t double said (double + passed) (at_least double passed) within h even odd own (starts passed) (lengths passed) (starts (suc passed)) (lengths (suc passed)) (walked passed) (walked (suc passed))
             (pos reach) (step_of (double + passed) passed before h even odd own (stands_after passed within up h even odd own));
       }
     where
@@ -184,9 +189,13 @@ module _ (beside : Bool) (p : Values) (t : TraceView) (double : ℕ) (s : IsStea
             subst (λ (n : ℕ). Apart (sharp_pi beside p flutter) n) now.0 (subst (λ (n : ℕ). Apart n (lengths passed)) now.1 (keeps_at passed within before));
       }
 
-pub traces_settle_sharply_lem : TracesSettleSharply
-traces_settle_sharply_lem beside p t start rate reach double s way begins passed within = record {
+pub said_traces_settle : (beside : Bool) (p : Values) (t : TraceView) (start rate reach double : ℕ) → IsSteadySaid beside p t double → TracedWayHolds beside p start rate reach → IsRecordedNear p start rate (pos 0) t.history double
+    → (passed : ℕ) → double + passed < t.doubles → SettlesRecorded beside p t start rate double passed
+said_traces_settle beside p t start rate reach double s way begins passed within = record {
   near = near_at beside p t double s start rate reach way begins passed within;
   keeps = keeps_at beside p t double s start rate reach way begins passed within;
   reached = reached_at beside p t double s start rate reach way begins passed within;
 }
+
+pub traces_settle_sharply_lem : TracesSettleSharply
+traces_settle_sharply_lem beside p t start rate reach double s = said_traces_settle beside p t start rate reach double (as_said beside p t double s)

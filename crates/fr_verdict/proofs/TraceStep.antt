@@ -37,17 +37,22 @@ use Rattle.fr_verdict.proofs.Recorded.{IsDouble, Passes, even_at, node_two, odd_
 use Rattle.fr_verdict.proofs.Standing.{AreTwo, all_stay, nodes_in, nodes_stay}
 use Rattle.fr_verdict.proofs.Turning.{behind_active, goes_on, late_active, offset_told, rate_told}
 use Rattle.fr_precision.specs.Lengths.{CanWalk}
-use Rattle.fr_bound.specs.SharpBounds.{last_action, precision_by, rate_walk}
-use Rattle.fr_precision.specs.SharpRound.{as_member}
-use Rattle.fr_precision.specs.SharpStep.{ActInReach, DrawsTo, AreSharp, ComeSharply, IsSharpDouble}
+use Rattle.fr_bound.specs.SharpBounds.{last_action, precision_by, rate_walk, sharp_lambda}
+use Rattle.fr_precision.specs.SharpRound.{as_member, IsRoundInReach}
+use Rattle.fr_precision.specs.SharpStep.{ActInReach, DrawsTo, AreSharp, ComeSharply}
 use Rattle.fr_verdict.specs.SharpTraces.{recorded_flutter, IsSteadyTrace, RecordsEndWell}
 use Rattle.fr_precision.proofs.BoundLemmas.{key_slots_act_early}
 use Rattle.fr_precision.proofs.StepLemmas.{macroticks_stay_sharp, next_is_near, spreads_shrink_in_reach}
-use Rattle.fr_verdict.proofs.TraceRows.{double_is_sharp, evens_are, member_there, members_regular, of_members, rows_lie, traced_hearers, traced_members}
+use Rattle.fr_precision.proofs.AlikeLemmas.{alike_rounds_shrink}
+use Rattle.fr_precision.proofs.RoundLemmas.{rounds_in_reach_are_sharp}
+use Rattle.fr_verdict.proofs.TraceAlike.{traced_alike, IsSteadySaid}
+use Rattle.fr_verdict.specs.Alike.{AreSaidFrom}
+use Rattle.fr_verdict.proofs.TraceRows.{evens_are, member_there, members_regular, of_members, round_in_reach, rows_lie, traced_hearers, traced_members}
 
 -- what is known of two records: action points lie within a reach, nodes are active, and their starts and even lengths lie so near
 pub record IsTracedStep (beside : Bool) (p : Values) (t : TraceView) (even odd : Record) (starts lengths next_starts next_lengths : ℕ) (beyond next reach : ℤ) : Type 0 where
   pub draws : DrawsTo beside p (recorded_flutter p) starts lengths next_starts next_lengths
+  pub least : sharp_lambda beside p (recorded_flutter p) ≤ lengths
   pub walks : CanWalk p (recorded_flutter p) beyond (rate_walk p (recorded_flutter p))
   pub from : pos 0 ≤ℤ next
   pub takes : (beyond +ℤ rate_walk p (recorded_flutter p)) ≤ℤ next
@@ -63,7 +68,10 @@ pub record IsNextRecorded (p : Values) (next_starts next_lengths : ℕ) (next : 
   pub active_odd : All (λ row. row.state ≡ Active) odd.rows
   pub rows : AreSharp p next_starts next_lengths next even.rows
 
-module _ (beside : Bool) (p : Values) (t : TraceView) (double : ℕ) (s : IsSteadyTrace beside p t double) where
+module _ (beside : Bool) (p : Values) (t : TraceView) (double : ℕ) (said : IsSteadySaid beside p t double) where
+  abbrev s : IsSteadyTrace true p t double
+  s = said.steady
+
   abbrev flutter : ℕ
   flutter = recorded_flutter p
 
@@ -78,13 +86,21 @@ module _ (beside : Bool) (p : Values) (t : TraceView) (double : ℕ) (s : IsStea
     sharp : AreSharp p starts lengths beyond (map (λ (node : Member). node.even) members)
     sharp = subst (AreSharp p starts lengths beyond) (sym (evens_are p t h even odd k passes d)) z.near
 
-    heard : IsSharpDouble beside p flutter (senders_of (round_in p t even odd)) members (pos (last_action p))
-    heard = double_is_sharp p t h even odd k passes d reach z.limit z.acts (s.heard k from within) z.active_odd beside s.arbitrary (few_nodes p t s.counts)
+    round : IsRoundInReach true (round_in p t even odd) flutter reach (traced_hearers p t even odd)
+    round = round_in_reach p t h even odd k passes d reach z.limit z.acts (s.heard k from within) z.active_odd true s.arbitrary (few_nodes p t s.counts)
 
     come : (one other : Member) → Contains members one → Contains members other → ComeSharply p next_starts next_lengths next one other
-    come one other here there =
-        spreads_shrink_in_reach beside p flutter (senders_of (round_in p t even odd)) members starts lengths next_starts next_lengths beyond (rate_walk p flutter) next reach (pos (last_action p)) one other
-        (record { sane = s.sane; walks = z.walks; suffices = z.limit; early = (key_slots_act_early p s.sane).1 }) z.acts z.from z.takes z.draws sharp heard here there
+    come one other here there = comes beside z.draws z.least said.alike one other here there
+      where
+        comes : (b : Bool) → DrawsTo b p flutter starts lengths next_starts next_lengths → sharp_lambda b p flutter ≤ lengths → AreSaidFrom b p t double → (one other : Member) → Contains members one → Contains members other
+            → ComeSharply p next_starts next_lengths next one other
+        comes true draws least any one other here there =
+            spreads_shrink_in_reach true p flutter (senders_of (round_in p t even odd)) members starts lengths next_starts next_lengths beyond (rate_walk p flutter) next reach (pos (last_action p)) one other
+            (record { sane = s.sane; walks = z.walks; suffices = z.limit; early = (key_slots_act_early p s.sane).1 }) z.acts z.from z.takes draws sharp
+            (rounds_in_reach_are_sharp true (round_in p t even odd) flutter reach (traced_hearers p t even odd) round) here there
+        comes false draws least alike one other here there =
+            alike_rounds_shrink (round_in p t even odd) flutter starts lengths next_starts next_lengths beyond (rate_walk p flutter) next reach (traced_hearers p t even odd) round z.walks z.from z.takes draws sharp
+            (traced_alike p t h even odd k passes d lengths least (alike k from within)) one other here there
 
     -- ---- behind it
 

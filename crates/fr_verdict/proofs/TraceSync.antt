@@ -1,6 +1,6 @@
 -- What is judged of a trace suffices, and a steady trace in sharp sync stays so, for as many double cycles as the rate limit holds
 -- the walk.
-use Rattle.std.proofs.Common.{max, ◌≡◌, ℕ, suc, ◌*◌, ◌≤◌, Bool, Option, Some, ℤ, ap, sym, ◌∙◌, subst, inl, inr, arith, ap₂}
+use Rattle.std.proofs.Common.{max, ◌≡◌, ℕ, suc, ◌+◌, ◌*◌, ◌<◌, ◌≤◌, Bool, false, Option, Some, ℤ, pos, ap, sym, ◌∙◌, subst, inl, inr, arith, ap₂}
 use Rattle.fr_cluster.specs.Values.{Values}
 use Rattle.fr_coverage.specs.declared.gap.Gap.TheVariants as gap
 use Rattle.fr_history.specs.History.{History, Record, record_at}
@@ -9,13 +9,15 @@ use Rattle.fr_trace.specs.Trace.{TraceView}
 use Rattle.fr_verdict.proofs.Heard.{pairs_heard}
 use Rattle.fr_verdict.proofs.Recorded.{IsDouble, even_at, odd_at}
 use Rattle.fr_precision.specs.SharpStep.{IsInSharpSync}
-use Rattle.fr_verdict.specs.SharpTraces.{recorded_flutter, CheckedTracesAreSteady, IsRecordedInSharpSync, TracesKeepSharpSync}
+use Rattle.fr_verdict.specs.Alike.{AlikeTracesKeepSharpSync}
+use Rattle.fr_verdict.specs.SharpTraces.{recorded_flutter, CheckedTracesAreSteady, IsRecordedInSharpSync, StaysRecordedInSharpSync, TracedChecksHold, TracesKeepSharpSync}
 use Rattle.fr_bound.specs.SharpBounds.{near_by, sharp_lambda, sharp_near, sharp_pi}
 use Rattle.fr_bound.specs.SharpSpreads.{sharply_near_in}
 use Rattle.fr_bound.specs.SharpSpreads.{IsSharplySettled}
 use Rattle.fr_precision.specs.SharpSettling.{sharp_spread_after}
 use Rattle.fr_precision.proofs.LastingLemmas.{settled_after}
-use Rattle.fr_verdict.proofs.TraceSpreads.{traces_settle_sharply_lem}
+use Rattle.fr_verdict.proofs.TraceAlike.{as_said, IsSteadySaid}
+use Rattle.fr_verdict.proofs.TraceSpreads.{said_traces_settle}
 
 -- ---- what is judged suffices
 
@@ -85,11 +87,12 @@ near_at_rest beside p flutter k =
     itself a b e = omega (arith, e)
 
 -- so to begin in sharp sync is a case of beginning with stated numbers
-pub traces_keep_sharp_sync_lem : TracesKeepSharpSync
-traces_keep_sharp_sync_lem beside p t double s checks begins passed within =
+pub said_traces_keep : (beside : Bool) (p : Values) (t : TraceView) (double : ℕ) → IsSteadySaid beside p t double → TracedChecksHold beside p → IsRecordedInSharpSync beside p (pos 0) t.history double
+    → (passed : ℕ) → double + passed < t.doubles → StaysRecordedInSharpSync beside p t double passed
+said_traces_keep beside p t double s checks begins passed within =
     let flutter : ℕ = recorded_flutter p in
     (
-    traces_settle_sharply_lem beside p t (sharp_pi beside p flutter) (sharp_lambda beside p flutter) (sharp_near beside p flutter) double s
+    said_traces_settle beside p t (sharp_pi beside p flutter) (sharp_lambda beside p flutter) (sharp_near beside p flutter) double s
     (record { second = checks.second; third = checks.third; fits = near_at_rest beside p flutter })
     (record {
       even = begins.even;
@@ -106,3 +109,9 @@ traces_keep_sharp_sync_lem beside p t double s checks begins passed within =
   where
     from_none : (n : ℕ) → 0 ≤ n
     from_none n = omega arith
+
+pub traces_keep_sharp_sync_lem : TracesKeepSharpSync
+traces_keep_sharp_sync_lem beside p t double s = said_traces_keep beside p t double (as_said beside p t double s)
+
+pub alike_traces_keep_sharp_sync : AlikeTracesKeepSharpSync
+alike_traces_keep_sharp_sync p t double s = said_traces_keep false p t double (record { steady = s.steady; alike = s.alike })

@@ -20,4 +20,5 @@ pub mod CoveredRuns
 pub mod FileRuns
 -- of the sharper precision
 pub mod SharpTraces
+pub mod Alike
 pub mod WorkedTrace

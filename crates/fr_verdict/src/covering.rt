@@ -2,7 +2,7 @@ ghost use Rattle.std.specs.Prelude.{◌≡◌, ◌≤◌, ◌==◌, length, ◌&
 ghost use Rattle.std.specs.Option.{option_copied};
 ghost use Rattle.fr_base.specs.Rows.{AreAscendingDevs, channel_rank, dev_in, is_dev_of};
 ghost use Rattle.fr_base.specs.Timed.{IsTimed};
-ghost use Rattle.fr_coverage.specs.Coverage.{checks_gap, has_jumped, is_off, outweighs};
+ghost use Rattle.fr_coverage.specs.Coverage.{checks_gap, has_jumped, is_off};
 ghost use Rattle.fr_coverage.specs.First.{first_below, first_in};
 ghost use Rattle.fr_coverage.specs.Links.{shares};
 ghost use Rattle.fr_history.specs.History.{row_of};
@@ -21,7 +21,7 @@ use crate::searching::{Search, first_among};
 use fr_base::{Channel, Dev, NodeId, NodeRow, Slot};
 use fr_bound::{checks, side};
 use fr_cluster::{NodeList, NodeSpec, ParamName, Params};
-use fr_coverage::Gap;
+use fr_coverage::{Gap, outweighs};
 use fr_trace::{Trace, TracedCycle, TracedJoin};
 
 /// The first gap of a trace with this first double cycle in sync, in the order of gaps: one of the first five checks
@@ -197,17 +197,6 @@ fn count(nodes: &NodeList, trace: &Trace, named: bool) -> u32
     sum
 }
 
-fn outweighs(correct: u32, arbitrary: u32) -> bool
-    ensures { result ≡ outweighs correct arbitrary }
-{
-    match arbitrary {
-        0 => correct >= 1,
-        1 => correct >= 3,
-        2 => correct >= 6,
-        _ => false,
-    }
-}
-
 // The gap where the correct nodes with a key slot that do not join do not outweigh the arbitrary ones.
 fn outweighed(nodes: &NodeList, trace: &Trace) -> Option<Gap>
     requires { length nodes.now ≤ 64 }
@@ -376,8 +365,8 @@ fn ordered_cycles(trace: &Trace) -> &[TracedCycle]
     trace.cycles()
 }
 
-// The deviation of a receiver in a slot on a channel.
-fn dev_in(devs: &[Dev], receiver: NodeId, slot: Slot, channel: Channel) -> Option<i32>
+/// The deviation of a receiver in a slot on a channel, in microticks, if there is one.
+pub fn dev_in(devs: &[Dev], receiver: NodeId, slot: Slot, channel: Channel) -> Option<i32>
     requires { AreAscendingDevs devs.now }
     ensures { result ≡ dev_in devs.now receiver slot channel }
 {

@@ -12,7 +12,7 @@ mod searching;
 mod traces;
 mod unlawful;
 
-pub use covering::{first_gap, timed_cycles};
+pub use covering::{dev_in, first_gap, timed_cycles};
 pub use found::{is_named, row_of};
 pub use laws::{
     a_passing_trace_keeps_its_precision, found_breach_is_first, found_gap_is_first,
@@ -23,5 +23,7 @@ pub use run_laws::{
     a_covered_run_passes, a_run_breaks_no_law, a_run_is_read_back, a_verdict_tells_of_the_run,
     files_are_read_back,
 };
-pub use traces::{a_steady_trace, traces_keep_sharp_sync, traces_settle_sharply};
+pub use traces::{
+    a_steady_trace, alike_traces_keep_sharp_sync, traces_keep_sharp_sync, traces_settle_sharply,
+};
 pub use unlawful::{Unlawful, Verdict};

@@ -1,3 +1,4 @@
+ghost use Rattle.fr_verdict.specs.Alike.{AlikeTracesKeepPrecision, AlikeTracesKeepSharpSync, FirstUnlikeIsFound, PassingTracesKeepSharply, UnnamedTracesAreAlike};
 ghost use Rattle.fr_verdict.specs.SharpTraces.{CheckedTracesAreSteady, PassingTracesComeSharp, TracesKeepSharpPrecision, TracesKeepSharpSync, TracesSettleSharply};
 ghost use Rattle.fr_verdict.specs.WorkedTrace.{WorkedTraceKeepsPrecision, WorkedTraceMeetsPremises};
 
@@ -13,6 +14,18 @@ pub fn traces_keep_sharp_sync()
     ensures keep { TracesKeepSharpSync }
     ensures precise { TracesKeepSharpPrecision }
     ensures passing { PassingTracesComeSharp }
+{}
+
+/// The law of what is said alike: where from a double cycle on the frames of each arbitrary sync node reach all correct
+/// nodes or none, at one time, as recorded rows and deviations tell, the trace keeps the sharper precision without arbitrary
+/// nodes, in ticks, from that double cycle on, if it is in sharp sync as without such nodes. A trace that names none is a case
+/// of it. The first double cycle in which that is not so is found by a search.
+pub fn alike_traces_keep_sharp_sync()
+    ensures unnamed { UnnamedTracesAreAlike }
+    ensures found { FirstUnlikeIsFound }
+    ensures keep { AlikeTracesKeepSharpSync }
+    ensures precise { AlikeTracesKeepPrecision }
+    ensures passing { PassingTracesKeepSharply }
 {}
 
 /// A law: from stated numbers for starts and even lengths, in ticks, these in their range, such a trace keeps to the

@@ -37,7 +37,7 @@ use Rattle.fr_history.specs.History.{row_for, row_of}
 use Rattle.fr_history.specs.Laws.{row_laws}
 use Rattle.fr_history.specs.Rows.{offset_after}
 use Rattle.fr_history.specs.Standing.{following_nodes, follows, follows_by, has_row_by, row_nodes}
-use Rattle.fr_history.specs.Terms.{outcomes_in, status_in}
+use Rattle.fr_history.specs.Terms.{status_in}
 use Rattle.fr_midpoint.specs.Receivers.{AreFew}
 use Rattle.fr_midpoint.proofs.Products.{mulz-lez_left}
 use Rattle.fr_precision.specs.Round.{sync_count}
@@ -56,9 +56,10 @@ use Rattle.fr_runs.proofs.Outcomes.{begun_active}
 use Rattle.fr_runs.proofs.Receivers.{is_correct_node}
 use Rattle.fr_time.specs.Cycles.{odd_cycle}
 use Rattle.fr_runs.proofs.Parts.{cycle_within, double_at, each_cycle, even_is, odd_is}
-use Rattle.fr_runs.proofs.Rows.{all_rows, contains_map, has_row, row_runs_by}
+use Rattle.fr_precision.proofs.RoundLemmas.{contains_map}
+use Rattle.fr_runs.proofs.Rows.{all_rows, has_row, row_runs_by}
 use Rattle.fr_runs.proofs.Standing.{told_has}
-use Rattle.fr_runs.proofs.Whole.{double_runs}
+use Rattle.fr_runs.proofs.Whole.{double_runs, no_outcomes}
 use Rattle.fr_script.specs.Files.{ScriptFits}
 use Rattle.fr_script.specs.View.{ScriptView, is_arbitrary, join_of}
 use Rattle.fr_sharp.specs.JoinedFiles.{CoveredFilesKeepSharplyJoined, IsSharplyCoveredToJoin, KeepsSharplyJoined}
@@ -160,10 +161,6 @@ unfolding begins_with
 follows_none x node None = refl
 follows_none x node (Some join) = refl
 
-no_outcomes : (x : Setting) (node : ℕ) → outcomes_in x.params [] node ≡ []
-unfolding outcomes_in
-no_outcomes x node = refl
-
 module _ (x : Setting) (flutter leader : ℕ) (h : Cycles) (w : IsSteadyPart x flutter h) (l : IsLedRun x leader) (even odd : Cycle) (d : IsDoubleOf h 0 [] even odd) where
   begun : (node : ℕ) → (status_in x.params (told_of []) node).state ≡ Active
   begun node = begun_active x [] node (no_outcomes x node)
@@ -200,8 +197,8 @@ module _ (x : Setting) (flutter leader : ℕ) (h : Cycles) (w : IsSteadyPart x f
         let sane = w.covered.timed.sane in
         let row = row_runs_by (row_laws x []) (offset_after p (told_of []) even.told) (row_nodes x []) rows l.node s.two.even_rows (leader_among x leader l []) in
         let within = s.within in
-        let least = w.covered.timed.least l.node 0 l.there (omega (arith, within)) in
-        let most = w.covered.timed.most l.node 0 l.there (omega (arith, within)) in
+        let least = w.covered.timed.least l.node 0 l.there (omega arith) (omega (arith, within)) in
+        let most = w.covered.timed.most l.node 0 l.there (omega arith) (omega (arith, within)) in
         let micros = sane.ranges name.pMicroPerCycle in
         let Of : ℕ → Type 0 = λ id. IsAboutCycle p (pos 0) (cycle_length_of p (row_for rows id)) in
         all_rows (row_nodes x []) rows (λ r. IsAboutCycle p (pos 0) (cycle_length_of p r)) (rows_ascend x [] sane) s.two.even_rows.nodes
@@ -274,10 +271,10 @@ from_none h (c ∷ earlier) even odd d = let counted : suc (length earlier) ≡ 
 -- ---- the files
 
 module _ (p : Values) (d : DriftView) (s : ScriptView) (flutter leader : ℕ) (h : Cycles) (sane : IsSane p) (drift_fits : DriftFits p d) (script_fits : ScriptFits p s)
-    (covered : IsSharplyCoveredToJoin p d s flutter) (first : sharp_holds_of 1 flutter (sharp_reach false p flutter) p ≡ true) (l : IsLedRun (setting_of p d s) leader)
+    (covered : IsSharplyCoveredToJoin p d s 0 flutter) (first : sharp_holds_of 1 flutter (sharp_reach false p flutter) p ≡ true) (l : IsLedRun (setting_of p d s) leader)
     (run : IsRunOf (setting_of p d s) h) (keep : CoveredFilesKeepSharplyJoined) where
   steady : IsSteadySetting (setting_of p d s) flutter
-  steady = files_are_steady p d s flutter sane covered.none covered.flutters
+  steady = files_are_steady p d s 0 flutter sane covered.none covered.flutters
 
   part : IsSteadyPart (setting_of p d s) flutter h
   part = record { covered = steady; lawful = run.lawful; within = (let whole = run.whole in omega (arith, whole)) }
@@ -295,7 +292,7 @@ module _ (p : Values) (d : DriftView) (s : ScriptView) (flutter leader : ℕ) (h
         let at = double_at h 0 (omega (arith, whole, some)) in
         let sync = first_sync (setting_of p d s) flutter leader h part l at.even at.odd (from_none h at.earlier at.even at.odd at.is) (has_arbitrary p s) in
         let Keeps : Bool → Type 0 = λ b. KeepsSharplyJoined b (setting_of p d s) flutter h 0 in
-        subst Keeps alone (keep p d s flutter h 0 sane drift_fits script_fits covered run sync)
+        subst Keeps alone (keep p d s 0 flutter h 0 sane drift_fits script_fits covered run (omega arith) sync)
 
     active_in : (cycle : ℕ) (c : Cycle) → cycle_at h cycle ≡ Some c → All (λ row. row.state ≡ Active) c.told.rows
     active_in cycle c is = (keeps.cycles (keeps.on first)).active cycle c (omega arith) is

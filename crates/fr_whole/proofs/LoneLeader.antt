@@ -46,12 +46,12 @@ use Rattle.fr_runs.proofs.Fed.{row_other}
 use Rattle.fr_runs.proofs.Going.{rows_ascend}
 use Rattle.fr_runs.proofs.Lawful.{lawful_cycles_run}
 use Rattle.fr_runs.proofs.Receivers.{is_correct_node}
-use Rattle.fr_runs.proofs.Rows.{all_rows, each_row, map_contains, row_runs_by}
+use Rattle.fr_runs.proofs.Rows.{all_rows, each_row, row_runs_by}
 use Rattle.fr_runs.proofs.Standing.{differs, told_has}
 use Rattle.fr_runs.proofs.Whole.{double_runs, prior_of}
 use Rattle.fr_precision.specs.SharpRound.{as_member, IsSteadilySupplied}
 use Rattle.fr_runs.specs.SteadyRuns.{row_hearers, row_members, AreRowsInReach, IsSteadyPart}
-use Rattle.fr_precision.proofs.RoundLemmas.{all_given}
+use Rattle.fr_precision.proofs.RoundLemmas.{all_given, map_contains}
 use Rattle.fr_runs.proofs.RowsSupplied.{lawful_rows, rows_hear_steadily}
 use Rattle.fr_time.proofs.Keys.{key_node_has}
 use Rattle.fr_time.specs.Instant.{instant_of}
@@ -274,7 +274,7 @@ module _
   supplied : (k : ℕ) (earlier : Cycles) (even odd : Cycle) → k < 3 → IsDoubleOf h k earlier even odd → (row_for even.told.rows l.node.id).rate ≡ pos 0
       → IsSteadilySupplied (round_at x earlier even odd) flutter (row_hearer x even odd l.node.id)
   supplied k earlier even odd less d rate =
-      rows_hear_steadily x flutter h earlier even odd k (pos reach) l.node w d (in_reach k earlier even odd less d rate) (leader_among x leader l earlier)
+      rows_hear_steadily x 0 flutter h earlier even odd k (pos reach) l.node w (omega arith) d (in_reach k earlier even odd less d rate) (leader_among x leader l earlier)
 
   course : (k : ℕ) (earlier : Cycles) (even odd : Cycle) → k < 4 → IsDoubleOf h k earlier even odd → IsOnCourse x l.node.id k even
   unfolding longest_doubles

@@ -19,12 +19,10 @@ use Rattle.fr_report.specs.Names.{RunNames}
 use Rattle.fr_report.specs.RunText.{IsRunText, run_text}
 use Rattle.fr_script.specs.Files.{ScriptFits}
 use Rattle.fr_script.specs.View.{ScriptView}
-use Rattle.fr_series.specs.Basis.{basis_of}
+use Rattle.fr_series.specs.Basis.{asked_from}
 use Rattle.fr_series.specs.SharpAnswer.{IsSharpSeriesText}
-use Rattle.fr_coverage.specs.Flutter.{flutter_of}
+use Rattle.fr_coverage.specs.Flutter.{flutter_from}
 use Rattle.fr_coverage.specs.Kinds.{gaps_by_kind, AreFirstGaps}
-use Rattle.fr_whole.specs.SharpGaps.{sharp_gaps_of}
-use Rattle.fr_whole.specs.declared.sharp_gaps.SharpGaps.{SharpGaps}
 use Rattle.fr_whole.proofs.GapsInOrder.{sharp_gaps_are}
 use Rattle.fr_whole.specs.SharpReport.{sharp_lines_by, sharp_report_text}
 use Rattle.fr_whole.specs.SharpReportAnswer.{IsSharpRunText, IsToldSharply}
@@ -33,26 +31,27 @@ use Rattle.fr_sharp.specs.LossStatement.{CoveredFilesKeepThroughLosses}
 use Rattle.fr_sharp.specs.SharpFiles.{CoveredFilesKeepSharply}
 use Rattle.fr_whole.specs.SharpReportAnswer.{IsSharpReportText, sharp_report_command}
 
-abbrev gaps_for : Values → DriftView → ScriptView → SharpGaps
-gaps_for p d s = sharp_gaps_of p d s (flutter_of p d s)
+-- the first gaps of each kind, from each double cycle on
+abbrev pub FirstGaps : Values → DriftView → ScriptView → Type 0
+FirstGaps p d s = (from : ℕ) → AreFirstGaps p d s from (gaps_by_kind p d s from)
 
 -- what a sharper series says of its cycles holds of those of the report: they are the same
-told_sharply : OneRun → (p : Values) (d : DriftView) (s : ScriptView) (report series : List ℕ) (run : IsRunText p d s report) → AreFirstGaps p d s (gaps_by_kind p d s) → IsSharpSeriesText p d s series
-    → IsToldSharply p d s run.cycles (sharp_lines_by p (basis_of p d s) (gaps_for p d s) run.cycles)
+told_sharply : OneRun → (p : Values) (d : DriftView) (s : ScriptView) (report series : List ℕ) (run : IsRunText p d s report) → FirstGaps p d s → IsSharpSeriesText p d s series
+    → IsToldSharply p d s run.cycles (sharp_lines_by p d s run.cycles)
 told_sharply one p d s report series run kinds told =
     let same : told.cycles ≡ run.cycles = one_whole one p d s told.cycles run.cycles told.lawful told.whole run.run.lawful run.run.whole in
-    let P : Cycles → Type 0 = λ h. IsToldSharply p d s h (sharp_lines_by p (basis_of p d s) (gaps_for p d s) h) in
-    subst P same (record { shown = refl; gaps = sharp_gaps_are p d s (flutter_of p d s) kinds; covered = told.covered; keeps = told.keeps; figures = told.figures })
+    let P : Cycles → Type 0 = λ h. IsToldSharply p d s h (sharp_lines_by p d s h) in
+    subst P same (record { shown = refl; gaps = sharp_gaps_are p d s (asked_from p d s told.cycles) (flutter_from p d s (asked_from p d s told.cycles)) (kinds (asked_from p d s told.cycles)); covered = told.covered; keeps = told.keeps; figures = told.figures })
 
-pub sharp_report_of : OneRun → (p : Values) (d : DriftView) (s : ScriptView) (series : List ℕ) → IsRunText p d s (run_text p d s) → AreFirstGaps p d s (gaps_by_kind p d s) → IsSharpSeriesText p d s series
+pub sharp_report_of : OneRun → (p : Values) (d : DriftView) (s : ScriptView) (series : List ℕ) → IsRunText p d s (run_text p d s) → FirstGaps p d s → IsSharpSeriesText p d s series
     → IsSharpRunText p d s (sharp_report_text p d s)
 sharp_report_of one p d s series run kinds told =
     let all : run.cycles ≡ cycles_of (setting_of p d s) (2 * doubles_of d) =
     one p d s run.cycles run.run.lawful ∙ ap (cycles_of (setting_of p d s)) run.run.whole in
     record {
-      sharp = sharp_lines_by p (basis_of p d s) (gaps_for p d s) run.cycles;
+      sharp = sharp_lines_by p d s run.cycles;
       report = run_text p d s;
-      shown = ap (λ (h : Cycles). sharp_lines_by p (basis_of p d s) (gaps_for p d s) h ++ run_text p d s) (sym all);
+      shown = ap (λ (h : Cycles). sharp_lines_by p d s h ++ run_text p d s) (sym all);
       run = run;
       told = told_sharply one p d s (run_text p d s) series run kinds told;
     }
@@ -61,7 +60,7 @@ pub same_sharp_report : OneRun → (p : Values) (d : DriftView) (s : ScriptView)
 same_sharp_report one p d s text again found more =
     let cycles : found.run.cycles ≡ more.run.cycles =
     one_whole one p d s found.run.cycles more.run.cycles found.run.run.lawful found.run.run.whole more.run.run.lawful more.run.run.whole in
-    let sharp : found.sharp ≡ more.sharp = found.told.shown ∙ ap (sharp_lines_by p (basis_of p d s) (gaps_for p d s)) cycles ∙ sym more.told.shown in
+    let sharp : found.sharp ≡ more.sharp = found.told.shown ∙ ap (sharp_lines_by p d s) cycles ∙ sym more.told.shown in
     let report : found.report ≡ more.report = same_report one p d s found.report more.report found.run more.run in
     found.shown ∙ ap₂ (λ (l m : List ℕ). l ++ m) sharp report ∙ sym more.shown
 
@@ -75,9 +74,10 @@ kept_report keep joined lost p d s text sane drift_fits script_fits written = re
   shown = written.shown;
   kept = record {
     report = written.run;
-    sharply = λ flutter double covered synced. keep p d s flutter written.run.cycles double sane covered written.run.run synced;
-    joined = λ flutter double covered synced. joined p d s flutter written.run.cycles double sane drift_fits script_fits covered written.run.run synced;
-    through_losses = λ flutter reach double covered synced. lost p d s flutter reach written.run.cycles double sane covered written.run.run synced;
+    sharply = λ from flutter double covered low synced. keep p d s from flutter written.run.cycles double sane covered written.run.run low synced;
+    joined = λ from flutter double covered low synced. joined p d s from flutter written.run.cycles double sane drift_fits script_fits covered written.run.run low synced;
+    through_losses = λ from flutter reach double covered low synced awake.
+        lost p d s from flutter reach written.run.cycles double sane covered written.run.run low synced awake;
   };
   told = written.told;
 }

@@ -10,7 +10,7 @@ use Rattle.fr_cluster.proofs.KeyNodes.{Contains-cons_cases}
 use Rattle.fr_coverage.specs.Coverage.{gap_of_run}
 use Rattle.fr_coverage.specs.Decided.{setting_of}
 use Rattle.fr_coverage.specs.First.{first_below, first_in}
-use Rattle.fr_coverage.specs.Flutter.{flutter_of, greatest_below, greatest_in}
+use Rattle.fr_coverage.specs.Flutter.{flutter_from, flutter_of, greatest_below, greatest_in}
 use Rattle.fr_coverage.proofs.GapParts.{found-of-run}
 use Rattle.fr_drift.specs.Held.{held}
 use Rattle.fr_drift.specs.Questions.{delay_of, doubles_of, length_of, rate_of, start_of}
@@ -21,7 +21,7 @@ use Rattle.fr_script.specs.View.{deed_of, is_arbitrary, join_of}
 use Rattle.fr_promise.specs.SharpJoining.{SharpJoinChecksHold}
 use Rattle.fr_sharp.specs.SharpStatement.{has_arbitrary}
 use Rattle.fr_sharp.specs.WorkedRun.{steady_cluster}
-use Rattle.fr_sharp.proofs.SharpWorked.{is_sane}
+use Rattle.fr_promise.proofs.SharpWorked.{is_sane}
 use Rattle.fr_whole.specs.PowerOn.{JoinsLeader}
 use Rattle.fr_whole.specs.WorkedPowerOn.{led_drift, led_script, WorkedRunIsLed}
 use Rattle.fr_whole.proofs.PowerOnTexts.{hold_all}
@@ -31,7 +31,7 @@ unfolding first_below first_in doubles_of length_of delay_of held is_arbitrary j
 no_gap = refl
 
 flutter_is : flutter_of steady_cluster led_drift led_script ≡ 250
-unfolding flutter_of greatest_below greatest_in doubles_of delay_of held is_arbitrary
+unfolding flutter_from greatest_below greatest_in doubles_of delay_of held is_arbitrary
 flutter_is = refl
 
 kind_is : has_arbitrary steady_cluster led_script ≡ false
@@ -100,7 +100,7 @@ worked_run_is_led =
     record {
       covered = record {
         checks = subst Hold (sym kind_is) checks_hold;
-        none = (found-of-run steady_cluster led_drift led_script is_sane).0 no_gap;
+        none = λ g gap behind. (found-of-run steady_cluster led_drift led_script is_sane).0 no_gap g gap;
         flutters = omega (arith, flutter_is);
       };
       first = refl;

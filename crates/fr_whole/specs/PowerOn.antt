@@ -106,7 +106,7 @@ abbrev pub PowerOnIsInSync : Values → ℕ → Type 0
 PowerOnIsInSync p flutter =
     (v : PowerView) (d : DriftView) (s : ScriptView) (at leader : ℕ) (power_on : ℤ) (h : Cycles)
     → IsSane p → AreConnected p → PowerFits p v → IsNeverOff v → IsFirstOn p (switches_of p v) at leader
-    → DriftFits p d → ScriptFits p s → IsSharplyCoveredToJoin p d s flutter
+    → DriftFits p d → ScriptFits p s → IsSharplyCoveredToJoin p d s 0 flutter
     → sharp_holds_of 1 flutter (sharp_reach false p flutter) p ≡ true
     → IsLedRun (setting_of p d s) leader → StartsAsItLeads p (switches_of p v) at leader power_on (start_of d leader)
     → IsRunOf (setting_of p d s) h

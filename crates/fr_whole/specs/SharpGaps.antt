@@ -11,7 +11,7 @@ use Rattle.fr_bound.specs.SharpBounds.{sharp_near}
 use Rattle.fr_bound.specs.SharpChecks.{sharp_holds_of}
 use Rattle.fr_promise.specs.SharpJoining.{sharp_join_holds_of}
 use Rattle.fr_sharp.specs.SharpStatement.{has_arbitrary}
-use Rattle.fr_series.specs.SharpCovered.{failed_sharp, failed_sharp_join, first_sharp_gap}
+use Rattle.fr_sharp.specs.SharpCovered.{failed_sharp, failed_sharp_join, first_sharp_gap}
 use Rattle.fr_whole.specs.declared.sharp_gaps.SharpGaps.{SharpGaps}
 
 -- the sharper check of a number from 1 to 5, where it fails
@@ -24,9 +24,9 @@ abbrev pub failing_to_join : Bool → Bool → Values → ℕ → ℕ → Option
 failing_to_join joins beside p flutter number =
     if joins then (if sharp_join_holds_of number beside flutter p then None else Some (failed_sharp_join beside p flutter number)) else None
 
--- those of the run of some parameters, a drift and a script, where its delays flutter by so many ticks
-abbrev pub sharp_gaps_of : Values → DriftView → ScriptView → ℕ → SharpGaps
-sharp_gaps_of p d s flutter = record {
+-- those of the run of some parameters, a drift and a script from a double cycle on, where its delays flutter by so many ticks
+abbrev pub sharp_gaps_of : Values → DriftView → ScriptView → ℕ → ℕ → SharpGaps
+sharp_gaps_of p d s from flutter = record {
   second = failing_at (has_arbitrary p s) p flutter 2;
   third = failing_at (has_arbitrary p s) p flutter 3;
   fourth = failing_at (has_arbitrary p s) p flutter 4;
@@ -35,7 +35,7 @@ sharp_gaps_of p d s flutter = record {
   seventh = failing_to_join (some_join p s) (has_arbitrary p s) p flutter 7;
   eighth = failing_to_join (some_join p s) (has_arbitrary p s) p flutter 8;
   ninth = failing_to_join (some_join p s) (has_arbitrary p s) p flutter 9;
-  run = gaps_by_kind p d s;
+  run = gaps_by_kind p d s from;
 }
 
 -- the first of all, if there is one
@@ -48,6 +48,6 @@ abbrev pub first_of_all : SharpGaps → Option Gap
 first_of_all gaps = first_of_checks gaps (first_by_kind gaps.run)
 
 -- the first of all is the one for which the run is not sharply covered, and each of the run itself is the first of its kind
-pub record AreSharpGaps (p : Values) (d : DriftView) (s : ScriptView) (flutter : ℕ) : Type 0 where
-  pub first : first_of_all (sharp_gaps_of p d s flutter) ≡ first_sharp_gap p d s flutter
-  pub kinds : AreFirstGaps p d s (gaps_by_kind p d s)
+pub record AreSharpGaps (p : Values) (d : DriftView) (s : ScriptView) (from flutter : ℕ) : Type 0 where
+  pub first : first_of_all (sharp_gaps_of p d s from flutter) ≡ first_sharp_gap p d s from flutter
+  pub kinds : AreFirstGaps p d s from (gaps_by_kind p d s from)

@@ -4,8 +4,9 @@ use Rattle.std.specs.Fmt.{decimal, signed_decimal}
 use Rattle.std.specs.Option.{option_map}
 use Rattle.fr_cluster.specs.Values.{Values}
 use Rattle.fr_coverage.specs.Decided.{setting_of}
-use Rattle.fr_coverage.specs.Flutter.{flutter_of}
+use Rattle.fr_coverage.specs.Flutter.{flutter_from}
 use Rattle.fr_coverage.specs.Phrases.{gap_text}
+use Rattle.fr_coverage.specs.declared.gap.Fluttering.{Fluttering}
 use Rattle.fr_coverage.specs.declared.gap.Gap.{Gap}
 use Rattle.fr_drift.specs.Questions.{doubles_of}
 use Rattle.fr_drift.specs.View.{DriftView}
@@ -16,19 +17,20 @@ use Rattle.fr_history.specs.Next.{cycles_of}
 use Rattle.fr_report.specs.RunText.{run_text}
 use Rattle.fr_text.specs.Lines.{shown}
 use Rattle.fr_text.specs.Pieces.{line}
-use Rattle.fr_series.specs.Basis.{basis_of, sharp_figures_of}
+use Rattle.fr_series.specs.Basis.{asked_from, basis_of, sharp_figures_of}
 use Rattle.fr_series.specs.SharpLosses.{last_lost_text}
-use Rattle.fr_series.specs.SharpText.{beside_or_alone, doubles_or_on}
+use Rattle.fr_series.specs.SharpText.{beside_or_alone, doubles_or_on, place_text}
 use Rattle.fr_series.specs.declared.basis.Basis.{Basis}
-use Rattle.fr_series.specs.declared.figures.Figures.{Figures}
+use Rattle.fr_series.specs.declared.tally.SharpFigures.{SharpFigures}
 use Rattle.fr_whole.specs.SharpGaps.{sharp_gaps_of}
 use Rattle.fr_whole.specs.declared.sharp_gaps.SharpGaps.{SharpGaps}
 
 -- ---- the lines
 
--- the flutter of the run, in ticks
-abbrev pub flutter_told : ℕ → List ℕ
-flutter_told flutter = codes "sharp flutter " ++ decimal flutter
+-- the flutter, in ticks, and its place
+abbrev pub flutter_told : Option Fluttering → List ℕ
+flutter_told None = codes "sharp flutter 0"
+flutter_told (Some place) = codes "sharp flutter " ++ decimal place.ticks ++ codes " " ++ place_text place
 
 -- the sharper precision, in ticks, and whether it is that beside arbitrary sync nodes
 abbrev pub precision_told : ℤ → Bool → List ℕ
@@ -86,10 +88,10 @@ lost_told basis =
 
 -- what the sharper bounds say, by what a run rests on, its gaps and the figures of sharp sync; where no double cycle is in sharp sync there
 -- is no line of a greatest skew
-unfoldable pub sharp_lines_of : Basis → SharpGaps → Figures → List ℕ
+unfoldable pub sharp_lines_of : Basis → SharpGaps → SharpFigures → List ℕ
 sharp_lines_of basis gaps figures =
-    line (flutter_told basis.flutter)
-    ++ line (precision_told basis.scales.sharp.precision basis.beside)
+    line (flutter_told basis.fluttering)
+    ++ line (precision_told basis.precision basis.beside)
     ++ shown (covered_shown basis.gap)
     ++ gap_told gaps.second
     ++ gap_told gaps.third
@@ -109,11 +111,12 @@ sharp_lines_of basis gaps figures =
     ++ line (within_told figures.synced figures.above)
     ++ line (lost_told basis)
 
--- what they say of some cycles
-abbrev pub sharp_lines_by : Values → Basis → SharpGaps → Cycles → List ℕ
-sharp_lines_by p basis gaps h = sharp_lines_of basis gaps (sharp_figures_of basis.beside p basis.flutter h)
+-- what they say of some cycles, from their first double cycle in sharp sync on
+abbrev pub sharp_lines_by : Values → DriftView → ScriptView → Cycles → List ℕ
+sharp_lines_by p d s h =
+    sharp_lines_of (basis_of p d s (asked_from p d s h)) (sharp_gaps_of p d s (asked_from p d s h) (flutter_from p d s (asked_from p d s h)))
+    (sharp_figures_of p d s h)
 
 -- of the run of some parameters, a drift and a script, over all its cycles, with the report of that run
 abbrev pub sharp_report_text : Values → DriftView → ScriptView → List ℕ
-sharp_report_text p d s =
-    sharp_lines_by p (basis_of p d s) (sharp_gaps_of p d s (flutter_of p d s)) (cycles_of (setting_of p d s) (2 * doubles_of d)) ++ run_text p d s
+sharp_report_text p d s = sharp_lines_by p d s (cycles_of (setting_of p d s) (2 * doubles_of d)) ++ run_text p d s

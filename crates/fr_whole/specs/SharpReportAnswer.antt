@@ -2,7 +2,7 @@
 use Rattle.std.specs.Prelude.{◌≡◌, ◌↔◌, ℕ, List, ◌++◌, None}
 use Rattle.fr_answer.specs.RunAnswer.{IsKeptRunText}
 use Rattle.fr_cluster.specs.Values.{Values}
-use Rattle.fr_coverage.specs.Flutter.{flutter_of}
+use Rattle.fr_coverage.specs.Flutter.{flutter_from}
 use Rattle.fr_drift.specs.View.{DriftView}
 use Rattle.fr_history.specs.Cycles.{Cycles}
 use Rattle.fr_program.specs.Command.{Command}
@@ -10,27 +10,29 @@ use Rattle.fr_report.specs.Files.{run_command}
 use Rattle.fr_report.specs.Names.{RunNames}
 use Rattle.fr_report.specs.RunText.{IsRunText}
 use Rattle.fr_script.specs.View.{ScriptView}
-use Rattle.fr_series.specs.Basis.{basis_of}
+use Rattle.fr_series.specs.Basis.{asked_from}
 use Rattle.fr_series.specs.SharpAnswer.{KeepsAndTells}
-use Rattle.fr_series.specs.SharpCovered.{first_sharp_gap, IsCoveredSharply}
+use Rattle.fr_sharp.specs.SharpCovered.{first_sharp_gap, IsCoveredSharply}
 use Rattle.fr_series.specs.SharpMeaning.{AreSharpFigures}
-use Rattle.fr_whole.specs.SharpGaps.{sharp_gaps_of, AreSharpGaps}
+use Rattle.fr_whole.specs.SharpGaps.{AreSharpGaps}
 use Rattle.fr_whole.specs.SharpReport.{sharp_lines_by}
 use Rattle.fr_sharp.specs.SharpStatement.{has_arbitrary}
-use Rattle.fr_promise.specs.SharpTested.{IsFirstSharpSync}
+use Rattle.fr_promise.specs.SharpTested.{IsFirstSharpSyncBy}
 
--- a text is what the sharper bounds say of some cycles of these files: that the run is sharply covered exactly where it is, and then
--- the cycles keep what the promise says, with their own flutter; that its gaps are the first of each kind; and the figures mean what they
--- are called
+-- a text is what the sharper bounds say of some cycles of these files, from their first double cycle in sharp sync on: that the run is
+-- sharply covered from there on exactly where it is, and then the cycles keep what the promise says, with their own flutter; that its gaps
+-- are the first of each kind; and the figures mean what they are called
 pub record IsToldSharply (params : Values) (drift : DriftView) (script : ScriptView) (h : Cycles) (text : List ℕ) : Type 0 where
-  pub shown : text ≡ sharp_lines_by params (basis_of params drift script) (sharp_gaps_of params drift script (flutter_of params drift script)) h
-  pub gaps : AreSharpGaps params drift script (flutter_of params drift script)
+  pub shown : text ≡ sharp_lines_by params drift script h
+  pub gaps :
+      AreSharpGaps params drift script (asked_from params drift script h) (flutter_from params drift script (asked_from params drift script h))
   pub covered :
-      (first_sharp_gap params drift script (flutter_of params drift script) ≡ None)
-      ↔ IsCoveredSharply params drift script (flutter_of params drift script)
+      (from : ℕ)
+      → (first_sharp_gap params drift script from (flutter_from params drift script from) ≡ None)
+      ↔ IsCoveredSharply params drift script from (flutter_from params drift script from)
   pub keeps :
-      IsCoveredSharply params drift script (flutter_of params drift script) → (first : ℕ)
-      → IsFirstSharpSync (has_arbitrary params script) params (flutter_of params drift script) h first
+      (first : ℕ) → IsFirstSharpSyncBy (has_arbitrary params script) params (flutter_from params drift script) h first
+      → IsCoveredSharply params drift script first (flutter_from params drift script first)
       → KeepsAndTells params drift script h first
   pub figures : AreSharpFigures params drift script h
 

@@ -41,7 +41,7 @@ led_script = record {
 -- the files are sharply covered to join, the first check holds too, node 1 leads their run, and its cycle 0 starts no later than it
 -- leads where the first power-on is at tick 0, whichever nodes are switched
 pub record WorkedRunIsLed : Type 0 where
-  pub covered : IsSharplyCoveredToJoin steady_cluster led_drift led_script 250
+  pub covered : IsSharplyCoveredToJoin steady_cluster led_drift led_script 0 250
   pub first : sharp_holds_of 1 250 (sharp_reach false steady_cluster 250) steady_cluster ≡ true
   pub led : IsLedRun (setting_of steady_cluster led_drift led_script) 1
   pub starts : (switches : Switches) (at : ℕ) → StartsAsItLeads steady_cluster switches at 1 (pos 0) (start_of led_drift 1)

@@ -6,25 +6,25 @@ ghost use Rattle.fr_text.specs.Lines.{joined_lines};
 ghost use Rattle.fr_text.specs.Pieces.{line};
 
 use crate::sharp_gaps::SharpGaps;
-use fr_coverage::{Gap, gap_line};
-use fr_series::{Basis, Figures, kind, last_piece, lasts_piece};
+use fr_coverage::{Fluttering, Gap, gap_line};
+use fr_series::{Basis, SharpFigures, kind, last_piece, lasts_piece};
 use fr_sharp::Digits;
 use fr_skew::Peak;
 use fr_text::Piece::{Natural, Signed, Word};
-use fr_text::{Line, line_of};
+use fr_text::{Line, letter_of, line_of};
 
 // What the sharper bounds say of a run.
 #[tactic(auto, unfolding(crate::specs::SharpReport::sharp_lines_of))]
 pub(crate) fn sharp_report_lines(
     basis: &Basis,
     gaps: &SharpGaps,
-    figures: &Figures,
+    figures: &SharpFigures,
 ) -> [Option<Line>; 20]
     ensures { joined_lines result ≡ sharp_lines_of basis.now gaps.now figures.now }
 {
     [
-        Some(flutter_line(basis.flutter)),
-        Some(precision_line(basis.scales.sharp.precision, basis.beside)),
+        Some(flutter_line(basis.fluttering)),
+        Some(precision_line(basis.precision, basis.beside)),
         covered_line(basis.gap),
         gap_shown(gaps.second),
         gap_shown(gaps.third),
@@ -46,10 +46,24 @@ pub(crate) fn sharp_report_lines(
     ]
 }
 
-fn flutter_line(flutter: u64) -> Line
-    ensures { result ≡ line (flutter_told flutter) }
+fn flutter_line(place: Option<Fluttering>) -> Line
+    ensures { result ≡ line (flutter_told place) }
 {
-    line_of(&[Word(b"sharp flutter "), Natural(flutter)])
+    match place {
+        None => line_of(&[Word(b"sharp flutter 0")]),
+        Some(place) => line_of(&[
+            Word(b"sharp flutter "),
+            Natural(place.ticks),
+            Word(b" delay "),
+            Natural(u64::from(place.sender.0)),
+            Word(b" "),
+            Natural(u64::from(place.receiver.0)),
+            Word(b" "),
+            letter_of(place.channel),
+            Word(b" "),
+            Natural(u64::from(place.double)),
+        ]),
+    }
 }
 
 fn precision_line(precision: i64, beside: bool) -> Line

@@ -34,10 +34,10 @@ pub struct SharpGaps {
 }
 
 impl SharpGaps {
-    /// Those of the run of some files, where its delays flutter by so many ticks, 0 to 1,000,000,000.
-    pub fn of(params: &Params, drift: &Drift, script: &Script, flutter: u64) -> SharpGaps
+    /// Those of the run of some files from a double cycle on, where its delays flutter by so many ticks, 0 to 1,000,000,000.
+    pub fn of(params: &Params, drift: &Drift, script: &Script, from: u32, flutter: u64) -> SharpGaps
         requires { flutter ≤ most_flutter }
-        ensures { result ≡ sharp_gaps_of params.now drift.now script.now flutter }
+        ensures { result ≡ sharp_gaps_of params.now drift.now script.now from flutter }
     {
         let beside = has_arbitrary(params, script);
         let joins = some_join(&params.nodes, script);
@@ -50,7 +50,7 @@ impl SharpGaps {
             seventh: failing_to_join(params, joins, beside, flutter, 7),
             eighth: failing_to_join(params, joins, beside, flutter, 8),
             ninth: failing_to_join(params, joins, beside, flutter, 9),
-            run: gaps_by_kind(params, drift, script),
+            run: gaps_by_kind(params, drift, script, from),
         }
     }
 }

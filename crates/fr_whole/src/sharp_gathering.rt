@@ -1,4 +1,4 @@
-ghost use Rattle.std.specs.Prelude.{◌≡◌, ◌+◌, ◌*◌, ◌<◌, All, []};
+ghost use Rattle.std.specs.Prelude.{◌≡◌, ◌+◌, ◌*◌, ◌<◌, All, [], unwrap_or};
 ghost use Rattle.fr_base.specs.Device.{Puts};
 ghost use Rattle.fr_drift.specs.Questions.{doubles_of};
 ghost use Rattle.fr_history.specs.Next.{cycles_of};
@@ -7,17 +7,17 @@ ghost use Rattle.fr_report.specs.Worlds.{IsReportOf};
 ghost use Rattle.fr_time.specs.Placed.{IsPlacedRow};
 ghost use Rattle.fr_time.specs.Position.{grid_for};
 ghost use Rattle.fr_world.specs.World.{setting_after};
-ghost use Rattle.fr_series.specs.Basis.{scales_of, sharp_figures_of, sharply_followed, AreScales};
+ghost use Rattle.fr_series.specs.Basis.{sharp_figures_of, IsCourse};
 ghost use Rattle.fr_series.specs.Scale.{IsScale};
 ghost use Rattle.fr_whole.specs.SharpReport.{sharp_report_text};
-ghost use Rattle.fr_series.specs.Writing.{IsAtDouble, is_double_followed, is_followed, rows_of};
+ghost use Rattle.fr_series.specs.Writing.{first_sharp_at, is_followed, rows_of, IsAtDouble};
 
 use crate::report_lines::sharp_report_lines;
 use crate::sharp_gaps::SharpGaps;
-use fr_base::{NodeRow, PutFault, RowList, Sink};
+use fr_base::{PutFault, RowList, Sink};
 use fr_coverage::covered;
 use fr_report::{Report, add_next, write_report};
-use fr_series::{Basis, Figures, Scale, Scales, are_in_sharp_sync};
+use fr_series::{Basis, Course, SharpFigures, are_in_sharp_sync};
 use fr_text::put_lines;
 use fr_world::World;
 
@@ -30,63 +30,71 @@ pub fn write_sharp_report<O: Sink>(world: &mut World, out: &mut O) -> Result<(),
     ensures text { Puts result (O.state out.old) (O.state out.new)
         (sharp_report_text world.old.params world.old.drift world.old.script) }
 {
-    let basis = Basis::of(world.params(), world.drift(), world.script());
-    let gaps = SharpGaps::of(world.params(), world.drift(), world.script(), basis.flutter);
     let mut report = Report::new(world.params());
-    let mut figures = Figures::none();
-    run_all(world, &basis, &mut report, &mut figures);
+    let mut figures = SharpFigures::none();
+    run_all(world, &mut report, &mut figures);
+    let (params, drift, script) = (world.params(), world.drift(), world.script());
+    let basis = Basis::of(params, drift, script, figures.synced.unwrap_or(0));
+    let gaps = SharpGaps::of(params, drift, script, basis.from, basis.flutter);
     put_lines(&sharp_report_lines(&basis, &gaps, &figures), out)?;
     let gap = covered(world.params(), world.drift(), world.script());
     write_report(&report, world, gap, out)
 }
 
 // Runs all cycles, and gathers their report and the figures of sharp sync.
-fn run_all(world: &mut World, basis: &Basis, report: &mut Report, figures: &mut Figures)
+fn run_all(world: &mut World, report: &mut Report, figures: &mut SharpFigures)
     requires fresh { world.old.cycles ≡ 0 }
-    requires scales { basis.now.scales ≡ scales_of basis.now.beside world.old.params basis.now.flutter }
-    requires proper { AreScales (grid_for world.old.params) basis.now.scales }
     requires held { ReportHolds world.old.params report.old [] }
-    requires none { figures.old ≡ sharp_figures_of basis.now.beside world.old.params basis.now.flutter [] }
+    requires none { figures.old ≡ sharp_figures_of world.old.params world.old.drift world.old.script [] }
     ensures ran { world.new ≡ record world.old { cycles = 2 * doubles_of world.old.drift } }
     ensures held { IsReportOf world.new report.new }
-    ensures figures { figures.new ≡ sharp_figures_of basis.now.beside world.old.params basis.now.flutter
+    ensures figures { figures.new ≡ sharp_figures_of world.old.params world.old.drift world.old.script
         (cycles_of (setting_after world.old) (2 * doubles_of world.old.drift)) }
 {
-    let scales = basis.scales;
     let doubles = world.drift().doubles();
+    let mut course = Course::from(world.params(), world.drift(), world.script(), 0);
     for double in 0..doubles {
-        add_double(world, &scales, double, report, figures);
+        add_double(world, double, &mut course, report, figures);
     }
 }
 
 // Runs a double cycle, and adds it to the report and to the figures of sharp sync.
 fn add_double(
     world: &mut World,
-    scales: &Scales,
     double: u32,
+    course: &mut Course,
     report: &mut Report,
-    figures: &mut Figures,
+    figures: &mut SharpFigures,
 )
     requires at { IsAtDouble world.old double }
-    requires proper { AreScales (grid_for world.old.params) scales.now }
+    requires proper { IsScale course.old.scale }
+    requires course { IsCourse world.old.params world.old.drift world.old.script
+        (unwrap_or (first_sharp_at world.old double) double) course.old }
     requires held { IsReportOf world.old report.old }
+    requires figures { figures.old ≡ sharp_figures_of world.old.params world.old.drift world.old.script
+        (cycles_of (setting_after world.old) (2 * double)) }
     ensures ran { world.new ≡ record world.old { cycles = world.old.cycles + 2 } }
     ensures held { IsReportOf world.new report.new }
-    ensures figures { figures.new ≡ sharply_followed scales.now.sharp double
-        (rows_of world.old world.old.cycles) (rows_of world.old (world.old.cycles + 1))
-        (is_double_followed world.old world.old.cycles) figures.old }
+    ensures proper { IsScale course.new.scale }
+    ensures course { IsCourse world.old.params world.old.drift world.old.script
+        (unwrap_or (first_sharp_at world.old (double + 1)) (double + 1)) course.new }
+    ensures figures { figures.new ≡ sharp_figures_of world.old.params world.old.drift world.old.script
+        (cycles_of (setting_after world.old) (2 * (double + 1))) }
 {
     let mut even = RowList::new();
     let mut odd = RowList::new();
     let followed = add_rows(world, report, &mut even);
     let following = add_rows(world, report, &mut odd);
-    *figures = sharply_followed(
-        &scales.sharp,
+    let (even, odd) = (even.as_slice(), odd.as_slice());
+    let scale = course.scale;
+    let in_sync = are_in_sharp_sync(&scale, even, odd);
+    *figures = figures.followed(&scale, double, even, odd, in_sync, followed || following);
+    *course = course.behind(
+        world.params(),
+        world.drift(),
+        world.script(),
+        figures.synced,
         double,
-        even.as_slice(),
-        odd.as_slice(),
-        followed || following,
-        *figures,
     );
 }
 
@@ -106,23 +114,4 @@ fn add_rows(world: &mut World, report: &mut Report, rows: &mut RowList) -> bool
         None => unreachable!(),
     }
     world.following()
-}
-
-// The figures of sharp sync after one more double cycle, by the rows of its two cycles and whether a node follows in it.
-fn sharply_followed(
-    scale: &Scale,
-    double: u32,
-    even: &[NodeRow],
-    odd: &[NodeRow],
-    following: bool,
-    figures: Figures,
-) -> Figures
-    requires scale { IsScale scale.now }
-    requires double { double < 100_000 }
-    requires even { All (IsPlacedRow scale.now.grid) even.now }
-    requires odd { All (IsPlacedRow scale.now.grid) odd.now }
-    ensures { result ≡ sharply_followed scale.now double even.now odd.now following figures }
-{
-    let in_sync = are_in_sharp_sync(scale, even, odd);
-    figures.followed(scale, double, even, odd, in_sync, following)
 }

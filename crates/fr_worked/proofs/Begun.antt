@@ -1,11 +1,11 @@
 -- The worked run that a node joins: its cluster, its double cycles, and the first of these, which is in sync.
-use Rattle.std.proofs.Common.{◌≡◌, ◌≢◌, ◌≤◌, ◌*◌, ◌-◌, ℕ, suc, ℤ, pos, [], ◌∷◌, ◌++◌, All, length, refl, ap, sym, ◌∙◌, subst, inl, inr, lit≤, lit<, rules, arith}
-use Rattle.std.specs.Prelude.{◌<◌, ◌-ℤ◌, ◌≤ℤ◌, AllPairs, Contains, drop}
+use Rattle.std.proofs.Common.{◌≡◌, ◌≢◌, ◌≤◌, ◌*◌, ◌-◌, ℕ, suc, pos, [], ◌∷◌, ◌++◌, length, refl, ap, sym, ◌∙◌, subst, inl, inr, lit≤, lit<, arith}
+use Rattle.std.specs.Prelude.{◌<◌, AllPairs, Contains, drop}
 use Rattle.std.proofs.Math.Seq.{drop-append_seam}
 use Rattle.std.proofs.lemmas.List.{length-append}
 use Rattle.std.proofs.lemmas.List.Elements.{All-cons, All-nil}
 use Rattle.std.proofs.lemmas.List.Kept.{AllPairs-cons}
-use Rattle.fr_base.specs.Within.{IsWithin, LieWithin}
+use Rattle.fr_base.specs.Within.{IsWithin}
 use Rattle.fr_base.specs.declared.node_row.NodeRow.{NodeRow}
 use Rattle.fr_base.specs.declared.state.State.TheVariants.{Active}
 use Rattle.fr_cluster.specs.Ranges.{InRange}
@@ -19,52 +19,25 @@ use Rattle.fr_cluster.specs.declared.nodes.NodeSpec.{NodeSpec}
 use Rattle.fr_cluster.specs.declared.nodes.SlotSpec.{SlotSpec}
 use Rattle.fr_bound.specs.Bounds.{lambda_of, pi_of}
 use Rattle.fr_bound.specs.Sync.{IsCycleLength, IsInSync, cycle_length_of}
-use Rattle.fr_precision.proofs.Worked.{two}
+use Rattle.fr_precision.proofs.Worked.{two, none, sane_node, lie_two}
 use Rattle.fr_history.specs.Cycles.{Cycle, Cycles}
 use Rattle.fr_history.specs.Worked.{after_12, joined_run, on_a, roomy_cluster, two_at}
 use Rattle.fr_history.specs.Standing.{has_row, row_nodes}
 use Rattle.fr_cluster.proofs.Elements.{Contains-none, filtered}
 use Rattle.fr_history.specs.History.{row_for}
 use Rattle.fr_runs.specs.Rounds.{IsDoubleOf, IsUnfollowedSync}
+use Rattle.fr_promise.proofs.SharpWorked.{three}
 
 -- ---- its parameters are those of a cluster
 
 in_range : (n : ParamName) → InRange n (figure roomy_cluster n)
 in_range name.gMacroPerCycle = (record { le = tt }, record { le = tt })
-in_range name.pMicroPerCycle = (record { le = tt }, record { le = tt })
-in_range name.gNumberOfStaticSlots = (record { le = tt }, record { le = tt })
-in_range name.gdStaticSlot = (record { le = tt }, record { le = tt })
-in_range name.gdActionPointOffset = (record { le = tt }, record { le = tt })
-in_range name.gdNIT = (record { le = tt }, record { le = tt })
-in_range name.gPayloadLengthStatic = (record { le = tt }, record { le = tt })
-in_range name.gOffsetCorrectionStart = (record { le = tt }, record { le = tt })
-in_range name.gMaxWithoutClockCorrectionPassive = (record { le = tt }, record { le = tt })
-in_range name.gMaxWithoutClockCorrectionFatal = (record { le = tt }, record { le = tt })
-in_range name.pAllowHaltDueToClock = (record { le = tt }, record { le = tt })
-in_range name.pAllowPassiveToActive = (record { le = tt }, record { le = tt })
-in_range name.pClusterDriftDamping = (record { le = tt }, record { le = tt })
-in_range name.pOffsetCorrectionOut = (record { le = tt }, record { le = tt })
-in_range name.pRateCorrectionOut = (record { le = tt }, record { le = tt })
-in_range name.pDelayCompensation = (record { le = tt }, record { le = tt })
-in_range name.pDelayCompensationA = (record { le = tt }, record { le = tt })
-in_range name.pDelayCompensationB = (record { le = tt }, record { le = tt })
-in_range name.xRateBound = (record { le = tt }, record { le = tt })
-in_range name.xChangeBound = (record { le = tt }, record { le = tt })
-in_range name.xDelayError = (record { le = tt }, record { le = tt })
+in_range other = (record { le = tt }, record { le = tt })
 
-three : {X : Type 0} (P : X → Type 0) (one other third : X) → P one → P other → P third → All P (one ∷ other ∷ third ∷ [])
-three P one other third here there last = All-cons P one (other ∷ third ∷ []) here (two P other third there last)
-
-none : {X : Type 0} (R : X → X → Type 0) → AllPairs R []
-none R = search rules
-
-ordered : {X : Type 0} (R : X → X → Type 0) (one other third : X) → R one other → R one third → R other third → AllPairs R (one ∷ other ∷ third ∷ [])
+pub ordered : {X : Type 0} (R : X → X → Type 0) (one other third : X) → R one other → R one third → R other third → AllPairs R (one ∷ other ∷ third ∷ [])
 ordered R one other third before first last =
     AllPairs-cons R one (other ∷ third ∷ []) (two (R one) other third before first)
     (AllPairs-cons R other (third ∷ []) (All-cons (R other) third [] last (All-nil (R other))) (AllPairs-cons R third [] (All-nil (R third)) (none R)))
-
-sane_node : (id : ℕ) → 1 ≤ id → id ≤ 64 → IsSaneNode (on_a id)
-sane_node id from to = record { proper = record { from = from; to = to; key = (from, omega arith) }; starts = refl }
 
 pub is_sane : IsSane roomy_cluster
 is_sane = record {
@@ -107,10 +80,6 @@ double_is k earlier even odd d =
     left_is after_12 d.later (odd ∷ even ∷ earlier) d.parted ∙ ap (λ n. drop (12 - suc (suc n)) after_12) d.counted
 
 -- ---- the first one is in sync, and none follows in it
-
-lie_two : (bound a b : ℤ) → (a -ℤ a) ≤ℤ bound → (a -ℤ b) ≤ℤ bound → (b -ℤ a) ≤ℤ bound → (b -ℤ b) ≤ℤ bound → LieWithin bound (a ∷ b ∷ [])
-lie_two bound a b aa ab ba bb =
-    two (λ x. All (λ y. (x -ℤ y) ≤ℤ bound) (a ∷ b ∷ [])) a b (two (λ y. (a -ℤ y) ≤ℤ bound) a b aa ab) (two (λ y. (b -ℤ y) ≤ℤ bound) a b ba bb)
 
 -- the row of a node that is Active in a cycle
 abbrev pub row_at : ℕ → ℕ → NodeRow

@@ -12,7 +12,7 @@ use Rattle.fr_runs.specs.SteadyRuns.{MayHaveArbitrary}
 use Rattle.fr_sharp.specs.WorkedRun.{steady_cluster, OfBytes, Said}
 use Rattle.fr_worked.proofs.RunDriven.{is_sane as driven_sane, on_channel}
 use Rattle.fr_worked.proofs.RunWorked.{few, on_a}
-use Rattle.fr_sharp.proofs.SharpWorked.{is_sane}
+use Rattle.fr_promise.proofs.SharpWorked.{is_sane}
 
 module _ (said : Said) (bytes : OfBytes said) where
   is_far : (beside : Bool) → IsFar (worked_far said beside) (sharp_pi beside steady_cluster 0) (sharp_lambda beside steady_cluster 0)

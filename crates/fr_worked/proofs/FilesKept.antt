@@ -9,12 +9,10 @@ use Rattle.fr_cluster.specs.Values.{Values}
 use Rattle.fr_cluster.specs.declared.join.Join.{Join}
 use Rattle.fr_cluster.specs.declared.nodes.NodeSpec.{NodeSpec}
 use Rattle.fr_coverage.specs.Coverage.{first_gap}
-use Rattle.fr_coverage.specs.Decided.{setting_of}
 use Rattle.fr_coverage.specs.Order.{HasNoGap}
 use Rattle.fr_coverage.proofs.GapParts.{found-none}
 use Rattle.fr_drift.specs.Files.{IsDriftFile}
 use Rattle.fr_drift.specs.Questions.{doubles_of}
-use Rattle.fr_drift.specs.View.{DriftView}
 use Rattle.fr_history.specs.Cycles.{Cycle, cycle_at}
 use Rattle.fr_history.specs.Lawful.{IsLawful}
 use Rattle.fr_history.specs.Next.{cycles_of}
@@ -25,10 +23,10 @@ use Rattle.fr_promise.specs.Statement.{IsRunOf}
 use Rattle.fr_promise.proofs.Promising.{the_headline}
 use Rattle.fr_runs.specs.Stated.{all_cycles}
 use Rattle.fr_script.specs.Files.{IsScriptFile}
-use Rattle.fr_script.specs.Events.{IsProperEvent, event_of}
-use Rattle.fr_script.specs.View.{IsScript, ScriptView, join_of}
-use Rattle.fr_script.proofs.Proper.{event-proper}
+use Rattle.fr_script.specs.Events.{IsProperEvent}
+use Rattle.fr_script.specs.View.{IsScript, join_of}
 use Rattle.fr_worked.specs.RunFiles.{KeepFromTheStart, RunFiles, JoinsInTime, run_of_files}
+use Rattle.fr_promise.proofs.Stating.{is_setting as files_are_a_setting}
 
 -- whatever the numbers of the files, the run is one of a cluster, in which bytes are said
 says_bytes : (e : Event) → IsProperEvent e → SaysBytes e
@@ -37,12 +35,6 @@ says_bytes Silent proper = tt
 says_bytes (Flip bit) proper = tt
 says_bytes (Say shift None) proper = tt
 says_bytes (Say shift (Some bytes)) proper = proper.said.small
-
-pub files_are_a_setting : (p : Values) (d : DriftView) (s : ScriptView) → IsSane p → IsScript s → IsSetting (setting_of p d s)
-files_are_a_setting p d s sane script = record {
-  sane = sane;
-  bytes = λ cycle sender receiver channel. says_bytes (event_of s cycle sender receiver channel) (event-proper s cycle sender receiver channel script);
-}
 
 -- the first cycles of a run are those of a shorter one
 pub first_two : (x : Setting) (n cycle : ℕ) (c : Cycle) → 2 ≤ n → cycle < 2 → cycle_at (cycles_of x 2) cycle ≡ Some c → cycle_at (cycles_of x n) cycle ≡ Some c

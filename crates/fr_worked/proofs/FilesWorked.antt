@@ -1,6 +1,6 @@
 -- The files of the worked run whose delays flutter are sharply covered, and its cycle 0 lies near.
 use Rattle.std.proofs.Common.{◌≡◌, ℕ, zero, suc, ◌≤◌, Bool, true, false, ℤ, pos, None, refl, sym, subst, lit≤, arith}
-use Rattle.std.specs.Prelude.{◌+ℤ◌, ◌-ℤ◌, ◌*ℤ◌, ◌≤ℤ◌, ◌||◌, int_lt, neg_ℤ, not, Contains}
+use Rattle.std.specs.Prelude.{◌+ℤ◌, ◌-ℤ◌, ◌*ℤ◌, ◌≤ℤ◌, ◌||◌, int_lt, not, Contains}
 use Rattle.std.specs.List.{list_all}
 use Rattle.std.proofs.lemmas.Bool.{not-true, or_parts}
 use Rattle.std.proofs.lemmas.Int.{ints}
@@ -12,7 +12,7 @@ use Rattle.fr_cluster.specs.declared.nodes.NodeSpec.{NodeSpec}
 use Rattle.fr_coverage.specs.Coverage.{gap_of_run, some_join}
 use Rattle.fr_coverage.specs.Decided.{setting_of}
 use Rattle.fr_coverage.specs.First.{first_below, first_in}
-use Rattle.fr_coverage.specs.Flutter.{flutter_of, greatest_below, greatest_in}
+use Rattle.fr_coverage.specs.Flutter.{flutter_from, flutter_of, greatest_below, greatest_in}
 use Rattle.fr_coverage.proofs.GapParts.{found-of-run}
 use Rattle.fr_drift.specs.Held.{held}
 use Rattle.fr_drift.specs.Questions.{delay_of, doubles_of, length_of, rate_of, start_of}
@@ -34,7 +34,8 @@ use Rattle.fr_worked.specs.WorkedFiles.{fluttering_drift, marking_script, Flutte
 use Rattle.fr_sharp.specs.WorkedRun.{steady_cluster}
 use Rattle.fr_sharp.proofs.FromFiles.{files_give_steady_runs}
 use Rattle.fr_sharp.proofs.RunStated.{stated_runs_begin_in_sharp_sync}
-use Rattle.fr_sharp.proofs.SharpWorked.{is_sane}
+use Rattle.fr_promise.proofs.SharpWorked.{is_sane}
+use Rattle.fr_worked.proofs.TracesFit.{within_if as within_if_told}
 
 -- ---- they are sharply covered
 
@@ -44,7 +45,7 @@ no_gap false = refl
 no_gap true = refl
 
 flutter_is : (beside : Bool) → flutter_of steady_cluster fluttering_drift (marking_script beside) ≡ 250
-unfolding flutter_of greatest_below greatest_in doubles_of delay_of held is_arbitrary
+unfolding flutter_from greatest_below greatest_in doubles_of delay_of held is_arbitrary
 flutter_is false = refl
 flutter_is true = refl
 
@@ -72,13 +73,13 @@ checks_hold true (suc (suc (suc (suc zero)))) from to = refl
 checks_hold true (suc (suc (suc (suc (suc zero))))) from to = refl
 checks_hold beside (suc (suc (suc (suc (suc (suc k)))))) from to = absurd (omega (arith, to))
 
-pub covered : (beside : Bool) → IsSharplyCovered steady_cluster fluttering_drift (marking_script beside) 250
+pub covered : (beside : Bool) → IsSharplyCovered steady_cluster fluttering_drift (marking_script beside) 0 250
 covered beside = record {
   checks =
       let Hold : Bool → Type 0 = λ b. SharpChecksHold 250 (sharp_near b steady_cluster 250) steady_cluster in
       subst Hold (sym (kind_is beside)) (checks_hold beside);
   none_joins = none_joins beside;
-  none = (found-of-run steady_cluster fluttering_drift (marking_script beside) is_sane).0 (no_gap beside);
+  none = λ g gap behind. (found-of-run steady_cluster fluttering_drift (marking_script beside) is_sane).0 (no_gap beside) g gap;
   flutters = omega (arith, flutter_is beside);
 }
 
@@ -89,14 +90,6 @@ fluttering_files_are_covered beside = (flutter_is beside, kind_is beside, covere
 
 abbrev worked : Bool → Setting
 worked beside = setting_of steady_cluster fluttering_drift (marking_script beside)
-
-within_if_told : (bound z : ℤ) → lies_within bound z ≡ true → IsWithin bound z
-within_if_told bound z is =
-    let parts = or_parts (int_lt z (neg_ℤ bound)) (int_lt bound z) (not-true (int_lt z (neg_ℤ bound) || int_lt bound z) is) in
-    record { low = no_less z (neg_ℤ bound) parts.0; high = no_less bound z parts.1 }
-  where
-    no_less : (a b : ℤ) → int_lt a b ≡ false → b ≤ℤ a
-    no_less a b is = grind (arith, ints)
 
 -- what a test tells of all four nodes is so of each correct one
 passes : (test : NodeSpec → Bool) → list_all test steady_cluster.nodes ≡ true → (beside : Bool) (some : NodeSpec) → Contains (correct_nodes (worked beside)) some → test some ≡ true
@@ -170,7 +163,7 @@ pub steady : (beside : Bool) (h : Cycles) → IsRunOf (worked beside) h → IsSt
 steady beside h run =
     let c = covered beside in
     let Steady : Bool → Type 0 = λ b. IsSteadyRun b (worked beside) 250 h in
-    subst Steady (kind_is beside) (files_give_steady_runs steady_cluster fluttering_drift (marking_script beside) 250 h is_sane c.none c.flutters c.none_joins run)
+    subst Steady (kind_is beside) (files_give_steady_runs steady_cluster fluttering_drift (marking_script beside) 0 250 h is_sane c.none c.flutters c.none_joins run)
 
 pub fluttering_files_keep_sharply : CoveredFilesKeepSharply → FlutteringFilesKeepSharply
 fluttering_files_keep_sharply keep beside h run =
@@ -179,5 +172,5 @@ fluttering_files_keep_sharply keep beside h run =
     let In : Bool → Type 0 = λ b. IsInSharpSyncAt b steady_cluster 250 (pos 0) h 0 in
     let Keeps : Bool → Type 0 = λ b. KeepsSharply b x 250 h 0 in
     let kept : KeepsSharply beside x 250 h 0 =
-    subst Keeps (kind_is beside) (keep steady_cluster fluttering_drift (marking_script beside) 250 h 0 is_sane (covered beside) run (subst In (sym (kind_is beside)) sync)) in
+    subst Keeps (kind_is beside) (keep steady_cluster fluttering_drift (marking_script beside) 0 250 h 0 is_sane (covered beside) run (lit≤ tt) (subst In (sym (kind_is beside)) sync)) in
     (sync, kept, kept.always lasts_on)

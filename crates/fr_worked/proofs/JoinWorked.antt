@@ -4,7 +4,7 @@ use Rattle.fr_cluster.specs.Values.{Values}
 use Rattle.fr_bound.specs.Checks.{left_of}
 use Rattle.fr_bound.specs.SharpBounds.{last_of}
 use Rattle.fr_promise.specs.SharpJoining.{sharp_first_apart, sharp_first_lengths, sharp_join_holds_of, sharp_join_right_of, sharp_reach, sharp_second_apart}
-use Rattle.fr_sharp.proofs.SharpRows.{set}
+use Rattle.fr_promise.proofs.SharpRows.{set}
 
 -- the first lengths, the first and the second start of a node that follows, and the reach
 abbrev Follows : Bool → Values → ℕ → ℕ → ℕ → ℕ → ℕ → Type 0

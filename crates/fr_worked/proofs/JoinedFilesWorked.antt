@@ -2,7 +2,7 @@
 use Rattle.std.proofs.Common.{◌≡◌, zero, suc, Bool, true, false, None, refl, sym, subst, arith}
 use Rattle.fr_coverage.specs.Coverage.{gap_of_run, some_join}
 use Rattle.fr_coverage.specs.First.{first_below, first_in}
-use Rattle.fr_coverage.specs.Flutter.{flutter_of, greatest_below, greatest_in}
+use Rattle.fr_coverage.specs.Flutter.{flutter_from, flutter_of, greatest_below, greatest_in}
 use Rattle.fr_coverage.proofs.GapParts.{found-of-run}
 use Rattle.fr_drift.specs.Held.{held}
 use Rattle.fr_drift.specs.Questions.{delay_of, doubles_of, length_of}
@@ -15,14 +15,14 @@ use Rattle.fr_promise.specs.SharpJoining.{sharp_reach, SharpJoinChecksHold}
 use Rattle.fr_sharp.specs.SharpStatement.{has_arbitrary}
 use Rattle.fr_worked.specs.WorkedFiles.{fluttering_drift, joining_script, JoiningFilesAreCovered}
 use Rattle.fr_sharp.specs.WorkedRun.{steady_cluster}
-use Rattle.fr_sharp.proofs.SharpWorked.{is_sane}
+use Rattle.fr_promise.proofs.SharpWorked.{is_sane}
 
 no_gap : gap_of_run steady_cluster fluttering_drift joining_script ≡ None
 unfolding first_below first_in doubles_of length_of delay_of held is_arbitrary join_of deed_of deed_in event_of
 no_gap = refl
 
 flutter_is : flutter_of steady_cluster fluttering_drift joining_script ≡ 250
-unfolding flutter_of greatest_below greatest_in doubles_of delay_of held is_arbitrary
+unfolding flutter_from greatest_below greatest_in doubles_of delay_of held is_arbitrary
 flutter_is = refl
 
 kind_is : has_arbitrary steady_cluster joining_script ≡ false
@@ -57,7 +57,7 @@ joining_files_are_covered =
       flutter_is,
       record {
         checks = subst Hold (sym kind_is) checks_hold;
-        none = (found-of-run steady_cluster fluttering_drift joining_script is_sane).0 no_gap;
+        none = λ g gap behind. (found-of-run steady_cluster fluttering_drift joining_script is_sane).0 no_gap g gap;
         flutters = omega (arith, flutter_is);
       },
       first_holds,

@@ -14,7 +14,7 @@ use Rattle.fr_runs.specs.SharpHistories.{IsSteadyRun, IsStatedRun, IsKnownAt}
 use Rattle.fr_worked.specs.WorkedJudged.{far_known, heard_beside, known_with, worked_known, FarNumbersAreJudged, WorkedNumbersGoOn, WorkedRunGoesOn}
 use Rattle.fr_sharp.specs.WorkedRun.{steady_cluster, steady_run, Said}
 use Rattle.fr_sharp.proofs.JudgedLaws.{judged_goes_on_lem, stated_runs_are_known_lem}
-use Rattle.fr_sharp.proofs.RunSync.{timed}
+use Rattle.fr_promise.proofs.RunSync.{timed}
 use Rattle.fr_worked.proofs.RunWorked.{in_its_range, near_lengths, near_starts, steady_run_meets_premises}
 
 pub worked_numbers_go_on : WorkedNumbersGoOn
@@ -66,14 +66,14 @@ stated_near said beside = record {
 }
 
 heard_at : (said : Said) (beside : Bool) → IsSteadyRun beside (steady_run said beside) 0 (all_cycles (steady_run said beside)) → IsHeardIn (heard_beside beside) (steady_run said beside) 0
-heard_at said false w = (w.arbitrary, w.covered.links 0 (lit≤ tt))
-heard_at said true w = w.covered.links 0 (lit≤ tt)
+heard_at said false w = (w.arbitrary, w.covered.links 0 (lit≤ tt) (lit≤ tt))
+heard_at said true w = w.covered.links 0 (lit≤ tt) (lit≤ tt)
 
 pub worked_run_goes_on : ((x : Setting) (n : ℕ) → IsSetting x → IsLawful x (cycles_of x n)) → ((x : Setting) (n : ℕ) → length (cycles_of x n) ≡ n) → WorkedRunGoesOn
 worked_run_goes_on lawful long said beside bytes =
     let x : Setting = steady_run said beside in
     let h = all_cycles (steady_run said beside) in
     let w : IsSteadyRun beside x 0 h = (steady_run_meets_premises lawful long said beside bytes).0 in
-    let run : IsStatedRun x 0 h = timed beside x 0 h w in
+    let run : IsStatedRun x 0 h = timed beside x 0 0 h w in
     let known : IsKnownAt x h 0 worked_known = stated_runs_are_known_lem x 0 18_000_000 4_000_000 h run (stated_near said beside) (lit≤ tt) in
-    (known, judged_goes_on_lem (heard_beside beside) x 0 h 0 worked_known run (lit≤ tt) (heard_at said beside w) known worked_judged)
+    (known, judged_goes_on_lem (heard_beside beside) x 0 0 h 0 worked_known run (lit≤ tt) (lit≤ tt) (heard_at said beside w) known worked_judged)

@@ -8,6 +8,7 @@ use Rattle.fr_base.specs.Rows.{dev_in}
 use Rattle.fr_base.specs.declared.channel.Channel.TheVariants.{A, B}
 use Rattle.fr_base.specs.declared.dev.Dev.{Dev}
 use Rattle.fr_base.specs.declared.state.Outcome.TheVariants.{Exceeded, Within}
+use Rattle.fr_base.specs.States.{cut_of}
 use Rattle.fr_base.specs.declared.state.State.TheVariants.{Active, Halt}
 use Rattle.fr_cluster.specs.Questions.{own_index}
 use Rattle.fr_cluster.specs.Setting.{IsSetting, Setting, correct_nodes}
@@ -47,17 +48,17 @@ use Rattle.fr_precision.specs.SharpRun.{AllUncut}
 use Rattle.fr_runs.specs.SteadyRuns.{row_members}
 use Rattle.fr_worked.proofs.LongRows.{covered, early_at, even_long, from_none, from_some, is_sane, last_acts, late_at, late_start, odd_long, odd_rates, odd_starts, on_channel, reach, setting, there_1, there_2, there_3, whole_12, whole_2, AlikeAt, other_checks}
 use Rattle.fr_runs.proofs.RowsSupplied.{acts_early, counted_in, frames_stored, supplied_at, LawfulRows}
-use Rattle.fr_sharp.proofs.RunCycles.{stated_runs_are_steady}
-use Rattle.fr_promise.proofs.RunDoubles.{all_have, goes_on}
+use Rattle.fr_promise.proofs.RunCycles.{stated_runs_are_steady}
+use Rattle.fr_promise.proofs.RunDoubles.{all_have, ends_well, goes_on, IsCalm}
 use Rattle.fr_sharp.proofs.RunSettles.{histories_begin_active}
-use Rattle.fr_sharp.proofs.RunSync.{found_at, rows_at}
-use Rattle.fr_sharp.proofs.SharpWorked.{three}
+use Rattle.fr_promise.proofs.RunSync.{found_at, rows_at}
+use Rattle.fr_promise.proofs.SharpWorked.{three}
 use Rattle.fr_base.specs.declared.Outcome.{Outcome}
 use Rattle.fr_base.specs.declared.node_row.NodeRow.{NodeRow}
 use Rattle.fr_poc.specs.Control.{Status, control_of, first_status, status_after, step_of}
 use Rattle.fr_poc.specs.Limits.{limits_of}
 use Rattle.fr_history.specs.Terms.{offset_term_in, outcomes_in, rate_term_in, status_in}
-use Rattle.fr_runs.proofs.Courses.{row_term_is}
+use Rattle.fr_runs.proofs.Courses.{is_correct_row, row_term_is}
 use Rattle.fr_runs.proofs.Outcomes.{outcomes_some}
 use Rattle.std.proofs.lemmas.List.{length-append}
 use Rattle.std.proofs.lemmas.List.Sums.{fold-append}
@@ -219,7 +220,7 @@ module _ (double : ℕ) (start : ℤ) (earlier : Cycles) (even odd : Cycle) (s :
 
   odd_offset : (node : NodeSpec) → Contains (row_nodes long_run earlier) node → (row_for odd.told.rows node.id).offset ≡ pos 5
   odd_offset node among =
-      (supplied_at long_run 10_000_000 earlier even odd double near s (reach double start earlier even odd s a most) (covered.links double s.within) node among).applied
+      (supplied_at long_run 10_000_000 earlier even odd double near s (reach double start earlier even odd s a most) (covered.links double (omega arith) s.within) node among).applied
       ∙ ap (λ (t : Term). t.value) (offset_term_is node among)
 
   abbrev next_start : ℤ
@@ -242,9 +243,18 @@ module _ (double : ℕ) (start : ℤ) (earlier : Cycles) (even odd : Cycle) (s :
       (ap (λ (t : Term). t.outcome) (offset_term_is n among), ap (λ (t : Term). t.outcome) (rate_term_is n among) ∙ (uncut_term (suc double) more).0) in
       three Uncut (at (on_a 1)) (at (on_a 2)) (at (on_a 3)) (own (on_a 1) there_1) (own (on_a 2) there_2) (own (on_a 3) there_3)
 
+  calm : 8 * suc double ≤ 601 → (node : NodeSpec) → Contains (row_nodes long_run earlier) node → IsCalm (as_member long_cluster (row_hearer long_run even odd node.id))
+  calm more node among =
+      (ap (λ (t : Term). cut_of t.outcome) (offset_term_is node among), ap (λ (t : Term). cut_of t.outcome) (rate_term_is node among) ∙ ap cut_of (uncut_term (suc double) more).0)
+
+  stays : 8 * suc double ≤ 601 → (node : NodeSpec) → Contains (row_nodes long_run earlier) node → (status_in long_cluster (told_of (odd ∷ even ∷ earlier)) node.id).state ≡ Active
+  stays more node among =
+      let well = ends_well long_run 10_000_000 earlier even odd double s a.active_even a.active_odd (uncut more) (all_have long_run earlier refl) in
+      well.active node (is_correct_row long_run earlier node among)
+
   next_alike : 8 * suc double ≤ 601 → (even2 odd2 : Cycle) → LawfulRows long_run 10_000_000 (odd ∷ even ∷ earlier) even2 odd2 (suc double) → AlikeAt (suc double) next_start (odd ∷ even ∷ earlier) even2 odd2
   next_alike more even2 odd2 t =
-      let follows = λ (n : NodeSpec) (among : Contains (row_nodes long_run earlier) n). goes_on long_run 10_000_000 earlier even odd double s a.active_even a.active_odd (uncut more) even2 odd2 t (all_have long_run earlier refl) n among in
+      let follows = λ (n : NodeSpec) (among : Contains (row_nodes long_run earlier) n). goes_on long_run 10_000_000 earlier even odd double s a.active_even a.active_odd (calm more) (stays more) even2 odd2 t (all_have long_run earlier refl) n among in
       record {
         starts = λ n among. (follows n among).start ∙ ends n among;
         rates = λ n among. (follows n among).next.even_rate ∙ ap (λ (r : Term). r.value) (rate_term_is n among) ∙ (uncut_term (suc double) more).1;
@@ -255,7 +265,7 @@ module _ (double : ℕ) (start : ℤ) (earlier : Cycles) (even odd : Cycle) (s :
 module _ (h : Cycles) (w : IsSteadyRun false long_run 10_000_000 h) where
   alike : (double : ℕ) → double < 76 → (earlier : Cycles) (even odd : Cycle) → IsDoubleOf h double earlier even odd → (start : ℤ) × AlikeAt double start earlier even odd
   alike zero within [] even odd d =
-      let s = rows_at false long_run 10_000_000 h w 0 [] even odd d in
+      let s = rows_at false long_run 0 10_000_000 h w 0 (omega arith) [] even odd d in
       let active = histories_begin_active false long_run 10_000_000 h w [] even odd d in
       let runs = λ (node : NodeSpec) (among : Contains (row_nodes long_run []) node). row_runs_by (row_laws long_run []) (offset_after long_cluster (told_of []) even.told) (row_nodes long_run []) even.told.rows node s.two.even_rows among in
       (pos 0, record { starts = λ node among. (runs node among).start; rates = λ node among. (runs node among).rate; active_even = active.0; active_odd = active.1 })
@@ -267,21 +277,21 @@ module _ (h : Cycles) (w : IsSteadyRun false long_run 10_000_000 h) where
   alike (suc double) within (o ∷ e ∷ earlier) even odd d =
       let before = prior_of h double earlier e o even odd d in
       let at = alike double (omega (arith, within)) earlier e o before in
-      let s = rows_at false long_run 10_000_000 h w double earlier e o before in
-      let t = rows_at false long_run 10_000_000 h w (suc double) (o ∷ e ∷ earlier) even odd d in
+      let s = rows_at false long_run 0 10_000_000 h w double (omega arith) earlier e o before in
+      let t = rows_at false long_run 0 10_000_000 h w (suc double) (omega arith) (o ∷ e ∷ earlier) even odd d in
       (next_start double at.0 earlier e o s at.1 (omega (arith, within)), next_alike double at.0 earlier e o s at.1 (omega (arith, within)) (omega (arith, within)) even odd t)
 
   walks : (double : ℕ) (earlier : Cycles) (even odd : Cycle) → double < 76 → IsDoubleOf h double earlier even odd
       → All (λ row. row.rate ≡ pos (8 * double)) even.told.rows × All (λ row. row.state ≡ Active) even.told.rows × All (λ row. row.state ≡ Active) odd.told.rows
   walks double earlier even odd within d =
       let at = (alike double within earlier even odd d).1 in
-      let s = rows_at false long_run 10_000_000 h w double earlier even odd d in
+      let s = rows_at false long_run 0 10_000_000 h w double (omega arith) earlier even odd d in
       (all_rows (row_nodes long_run earlier) even.told.rows (λ row. row.rate ≡ pos (8 * double)) (rows_ascend long_run earlier is_sane) s.two.even_rows.nodes at.rates, at.active_even, at.active_odd)
 
   is_cut : (earlier : Cycles) (even odd : Cycle) (node : NodeSpec) → IsDoubleOf h 75 earlier even odd → Contains (correct_nodes long_run) node → (rate_term_told long_run even odd node).outcome ≡ Exceeded
   is_cut earlier even odd node d among =
       let at = alike 75 (lit< tt) earlier even odd d in
-      let s = rows_at false long_run 10_000_000 h w 75 earlier even odd d in
+      let s = rows_at false long_run 0 10_000_000 h w 75 (omega arith) earlier even odd d in
       let number = (has_row (row_nodes long_run earlier) odd.told.rows node s.two.odd_rows.nodes among).number in
       ap (λ (id : ℕ). (rate_term_of (row_for odd.told.rows node.id).rate (pos 2) (pos 601) (rate_values_by long_cluster even.told.devs odd.told.devs id (own_index long_cluster node.id))).outcome) number
       ∙ ap (λ (t : Term). t.outcome) (rate_term_is 75 at.0 earlier even odd s at.1 (lit≤ tt) node among)
@@ -290,7 +300,7 @@ module _ (h : Cycles) (w : IsSteadyRun false long_run 10_000_000 h) where
       → (status_in long_cluster (told_of h) node.id).state ≡ Halt
   halts_at earlier even odd d node among =
       let at = alike 75 (lit< tt) earlier even odd d in
-      let s = rows_at false long_run 10_000_000 h w 75 earlier even odd d in
+      let s = rows_at false long_run 0 10_000_000 h w 75 (omega arith) earlier even odd d in
       let even_has = row_runs_by (row_laws long_run earlier) (offset_after long_cluster (told_of earlier) even.told) (row_nodes long_run earlier) even.told.rows node s.two.even_rows among in
       let odd_has = has_row (row_nodes long_run earlier) odd.told.rows node s.two.odd_rows.nodes among in
       let number = odd_has.number in
@@ -317,7 +327,7 @@ stated_near = record {
 
 module _ (lawful : (x : Setting) (n : ℕ) → IsSetting x → IsLawful x (cycles_of x n)) (long : (x : Setting) (n : ℕ) → length (cycles_of x n) ≡ n) where
   steady : IsSteadyRun false long_run 10_000_000 (all_cycles long_run)
-  steady = stated_runs_are_steady lawful long false long_run 10_000_000 setting covered refl refl
+  steady = stated_runs_are_steady lawful long false long_run 0 10_000_000 setting covered refl refl
 
   pub long_run_begins : LongRunBegins
   unfolding last_of
@@ -331,5 +341,5 @@ module _ (lawful : (x : Setting) (n : ℕ) → IsSetting x → IsLawful x (cycle
 
   pub long_run_halts : LongRunHalts
   long_run_halts node among =
-      let d = found_at false long_run 10_000_000 (all_cycles long_run) steady 75 (lit< tt) in
+      let d = found_at false long_run 0 10_000_000 (all_cycles long_run) steady 75 (lit< tt) in
       halts_at (all_cycles long_run) steady d.earlier d.even d.odd d.is node among

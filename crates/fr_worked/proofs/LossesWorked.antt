@@ -5,7 +5,7 @@ use Rattle.fr_cluster.specs.Setting.{Setting}
 use Rattle.fr_coverage.specs.Coverage.{gap_of_run, some_join}
 use Rattle.fr_coverage.specs.Decided.{setting_of}
 use Rattle.fr_coverage.specs.First.{first_below, first_in}
-use Rattle.fr_coverage.specs.Flutter.{flutter_of, greatest_below, greatest_in}
+use Rattle.fr_coverage.specs.Flutter.{flutter_from, flutter_of, greatest_below, greatest_in}
 use Rattle.fr_coverage.proofs.GapParts.{found-of-run}
 use Rattle.fr_drift.specs.Held.{held}
 use Rattle.fr_drift.specs.Questions.{delay_of, doubles_of, length_of}
@@ -14,7 +14,7 @@ use Rattle.fr_script.specs.Events.{event_of}
 use Rattle.fr_script.specs.View.{deed_of, is_arbitrary, join_of}
 use Rattle.fr_precision.specs.Among.{apart_through_losses, spread_through_losses, LaterSpreadsAreLess}
 use Rattle.fr_sharp.specs.Losses.{HistoriesKeepThroughLosses}
-use Rattle.fr_sharp.specs.LossStatement.{whole_in, without_losses, IsCoveredThroughLosses}
+use Rattle.fr_sharp.specs.LossStatement.{run_spread, whole_in, without_losses, IsCoveredThroughLosses}
 use Rattle.fr_sharp.specs.SettlingHistories.{AreStatedNear}
 use Rattle.fr_bound.specs.SharpBounds.{last_of, sharp_lambda, sharp_pi}
 use Rattle.fr_bound.specs.SharpChecks.{SharpChecksHold}
@@ -22,14 +22,15 @@ use Rattle.fr_runs.specs.SharpHistories.{IsInSharpSyncAt, KeepsApart}
 use Rattle.fr_precision.specs.SharpRun.{WalkLastsAfter}
 use Rattle.fr_bound.specs.SharpSpreads.{sharply_near_in}
 use Rattle.fr_sharp.specs.SharpStatement.{has_arbitrary}
-use Rattle.fr_sharp.specs.Traffic.{all_trusted, costs_of, heard_in, traffic_in}
+use Rattle.fr_sharp.specs.Traffic.{all_bear_from, costs_of, heard_in, lacking_for, none_lacks, traffic_in}
 use Rattle.fr_worked.specs.WorkedFiles.{fluttering_drift}
 use Rattle.fr_worked.specs.WorkedLosses.{losing_script, LosingFilesAreCovered, LosingFilesKeep}
 use Rattle.fr_sharp.specs.WorkedRun.{steady_cluster}
 use Rattle.fr_worked.proofs.FilesWorked.{stated_near}
+use Rattle.fr_sharp.proofs.BearingKinds.{through_is_apart}
 use Rattle.fr_sharp.proofs.FromLossyFiles.{covered_files_keep_through_losses, lossy_files_give_runs}
 use Rattle.fr_sharp.proofs.RunStated.{timed_runs_begin_in_sharp_sync}
-use Rattle.fr_sharp.proofs.SharpWorked.{is_sane}
+use Rattle.fr_promise.proofs.SharpWorked.{is_sane}
 
 -- ---- what is heard
 
@@ -52,7 +53,7 @@ unfolding first_below first_in doubles_of length_of delay_of held is_arbitrary j
 no_gap = refl
 
 flutter_is : flutter_of steady_cluster fluttering_drift losing_script ≡ 250
-unfolding flutter_of greatest_below greatest_in doubles_of delay_of held is_arbitrary
+unfolding flutter_from greatest_below greatest_in doubles_of delay_of held is_arbitrary
 flutter_is = refl
 
 none_arbitrary : has_arbitrary steady_cluster losing_script ≡ false
@@ -78,7 +79,7 @@ abbrev what : ℕ → Heard
 what double = heard_in (traffic_in steady_cluster losing_script) double
 
 abbrev near_at : ℕ → ℕ
-near_at double = sharply_near_in steady_cluster (spread_through_losses (has_arbitrary steady_cluster losing_script) steady_cluster 250 what double)
+near_at double = sharply_near_in steady_cluster (run_spread steady_cluster losing_script 0 250 double)
 
 near_0 : near_at 0 ≤ 61_281_165
 unfolding spread_through_losses last_of is_arbitrary
@@ -92,28 +93,28 @@ near_2 : near_at 2 ≤ 61_281_165
 unfolding spread_through_losses costs_of last_of is_arbitrary deed_of deed_in event_of
 near_2 = lit≤ tt
 
-near_in : (double : ℕ) → double < doubles_of fluttering_drift → near_at double ≤ 61_281_165
+near_in : (double : ℕ) → 0 ≤ double → double < doubles_of fluttering_drift → near_at double ≤ 61_281_165
 unfolding doubles_of
-near_in zero less = near_0
-near_in (suc zero) less = near_1
-near_in (suc (suc zero)) less = near_2
-near_in (suc (suc (suc k))) less = absurd (omega (arith, less))
+near_in zero late less = near_0
+near_in (suc zero) late less = near_1
+near_in (suc (suc zero)) late less = near_2
+near_in (suc (suc (suc k))) late less = absurd (omega (arith, less))
 
-trusted : (double : ℕ) → double < doubles_of fluttering_drift → all_trusted (traffic_in steady_cluster losing_script) double ≡ true
-unfolding doubles_of is_arbitrary deed_of deed_in event_of
-trusted zero less = refl
-trusted (suc zero) less = refl
-trusted (suc (suc zero)) less = refl
-trusted (suc (suc (suc k))) less = absurd (omega (arith, less))
+trusted : (double : ℕ) → 0 ≤ double → double < doubles_of fluttering_drift → all_bear_from steady_cluster (traffic_in steady_cluster losing_script) 0 double ≡ true
+unfolding lacking_for doubles_of is_arbitrary deed_of deed_in event_of
+trusted zero late less = refl
+trusted (suc zero) late less = refl
+trusted (suc (suc zero)) late less = refl
+trusted (suc (suc (suc k))) late less = absurd (omega (arith, less))
 
-covered : IsCoveredThroughLosses steady_cluster fluttering_drift losing_script 250 61_281_165
+covered : IsCoveredThroughLosses steady_cluster fluttering_drift losing_script 0 250 61_281_165
 covered = record {
   checks = checks_hold;
   near = near_in;
   none_joins = none_joins;
-  none = (found-of-run steady_cluster fluttering_drift (without_losses losing_script) is_sane).0 no_gap;
+  none = λ g gap behind. (found-of-run steady_cluster fluttering_drift (without_losses losing_script) is_sane).0 no_gap g gap;
   flutters = omega (arith, flutter_is);
-  trusted = trusted;
+  borne = trusted;
 }
 
 pub losing_files_are_covered : LosingFilesAreCovered
@@ -151,14 +152,20 @@ three : doubles_of fluttering_drift ≡ 3
 unfolding doubles_of
 three = refl
 
+-- each node has a key slot
+awake : (double : ℕ) → none_lacks (traffic_in steady_cluster losing_script) double ≡ true
+unfolding is_arbitrary
+awake double = refl
+
 pub losing_files_keep : HistoriesKeepThroughLosses → LaterSpreadsAreLess → LosingFilesKeep
 losing_files_keep keep later h run =
-    let w = lossy_files_give_runs steady_cluster fluttering_drift losing_script 250 61_281_165 h is_sane covered run in
+    let w = lossy_files_give_runs steady_cluster fluttering_drift losing_script 0 250 61_281_165 h is_sane covered run in
     let some : 1 ≤ losing.doubles = let e = three in omega (arith, e) in
     let sync : IsInSharpSyncAt false steady_cluster 250 (pos 0) h 0 = timed_runs_begin_in_sharp_sync false losing 250 h w.run near some in
     let synced : IsInSharpSyncAt (has_arbitrary steady_cluster losing_script) steady_cluster 250 (pos 0) h 0 = subst (λ (b : Bool). IsInSharpSyncAt b steady_cluster 250 (pos 0) h 0) (sym none_arbitrary) sync in
     let keeps = λ (passed : ℕ) (less : 0 + passed < doubles_of fluttering_drift).
-    covered_files_keep_through_losses keep later steady_cluster fluttering_drift losing_script 250 61_281_165 h 0 is_sane covered run synced passed less (lasts passed) in
+    through_is_apart losing h (0 + passed) (apart_at passed)
+    (covered_files_keep_through_losses keep later steady_cluster fluttering_drift losing_script 0 250 61_281_165 h 0 is_sane covered run (lit≤ tt) synced (awake 0) passed less (lasts passed)) (awake (0 + passed)) in
     let Keeps : ℕ → ℕ → Type 0 = λ double apart. KeepsApart losing h double apart in
     let less = λ (n : ℕ) (is : n < 3). (let e = three in let below : n < doubles_of fluttering_drift = omega (arith, e, is) in below) in
     (sync, subst (Keeps 0) apart_0 (keeps 0 (less 0 (lit< tt))), subst (Keeps 1) apart_1 (keeps 1 (less 1 (lit< tt))), subst (Keeps 2) apart_2 (keeps 2 (less 2 (lit< tt))))

@@ -6,7 +6,7 @@ use Rattle.fr_cluster.specs.Setting.{Setting}
 use Rattle.fr_coverage.specs.Coverage.{gap_of_run, some_join}
 use Rattle.fr_coverage.specs.Decided.{setting_of}
 use Rattle.fr_coverage.specs.First.{first_below, first_in}
-use Rattle.fr_coverage.specs.Flutter.{flutter_of, greatest_below, greatest_in}
+use Rattle.fr_coverage.specs.Flutter.{flutter_from, flutter_of, greatest_below, greatest_in}
 use Rattle.fr_coverage.proofs.GapParts.{found-of-run}
 use Rattle.fr_drift.specs.Held.{held}
 use Rattle.fr_drift.specs.Questions.{delay_of, doubles_of, length_of}
@@ -15,7 +15,7 @@ use Rattle.fr_script.specs.Events.{event_of}
 use Rattle.fr_script.specs.View.{ScriptView, deed_of, is_arbitrary, join_of}
 use Rattle.fr_precision.specs.Among.{apart_through_losses, spread_through_losses, LaterSpreadsAreLess}
 use Rattle.fr_sharp.specs.Losses.{HistoriesKeepThroughLosses}
-use Rattle.fr_sharp.specs.LossStatement.{without_losses, IsCoveredThroughLosses}
+use Rattle.fr_sharp.specs.LossStatement.{run_spread, without_losses, IsCoveredThroughLosses}
 use Rattle.fr_sharp.specs.SettlingHistories.{AreStatedNear}
 use Rattle.fr_bound.specs.SharpBounds.{last_of, sharp_lambda, sharp_pi}
 use Rattle.fr_bound.specs.SharpChecks.{SharpChecksHold}
@@ -23,14 +23,15 @@ use Rattle.fr_runs.specs.SharpHistories.{IsInSharpSyncAt, KeepsApart}
 use Rattle.fr_precision.specs.SharpRun.{WalkLastsAfter}
 use Rattle.fr_bound.specs.SharpSpreads.{sharply_near_in}
 use Rattle.fr_sharp.specs.SharpStatement.{has_arbitrary}
-use Rattle.fr_sharp.specs.Traffic.{all_trusted, costs_of, heard_in, traffic_in}
+use Rattle.fr_sharp.specs.Traffic.{all_bear_from, costs_of, heard_in, lacking_for, none_lacks, traffic_in}
 use Rattle.fr_worked.specs.WorkedFiles.{fluttering_drift, marking_script}
 use Rattle.fr_worked.specs.WorkedLosses.{missing_script, BesideFilesAreCovered, BesideFilesKeep, MissingFilesAreCovered, MissingFilesKeep}
 use Rattle.fr_sharp.specs.WorkedRun.{steady_cluster}
 use Rattle.fr_worked.proofs.FilesWorked.{covered as sharply_covered, kind_is, stated_near, steady}
+use Rattle.fr_sharp.proofs.BearingKinds.{through_is_apart}
 use Rattle.fr_sharp.proofs.FromLossyFiles.{covered_files_keep_through_losses, lossy_files_give_runs}
 use Rattle.fr_sharp.proofs.RunStated.{stated_runs_begin_in_sharp_sync, timed_runs_begin_in_sharp_sync}
-use Rattle.fr_sharp.proofs.SharpWorked.{is_sane}
+use Rattle.fr_promise.proofs.SharpWorked.{is_sane}
 
 -- ---- one frame at one node
 
@@ -51,7 +52,7 @@ unfolding first_below first_in doubles_of length_of delay_of held is_arbitrary j
 no_gap = refl
 
 flutter_is : flutter_of steady_cluster fluttering_drift missing_script ≡ 250
-unfolding flutter_of greatest_below greatest_in doubles_of delay_of held is_arbitrary
+unfolding flutter_from greatest_below greatest_in doubles_of delay_of held is_arbitrary
 flutter_is = refl
 
 none_arbitrary : has_arbitrary steady_cluster missing_script ≡ false
@@ -73,30 +74,30 @@ missing_checks (suc (suc (suc (suc (suc zero))))) from to = refl
 missing_checks (suc (suc (suc (suc (suc (suc k)))))) from to = absurd (omega (arith, to))
 
 abbrev near_at : ScriptView → ℕ → ℕ
-near_at s double = sharply_near_in steady_cluster (spread_through_losses (has_arbitrary steady_cluster s) steady_cluster 250 (heard_in (traffic_in steady_cluster s)) double)
+near_at s double = sharply_near_in steady_cluster (run_spread steady_cluster s 0 250 double)
 
-missing_near : (double : ℕ) → double < doubles_of fluttering_drift → near_at missing_script double ≤ 45_726_402
+missing_near : (double : ℕ) → 0 ≤ double → double < doubles_of fluttering_drift → near_at missing_script double ≤ 45_726_402
 unfolding doubles_of spread_through_losses costs_of last_of is_arbitrary deed_of deed_in event_of
-missing_near zero less = lit≤ tt
-missing_near (suc zero) less = lit≤ tt
-missing_near (suc (suc zero)) less = lit≤ tt
-missing_near (suc (suc (suc k))) less = absurd (omega (arith, less))
+missing_near zero late less = lit≤ tt
+missing_near (suc zero) late less = lit≤ tt
+missing_near (suc (suc zero)) late less = lit≤ tt
+missing_near (suc (suc (suc k))) late less = absurd (omega (arith, less))
 
-missing_trusted : (double : ℕ) → double < doubles_of fluttering_drift → all_trusted (traffic_in steady_cluster missing_script) double ≡ true
-unfolding doubles_of is_arbitrary deed_of deed_in event_of
-missing_trusted zero less = refl
-missing_trusted (suc zero) less = refl
-missing_trusted (suc (suc zero)) less = refl
-missing_trusted (suc (suc (suc k))) less = absurd (omega (arith, less))
+missing_trusted : (double : ℕ) → 0 ≤ double → double < doubles_of fluttering_drift → all_bear_from steady_cluster (traffic_in steady_cluster missing_script) 0 double ≡ true
+unfolding lacking_for doubles_of is_arbitrary deed_of deed_in event_of
+missing_trusted zero late less = refl
+missing_trusted (suc zero) late less = refl
+missing_trusted (suc (suc zero)) late less = refl
+missing_trusted (suc (suc (suc k))) late less = absurd (omega (arith, less))
 
-missing_covered : IsCoveredThroughLosses steady_cluster fluttering_drift missing_script 250 45_726_402
+missing_covered : IsCoveredThroughLosses steady_cluster fluttering_drift missing_script 0 250 45_726_402
 missing_covered = record {
   checks = missing_checks;
   near = missing_near;
   none_joins = none_joins;
-  none = (found-of-run steady_cluster fluttering_drift (without_losses missing_script) is_sane).0 no_gap;
+  none = λ g gap behind. (found-of-run steady_cluster fluttering_drift (without_losses missing_script) is_sane).0 no_gap g gap;
   flutters = omega (arith, flutter_is);
-  trusted = missing_trusted;
+  borne = missing_trusted;
 }
 
 pub missing_files_are_covered : MissingFilesAreCovered
@@ -134,14 +135,21 @@ three = refl
 within : (n : ℕ) → n < 3 → 0 + n < doubles_of fluttering_drift
 within n is = let e = three in omega (arith, e, is)
 
+-- each node has a key slot
+missing_awake : (double : ℕ) → none_lacks (traffic_in steady_cluster missing_script) double ≡ true
+unfolding is_arbitrary
+missing_awake double = refl
+
 pub missing_files_keep : HistoriesKeepThroughLosses → LaterSpreadsAreLess → MissingFilesKeep
 missing_files_keep keep later h run =
-    let w = lossy_files_give_runs steady_cluster fluttering_drift missing_script 250 45_726_402 h is_sane missing_covered run in
+    let w = lossy_files_give_runs steady_cluster fluttering_drift missing_script 0 250 45_726_402 h is_sane missing_covered run in
     let some : 1 ≤ missing.doubles = let e = three in omega (arith, e) in
     let sync : IsInSharpSyncAt false steady_cluster 250 (pos 0) h 0 = timed_runs_begin_in_sharp_sync false missing 250 h w.run near some in
     let synced : IsInSharpSyncAt (has_arbitrary steady_cluster missing_script) steady_cluster 250 (pos 0) h 0 = subst (λ (b : Bool). IsInSharpSyncAt b steady_cluster 250 (pos 0) h 0) (sym none_arbitrary) sync in
     let keeps = λ (passed : ℕ) (less : 0 + passed < doubles_of fluttering_drift).
-    covered_files_keep_through_losses keep later steady_cluster fluttering_drift missing_script 250 45_726_402 h 0 is_sane missing_covered run synced passed less (lasts passed) in
+    through_is_apart missing h (0 + passed) (apart_at missing_script passed)
+    (covered_files_keep_through_losses keep later steady_cluster fluttering_drift missing_script 0 250 45_726_402 h 0 is_sane missing_covered run (lit≤ tt) synced (missing_awake 0) passed less (lasts passed))
+    (missing_awake (0 + passed)) in
     let Keeps : ℕ → ℕ → Type 0 = λ double apart. KeepsApart missing h double apart in (
       sync,
       subst (Keeps 0) apart_0 (keeps 0 (within 0 (lit< tt))),
@@ -171,21 +179,21 @@ beside_checks (suc (suc (suc (suc zero)))) from to = refl
 beside_checks (suc (suc (suc (suc (suc zero))))) from to = refl
 beside_checks (suc (suc (suc (suc (suc (suc k)))))) from to = absurd (omega (arith, to))
 
-beside_near : (double : ℕ) → double < doubles_of fluttering_drift → near_at (marking_script true) double ≤ 84_305_863
+beside_near : (double : ℕ) → 0 ≤ double → double < doubles_of fluttering_drift → near_at (marking_script true) double ≤ 84_305_863
 unfolding doubles_of spread_through_losses costs_of last_of is_arbitrary deed_of deed_in event_of
-beside_near zero less = lit≤ tt
-beside_near (suc zero) less = lit≤ tt
-beside_near (suc (suc zero)) less = lit≤ tt
-beside_near (suc (suc (suc k))) less = absurd (omega (arith, less))
+beside_near zero late less = lit≤ tt
+beside_near (suc zero) late less = lit≤ tt
+beside_near (suc (suc zero)) late less = lit≤ tt
+beside_near (suc (suc (suc k))) late less = absurd (omega (arith, less))
 
-beside_trusted : (double : ℕ) → double < doubles_of fluttering_drift → all_trusted (traffic_in steady_cluster (marking_script true)) double ≡ true
-unfolding doubles_of is_arbitrary deed_of deed_in event_of
-beside_trusted zero less = refl
-beside_trusted (suc zero) less = refl
-beside_trusted (suc (suc zero)) less = refl
-beside_trusted (suc (suc (suc k))) less = absurd (omega (arith, less))
+beside_trusted : (double : ℕ) → 0 ≤ double → double < doubles_of fluttering_drift → all_bear_from steady_cluster (traffic_in steady_cluster (marking_script true)) 0 double ≡ true
+unfolding lacking_for doubles_of is_arbitrary deed_of deed_in event_of
+beside_trusted zero late less = refl
+beside_trusted (suc zero) late less = refl
+beside_trusted (suc (suc zero)) late less = refl
+beside_trusted (suc (suc (suc k))) late less = absurd (omega (arith, less))
 
-beside_covered : IsCoveredThroughLosses steady_cluster fluttering_drift (marking_script true) 250 84_305_863
+beside_covered : IsCoveredThroughLosses steady_cluster fluttering_drift (marking_script true) 0 250 84_305_863
 beside_covered =
     let sharply = sharply_covered true in
     record {
@@ -194,7 +202,7 @@ beside_covered =
       none_joins = sharply.none_joins;
       none = sharply.none;
       flutters = sharply.flutters;
-      trusted = beside_trusted;
+      borne = beside_trusted;
     }
 
 pub beside_files_are_covered : BesideFilesAreCovered
@@ -207,12 +215,18 @@ beside_apart (suc zero) less = refl
 beside_apart (suc (suc zero)) less = refl
 beside_apart (suc (suc (suc k))) less = absurd (omega (arith, less))
 
+-- each node has a key slot
+beside_awake : (double : ℕ) → none_lacks (traffic_in steady_cluster (marking_script true)) double ≡ true
+unfolding is_arbitrary
+beside_awake double = refl
+
 pub beside_files_keep : HistoriesKeepThroughLosses → LaterSpreadsAreLess → BesideFilesKeep
 beside_files_keep keep later h run double less =
     let x : Setting = setting_of steady_cluster fluttering_drift (marking_script true) in
     let some : 1 ≤ x.doubles = let e = three in omega (arith, e) in
     let sync : IsInSharpSyncAt true steady_cluster 250 (pos 0) h 0 = stated_runs_begin_in_sharp_sync true x 250 h (steady true h run) (stated_near true) some in
     let synced : IsInSharpSyncAt (has_arbitrary steady_cluster (marking_script true)) steady_cluster 250 (pos 0) h 0 = subst (λ (b : Bool). IsInSharpSyncAt b steady_cluster 250 (pos 0) h 0) (sym (kind_is true)) sync in
-    let keeps = covered_files_keep_through_losses keep later steady_cluster fluttering_drift (marking_script true) 250 84_305_863 h 0 is_sane beside_covered run synced double (within double less) (lasts double) in
+    let through = covered_files_keep_through_losses keep later steady_cluster fluttering_drift (marking_script true) 0 250 84_305_863 h 0 is_sane beside_covered run (lit≤ tt) synced (beside_awake 0) double (within double less) (lasts double) in
+    let keeps = through_is_apart x h (0 + double) (apart_at (marking_script true) double) through (beside_awake (0 + double)) in
     let none : 0 + double ≡ double = omega arith in
     subst (λ (n : ℕ). KeepsApart x h n 99_015_680) none (subst (KeepsApart x h (0 + double)) (beside_apart double less) keeps)

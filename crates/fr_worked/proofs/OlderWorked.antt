@@ -1,27 +1,22 @@
 -- From sync in the older sense: the two nodes of the reference cluster, whose starts lie 2,500,000 ticks apart, without an arbitrary
 -- node, and with a flutter of twice the error of an arrival.
 use Rattle.std.proofs.Common.{◌≡◌, ℕ, suc, zero, ◌≤◌, true, false, ℤ, pos, negsuc, List, [], ◌∷◌, length, All, refl, inr, lit≤, lit<, arith}
-use Rattle.std.specs.Prelude.{◌-ℤ◌, ◌≤ℤ◌}
 use Rattle.std.proofs.lemmas.List.Elements.{All-contains}
 use Rattle.std.proofs.lemmas.List.Sorted.{IsPermutation-refl}
-use Rattle.fr_base.specs.declared.node_row.NodeRow.{NodeRow}
-use Rattle.fr_base.specs.declared.state.State.TheVariants.{Active}
-use Rattle.fr_base.specs.Within.{IsBetween, LieWithin}
+use Rattle.fr_base.specs.Within.{IsBetween}
 use Rattle.fr_midpoint.specs.Midpoint.{IsMidpoint}
-use Rattle.fr_bound.specs.Bounds.{lambda_of, pi_of}
 use Rattle.fr_bound.specs.Checks.{holds_of}
-use Rattle.fr_bound.specs.Sync.{cycle_length_of, IsCycleLength, IsInSync}
 use Rattle.fr_precision.specs.Rows.{Sender}
 use Rattle.fr_precision.specs.Offsets.{IsOffsetRound}
 use Rattle.fr_precision.specs.Placement.{IsRegular}
 use Rattle.fr_precision.specs.Step.{IsAmong, Member}
-use Rattle.fr_precision.proofs.Worked.{cluster, first, is_sane, second, two}
+use Rattle.fr_precision.proofs.Worked.{cluster, first, is_sane, second, two, rows_in_sync}
 use Rattle.fr_bound.specs.SharpBounds.{last_action, last_of}
 use Rattle.fr_precision.specs.Lengths.{IsSteadyRound}
 use Rattle.fr_precision.specs.SharpStep.{AllKeepSenders, ComputesSharply, IsSharpDouble}
 use Rattle.fr_precision.specs.SharpRun.{BeginInSync, KeepsFromSync}
 use Rattle.fr_precision.proofs.OlderLemmas.{older_sync_settles}
-use Rattle.fr_sharp.proofs.SharpWorked.{uncut}
+use Rattle.fr_promise.proofs.SharpWorked.{uncut}
 
 abbrev both : List Sender
 both = first ∷ second ∷ []
@@ -170,21 +165,6 @@ heard = record {
   keep = kept;
 }
 
-lie_two : (bound a b : ℤ) → (a -ℤ a) ≤ℤ bound → (a -ℤ b) ≤ℤ bound → (b -ℤ a) ≤ℤ bound → (b -ℤ b) ≤ℤ bound → LieWithin bound (a ∷ b ∷ [])
-lie_two bound a b aa ab ba bb =
-    two (λ x. All (λ y. (x -ℤ y) ≤ℤ bound) (a ∷ b ∷ [])) a b (two (λ y. (a -ℤ y) ≤ℤ bound) a b aa ab) (two (λ y. (b -ℤ y) ≤ℤ bound) a b ba bb)
-
-in_sync : IsInSync cluster (first.even ∷ second.even ∷ []) (first.odd ∷ second.odd ∷ [])
-in_sync = record {
-  active_even = two (λ (row : NodeRow). row.state ≡ Active) first.even second.even refl refl;
-  active_odd = two (λ (row : NodeRow). row.state ≡ Active) first.odd second.odd refl refl;
-  starts = lie_two (pos (pi_of cluster)) first.even.start second.even.start (record { le = tt }) (record { le = tt }) (record { le = tt }) (record { le = tt });
-  even_lengths = lie_two (pos (lambda_of cluster)) (cycle_length_of cluster first.even) (cycle_length_of cluster second.even) (record { le = tt }) (record { le = tt }) (record { le = tt }) (record { le = tt });
-  odd_lengths = lie_two (pos (lambda_of cluster)) (cycle_length_of cluster first.odd) (cycle_length_of cluster second.odd) (record { le = tt }) (record { le = tt }) (record { le = tt }) (record { le = tt });
-  even_proper = two (λ row. IsCycleLength cluster (cycle_length_of cluster row)) first.even second.even (record { le = tt }, record { le = tt }) (record { le = tt }, record { le = tt });
-  odd_proper = two (λ row. IsCycleLength cluster (cycle_length_of cluster row)) first.odd second.odd (record { le = tt }, record { le = tt }) (record { le = tt }, record { le = tt });
-}
-
 checks : (number : ℕ) → 1 ≤ number → number ≤ 5 → holds_of number cluster ≡ true
 checks zero from to = absurd (omega (arith, from))
 checks (suc zero) from to = refl
@@ -204,7 +184,7 @@ begin = record {
   };
   little = lit≤ tt;
   checks = checks;
-  sync = in_sync;
+  sync = rows_in_sync;
 }
 
 settles : KeepsFromSync false cluster 1_000_000 (λ k. members) 0

@@ -1,15 +1,14 @@
 -- The run whose clocks begin together and are driven apart: what is stated of it, and its skew, computed from the definitions.
-use Rattle.std.proofs.Common.{◌≡◌, ◌≢◌, ℕ, zero, suc, ◌*◌, ◌%◌, ◌<◌, ◌≤◌, ◌==◌, Bool, true, false, ℤ, pos, [], ◌∷◌, Some, length, refl, inl, lit≤, lit<, rules, arith, if◌then◌else◌}
-use Rattle.std.specs.Prelude.{◌+ℤ◌, ◌-ℤ◌, ◌*ℤ◌, ◌≤ℤ◌, AllPairs, Contains}
+use Rattle.std.proofs.Common.{◌≡◌, ℕ, zero, suc, ◌*◌, ◌%◌, ◌<◌, ◌≤◌, ◌==◌, Bool, true, false, ℤ, pos, [], ◌∷◌, Some, length, refl, inl, lit≤, lit<, arith, if◌then◌else◌}
+use Rattle.std.specs.Prelude.{◌+ℤ◌, ◌-ℤ◌, ◌*ℤ◌, ◌≤ℤ◌, Contains}
 use Rattle.std.proofs.lemmas.Int.{ints}
-use Rattle.std.proofs.lemmas.List.Elements.{All-cons, All-contains, All-nil}
-use Rattle.std.proofs.lemmas.List.Kept.{AllPairs-cons}
+use Rattle.std.proofs.lemmas.List.Elements.{All-contains, All-nil}
 use Rattle.fr_base.specs.Within.{IsBetween, IsWithin}
 use Rattle.fr_base.specs.declared.channel.Channel.{Channel}
 use Rattle.fr_base.specs.declared.channel.Channel.TheVariants.{A, B}
 use Rattle.fr_cluster.specs.Questions.{has_channel}
 use Rattle.fr_cluster.specs.Ranges.{InRange}
-use Rattle.fr_cluster.specs.Sane.{IsSane, IsSaneNode, IsSaneSlot}
+use Rattle.fr_cluster.specs.Sane.{IsSane}
 use Rattle.fr_cluster.specs.Setting.{IsSetting, Setting, correct_nodes}
 use Rattle.fr_cluster.specs.Values.{figure}
 use Rattle.fr_cluster.specs.declared.names.ParamName.{ParamName}
@@ -33,48 +32,16 @@ use Rattle.fr_bound.specs.SharpBounds.{last_of, sharp_lambda, sharp_near, sharp_
 use Rattle.fr_bound.specs.SharpChecks.{sharp_holds_of}
 use Rattle.fr_runs.specs.SharpHistories.{IsSteadyRun}
 use Rattle.fr_runs.specs.SteadyRuns.{IsSteadySetting}
-use Rattle.fr_sharp.proofs.RunCycles.{stated_runs_are_steady}
+use Rattle.fr_promise.proofs.RunCycles.{stated_runs_are_steady}
 use Rattle.fr_sharp.proofs.RunStated.{stated_runs_begin_in_sharp_sync}
-use Rattle.fr_sharp.proofs.SharpWorked.{four, three}
+use Rattle.fr_promise.proofs.SharpWorked.{four}
+use Rattle.fr_promise.proofs.SharpWorked as four_nodes
 
 -- ---- its parameters are those of a cluster
 
 in_range : (n : ParamName) → InRange n (figure driven_cluster n)
 in_range name.gMacroPerCycle = (record { le = tt }, record { le = tt })
-in_range name.pMicroPerCycle = (record { le = tt }, record { le = tt })
-in_range name.gNumberOfStaticSlots = (record { le = tt }, record { le = tt })
-in_range name.gdStaticSlot = (record { le = tt }, record { le = tt })
-in_range name.gdActionPointOffset = (record { le = tt }, record { le = tt })
-in_range name.gdNIT = (record { le = tt }, record { le = tt })
-in_range name.gPayloadLengthStatic = (record { le = tt }, record { le = tt })
-in_range name.gOffsetCorrectionStart = (record { le = tt }, record { le = tt })
-in_range name.gMaxWithoutClockCorrectionPassive = (record { le = tt }, record { le = tt })
-in_range name.gMaxWithoutClockCorrectionFatal = (record { le = tt }, record { le = tt })
-in_range name.pAllowHaltDueToClock = (record { le = tt }, record { le = tt })
-in_range name.pAllowPassiveToActive = (record { le = tt }, record { le = tt })
-in_range name.pClusterDriftDamping = (record { le = tt }, record { le = tt })
-in_range name.pOffsetCorrectionOut = (record { le = tt }, record { le = tt })
-in_range name.pRateCorrectionOut = (record { le = tt }, record { le = tt })
-in_range name.pDelayCompensation = (record { le = tt }, record { le = tt })
-in_range name.pDelayCompensationA = (record { le = tt }, record { le = tt })
-in_range name.pDelayCompensationB = (record { le = tt }, record { le = tt })
-in_range name.xRateBound = (record { le = tt }, record { le = tt })
-in_range name.xChangeBound = (record { le = tt }, record { le = tt })
-in_range name.xDelayError = (record { le = tt }, record { le = tt })
-
-none : {X : Type 0} (R : X → X → Type 0) → AllPairs R []
-none R = search rules
-
-pairs : {X : Type 0} (R : X → X → Type 0) (a b c d : X) → R a b → R a c → R a d → R b c → R b d → R c d → AllPairs R (a ∷ b ∷ c ∷ d ∷ [])
-pairs R a b c d ab ac ad bc bd cd =
-    AllPairs-cons R a (b ∷ c ∷ d ∷ []) (three (R a) b c d ab ac ad)
-    (
-    AllPairs-cons R b (c ∷ d ∷ []) (All-cons (R b) c (d ∷ []) bc (All-cons (R b) d [] bd (All-nil (R b))))
-    (AllPairs-cons R c (d ∷ []) (All-cons (R c) d [] cd (All-nil (R c))) (AllPairs-cons R d [] (All-nil (R d)) (none R)))
-    )
-
-sane_node : (id : ℕ) → 1 ≤ id → id ≤ 64 → IsSaneNode (on_a id)
-sane_node id from to = record { proper = record { from = from; to = to; key = (from, omega arith) }; starts = refl }
+in_range other = (record { le = tt }, record { le = tt })
 
 pub is_sane : IsSane driven_cluster
 is_sane = record {
@@ -88,19 +55,11 @@ is_sane = record {
     sync_nodes = (lit≤ tt, lit≤ tt);
     own_slots = (
       four (λ key. key ≤ 4) 1 2 3 4 (lit≤ tt) (lit≤ tt) (lit≤ tt) (lit≤ tt),
-      pairs (λ a b. a ≢ b) 1 2 3 4 (λ same. omega arith) (λ same. omega arith) (λ same. omega arith) (λ same. omega arith) (λ same. omega arith) (λ same. omega arith),
+      four_nodes.is_sane.constraints.own_slots.1,
     );
     free_slots = All-nil (λ (slot : SlotSpec). (slot.slot ≤ 4) × (Contains (1 ∷ 2 ∷ 3 ∷ 4 ∷ []) slot.slot → ⊥));
   };
-  lists = record {
-    nodes_sane =
-        four IsSaneNode (on_a 1) (on_a 2) (on_a 3) (on_a 4) (sane_node 1 (lit≤ tt) (lit≤ tt)) (sane_node 2 (lit≤ tt) (lit≤ tt)) (sane_node 3 (lit≤ tt) (lit≤ tt)) (sane_node 4 (lit≤ tt) (lit≤ tt));
-    slots_sane = All-nil (IsSaneSlot (on_a 1 ∷ on_a 2 ∷ on_a 3 ∷ on_a 4 ∷ []));
-    nodes_ascend = pairs (λ (a b : NodeSpec). a.id < b.id) (on_a 1) (on_a 2) (on_a 3) (on_a 4) (lit< tt) (lit< tt) (lit< tt) (lit< tt) (lit< tt) (lit< tt);
-    slots_ascend = none (λ (a b : SlotSpec). a.slot < b.slot);
-    few_nodes = lit≤ tt;
-    few_slots = lit≤ tt;
-  };
+  lists = four_nodes.is_sane.lists;
 }
 
 -- ---- its delays, of which none is further from the compensation than stated
@@ -193,16 +152,16 @@ covered = record {
   timed = record {
     sane = is_sane;
     few = inl (refl, lit≤ tt);
-    least = λ some cycle there within. (micro_within (some.id == 1) (some.id == 2) (some.id == 3)).low;
-    most = λ some cycle there within. (micro_within (some.id == 1) (some.id == 2) (some.id == 3)).high;
-    changes = λ some cycle there within. itself (driven_micro (some.id == 1) (some.id == 2) (some.id == 3));
-    delays = λ sender receiver slot channel cycle linked share within.
+    least = λ some cycle there late within. (micro_within (some.id == 1) (some.id == 2) (some.id == 3)).low;
+    most = λ some cycle there late within. (micro_within (some.id == 1) (some.id == 2) (some.id == 3)).high;
+    changes = λ some cycle there late within. itself (driven_micro (some.id == 1) (some.id == 2) (some.id == 3));
+    delays = λ sender receiver slot channel cycle linked share late within.
         stated_delay channel (driven_delay sender.id receiver.id (cycle % 2 == 0)) (delays_proper sender.id receiver.id (cycle % 2 == 0));
-    flutters = λ sender receiver slot channel double linked share within.
+    flutters = λ sender receiver slot channel double linked share late within.
         flutters_little (driven_delay sender.id receiver.id (suc (2 * double) % 2 == 0)) (driven_delay sender.id receiver.id (2 * double % 2 == 0))
         (delays_proper sender.id receiver.id (suc (2 * double) % 2 == 0)) (delays_proper sender.id receiver.id (2 * double % 2 == 0));
   };
-  links = λ double within sender receiver slot linked. record {
+  links = λ double late within sender receiver slot linked. record {
     channel = A;
     share = record { by_sender = on_channel sender linked.sends; by_receiver = on_channel receiver linked.hears };
     even = refl;
@@ -282,7 +241,7 @@ driven_run_reaches = (driven_skew, lit≤ tt)
 
 module _ (lawful : (x : Setting) (n : ℕ) → IsSetting x → IsLawful x (cycles_of x n)) (long : (x : Setting) (n : ℕ) → length (cycles_of x n) ≡ n) where
   steady : IsSteadyRun false driven_run 1_000_000 (all_cycles driven_run)
-  steady = stated_runs_are_steady lawful long false driven_run 1_000_000 setting covered refl refl
+  steady = stated_runs_are_steady lawful long false driven_run 0 1_000_000 setting covered refl refl
 
 pub driven_run_begins : ((x : Setting) (n : ℕ) → IsSetting x → IsLawful x (cycles_of x n)) → ((x : Setting) (n : ℕ) → length (cycles_of x n) ≡ n) → DrivenRunBegins
 driven_run_begins lawful long = record {

@@ -41,17 +41,18 @@ use Rattle.fr_runs.specs.Stated.{all_cycles}
 use Rattle.fr_runs.proofs.Courses.{row_two}
 use Rattle.fr_runs.proofs.Nodes.{correct_node}
 use Rattle.fr_runs.proofs.Parts.{odd_is, told_at}
-use Rattle.fr_runs.proofs.Rows.{contains_map, has_row, row_runs_by}
+use Rattle.fr_precision.proofs.RoundLemmas.{contains_map}
+use Rattle.fr_runs.proofs.Rows.{has_row, row_runs_by}
 use Rattle.fr_worked.specs.FarRun.{correction_place, far_apart_run, far_skew, Far, FarRunsReachSharply, HasTwo, IsFar}
 use Rattle.fr_precision.specs.Lengths.{IsAboutCycle}
 use Rattle.fr_sharp.specs.SettlingHistories.{AreStatedNear}
 use Rattle.fr_bound.specs.SharpBounds.{sharp_lambda, sharp_pi}
 use Rattle.fr_runs.specs.SharpHistories.{IsSteadyRun}
 use Rattle.fr_runs.specs.SteadyRuns.{IsSteadySetting}
-use Rattle.fr_sharp.proofs.RunCycles.{stated_runs_are_steady}
+use Rattle.fr_promise.proofs.RunCycles.{stated_runs_are_steady}
 use Rattle.fr_sharp.proofs.RunSettles.{histories_begin_active}
 use Rattle.fr_sharp.proofs.RunStated.{stated_runs_begin_in_sharp_sync}
-use Rattle.fr_sharp.proofs.RunSync.{found_at, rows_at}
+use Rattle.fr_promise.proofs.RunSync.{found_at, rows_at}
 use Rattle.fr_worked.proofs.RunWorked.{of_bytes}
 use Rattle.fr_precision.proofs.Signed.{signed_of}
 
@@ -96,13 +97,13 @@ module _ (f : Far) (starts lengths : ℕ) (is : IsFar f starts lengths) where
     timed = record {
       sane = is.sane;
       few = is.few;
-      least = λ some cycle there within. no_less (pos (shortest_micro f.params)) f.short f.long (some.id == f.first) is.least is.order;
-      most = λ some cycle there within. no_more (pos (longest_micro f.params)) f.short f.long (some.id == f.first) is.most is.order;
-      changes = λ some cycle there within. itself (amount f.params name.xChangeBound) (if some.id == f.first then f.short else f.long);
-      delays = λ sender receiver slot channel cycle linked share within. itself (amount f.params name.xDelayError) (compensation_of f.params channel *ℤ pos nominal);
-      flutters = λ sender receiver slot channel double linked share within. itself 0 (compensation_of f.params channel *ℤ pos nominal);
+      least = λ some cycle there late within. no_less (pos (shortest_micro f.params)) f.short f.long (some.id == f.first) is.least is.order;
+      most = λ some cycle there late within. no_more (pos (longest_micro f.params)) f.short f.long (some.id == f.first) is.most is.order;
+      changes = λ some cycle there late within. itself (amount f.params name.xChangeBound) (if some.id == f.first then f.short else f.long);
+      delays = λ sender receiver slot channel cycle linked share late within. itself (amount f.params name.xDelayError) (compensation_of f.params channel *ℤ pos nominal);
+      flutters = λ sender receiver slot channel double linked share late within. itself 0 (compensation_of f.params channel *ℤ pos nominal);
     };
-    links = λ double within sender receiver slot linked.
+    links = λ double late within sender receiver slot linked.
         let shared = is.shares sender receiver slot linked in
         record {
           channel = shared.0;
@@ -231,7 +232,7 @@ module _ (beside : Bool) (f : Far) (h : Cycles) (w : IsSteadyRun beside (far_apa
   second_row even odd d node there start micro starts lasts macrotick at =
       let x : Setting = far_apart_run f in
       let p : Values = f.params in
-      let s = rows_at beside x 0 h w 0 [] even odd d in
+      let s = rows_at beside x 0 0 h w 0 (lit≤ tt) [] even odd d in
       let among : Contains (row_nodes x []) node = kept_filtered (λ (n : NodeSpec). true) (correct_nodes x) node there refl in
       let runs = row_runs_by (row_laws x []) (offset_after p (told_of []) even.told) (row_nodes x []) even.told.rows node s.two.even_rows among in
       let two = row_two x [] even odd node s.two refl among in
@@ -275,7 +276,7 @@ module _ (beside : Bool) (f : Far) (h : Cycles) (w : IsSteadyRun beside (far_apa
 pub reaches : (beside : Bool) (f : Far) → (h : Cycles) → IsSteadyRun beside (far_apart_run f) 0 h → IsSane f.params → HasTwo f
     → far_skew f ≤ℤ skew_at f.params (told_of h) 1 (amount f.params name.gOffsetCorrectionStart)
 reaches beside f h w sane two =
-    let d = found_at beside (far_apart_run f) 0 h w 0 (lit≤ tt) in
+    let d = found_at beside (far_apart_run f) 0 0 h w 0 (lit≤ tt) in
     let grid = is_grid_lem f.params sane in
     let at : pos (amount f.params name.gOffsetCorrectionStart) ≡ f.params.correction = sym (natural f.params.correction (let from = grid.correction_from in omega (arith, ints, from))) in
     far_reached beside f h w d.earlier d.even d.odd d.is two.one two.other two.here two.there two.first two.differ (amount f.params name.gOffsetCorrectionStart) at
@@ -286,5 +287,5 @@ far_runs_reach_sharply lawful long beside f is arbitrary two =
     let h : Cycles = all_cycles x in
     let pi = sharp_pi beside f.params 0 in
     let lambda = sharp_lambda beside f.params 0 in
-    let w = stated_runs_are_steady lawful long beside x 0 (setting f pi lambda is) (covered f pi lambda is) arbitrary (none_by (correct_nodes x)) in
+    let w = stated_runs_are_steady lawful long beside x 0 0 (setting f pi lambda is) (covered f pi lambda is) arbitrary (none_by (correct_nodes x)) in
     (w, stated_runs_begin_in_sharp_sync beside x 0 h w (stated_near f pi lambda is) (lit≤ tt), reaches beside f h w is.sane two)

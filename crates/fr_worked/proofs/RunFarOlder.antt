@@ -30,11 +30,11 @@ use Rattle.fr_worked.specs.FarRun.{far_apart_run, Far, FarRunsReach, IsFar}
 use Rattle.fr_precision.specs.Lengths.{IsAboutCycle}
 use Rattle.fr_sharp.specs.SettlingHistories.{first_length}
 use Rattle.fr_runs.specs.SharpHistories.{IsSteadyRun}
-use Rattle.fr_sharp.proofs.RunCycles.{stated_runs_are_steady}
+use Rattle.fr_promise.proofs.RunCycles.{stated_runs_are_steady}
 use Rattle.fr_worked.proofs.RunFar.{covered, itself, none_by, reaches, setting, stated_near}
 use Rattle.fr_sharp.proofs.RunSettles.{histories_begin_active}
 use Rattle.fr_sharp.proofs.RunStated.{first_sharp, pairs_lie}
-use Rattle.fr_sharp.proofs.RunSync.{found_at, rows_at, timed}
+use Rattle.fr_promise.proofs.RunSync.{found_at, rows_at, timed}
 use Rattle.fr_precision.proofs.Signed.{signed_of}
 
 -- a length in a range that is widened by nothing is proper
@@ -61,15 +61,15 @@ module _ (f : Far) (is : IsFar f (pi_of f.params) (lambda_of f.params)) where
           checks = checks;
           join_checks = λ joins. absurd (none joins);
           few = steady.timed.few;
-          least = steady.timed.least;
-          most = steady.timed.most;
-          changes = steady.timed.changes;
+          least = λ node cycle there less. steady.timed.least node cycle there (omega arith) less;
+          most = λ node cycle there less. steady.timed.most node cycle there (omega arith) less;
+          changes = λ node cycle there less. steady.timed.changes node cycle there (omega arith) less;
           referenced = record {
             references = λ node join among at. absurd (cc);
             delays = λ sender receiver slot channel cycle sends hears key other by_sender by_receiver less.
                 itself (amount f.params name.xDelayError) (compensation_of f.params channel *ℤ pos nominal);
           };
-          links = λ sender receiver slot double linked within. steady.links double within sender receiver slot linked;
+          links = λ sender receiver slot double linked within. steady.links double (omega arith) within sender receiver slot linked;
         };
         rates = λ node among. let s = signed_of f.params is.sane in let from = s.ro_from in record { low = omega (arith, ints, from); high = omega (arith, ints, from) };
         starts = λ joins. absurd (none joins);
@@ -81,9 +81,9 @@ module _ (f : Far) (is : IsFar f (pi_of f.params) (lambda_of f.params)) where
         let x : Setting = far_apart_run f in
         let p : Values = f.params in
         let nodes = row_nodes x [] in
-        let s = rows_at true x 0 h w 0 [] even odd d in
+        let s = rows_at true x 0 0 h w 0 (lit≤ tt) [] even odd d in
         let near = stated_near f (pi_of p) (lambda_of p) is in
-        let first = first_sharp x 0 h (timed true x 0 h w) (pi_of p) (lambda_of p) near even (even_is h 0 [] even odd d) in
+        let first = first_sharp x 0 h (timed true x 0 0 h w) (pi_of p) (lambda_of p) near even (even_is h 0 [] even odd d) in
         let active = histories_begin_active true x 0 h w [] even odd d in
         let ascend = rows_ascend x [] is.sane in
         let are = s.two.odd_rows.nodes in
@@ -124,8 +124,8 @@ far_runs_reach_older lawful long f is checks two =
     let pi = pi_of f.params in
     let lambda = lambda_of f.params in
     let none = none_by (correct_nodes x) in
-    let w = stated_runs_are_steady lawful long true x 0 (setting f pi lambda is) (covered f pi lambda is) tt none in
-    let d = found_at true x 0 h w 0 (lit≤ tt) in (
+    let w = stated_runs_are_steady lawful long true x 0 0 (setting f pi lambda is) (covered f pi lambda is) tt none in
+    let d = found_at true x 0 0 h w 0 (lit≤ tt) in (
       is_covered f is (λ joins. absurd (let e : true ≡ false = sym joins ∙ none in cc)) checks,
       record {
         even = d.even;

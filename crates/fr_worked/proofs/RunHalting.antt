@@ -1,8 +1,7 @@
 -- The run of three perfect clocks that all halt: what is stated of it, and its cycles, computed from the definitions.
-use Rattle.std.proofs.Common.{◌≡◌, ◌≢◌, ℕ, zero, suc, ◌*◌, ◌%◌, ◌<◌, ◌≤◌, ◌==◌, Bool, true, false, pos, [], ◌∷◌, Some, length, replicate, refl, sym, ◌∙◌, subst, inl, lit≤, lit<, rules, arith}
-use Rattle.std.specs.Prelude.{◌-ℤ◌, AllPairs, Contains}
-use Rattle.std.proofs.lemmas.List.Elements.{All-cons, All-contains, All-nil}
-use Rattle.std.proofs.lemmas.List.Kept.{AllPairs-cons}
+use Rattle.std.proofs.Common.{◌≡◌, ℕ, zero, suc, ◌*◌, ◌%◌, ◌<◌, ◌≤◌, ◌==◌, Bool, true, false, pos, [], ◌∷◌, Some, length, replicate, refl, sym, ◌∙◌, subst, inl, lit≤, lit<, arith}
+use Rattle.std.specs.Prelude.{◌-ℤ◌, Contains}
+use Rattle.std.proofs.lemmas.List.Elements.{All-contains, All-nil}
 use Rattle.fr_base.specs.Within.{IsWithin}
 use Rattle.fr_base.specs.declared.channel.Channel.{Channel}
 use Rattle.fr_base.specs.declared.channel.Channel.TheVariants.{A, B}
@@ -10,7 +9,7 @@ use Rattle.fr_base.specs.declared.state.State.{State}
 use Rattle.fr_base.specs.declared.state.State.TheVariants.{Active, Halt}
 use Rattle.fr_cluster.specs.Questions.{has_channel}
 use Rattle.fr_cluster.specs.Ranges.{InRange}
-use Rattle.fr_cluster.specs.Sane.{IsSane, IsSaneNode, IsSaneSlot}
+use Rattle.fr_cluster.specs.Sane.{IsSane}
 use Rattle.fr_cluster.specs.Setting.{IsSetting, Setting, correct_nodes}
 use Rattle.fr_cluster.specs.Values.{figure}
 use Rattle.fr_cluster.specs.declared.names.ParamName.{ParamName}
@@ -35,46 +34,17 @@ use Rattle.fr_bound.specs.SharpChecks.{SharpChecksHold}
 use Rattle.fr_runs.specs.SharpHistories.{IsInSharpSyncAt, IsSteadyRun}
 use Rattle.fr_runs.specs.SteadyRuns.{IsSteadySetting}
 use Rattle.fr_sharp.specs.WorkedRun.{delay_in_turn}
-use Rattle.fr_sharp.proofs.RunCycles.{stated_runs_are_steady}
+use Rattle.fr_promise.proofs.RunCycles.{stated_runs_are_steady}
 use Rattle.fr_sharp.proofs.RunStated.{stated_runs_begin_in_sharp_sync}
 use Rattle.fr_worked.proofs.RunWorked.{turns}
-use Rattle.fr_sharp.proofs.SharpWorked.{three}
+use Rattle.fr_promise.proofs.SharpWorked.{three}
+use Rattle.fr_worked.proofs.Begun as joined
 
 -- ---- its parameters are those of a cluster
 
 in_range : (n : ParamName) → InRange n (figure halting_cluster n)
 in_range name.gMacroPerCycle = (record { le = tt }, record { le = tt })
-in_range name.pMicroPerCycle = (record { le = tt }, record { le = tt })
-in_range name.gNumberOfStaticSlots = (record { le = tt }, record { le = tt })
-in_range name.gdStaticSlot = (record { le = tt }, record { le = tt })
-in_range name.gdActionPointOffset = (record { le = tt }, record { le = tt })
-in_range name.gdNIT = (record { le = tt }, record { le = tt })
-in_range name.gPayloadLengthStatic = (record { le = tt }, record { le = tt })
-in_range name.gOffsetCorrectionStart = (record { le = tt }, record { le = tt })
-in_range name.gMaxWithoutClockCorrectionPassive = (record { le = tt }, record { le = tt })
-in_range name.gMaxWithoutClockCorrectionFatal = (record { le = tt }, record { le = tt })
-in_range name.pAllowHaltDueToClock = (record { le = tt }, record { le = tt })
-in_range name.pAllowPassiveToActive = (record { le = tt }, record { le = tt })
-in_range name.pClusterDriftDamping = (record { le = tt }, record { le = tt })
-in_range name.pOffsetCorrectionOut = (record { le = tt }, record { le = tt })
-in_range name.pRateCorrectionOut = (record { le = tt }, record { le = tt })
-in_range name.pDelayCompensation = (record { le = tt }, record { le = tt })
-in_range name.pDelayCompensationA = (record { le = tt }, record { le = tt })
-in_range name.pDelayCompensationB = (record { le = tt }, record { le = tt })
-in_range name.xRateBound = (record { le = tt }, record { le = tt })
-in_range name.xChangeBound = (record { le = tt }, record { le = tt })
-in_range name.xDelayError = (record { le = tt }, record { le = tt })
-
-none : {X : Type 0} (R : X → X → Type 0) → AllPairs R []
-none R = search rules
-
-ordered : {X : Type 0} (R : X → X → Type 0) (a b c : X) → R a b → R a c → R b c → AllPairs R (a ∷ b ∷ c ∷ [])
-ordered R a b c ab ac bc =
-    AllPairs-cons R a (b ∷ c ∷ []) (All-cons (R a) b (c ∷ []) ab (All-cons (R a) c [] ac (All-nil (R a))))
-    (AllPairs-cons R b (c ∷ []) (All-cons (R b) c [] bc (All-nil (R b))) (AllPairs-cons R c [] (All-nil (R c)) (none R)))
-
-sane_node : (id : ℕ) → 1 ≤ id → id ≤ 64 → IsSaneNode (on_a id)
-sane_node id from to = record { proper = record { from = from; to = to; key = (from, omega arith) }; starts = refl }
+in_range other = (record { le = tt }, record { le = tt })
 
 is_sane : IsSane halting_cluster
 is_sane = record {
@@ -88,18 +58,11 @@ is_sane = record {
     sync_nodes = (lit≤ tt, lit≤ tt);
     own_slots = (
       three (λ key. key ≤ 91) 1 2 3 (lit≤ tt) (lit≤ tt) (lit≤ tt),
-      ordered (λ a b. a ≢ b) 1 2 3 (λ same. omega arith) (λ same. omega arith) (λ same. omega arith),
+      joined.is_sane.constraints.own_slots.1,
     );
     free_slots = All-nil (λ (slot : SlotSpec). (slot.slot ≤ 91) × (Contains (1 ∷ 2 ∷ 3 ∷ []) slot.slot → ⊥));
   };
-  lists = record {
-    nodes_sane = three IsSaneNode (on_a 1) (on_a 2) (on_a 3) (sane_node 1 (lit≤ tt) (lit≤ tt)) (sane_node 2 (lit≤ tt) (lit≤ tt)) (sane_node 3 (lit≤ tt) (lit≤ tt));
-    slots_sane = All-nil (IsSaneSlot (on_a 1 ∷ on_a 2 ∷ on_a 3 ∷ []));
-    nodes_ascend = ordered (λ (a b : NodeSpec). a.id < b.id) (on_a 1) (on_a 2) (on_a 3) (lit< tt) (lit< tt) (lit< tt);
-    slots_ascend = none (λ (a b : SlotSpec). a.slot < b.slot);
-    few_nodes = lit≤ tt;
-    few_slots = lit≤ tt;
-  };
+  lists = joined.is_sane.lists;
 }
 
 -- ---- what is stated of it
@@ -115,8 +78,8 @@ stated_delay A false = record { low = record { le = tt }; high = record { le = t
 stated_delay B true = record { low = record { le = tt }; high = record { le = tt } }
 stated_delay B false = record { low = record { le = tt }; high = record { le = tt } }
 
-flutters : FluttersWithin halting_run 10_000_000
-flutters sender receiver slot channel double linked share within =
+flutters : FluttersWithin halting_run 0 10_000_000
+flutters sender receiver slot channel double linked share late within =
     let At : ℕ → ℕ → Type 0 = λ late early. IsWithin (pos 10_000_000) (delay_in_turn (late == 0) -ℤ delay_in_turn (early == 0)) in
     subst (λ (late : ℕ). At late (2 * double % 2)) (sym (turns double).1) (subst (At 1) (sym (turns double).0) (record { low = record { le = tt }; high = record { le = tt } }))
 
@@ -125,13 +88,13 @@ covered = record {
   timed = record {
     sane = is_sane;
     few = inl (refl, lit≤ tt);
-    least = λ some cycle there within. record { le = tt };
-    most = λ some cycle there within. record { le = tt };
-    changes = λ some cycle there within. record { low = record { le = tt }; high = record { le = tt } };
-    delays = λ sender receiver slot channel cycle linked share within. stated_delay channel (cycle % 2 == 0);
+    least = λ some cycle there late within. record { le = tt };
+    most = λ some cycle there late within. record { le = tt };
+    changes = λ some cycle there late within. record { low = record { le = tt }; high = record { le = tt } };
+    delays = λ sender receiver slot channel cycle linked share late within. stated_delay channel (cycle % 2 == 0);
     flutters = flutters;
   };
-  links = λ double within sender receiver slot linked. record {
+  links = λ double late within sender receiver slot linked. record {
     channel = A;
     share = record { by_sender = on_channel sender linked.sends; by_receiver = on_channel receiver linked.hears };
     even = refl;
@@ -178,7 +141,7 @@ halting_run_walks =
 
 module _ (lawful : (x : Setting) (n : ℕ) → IsSetting x → IsLawful x (cycles_of x n)) (long : (x : Setting) (n : ℕ) → length (cycles_of x n) ≡ n) where
   steady : IsSteadyRun false halting_run 10_000_000 (all_cycles halting_run)
-  steady = stated_runs_are_steady lawful long false halting_run 10_000_000 setting covered refl refl
+  steady = stated_runs_are_steady lawful long false halting_run 0 10_000_000 setting covered refl refl
 
   in_sync : IsInSharpSyncAt false halting_cluster 10_000_000 (pos 0) (all_cycles halting_run) 0
   in_sync = stated_runs_begin_in_sharp_sync false halting_run 10_000_000 (all_cycles halting_run) steady stated_near (lit≤ tt)

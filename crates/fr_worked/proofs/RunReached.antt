@@ -21,10 +21,10 @@ use Rattle.fr_bound.specs.SharpBounds.{sharp_lambda, sharp_pi}
 use Rattle.fr_runs.specs.SharpHistories.{IsInSharpSyncAt, IsSteadyRun}
 use Rattle.fr_runs.specs.SteadyRuns.{IsSteadySetting, MayHaveArbitrary}
 use Rattle.fr_sharp.specs.WorkedRun.{steady_cluster, OfBytes, Said}
-use Rattle.fr_sharp.proofs.RunCycles.{stated_runs_are_steady}
+use Rattle.fr_promise.proofs.RunCycles.{stated_runs_are_steady}
 use Rattle.fr_sharp.proofs.RunStated.{stated_runs_begin_in_sharp_sync}
 use Rattle.fr_worked.proofs.RunWorked.{few, five_checks, itself, none_joins, of_bytes, on_a, regular}
-use Rattle.fr_sharp.proofs.SharpWorked.{is_sane}
+use Rattle.fr_promise.proofs.SharpWorked.{is_sane}
 
 -- ---- what is stated of them
 
@@ -49,13 +49,13 @@ covered said beside = record {
   timed = record {
     sane = is_sane;
     few = few said beside;
-    least = λ some cycle there within. least_micro beside (some.id == 1);
-    most = λ some cycle there within. most_micro beside (some.id == 1);
-    changes = λ some cycle there within. itself (far_micro beside (some.id == 1));
-    delays = λ sender receiver slot channel cycle linked share within. nominal_delay channel;
-    flutters = λ sender receiver slot channel double linked share within. itself (pos 7_000_000);
+    least = λ some cycle there late within. least_micro beside (some.id == 1);
+    most = λ some cycle there late within. most_micro beside (some.id == 1);
+    changes = λ some cycle there late within. itself (far_micro beside (some.id == 1));
+    delays = λ sender receiver slot channel cycle linked share late within. nominal_delay channel;
+    flutters = λ sender receiver slot channel double linked share late within. itself (pos 7_000_000);
   };
-  links = λ double within sender receiver slot linked. record {
+  links = λ double late within sender receiver slot linked. record {
     channel = A;
     share = record { by_sender = on_a said beside sender linked.sends; by_receiver = on_a said beside receiver linked.hears };
     even = regular said beside sender (2 * double) receiver.id linked.sends;
@@ -123,7 +123,7 @@ beside_skew said = refl
 
 module _ (said : Said) (bytes : OfBytes said) (lawful : (x : Setting) (n : ℕ) → IsSetting x → IsLawful x (cycles_of x n)) (long : (x : Setting) (n : ℕ) → length (cycles_of x n) ≡ n) where
   steady : (beside : Bool) → IsSteadyRun beside (reaching_run said beside) 0 (all_cycles (reaching_run said beside))
-  steady beside = stated_runs_are_steady lawful long beside (reaching_run said beside) 0 (setting said beside bytes) (covered said beside) (may said beside) (none_joins said beside)
+  steady beside = stated_runs_are_steady lawful long beside (reaching_run said beside) 0 0 (setting said beside bytes) (covered said beside) (may said beside) (none_joins said beside)
 
   in_sync : (beside : Bool) → IsInSharpSyncAt beside steady_cluster 0 (pos 0) (all_cycles (reaching_run said beside)) 0
   in_sync beside = stated_runs_begin_in_sharp_sync beside (reaching_run said beside) 0 (all_cycles (reaching_run said beside)) (steady beside) (stated_near said beside) (lit≤ tt)

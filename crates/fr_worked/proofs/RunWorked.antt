@@ -30,10 +30,10 @@ use Rattle.fr_bound.specs.SharpChecks.{sharp_holds_of, SharpChecksHold}
 use Rattle.fr_runs.specs.SharpHistories.{CyclesKeepApart, IsInSharpSyncAt, IsSteadyRun, StaysInSharpSyncAt}
 use Rattle.fr_runs.specs.SteadyRuns.{IsSteadySetting, MayHaveArbitrary}
 use Rattle.fr_sharp.specs.WorkedRun.{delay_in_turn, micro_by, start_by, steady_cluster, steady_run, walking_run, OfBytes, OlderChecksFail, Said, SteadyPrecisions, SteadyRunKeepsPrecision, SteadyRunMeetsPremises, WalkingRunStaysInSharpSync}
-use Rattle.fr_sharp.proofs.RunCycles.{histories_keep_sharp_precision, stated_runs_are_steady}
+use Rattle.fr_promise.proofs.RunCycles.{histories_keep_sharp_precision, stated_runs_are_steady}
 use Rattle.fr_sharp.proofs.RunStated.{stated_runs_begin_in_sharp_sync}
-use Rattle.fr_sharp.proofs.RunSync.{histories_keep_sharp_sync_lem}
-use Rattle.fr_sharp.proofs.SharpWorked.{checks, four, is_sane}
+use Rattle.fr_promise.proofs.RunSync.{histories_keep_sharp_sync_lem}
+use Rattle.fr_promise.proofs.SharpWorked.{checks, four, is_sane}
 
 -- ---- what is stated of it
 
@@ -68,8 +68,8 @@ stated_delay B false = record { low = record { le = tt }; high = record { le = t
 same_double : (double : ℕ) → suc (2 * double) / 2 ≡ 2 * double / 2
 same_double double = omega arith
 
-flutters : (said : Said) (beside : Bool) → FluttersWithin (steady_run said beside) 0
-flutters said beside sender receiver slot channel double linked share within =
+flutters : (said : Said) (beside : Bool) → FluttersWithin (steady_run said beside) 0 0
+flutters said beside sender receiver slot channel double linked share late within =
     let At : ℕ → Type 0 = λ half. IsWithin (pos 0) (delay_in_turn (half % 2 == 0) -ℤ delay_in_turn (2 * double / 2 % 2 == 0)) in
     subst At (sym (same_double double)) (itself (delay_in_turn (2 * double / 2 % 2 == 0)))
 
@@ -82,13 +82,13 @@ covered said beside = record {
   timed = record {
     sane = is_sane;
     few = few said beside;
-    least = λ some cycle there within. least_micro (some.id == 1) (some.id == 2);
-    most = λ some cycle there within. most_micro (some.id == 1) (some.id == 2);
-    changes = λ some cycle there within. itself (micro_by (some.id == 1) (some.id == 2));
-    delays = λ sender receiver slot channel cycle linked share within. stated_delay channel (cycle / 2 % 2 == 0);
+    least = λ some cycle there late within. least_micro (some.id == 1) (some.id == 2);
+    most = λ some cycle there late within. most_micro (some.id == 1) (some.id == 2);
+    changes = λ some cycle there late within. itself (micro_by (some.id == 1) (some.id == 2));
+    delays = λ sender receiver slot channel cycle linked share late within. stated_delay channel (cycle / 2 % 2 == 0);
     flutters = flutters said beside;
   };
-  links = λ double within sender receiver slot linked. record {
+  links = λ double late within sender receiver slot linked. record {
     channel = A;
     share = record { by_sender = on_a said beside sender linked.sends; by_receiver = on_a said beside receiver linked.hears };
     even = regular said beside sender (2 * double) receiver.id linked.sends;
@@ -183,18 +183,18 @@ steady_precisions = (refl, refl, refl)
 
 module _ (said : Said) (bytes : OfBytes said) (lawful : (x : Setting) (n : ℕ) → IsSetting x → IsLawful x (cycles_of x n)) (long : (x : Setting) (n : ℕ) → length (cycles_of x n) ≡ n) where
   steady : (beside : Bool) → IsSteadyRun beside (steady_run said beside) 0 (all_cycles (steady_run said beside))
-  steady beside = stated_runs_are_steady lawful long beside (steady_run said beside) 0 (setting said beside bytes) (covered said beside) (may said beside) (none_joins said beside)
+  steady beside = stated_runs_are_steady lawful long beside (steady_run said beside) 0 0 (setting said beside bytes) (covered said beside) (may said beside) (none_joins said beside)
 
   in_sync : (beside : Bool) → IsInSharpSyncAt beside steady_cluster 0 (pos 0) (all_cycles (steady_run said beside)) 0
   in_sync beside = stated_runs_begin_in_sharp_sync beside (steady_run said beside) 0 (all_cycles (steady_run said beside)) (steady beside) (stated_near said beside) (lit≤ tt)
 
   kept : (beside : Bool) → CyclesKeepApart (steady_run said beside) (all_cycles (steady_run said beside)) 0 (sharp_precision beside steady_cluster 0)
-  kept beside = (histories_keep_sharp_precision beside (steady_run said beside) 0 (all_cycles (steady_run said beside)) 0 (steady beside) (five_checks beside) (in_sync beside)).cycles
+  kept beside = (histories_keep_sharp_precision beside (steady_run said beside) 0 0 (all_cycles (steady_run said beside)) 0 (steady beside) (lit≤ tt) (five_checks beside) (in_sync beside)).cycles
 
   stays : (beside : Bool) (passed : ℕ) → passed < 3 → StaysInSharpSyncAt beside (steady_run said beside) 0 (all_cycles (steady_run said beside)) 0 passed
   stays beside passed within =
       let short : 0 + passed < 3 = omega (arith, within) in
-      histories_keep_sharp_sync_lem beside (steady_run said beside) 0 (all_cycles (steady_run said beside)) 0 (steady beside) (checks beside) (in_sync beside) passed short
+      histories_keep_sharp_sync_lem beside (steady_run said beside) 0 0 (all_cycles (steady_run said beside)) 0 (steady beside) (lit≤ tt) (checks beside) (in_sync beside) passed short
 
 pub steady_run_keeps_precision : ((x : Setting) (n : ℕ) → IsSetting x → IsLawful x (cycles_of x n)) → ((x : Setting) (n : ℕ) → length (cycles_of x n) ≡ n) → SteadyRunKeepsPrecision
 steady_run_keeps_precision lawful long said beside bytes = (in_sync said bytes lawful long beside, kept said bytes lawful long beside)
@@ -207,8 +207,8 @@ steady_run_meets_premises lawful long said beside bytes = (steady said bytes law
 pub turns : (double : ℕ) → (2 * double % 2 ≡ 0) × (suc (2 * double) % 2 ≡ 1)
 turns double = (omega arith, omega arith)
 
-walking_flutters : FluttersWithin walking_run 10_000_000
-walking_flutters sender receiver slot channel double linked share within =
+walking_flutters : FluttersWithin walking_run 0 10_000_000
+walking_flutters sender receiver slot channel double linked share late within =
     let At : ℕ → ℕ → Type 0 = λ late early. IsWithin (pos 10_000_000) (delay_in_turn (late == 0) -ℤ delay_in_turn (early == 0)) in
     subst (λ (late : ℕ). At late (2 * double % 2)) (sym (turns double).1) (subst (At 1) (sym (turns double).0) (record { low = record { le = tt }; high = record { le = tt } }))
 
@@ -222,13 +222,13 @@ walking_covered = record {
   timed = record {
     sane = is_sane;
     few = inl (refl, lit≤ tt);
-    least = λ some cycle there within. least_micro (some.id == 1) (some.id == 2);
-    most = λ some cycle there within. most_micro (some.id == 1) (some.id == 2);
-    changes = λ some cycle there within. itself (micro_by (some.id == 1) (some.id == 2));
-    delays = λ sender receiver slot channel cycle linked share within. stated_delay channel (cycle % 2 == 0);
+    least = λ some cycle there late within. least_micro (some.id == 1) (some.id == 2);
+    most = λ some cycle there late within. most_micro (some.id == 1) (some.id == 2);
+    changes = λ some cycle there late within. itself (micro_by (some.id == 1) (some.id == 2));
+    delays = λ sender receiver slot channel cycle linked share late within. stated_delay channel (cycle % 2 == 0);
     flutters = walking_flutters;
   };
-  links = λ double within sender receiver slot linked. record {
+  links = λ double late within sender receiver slot linked. record {
     channel = A;
     share = record { by_sender = walking_on_a sender linked.sends; by_receiver = walking_on_a receiver linked.hears };
     even = refl;
@@ -262,13 +262,13 @@ walking_checks (suc (suc (suc (suc (suc (suc k)))))) from to = absurd (omega (ar
 
 module _ (lawful : (x : Setting) (n : ℕ) → IsSetting x → IsLawful x (cycles_of x n)) (long : (x : Setting) (n : ℕ) → length (cycles_of x n) ≡ n) where
   walks_steadily : IsSteadyRun false walking_run 10_000_000 (all_cycles walking_run)
-  walks_steadily = stated_runs_are_steady lawful long false walking_run 10_000_000 walking_setting walking_covered refl refl
+  walks_steadily = stated_runs_are_steady lawful long false walking_run 0 10_000_000 walking_setting walking_covered refl refl
 
   walks_in_sync : (passed : ℕ) → passed < 3 → StaysInSharpSyncAt false walking_run 10_000_000 (all_cycles walking_run) 0 passed
   walks_in_sync passed within =
       let short : 0 + passed < 3 = omega (arith, within) in
       let first = stated_runs_begin_in_sharp_sync false walking_run 10_000_000 (all_cycles walking_run) walks_steadily walking_near (lit≤ tt) in
-      histories_keep_sharp_sync_lem false walking_run 10_000_000 (all_cycles walking_run) 0 walks_steadily walking_checks first passed short
+      histories_keep_sharp_sync_lem false walking_run 0 10_000_000 (all_cycles walking_run) 0 walks_steadily (lit≤ tt) walking_checks first passed short
 
 pub walking_run_stays_in_sharp_sync : ((x : Setting) (n : ℕ) → IsSetting x → IsLawful x (cycles_of x n)) → ((x : Setting) (n : ℕ) → length (cycles_of x n) ≡ n) → WalkingRunStaysInSharpSync
 unfolding last_of

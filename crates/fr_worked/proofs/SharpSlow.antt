@@ -22,7 +22,7 @@ use Rattle.fr_precision.specs.SharpStep.{AllKeepSenders, AreSharp, ComputesSharp
 use Rattle.fr_precision.specs.SharpRun.{BeginWithin, KeepsToSpreads}
 use Rattle.fr_precision.proofs.SteadyLemmas.{counted_are_steady, steady_values_place_lem}
 use Rattle.fr_precision.proofs.LastingLemmas.{sharp_spreads_keep}
-use Rattle.fr_sharp.proofs.SharpWorked.{cluster, is_sane, lie_three, near_way, three, uncut, way_checks}
+use Rattle.fr_promise.proofs.SharpWorked.{cluster, is_sane, lie_three, near_way, three, uncut, way_checks}
 
 -- a row at the rate 0, with its microtick
 abbrev row_of : ℕ → ℕ → ℕ → ℤ → NodeRow

@@ -20,7 +20,7 @@ use Rattle.fr_cluster.proofs.Elements.{Contains-here, Contains-there}
 use Rattle.fr_bound.specs.Checks.{holds_of}
 use Rattle.fr_coverage.specs.Coverage.{gap_of_run}
 use Rattle.fr_coverage.specs.First.{first_below, first_in}
-use Rattle.fr_coverage.specs.Flutter.{flutter_of, greatest_below, greatest_in}
+use Rattle.fr_coverage.specs.Flutter.{flutter_from, flutter_of, greatest_below, greatest_in}
 use Rattle.fr_coverage.proofs.GapParts.{found-of-run}
 use Rattle.fr_drift.specs.Files.{IsDriftFile}
 use Rattle.fr_drift.specs.Held.{held}
@@ -58,7 +58,8 @@ use Rattle.fr_worked.specs.RunFiles.{RunFiles, JoinsInTime, run_of_files}
 use Rattle.fr_worked.specs.SharplyJoinedFiles.{KeepSharplyFromTheStart, alone_files, beside_files, wide_drift, wide_drift_file, wide_cluster}
 use Rattle.fr_worked.proofs.Accepted.{AllKept, are_accepted, are_deeds, delay_is, found_is_told, length_is, marked, none_refused, one_differs, said_once, same_delay, same_length, same_number, same_passage, told_by}
 use Rattle.fr_worked.proofs.Decided.{none_marked}
-use Rattle.fr_worked.proofs.FilesKept.{first_two, files_are_a_setting}
+use Rattle.fr_promise.proofs.Stating.{is_setting as files_are_a_setting}
+use Rattle.fr_worked.proofs.FilesKept.{first_two}
 use Rattle.fr_worked.proofs.Sane.{cluster_sane, nodes_from}
 
 -- ---- the cluster
@@ -252,7 +253,7 @@ unfolding first_below first_in doubles_of length_of delay_of held is_arbitrary j
 alone_gap = refl
 
 alone_flutter : flutter_of wide_cluster wide_drift alone_files.script ≡ 250
-unfolding flutter_of greatest_below greatest_in doubles_of delay_of held is_arbitrary
+unfolding flutter_from greatest_below greatest_in doubles_of delay_of held is_arbitrary
 alone_flutter = refl
 
 alone_kind : has_arbitrary wide_cluster alone_files.script ≡ false
@@ -288,7 +289,7 @@ unfolding first_below first_in doubles_of length_of delay_of held is_arbitrary j
 beside_gap = refl
 
 beside_flutter : flutter_of wide_cluster wide_drift beside_files.script ≡ 250
-unfolding flutter_of greatest_below greatest_in doubles_of delay_of held is_arbitrary
+unfolding flutter_from greatest_below greatest_in doubles_of delay_of held is_arbitrary
 beside_flutter = refl
 
 beside_kind : has_arbitrary wide_cluster beside_files.script ≡ true
@@ -346,9 +347,9 @@ keep_sharply_from_the_start beside f flutter lawful long promise w =
       first = λ earlier less sync. absurd (omega (arith, less));
     } in
     let Hold : Bool → Type 0 = λ b. SharpJoinChecksHold b flutter f.params in
-    let covered : IsSharplyCoveredToJoin f.params f.drift f.script flutter = record {
+    let covered : IsSharplyCoveredToJoin f.params f.drift f.script 0 flutter = record {
       checks = subst Hold (sym w.kind) w.checks;
-      none = (found-of-run f.params f.drift f.script w.sane).0 w.none;
+      none = λ g gap behind. (found-of-run f.params f.drift f.script w.sane).0 w.none g gap;
       flutters = let same = w.flutters in omega (arith, same);
     } in
     let At : Bool → Type 0 = λ b. IsUnfollowedSharpSyncAt b f.params flutter (all_cycles x) 0 in
@@ -366,7 +367,7 @@ keep_sharply_from_the_start beside f flutter lawful long promise w =
       first = first;
       keeps =
           subst Keeps w.kind
-          (promise f.params f.drift f.script f.drift_file f.script_file flutter (all_cycles x) 0 w.sane w.drift w.script covered run (subst At (sym w.kind) first.unfollowed));
+          (promise f.params f.drift f.script f.drift_file f.script_file 0 flutter (all_cycles x) 0 w.sane w.drift w.script covered run (lit≤ tt) (subst At (sym w.kind) first.unfollowed));
     }
 
 -- and node 5 joins

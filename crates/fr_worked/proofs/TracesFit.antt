@@ -97,7 +97,7 @@ earlier_dev a b is = by (nat_lt a.receiver b.receiver) refl is
         let parts = and_parts (a.receiver == b.receiver) (nat_lt a.slot b.slot) whole in
         inr (eqb-true a.receiver b.receiver parts.0, inl (less_if a.slot b.slot parts.1))
 
-within_if : (bound z : ℤ) → lies_within bound z ≡ true → IsWithin bound z
+pub within_if : (bound z : ℤ) → lies_within bound z ≡ true → IsWithin bound z
 within_if bound z is =
     let parts = or_parts (int_lt z (neg_ℤ bound)) (int_lt bound z) (not-true (int_lt z (neg_ℤ bound) || int_lt bound z) is) in
     record { low = no_less z (neg_ℤ bound) parts.0; high = no_less bound z parts.1 }

@@ -1,5 +1,5 @@
 -- The uneven runs meet what the laws of runs ask, wherever their nodes begin.
-use Rattle.std.proofs.Common.{◌≡◌, ◌≢◌, ◌≤◌, ◌*◌, ℕ, zero, suc, Bool, true, false, ℤ, pos, None, Some, [], ◌∷◌, All, refl, sym, ◌∙◌, subst, inl, inr, lit≤, lit<, rules, arith}
+use Rattle.std.proofs.Common.{◌≡◌, ◌≢◌, ◌≤◌, ◌*◌, ℕ, zero, suc, Bool, true, false, ℤ, pos, None, Some, [], ◌∷◌, All, refl, sym, ◌∙◌, subst, inl, inr, lit≤, lit<, arith}
 use Rattle.std.specs.Prelude.{◌<◌, ◌≤ℤ◌, ◌-ℤ◌, AllPairs, Contains}
 use Rattle.std.proofs.lemmas.List.Elements.{All-cons, All-nil}
 use Rattle.std.proofs.lemmas.List.Kept.{AllPairs-cons}
@@ -27,34 +27,13 @@ use Rattle.fr_runs.specs.References.{AreReferenced, IsReference}
 use Rattle.fr_runs.specs.Supplied.{IsCoveredByFiles}
 use Rattle.fr_runs.specs.Stated.{IsCoveredRun}
 use Rattle.fr_worked.specs.Uneven.{far_run, micro_in, node_on_both, on_b, small_cluster, uneven_event, uneven_from, uneven_run}
+use Rattle.fr_precision.proofs.Worked.{none}
 
 -- ---- its parameters are those of a cluster
 
 in_range : (n : ParamName) → InRange n (figure small_cluster n)
 in_range name.gMacroPerCycle = (record { le = tt }, record { le = tt })
-in_range name.pMicroPerCycle = (record { le = tt }, record { le = tt })
-in_range name.gNumberOfStaticSlots = (record { le = tt }, record { le = tt })
-in_range name.gdStaticSlot = (record { le = tt }, record { le = tt })
-in_range name.gdActionPointOffset = (record { le = tt }, record { le = tt })
-in_range name.gdNIT = (record { le = tt }, record { le = tt })
-in_range name.gPayloadLengthStatic = (record { le = tt }, record { le = tt })
-in_range name.gOffsetCorrectionStart = (record { le = tt }, record { le = tt })
-in_range name.gMaxWithoutClockCorrectionPassive = (record { le = tt }, record { le = tt })
-in_range name.gMaxWithoutClockCorrectionFatal = (record { le = tt }, record { le = tt })
-in_range name.pAllowHaltDueToClock = (record { le = tt }, record { le = tt })
-in_range name.pAllowPassiveToActive = (record { le = tt }, record { le = tt })
-in_range name.pClusterDriftDamping = (record { le = tt }, record { le = tt })
-in_range name.pOffsetCorrectionOut = (record { le = tt }, record { le = tt })
-in_range name.pRateCorrectionOut = (record { le = tt }, record { le = tt })
-in_range name.pDelayCompensation = (record { le = tt }, record { le = tt })
-in_range name.pDelayCompensationA = (record { le = tt }, record { le = tt })
-in_range name.pDelayCompensationB = (record { le = tt }, record { le = tt })
-in_range name.xRateBound = (record { le = tt }, record { le = tt })
-in_range name.xChangeBound = (record { le = tt }, record { le = tt })
-in_range name.xDelayError = (record { le = tt }, record { le = tt })
-
-none : {X : Type 0} (R : X → X → Type 0) → AllPairs R []
-none R = search rules
+in_range other = (record { le = tt }, record { le = tt })
 
 -- any two of five numbers that ascend from 1
 keys_differ : AllPairs (λ (a b : ℕ). a ≢ b) (1 ∷ 2 ∷ 3 ∷ 4 ∷ 5 ∷ [])

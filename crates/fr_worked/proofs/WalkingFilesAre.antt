@@ -18,7 +18,7 @@ use Rattle.fr_cluster.specs.declared.names.ParamName.TheVariants as name
 use Rattle.fr_cluster.proofs.Elements.{Contains-here, Contains-there}
 use Rattle.fr_coverage.specs.Coverage.{gap_of_run, some_join}
 use Rattle.fr_coverage.specs.First.{first_below, first_in}
-use Rattle.fr_coverage.specs.Flutter.{flutter_of, greatest_below, greatest_in}
+use Rattle.fr_coverage.specs.Flutter.{flutter_from, flutter_of, greatest_below, greatest_in}
 use Rattle.fr_coverage.proofs.GapParts.{found-of-run}
 use Rattle.fr_drift.specs.Files.{IsDriftFile}
 use Rattle.fr_drift.specs.Held.{held}
@@ -60,7 +60,7 @@ use Rattle.fr_worked.specs.SharplyJoinedFiles.{wide_cluster}
 use Rattle.fr_worked.specs.WalkingFiles.{AreWalking, KeepThoughLengthsWalk, KeepWhileFirstRatesLast, KeepWhileTheWalkLasts, changing_cluster, changing_drift, changing_drift_file, changing_files, walking_cluster, walking_drift, walking_drift_file, walking_files, walking_joined_files}
 use Rattle.fr_worked.proofs.Accepted.{AllKept, are_accepted, are_deeds, delay_is, found_is_told, length_is, none_refused, one_differs, said_once, same_delay, same_length, same_number, told_by}
 use Rattle.fr_worked.proofs.Decided.{none_marked}
-use Rattle.fr_worked.proofs.FilesKept.{files_are_a_setting}
+use Rattle.fr_promise.proofs.Stating.{is_setting as files_are_a_setting}
 use Rattle.fr_worked.proofs.SharplyJoinedAre.{begins_longer, is_sane}
 
 -- ---- the cluster
@@ -348,7 +348,7 @@ unfolding first_below first_in doubles_of length_of delay_of held is_arbitrary j
 none_gap = refl
 
 none_flutter : flutter_of walking_cluster walking_drift walking_files.script ≡ 400_000
-unfolding flutter_of greatest_below greatest_in doubles_of delay_of held is_arbitrary
+unfolding flutter_from greatest_below greatest_in doubles_of delay_of held is_arbitrary
 none_flutter = refl
 
 none_kind : has_arbitrary walking_cluster walking_files.script ≡ false
@@ -382,7 +382,7 @@ unfolding first_below first_in doubles_of length_of delay_of held is_arbitrary j
 changing_gap = refl
 
 changing_flutter : flutter_of changing_cluster changing_drift changing_files.script ≡ 200_000
-unfolding flutter_of greatest_below greatest_in doubles_of delay_of held is_arbitrary
+unfolding flutter_from greatest_below greatest_in doubles_of delay_of held is_arbitrary
 changing_flutter = refl
 
 changing_kind : has_arbitrary changing_cluster changing_files.script ≡ false
@@ -417,7 +417,7 @@ unfolding first_below first_in doubles_of length_of delay_of held is_arbitrary j
 joined_gap = refl
 
 joined_flutter : flutter_of walking_cluster walking_drift walking_joined_files.script ≡ 400_000
-unfolding flutter_of greatest_below greatest_in doubles_of delay_of held is_arbitrary
+unfolding flutter_from greatest_below greatest_in doubles_of delay_of held is_arbitrary
 joined_flutter = refl
 
 joined_kind : has_arbitrary walking_cluster walking_joined_files.script ≡ false
@@ -464,7 +464,7 @@ are_walking f flutter lawful long w =
 -- where no node joins them
 pub record AreKept (f : RunFiles) (flutter : ℕ) : Type 0 where
   pub walking : AreWalking f flutter
-  pub covered : IsSharplyCovered f.params f.drift f.script flutter
+  pub covered : IsSharplyCovered f.params f.drift f.script 0 flutter
   pub keeps : KeepsSharply false (run_of_files f) flutter (all_cycles (run_of_files f)) 0
 
 are_kept : (f : RunFiles) (flutter : ℕ) → ((x : Setting) (n : ℕ) → IsSetting x → IsLawful x (cycles_of x n)) → ((x : Setting) (n : ℕ) → length (cycles_of x n) ≡ n) → FilesKeepSharpPrecision
@@ -473,17 +473,17 @@ are_kept f flutter lawful long promise worked checks joins =
     let x : Setting = run_of_files f in
     let w : AreWalking f flutter = are_walking f flutter lawful long worked in
     let Hold : Bool → Type 0 = λ b. SharpChecksHold flutter (sharp_near b f.params flutter) f.params in
-    let covered : IsSharplyCovered f.params f.drift f.script flutter = record {
+    let covered : IsSharplyCovered f.params f.drift f.script 0 flutter = record {
       checks = subst Hold (sym w.kind) checks;
       none_joins = joins;
-      none = (found-of-run f.params f.drift f.script w.sane).0 worked.none;
+      none = λ g gap behind. (found-of-run f.params f.drift f.script w.sane).0 worked.none g gap;
       flutters = let same = w.flutters in omega (arith, same);
     } in
     let At : Bool → Type 0 = λ b. IsInSharpSyncAt b f.params flutter (pos 0) (all_cycles x) 0 in
     let Keeps : Bool → Type 0 = λ b. KeepsSharply b x flutter (all_cycles x) 0 in
     let keeps : KeepsSharply false x flutter (all_cycles x) 0 =
     subst Keeps w.kind
-    (promise f.params f.drift f.script f.drift_file f.script_file flutter (all_cycles x) 0 w.sane w.drift w.script covered w.run (subst At (sym w.kind) w.first.unfollowed.synced)) in
+    (promise f.params f.drift f.script f.drift_file f.script_file 0 flutter (all_cycles x) 0 w.sane w.drift w.script covered w.run (lit≤ tt) (subst At (sym w.kind) w.first.unfollowed.synced)) in
     record { walking = w; covered = covered; keeps = keeps }
 
 twelve : doubles_of walking_drift ≡ 12
@@ -537,16 +537,16 @@ keep_while_first_rates_last lawful long promise so =
     let x : Setting = run_of_files f in
     let w : AreWalking f 400_000 = are_walking f 400_000 lawful long joined_worked in
     let Hold : Bool → Type 0 = λ b. SharpJoinChecksHold b 400_000 walking_cluster in
-    let covered : IsSharplyCoveredToJoin f.params f.drift f.script 400_000 = record {
+    let covered : IsSharplyCoveredToJoin f.params f.drift f.script 0 400_000 = record {
       checks = subst Hold (sym joined_kind) join_checks_hold;
-      none = (found-of-run f.params f.drift f.script walking_is_sane).0 joined_gap;
+      none = λ g gap behind. (found-of-run f.params f.drift f.script walking_is_sane).0 joined_gap g gap;
       flutters = let same = joined_flutter in omega (arith, same);
     } in
     let At : Bool → Type 0 = λ b. IsUnfollowedSharpSyncAt b f.params 400_000 (all_cycles x) 0 in
     let Keeps : Bool → Type 0 = λ b. KeepsSharplyJoined b x 400_000 (all_cycles x) 0 in
     let keeps : KeepsSharplyJoined false x 400_000 (all_cycles x) 0 =
     subst Keeps joined_kind
-    (promise f.params f.drift f.script f.drift_file f.script_file 400_000 (all_cycles x) 0 walking_is_sane drift_is joined_is covered w.run (subst At (sym joined_kind) w.first.unfollowed)) in
+    (promise f.params f.drift f.script f.drift_file f.script_file 0 400_000 (all_cycles x) 0 walking_is_sane drift_is joined_is covered w.run (lit≤ tt) (subst At (sym joined_kind) w.first.unfollowed)) in
     let before : (m : ℕ) → m < 6 → FirstRatesLast walking_cluster 400_000 m = λ m less. rates_go_on so m (omega (arith, less)) in
     record {
       walking = w;

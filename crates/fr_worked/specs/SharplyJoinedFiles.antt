@@ -103,7 +103,7 @@ pub record KeepSharplyFromTheStart (beside : Bool) (f : RunFiles) (flutter : ℕ
   pub script : IsScriptFile f.params f.script f.script_file
   pub kind : has_arbitrary f.params f.script ≡ beside
   pub flutters : flutter_of f.params f.drift f.script ≡ flutter
-  pub covered : IsSharplyCoveredToJoin f.params f.drift f.script flutter
+  pub covered : IsSharplyCoveredToJoin f.params f.drift f.script 0 flutter
   pub check : sharp_holds_of 1 flutter (sharp_reach beside f.params flutter) f.params ≡ true
   pub older : holds_of 7 f.params ≡ false
   pub run : IsRunOf (run_of_files f) (all_cycles (run_of_files f))

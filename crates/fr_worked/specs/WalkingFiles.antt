@@ -100,7 +100,7 @@ pub record AreWalking (f : RunFiles) (flutter : ℕ) : Type 0 where
 -- but not to the end. Yet sharp sync lasts without a number, since the walk is held: so the run keeps the sharper precision to its end
 pub record KeepThoughLengthsWalk (f : RunFiles) (flutter lasts : ℕ) : Type 0 where
   pub walking : AreWalking f flutter
-  pub covered : IsSharplyCovered f.params f.drift f.script flutter
+  pub covered : IsSharplyCovered f.params f.drift f.script 0 flutter
   pub walks : walk_lasts f.params flutter ≡ Some lasts
   pub short : lasts < doubles_of f.drift
   pub held : sync_lasts f.params flutter ≡ None
@@ -111,7 +111,7 @@ pub record KeepThoughLengthsWalk (f : RunFiles) (flutter lasts : ℕ) : Type 0 w
 -- less than two thirds of a microtick: so the run keeps the sharper precision as long as that, in the last of these too
 pub record KeepWhileTheWalkLasts (f : RunFiles) (flutter lasts : ℕ) : Type 0 where
   pub walking : AreWalking f flutter
-  pub covered : IsSharplyCovered f.params f.drift f.script flutter
+  pub covered : IsSharplyCovered f.params f.drift f.script 0 flutter
   pub little : (pos 3 *ℤ rate_walk f.params flutter) <ℤ pos (2 * shortest_micro f.params)
   pub ends : sync_lasts f.params flutter ≡ Some lasts
   pub short : lasts < doubles_of f.drift
@@ -122,7 +122,7 @@ pub record KeepWhileTheWalkLasts (f : RunFiles) (flutter lasts : ℕ) : Type 0 w
 -- keeps the sharper precision as long as that, in the last of these too, and so far the node follows and takes part
 pub record KeepWhileFirstRatesLast (f : RunFiles) (flutter lasts node : ℕ) (join : Join) : Type 0 where
   pub walking : AreWalking f flutter
-  pub covered : IsSharplyCoveredToJoin f.params f.drift f.script flutter
+  pub covered : IsSharplyCoveredToJoin f.params f.drift f.script 0 flutter
   pub ends : first_rates_last f.params flutter ≡ Some lasts
   pub short : lasts < doubles_of f.drift
   pub keeps : KeepsSharplyJoined false (run_of_files f) flutter (all_cycles (run_of_files f)) 0

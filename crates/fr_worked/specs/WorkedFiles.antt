@@ -44,7 +44,7 @@ FlutteringFilesAreCovered =
     (beside : Bool)
     → (flutter_of steady_cluster fluttering_drift (marking_script beside) ≡ 250)
     × (has_arbitrary steady_cluster (marking_script beside) ≡ beside)
-    × IsSharplyCovered steady_cluster fluttering_drift (marking_script beside) 250
+    × IsSharplyCovered steady_cluster fluttering_drift (marking_script beside) 0 250
 
 -- their run is in sharp sync from the start on, and keeps the sharper precision to the end
 abbrev pub FlutteringFilesKeepSharply : Type 0
@@ -70,5 +70,5 @@ joining_script = record {
 abbrev pub JoiningFilesAreCovered : Type 0
 JoiningFilesAreCovered =
     (some_join steady_cluster joining_script ≡ true) × (flutter_of steady_cluster fluttering_drift joining_script ≡ 250)
-    × IsSharplyCoveredToJoin steady_cluster fluttering_drift joining_script 250
+    × IsSharplyCoveredToJoin steady_cluster fluttering_drift joining_script 0 250
     × (sharp_holds_of 1 250 (sharp_reach false steady_cluster 250) steady_cluster ≡ true)

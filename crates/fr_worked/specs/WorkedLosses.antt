@@ -36,7 +36,7 @@ abbrev pub LosingFilesAreCovered : Type 0
 LosingFilesAreCovered =
     (whole_in steady_cluster losing_script 0 ≡ true) × (whole_in steady_cluster losing_script 1 ≡ false)
     × (whole_in steady_cluster losing_script 2 ≡ true)
-    × IsCoveredThroughLosses steady_cluster fluttering_drift losing_script 250 61_281_165
+    × IsCoveredThroughLosses steady_cluster fluttering_drift losing_script 0 250 61_281_165
 
 -- so their run is in sharp sync from the start on, and no macroticks lie further apart than 36,005,494 ticks in double cycle 0,
 -- 48,007,094 in the one that loses frames, and 75,011,786 in the one behind it
@@ -64,7 +64,7 @@ abbrev pub MissingFilesAreCovered : Type 0
 MissingFilesAreCovered =
     (heard_in (traffic_in steady_cluster missing_script) 0 ≡ heard.Clean) × (heard_in (traffic_in steady_cluster missing_script) 1 ≡ heard.Meeting)
     × (heard_in (traffic_in steady_cluster missing_script) 2 ≡ heard.Clean)
-    × IsCoveredThroughLosses steady_cluster fluttering_drift missing_script 250 45_726_402
+    × IsCoveredThroughLosses steady_cluster fluttering_drift missing_script 0 250 45_726_402
 
 -- no macroticks lie further apart than 36,005,494 ticks in double cycle 0 and in the one that loses the frame, and 57,008,790 in the one
 -- behind it, where it is 75,011,786 if every frame is lost
@@ -83,7 +83,7 @@ MissingFilesKeep =
 abbrev pub BesideFilesAreCovered : Type 0
 BesideFilesAreCovered =
     ((double : ℕ) → double < 3 → heard_in (traffic_in steady_cluster (marking_script true)) double ≡ heard.Meeting)
-    × IsCoveredThroughLosses steady_cluster fluttering_drift (marking_script true) 250 84_305_863
+    × IsCoveredThroughLosses steady_cluster fluttering_drift (marking_script true) 0 250 84_305_863
 
 abbrev pub BesideFilesKeep : Type 0
 BesideFilesKeep =

@@ -76,6 +76,10 @@ DELAY = (0, 1000000000)
 LOST = (0, 14)
 START = (0, 1000000000000)
 POWER = (0, 16000000)
+# Of a run's ticks, and of a log's units.
+TIMES = (0, 900000000000000000)
 SHIFT = (-1000000000000, 1000000000000)
 REPETITIONS = (1, 2, 4, 8, 16, 32, 64)
 FILE_BYTES = 16777216
+# Of the bytes of a frame, as digits.
+FRAME_DIGITS = 524

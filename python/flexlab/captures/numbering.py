@@ -6,13 +6,14 @@ from dataclasses import dataclass, field
 from typing import NamedTuple
 
 from ..base.files import read
+from ..base.ranges import CYCLES
 from ..base.units import TICKS
 from ..toml.cluster import Cluster, Node
 from .observer import End, is_damaged
 
 # Numbers of cycles are known but for so many.
 COUNTS = 64
-LAST_CYCLE = 199_999
+LAST_CYCLE = CYCLES[1]
 # Behind so many cycles without a frame that says where a clock was flexray gives no number.
 SILENCE = 30
 

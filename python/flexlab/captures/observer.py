@@ -32,7 +32,7 @@ from ..pages.page import field as lines_of
 from ..toml.source import Source
 from ..base.units import TICKS, Number, decimal
 
-LAST_STAMP = 9 * 10**17
+LAST_STAMP = ranges.TIMES[1]
 # So many bytes of what a log may have are left for a row that names a node more arbitrary.
 ROOM = 32
 WANTED = ("a table [observer] states what is known of the analyzer: resolution_ns, drift_ppm, delay_from_ns and "

@@ -204,7 +204,7 @@ def rests_on(case: Case) -> list[tuple[str, str]]:
 
 
 def broken_by_file(case: Case) -> list[str]:
-    """Where the run that the file describes keeps no premise: the claim is not of that run."""
+    """Where the run that the file describes does not keep a premise in some cycle: the claim is of that run only if that is before sync."""
     return [gap_words(gap, case.cluster)[0] for gap in every_gap(case.cluster) if gap[0] != "count"]
 
 
@@ -259,7 +259,8 @@ def page(case: Case, path: str) -> str:
     parameters = [(key, str(value), unit) for key, value, unit in (
         (key, value, ranges.NAMES[key][2]) for key, value in case.cluster.parameters.items())]
     broken = broken_by_file(case)
-    own = ("<p>The run that the file itself describes does not keep them, so the claim is not of that run:</p><ul>"
+    own = ("<p>The run that the file itself describes does not keep them in all of its cycles. The claim is of that run only if all of "
+           "this lies before it is in sync:</p><ul>"
            + "".join(f"<li>{html.escape(line)}</li>" for line in broken) + "</ul>") if broken else ""
     sections = [
         ("Claim", "<div class=\"claim\">" + "".join(f"<p>{html.escape(line)}</p>" for line in claim(case)) + "</div>"
@@ -267,7 +268,8 @@ def page(case: Case, path: str) -> str:
            f"and starts and lengths of their cycles lie within {case.bounds.pi} and {case.bounds.lambda_} ticks of each other (pi and "
            "lambda), "
            "each length in its range (docs/GLOSSARY.md).</p>"),
-        ("Premises, and who has to see to each", "<p>The claim holds where all of these do, and says nothing where one does not.</p>"
+        ("Premises, and who has to see to each", "<p>The claim holds where all of these do, and says nothing where one does not. "
+         "What oscillators, delays and frames do before that double cycle in sync does not count.</p>"
          + table(("", "Premise", "Value", "Who sees to it", "Shown by"),
                  ((f"P{one.number}", one.text, one.value, one.who, "") for one in premises(case)), "premises")
          + own),

@@ -15,7 +15,7 @@ from ..toml.constraints import broken, explain_constraint
 from ..base.ending import USAGE as WORDS
 from ..base.files import check_is_file
 from ..base.ending import DONE, FILE, NO, Stop, printable
-from ..program.forms import FORMS
+from ..program.forms import FORMS, spelling
 from .gaps import check_words, gap_words, held_words, sharp_check_words, sharp_way_words
 from ..base.ranges import Parameters
 from ..program.known import Known, version_of
@@ -180,6 +180,15 @@ def explain_read(role: str, path: str | None) -> list[str]:
     return [f"{path} ({role}): it could not be read then; now it can"]
 
 
+# Of the records that have to be there, what each says.
+MISSING = {
+    "doubles": "with how many double cycles the run has", "cycles": "with how many cycles the startup has",
+    "unit": "with how many ticks a unit of stamps is long",
+    "drift": "with how many parts per million the clock of the analyzer may be off",
+    "delay": "for some channel of a correct node with a key slot",
+}
+
+
 def explain_missing(role: str, name: str, words: Sequence[str]) -> list[str]:
     path = named(role, words)
     if name in NAMES:
@@ -190,13 +199,12 @@ def explain_missing(role: str, name: str, words: Sequence[str]) -> list[str]:
                 f"{name} is from {least} to {most} {unit}".rstrip() + f": {meaning}",
                 *([f"these are missing too: {', '.join(other for other in missing if other != name)}"]
                   if len(missing) > 1 else [])]
-    form = {"doubles": "`doubles,COUNT,,,,` with how many double cycles the run has, 1 to 100000",
-            "cycles": "`cycles,COUNT,` with how many cycles the startup has, 1 to 1000",
-            "unit": "`unit,TICKS,,,` with how many ticks a unit of stamps is long, 1 to 1000000000",
-            "drift": "`drift,PPM,,,` with how far the clock of the analyzer may be off, 0 to 1000 parts per million",
-            "delay": "`delay,NODE,CHANNEL,LOW,HIGH` for some channel of a correct node with a key slot, and no record "
-                     "`delay,,,LOW,HIGH` for all others"}.get(name, f"`{name}`")
-    return [f"{path}: there is no record {form}"]
+    form = FORMS.get(role)
+    if form is None or name not in form.kinds or name not in MISSING:
+        return [f"{path}: there is no record `{name}`"]
+    fields, bare = form.kinds[name], form.bare.get(name)
+    more = f"and no record `{spelling(name, bare)}` for all others" if bare else f"{fields[0].least} to {fields[0].most}"
+    return [f"{path}: there is no record `{spelling(name, fields)}` {MISSING[name]}, {more}"]
 
 
 def explain_frame(fault: str, *numbers: str) -> list[str]:

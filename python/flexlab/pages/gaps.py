@@ -6,6 +6,7 @@ from typing import Protocol
 from .advice import OR, SHARP_OR, SHARP_WAY_WHY, SHARP_WHY, WAY_OR, WAY_WHY, WHY, advise, also
 from ..base import ranges
 from ..base.ranges import Parameters
+from ..program.forms import HARMS
 from ..runs.least import Kind, sharp_advise
 from ..base.units import microseconds, ppm_of, signed
 
@@ -96,4 +97,4 @@ def gap_words(gap: Sequence[str], cluster: Described) -> list[str]:
                 f"turn limits.delay_error_us, or {name}"]
     return [f"in double cycle {numbers[2]} no channel carries the frames of node {name_of(0)} to node {name_of(1)} in "
             f"both its cycles (cycles {2 * numbers[2]} and {2 * numbers[2] + 1})",
-            "let one channel be free of `lose` and `flip` there, or give both nodes channels AB"]
+            f"let one channel be free of {' and '.join(f'`{kind}`' for kind in HARMS)} there, or give both nodes channels AB"]

@@ -14,7 +14,7 @@ from .page import ms_of_cycle
 from ..program.report import Bounds, Skew
 from .verdict import gaps_told, verdict_object
 from ..runs.every_gap import every_gap, lost_frames
-from ..runs.sharp import ends_of, first_of, gap_of, is_within, kind_of, lasts_of, lost_of, skew_of
+from ..runs.sharp import ends_of, first_of, gap_of, is_within, kind_of, lasts_of, lost_of, since_of, skew_of
 from ..base.ranges import Parameters
 from ..base.units import Number, decimal, ppm_of, us_of_ticks
 from ..base.version import version
@@ -75,16 +75,18 @@ def sync_object(first: int | None, lost: int | None, cluster: Cluster) -> Object
 
 def sharp_object(run: Run) -> Object:
     """The sharper side of a run."""
-    cluster, bounds, (known, gap) = run.cluster, run.sharp.bounds, gap_of(run)
+    cluster, bounds, gap, turn = run.cluster, run.sharp.bounds, gap_of(run), run.sharp.told.turn
     kind, p = kind_of(cluster, run.sharp.flutter), cluster.parameters
     told = gap_words(gap, cluster) if gap and gap[0] != "check" else []
     if gap and gap[0] == "check":
         number, left, right = map(int, gap[1:])
         told = sharp_check_words(number, left, right, p, kind)
-    return {"covered": gap is None if known else None, "gap": gap and " ".join(gap),
-            "gap_told": told,
+    return {"covered": gap is None, "gap": gap and " ".join(gap),
+            "gap_told": told, "gaps": [" ".join(one) for one in every_gap(cluster, since_of(run))],
             "kind": bounds.kind,
-            "flutter": {"ticks": run.sharp.flutter, "us": us(run.sharp.flutter, cluster)},
+            "flutter": {"ticks": run.sharp.flutter, "us": us(run.sharp.flutter, cluster),
+                        "delay": turn and {"sender": turn.sender, "receiver": turn.receiver, "channel": turn.channel,
+                                           "last_in_double_cycle": turn.double}},
             "precision": {"ticks": bounds.precision, "us": us(bounds.precision, cluster)},
             "in_sharp_sync": sync_object(first_of(run), lost_of(run), cluster),
             "in_sync": sync_object(first_of(run), lost_of(run), cluster),
@@ -134,9 +136,8 @@ def drawn_object(cluster: Cluster) -> dict[str, float]:
 
 
 def way_object(way: Way, checks: Checks | type[OlderChecks], cluster: Cluster) -> Object:
-    known, gap = checks.gap(way.run)
     return {"first": way.first, "parameters": way.changed, "precision_us": us(way.bounds.precision, cluster),
-            "covered": gap is None if known else None, "skew_us": us(way.skew, cluster)}
+            "covered": checks.gap(way.run) is None, "skew_us": us(way.skew, cluster)}
 
 
 def ways_object(ways: Ways | None, cluster: Cluster) -> Object | None:
@@ -190,9 +191,9 @@ def wanted(text: str | None) -> list[Required]:
 
 def sharp_verdict(run: Run) -> str | None:
     """Why a run is not sharply covered, or is not proved to be to its end from the first double cycle in sharp sync on."""
-    known, gap = gap_of(run)
-    if not known or gap:
-        return "sharp covered no " + " ".join(gap or []) if known else "whether it is sharply covered is not known"
+    gap = gap_of(run)
+    if gap:
+        return "sharp covered no " + " ".join(gap)
     if first_of(run) is None:
         return "never in sharp sync"
     return None if ends_of(run) is None else f"what is proved ends before double cycle {ends_of(run)}"

@@ -8,7 +8,7 @@ from .gaps import gap_words
 from .model import warnings
 from ..program.calls import coming
 from ..runs.every_gap import every_gap, lost_frames
-from ..runs.sharp import ends_of, first_of, is_covered
+from ..runs.sharp import ends_of, first_of, is_covered, since_of
 from .sharp_page import check_lines, sharp_lines
 from .verdict import verdict_of
 from ..runs.sync import starts_apart
@@ -216,11 +216,14 @@ def joined_words(cycle: int | None, cluster: Cluster) -> str:
 
 
 def gap_lines(run: Run) -> list[str]:
-    """What of the files lies outside the limits, all of it: the report names the first gap alone."""
-    gaps = every_gap(run.cluster)
+    """What of the files lies outside the limits, all of it: the report names the first gap alone. Before sync it is no gap of the
+    precision, which may have a later one of the same kind."""
+    gaps, since = every_gap(run.cluster), since_of(run)
+    behind = every_gap(run.cluster, since) if since else gaps
     found: list[str] = []
-    for gap in gaps if run.report.gap is None or gaps != [run.report.gap] else []:
-        found += field("" if found else "Gaps", *gap_words(gap, run.cluster))
+    for gap in [*gaps, *(gap for gap in behind if gap not in gaps)] if behind != gaps or gaps != [run.report.gap] else []:
+        early = [f"that is before double cycle {since}, the first in sync: for the precision it is no gap"] if gap not in behind else []
+        found += field("" if found else "Gaps", *gap_words(gap, run.cluster), *early)
     return found
 
 

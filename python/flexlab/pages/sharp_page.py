@@ -7,8 +7,10 @@ from typing import TYPE_CHECKING
 
 from .gaps import gap_words, held_words, sharp_check_words
 from ..runs.least import least_lasting_damping, least_sharp_damping
-from ..runs.sharp import ends_of, first_of, gap_of, greatest_turn, is_covered, is_within, kind_of, lasts_of, lost_of, skew_of
-from ..base.units import decimal, lasting, microseconds, percent
+from ..runs.every_gap import every_gap
+from ..runs.sharp import (ends_of, first_of, flutter_of, gap_of, is_covered, is_within, kind_of, lasts_of, lost_of, since_of,
+                          skew_of)
+from ..base.units import decimal, lasting, microseconds, percent, us_of_ticks
 
 if TYPE_CHECKING:
     from ..runs.runs import Run
@@ -24,27 +26,40 @@ def kind_words(sharp: Sharp, unit: Fraction) -> str:
     return f"{KINDS[sharp.bounds.kind]}, for delays that flutter by {microseconds(sharp.bounds.flutter, unit)}"
 
 
+def ns_words(ticks: int, unit: Fraction) -> str:
+    return f"{decimal(us_of_ticks(ticks, unit) * 1000, 3).rstrip('0').rstrip('.')} ns"
+
+
 def flutter_words(run: Run) -> list[str]:
-    """Which row of delays makes the flutter."""
-    turn, cluster = greatest_turn(run.cluster), run.cluster
-    if turn is None:
-        return []
-    return [f"by so much the delay from node {cluster.called(turn.sender)} to node {cluster.called(turn.receiver)} on channel "
-            f"{turn.channel} changes within double cycle {turn.cycle // 2}, at cycle {turn.cycle}; a change at an even cycle is no "
-            "flutter"]
+    """Which delay flutters, and until when; and what does not count since it lies before sync."""
+    turn, cluster, since = run.sharp.told.turn, run.cluster, since_of(run)
+    found = []
+    if turn is not None:
+        found.append(f"the delay of frames of node {cluster.called(turn.sender)} at node {cluster.called(turn.receiver)} on channel "
+                     f"{turn.channel} flutters by {ns_words(turn.ticks, cluster.microtick_ns)}, last in double cycle {turn.double}, at "
+                     f"cycle {2 * turn.double + 1}; a change at an even cycle is no flutter")
+    early = flutter_of(cluster)
+    if early > run.sharp.flutter:
+        found.append(f"before double cycle {since}, the first in sync, delays flutter by up to {ns_words(early, cluster.microtick_ns)}: "
+                     "that does not count")
+    return found
+
+
+def early_words(run: Run) -> list[str]:
+    """That gaps before sync do not count, where there are some."""
+    since = since_of(run)
+    early = since and every_gap(run.cluster) != every_gap(run.cluster, since)
+    return [f"gaps before double cycle {since}, the first in sync, do not count; there are some, see below"] if early else []
 
 
 def covered_words(run: Run) -> list[str]:
     """Sentences on whether the run is covered."""
-    known, gap = gap_of(run)
-    if not known:
-        return ["not known: a check of the classical bound fails, and what else is asked flexray-series tells, which is not "
-                "installed"]
+    gap = gap_of(run)
     if gap is None:
         never = first_of(run) is None
         return ["yes; but what is proved begins with the first double cycle in sync, and there is none" if never else
                 "yes: while in sync no macroticks of correct nodes lie further apart than the precision; that is proved of such "
-                "runs"]
+                "runs", *early_words(run)]
     words = gap_words(gap, run.cluster) if gap[0] != "check" else [f"check C{gap[1]} fails, see below"]
     return ["NO: nothing is promised of this run's precision", *words]
 
@@ -85,25 +100,25 @@ def skew_lines(run: Run, field: Lines) -> list[str]:
     """How far clocks lay apart since they were first in sync."""
     skew, sharp, unit = skew_of(run), run.sharp, run.cluster.microtick_ns
     if skew is None:
-        return [] if first_of(run) is None else field("Skew in sync", "not known: flexray-series tells it, which is not installed")
+        return []
     found = field("Skew in sync", f"{microseconds(skew.ticks, unit)} at most since it was first in sync, "
                                   f"{percent(skew.ticks, sharp.bounds.precision)} of the precision (cycle {skew.cycle}, macrotick "
                                   f"{skew.macrotick})")
     if is_within(run):
         return found + field("Within", "yes: since then the skew was never above the precision")
     place = ""
-    if sharp.told and sharp.told.sharp_beyond:
-        place = ", first in cycle {}, macrotick {}".format(*sharp.told.sharp_beyond)
+    if sharp.told.beyond:
+        place = ", first in cycle {}, macrotick {}".format(*sharp.told.beyond)
     return found + field("Within", f"NO: since then the skew was above the precision{place}")
 
 
 def losses_lines(run: Run, field: Lines) -> list[str]:
-    """How far the clocks may come apart through frames that are lost, where flexray-series tells it."""
-    told, cluster = run.sharp.told, run.cluster
-    if told is None or not told.losses.doubles:
+    """How far the clocks may come apart through frames that are lost."""
+    losses, cluster, since = run.sharp.told.losses, run.cluster, since_of(run)
+    if not losses.doubles:
         return []
-    losses = told.losses
-    where = (f"frames are lost in {losses.doubles} of {run.report.doubles} double cycles, the last is double cycle {losses.last}")
+    where = (f"frames are lost in {losses.doubles} of {run.report.doubles - since} double cycles"
+             + (f" from double cycle {since} on" if since else "") + f", the last is double cycle {losses.last}")
     first, lasts = first_of(run), lasts_of(run)
     if losses.bound is None:
         return field("Losses", where, "nothing is proved of this run through losses")

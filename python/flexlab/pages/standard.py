@@ -111,7 +111,9 @@ def compared(run: Run, program: str, worst: int = WORST, flutter_ns: str | None 
     lines += field("Cluster", f"a cycle of {decimal(ms_of_cycle(1, cluster), 3)} ms, damping {p['pClusterDriftDamping']}, "
                               f"oscillators within {p['xRateBound']} ticks (about ppm), frames travel "
                               f"{microseconds(greatest_delay(p), unit)} at most, by the parameters")
-    own = "the greatest of this run" if run.sharp.flutter <= sharp.MOST else "the most that flexray bound takes"
+    since = sharp.since_of(run)
+    own = ("the most that flexray bound takes" if run.sharp.flutter > sharp.MOST else
+           "the greatest of this run" + (f" from double cycle {since} on, the first in sync" if since else ""))
     lines += field("Flutter", f"{microseconds(flutter, unit)}: how far a delay may differ between the two cycles of a double "
                               f"cycle; {own if flutter_ns is None else 'as asked'}")
     table, mine = rows(run, both, worst)
@@ -128,15 +130,13 @@ def compared(run: Run, program: str, worst: int = WORST, flutter_ns: str | None 
 
 def sharp_words(run: Run, bounds: SharpBounds, flutter: int) -> str:
     """Whether the precision of this cluster is proved of this run, with delays that flutter so much."""
-    known, gap = sharp.gap_of(run)
+    gap = sharp.gap_of(run)
     if gap and gap[0] == "check" or bounds.gap:
         gap = bounds.gap
     if run.sharp.flutter > flutter:
         return f"nothing is proved of this run, whose delays flutter by {microseconds(run.sharp.flutter, run.cluster.microtick_ns)}"
     if gap is not None:
         return f"nothing is proved of this run, which has a gap ({' '.join(gap)})"
-    if not known:
-        return "whether it is proved of this run is not known: flexray-series tells it, which is not installed"
     told = (f"proved of this run, {KINDS[bounds.kind]}: in sync no macroticks of correct nodes lie further apart than its "
             "number")
     if bounds.lasts is None:

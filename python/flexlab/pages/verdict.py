@@ -5,7 +5,7 @@ from typing import TYPE_CHECKING
 
 from ..base.units import microseconds
 from ..runs.every_gap import every_gap
-from ..runs.sharp import ends_of, first_of, gap_of, is_covered
+from ..runs.sharp import ends_of, first_of, gap_of, is_covered, since_of
 from .gaps import gap_words
 
 if TYPE_CHECKING:
@@ -14,9 +14,9 @@ if TYPE_CHECKING:
 
 @dataclass(frozen=True)
 class Verdict:
-    """`proved` is None where it is not known; `ticks` is what clocks are proved to lie apart at most from `cycle` on, up to `until`
+    """`ticks` is what clocks are proved to lie apart at most from `cycle` on, up to `until`
     where the proof ends before the run."""
-    proved: bool | None
+    proved: bool
     told: str
     ticks: int | None = None
     cycle: int | None = None
@@ -38,23 +38,19 @@ def verdict_of(run: "Run") -> Verdict:
     if is_covered(run):
         why = "no double cycle is in sync" if first is None else "C1 fails, and the rate limit holds the walk for no double cycle"
         return Verdict(False, f"NOT PROVED: nothing is, since {why}")
-    known, gap = gap_of(run)
-    told = gaps_told(run)
+    gap, told = gap_of(run), gaps_told(run, since_of(run))
     if run.sharp.bounds.gap:
         told.append(f"check C{run.sharp.bounds.gap[1]} fails")
     if told:
         return Verdict(False, f"NOT PROVED: {told[0]}" + (f" (and {len(told) - 1} more, below)" if len(told) > 1 else ""))
-    if not known:
-        return Verdict(None, "NOT KNOWN: a check of the classical bound fails, and whether the precision is proved of this run is told "
-                             "by flexray-series, which is not installed")
     if gap is not None:
         return Verdict(False, f"NOT PROVED: {gap_words(gap, run.cluster)[0]}")
     return Verdict(False, "NOT PROVED: no double cycle of the run is in sync")
 
 
-def gaps_told(run: "Run") -> list[str]:
-    """The first line of each gap that the files have besides the checks, the count first."""
-    return [gap_words(gap, run.cluster)[0] for gap in every_gap(run.cluster)]
+def gaps_told(run: "Run", since: int = 0) -> list[str]:
+    """The first line of each gap that the files have besides the checks, the count first; of the double cycles from one on."""
+    return [gap_words(gap, run.cluster)[0] for gap in every_gap(run.cluster, since)]
 
 
 def verdict_object(run: "Run") -> dict[str, object]:

@@ -3,11 +3,11 @@ import re
 from collections.abc import Callable, Iterable, Iterator
 from typing import NamedTuple
 
-from .forms import FORMS, Field, form_of, placed, span
+from .forms import FORMS, LIMITED, NUMERIC, OF_FRAMES, ONCE, SPELT, Field, placed, span, spelt
 from .known import Known, sure, version_of, whole
 from ..base.ending import printable
 from .records import Record
-from ..base.ranges import REPETITIONS, table
+from ..base.ranges import FRAME_DIGITS, REPETITIONS, TIMES, table
 from ..toml.values import near
 
 MEANING = {
@@ -60,8 +60,8 @@ def shape(role: str, record: Record, cluster: Known, earlier: list[Record]) -> I
             yield "there are no comments: a line that begins with # is a record like every other"
         elif len(record.fields) < wanted:
             yield f"commas are missing: {wanted - len(record.fields)} more belong to it, empty fields at its end too"
-        for other, (count, kinds) in FORMS.items():
-            if other != role and count == len(record.fields) and record.fields[0] in kinds:
+        for other, form in FORMS.items():
+            if other != role and form.width == len(record.fields) and record.fields[0] in form.kinds:
                 yield f"it looks like a record of a {other} file: are the words in the right order?"
     if role == "log" and record.fields[0] == "delay" and len(record.fields) == wanted and (
             record.fields[1] and not record.fields[2]):
@@ -80,12 +80,12 @@ def unknown_name(role: str, record: Record, cluster: Known, earlier: list[Record
         if described.kind == "name" and text not in table(version):
             yield (f"{at(place, 'NAME', text)}, which is no parameter of a file of version {version}"
                    f"{hint(text, table(version))}")
-        if described.kind == "state" and text not in ("active", "passive", "halt"):
-            yield f"{at(place, 'STATE', text)}, and states are active, passive, halt"
+        if described.kind == "state" and text not in SPELT["state"]:
+            yield f"{at(place, 'STATE', text)}, and states are {', '.join(SPELT['state'])}"
 
 
 def is_numeric(described: Field, text: str) -> bool:
-    return described.kind in ("number", "node", "rate", "offset", "bit", "value") or (described.kind == "key" and text != "")
+    return described.kind in NUMERIC and not (described.kind == "key" and text == "")
 
 
 def not_number(role: str, record: Record, cluster: Known, earlier: list[Record]) -> Iterator[str]:
@@ -115,11 +115,11 @@ def out_of_range(role: str, record: Record, cluster: Known, earlier: list[Record
             name = record.fields[1] if described.kind == "value" else described.name
             yield f"{at(place, name, text)}, which is not from {found[0]} to {found[1]} {found[2]}".rstrip() + cause(
                 described, record)
-        if described.kind == "hex" and len(text.encode()) > 524:
-            yield f"field {place} (BYTES) has {len(text.encode())} bytes, and at most 524 are allowed"
+        if described.kind == "hex" and len(text.encode()) > FRAME_DIGITS:
+            yield f"field {place} (BYTES) has {len(text.encode())} bytes, and at most {FRAME_DIGITS} are allowed"
     unit, stamp = unit_of(earlier), whole(record.fields[1]) if role == "log" and is_entry(record) else None
-    if unit and stamp is not None and 0 <= stamp <= 900000000000000000 < stamp * unit:
-        yield f"STAMP is {stamp} units, and these are {stamp * unit} ticks, more than 900000000000000000"
+    if unit and stamp is not None and TIMES[0] <= stamp <= TIMES[1] < stamp * unit:
+        yield f"STAMP is {stamp} units, and these are {stamp * unit} ticks, more than {TIMES[1]}"
 
 
 def is_entry(record: Record) -> bool:
@@ -134,11 +134,9 @@ def unit_of(earlier: list[Record]) -> int | None:
 def cause(described: Field, record: Record) -> str:
     if record.fields[0] == "length" and described.name == "TICKS":
         return " (the length of a microtick: 1000000 is nominal, and an oscillator that is 150 ppm fast has 999850)"
-    if described.kind in ("rate", "offset"):
-        return " (pRateCorrectionOut of the parameters)" if described.kind == "rate" else " (pOffsetCorrectionOut)"
     if described.kind == "bit":
         return " (the last bit of a frame of 8 + 2 gPayloadLengthStatic bytes)"
-    return ""
+    return f" ({LIMITED[described.kind].parameter} of the parameters)" if described.kind in LIMITED else ""
 
 
 def unknown_node(role: str, record: Record, cluster: Known, earlier: list[Record]) -> Iterator[str]:
@@ -158,10 +156,9 @@ def unknown_node(role: str, record: Record, cluster: Known, earlier: list[Record
 
 def bad_channel(role: str, record: Record, cluster: Known, earlier: list[Record]) -> Iterator[str]:
     for place, described, text in placed(role, record):
-        if described.kind == "channel" and text not in ("A", "B"):
-            yield f"{at(place, described.name, text)}, and it has to be A or B"
-        if described.kind == "channels" and text not in ("A", "B", "AB"):
-            yield f"{at(place, described.name, text)}, and it has to be A, B or AB"
+        if described.kind in ("channel", "channels") and text not in SPELT[described.kind]:
+            *others, last = SPELT[described.kind]
+            yield f"{at(place, described.name, text)}, and it has to be {', '.join(others)} or {last}"
 
 
 def arbitrary_before(earlier: list[Record]) -> dict[int | None, Record]:
@@ -278,7 +275,7 @@ def log_role(record: Record, cluster: Known, earlier: list[Record]) -> Iterator[
     last = next((other for other in reversed(earlier) if is_entry(other)), None)
     if is_entry(record):
         if unit_of(earlier) is None:
-            yield "no record before it says how long a unit of stamps is: `unit,TICKS,,,` has to come before"
+            yield f"no record before it says how long a unit of stamps is: `{spelt('log', 'unit')}` has to come before"
         if last and sure(fields[1]) < sure(last.fields[1]):
             yield f"STAMP is {fields[1]}, and line {last.line} has {last.fields[1]}: stamps ascend"
         return
@@ -331,25 +328,21 @@ def not_hex(role: str, record: Record, cluster: Known, earlier: list[Record]) ->
                 yield f"field {place} (BYTES) has {len(text)} digits, and two make a byte"
 
 
-def same_key(role: str, record: Record) -> tuple[int | str, ...]:
-    """What a record may be there once of."""
-    kind, fields = record.fields[0], record.fields
-    numbers: list[int | str] = [text if (number := whole(text)) is None else number for text in fields]
-    if role == "params":
-        return (kind, numbers[1])
-    if role == "drift":
-        return {"doubles": (kind,), "start": (kind, numbers[1]), "length": (kind, *numbers[1:3])}.get(
-            kind, (kind, *numbers[1:5]))
-    if role == "script":
-        return {"arbitrary": (kind, numbers[1]), "join": (kind, numbers[2])}.get(kind, ("frames", *numbers[1:5]))
-    if role == "log":
-        return {"delay": (kind, *numbers[1:3]), "arbitrary": (kind, numbers[1])}.get(kind, (kind,))
-    return (kind,)
+def same_key(role: str, record: Record) -> tuple[int | str, ...] | None:
+    """What a record may be there once of, or None where its kind may be there again."""
+    kind = record.fields[0]
+    named = ONCE.get(role, {}).get(kind)
+    if named is None:
+        return None
+    texts = [text for text, field in zip(record.fields[1:], FORMS[role].kinds[kind]) if field.name in named]
+    values: list[int | str] = [text if (number := whole(text)) is None else number for text in texts]
+    return "frames" if role == "script" and kind in OF_FRAMES else kind, *values
 
 
 def repeated(role: str, record: Record, cluster: Known, earlier: list[Record]) -> Iterator[str]:
+    key = same_key(role, record)
     for other in earlier:
-        if form_of(role, other) is not None and same_key(role, other) == same_key(role, record):
+        if key and same_key(role, other) == key:
             yield f"line {other.line} is of the same: {other.text}"
 
 

@@ -1,14 +1,32 @@
 """Every gap of a cluster that can be told from its files: the report names the first one alone, and what mends that may leave
 another. They are those of docs/PRECISION.md, "Which runs are covered", but for the checks; the count is the first, since no
-parameter mends it."""
+parameter mends it. The precision asks of the double cycles from the first in sync on alone, so each is told of those from one on."""
 from collections.abc import Iterator
+from dataclasses import replace
 
 from ..base.ranges import compensation
 from ..base.units import TICKS
-from ..toml.cluster import Cluster, Link
+from ..program.forms import HARMS
+from ..toml.cluster import Cluster, Link, Steps
 
 # How many correct sync nodes outweigh so many arbitrary ones.
 OUTWEIGH = {0: 1, 1: 3, 2: 6}
+
+
+def behind(cluster: "Cluster", since: int) -> "Cluster":
+    """The cluster by what its files say of the double cycles from one on: the lengths and delays that hold there, and what becomes of
+    frames."""
+    if not since:
+        return cluster
+    first = 2 * since
+
+    def later(steps: Steps) -> Steps:
+        held = [cycle for cycle in steps if cycle <= first]
+        return {**({first: steps[max(held)]} if held else {}), **{cycle: ticks for cycle, ticks in steps.items() if cycle > first}}
+
+    return replace(cluster, lengths={node: later(steps) for node, steps in cluster.lengths.items()},
+                   delays={link: later(steps) for link, steps in cluster.delays.items()},
+                   script={place: row for place, row in cluster.script.items() if place.cycle >= first})
 
 
 def count_gap(cluster: "Cluster") -> list[str] | None:
@@ -54,23 +72,25 @@ def delay_gap(cluster: "Cluster") -> list[str] | None:
     return None
 
 
-def link_gap(cluster: "Cluster") -> list[str] | None:
-    """The first link without a channel that carries its frames in both cycles of a double cycle."""
+def link_gap(cluster: "Cluster", since: int = 0) -> list[str] | None:
+    """The first link without a channel that carries its frames in both cycles of a double cycle, from one on."""
     harmed: dict[tuple[int, int], dict[int, set[str]]] = {}
     for (cycle, sender, receiver, channel), row in cluster.script.items():
-        if row[0] in ("lose", "flip"):
+        if row.kind in HARMS:
             harmed.setdefault((sender, receiver), {}).setdefault(cycle // 2, set()).add(channel)
     for pair in pairs(cluster):
         common = set(cluster.common(*pair))
         broken = [double for double, channels in harmed.get(pair, {}).items() if common <= channels]
         if not common or broken:
-            return ["link", str(pair[0]), str(pair[1]), str(min(broken) if common else 0)]
+            return ["link", str(pair[0]), str(pair[1]), str(min(broken) if common else since)]
     return None
 
 
-def every_gap(cluster: "Cluster") -> list[list[str]]:
-    """The words of the first gap of each kind, as a report has them behind `covered no`."""
-    found = (gap(cluster) for gap in (count_gap, length_gap, change_gap, delay_gap, link_gap))
+def every_gap(cluster: "Cluster", since: int = 0) -> list[list[str]]:
+    """The words of the first gap of each kind, as a report has them behind `covered no`: of the whole run, or of the double cycles from
+    one on, as `run .. sharp` has them."""
+    asked = behind(cluster, since)
+    found = [*(gap(asked) for gap in (count_gap, length_gap, change_gap, delay_gap)), link_gap(asked, since)]
     return [gap for gap in found if gap]
 
 
@@ -78,7 +98,7 @@ def lost_frames(cluster: "Cluster") -> list[tuple[int, int, int, int, str]]:
     """(sender, first cycle, last cycle, how many at receivers, channels) of the frames that are lost or damaged on their way."""
     found: dict[int, list[tuple[int, str]]] = {}
     for (cycle, sender, _, channel), row in cluster.script.items():
-        if row[0] in ("lose", "flip"):
+        if row.kind in HARMS:
             found.setdefault(sender, []).append((cycle, channel))
     return [(sender, min(rows)[0], max(rows)[0], len(rows), "".join(sorted({channel for _, channel in rows})))
             for sender, rows in sorted(found.items())]

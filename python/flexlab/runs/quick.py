@@ -15,7 +15,7 @@ from ..program.report import Bounds, Report, Series, SharpBounds, Skew, read_rep
 from ..toml.again import Again
 from ..toml.cluster import Cluster
 from .runs import Run
-from .sharp import MOST, Sharp, flutter_of, kind_of, sharp_words, unlike
+from .sharp import MOST, Sharp, kind_of, sharp_words, told_by_report, told_by_series, unlike
 
 NAMES = ("params.csv", "drift.csv", "script.csv")
 SPELT = ("first", "second", "third")
@@ -88,25 +88,34 @@ def is_plain(cluster: Cluster) -> bool:
 
 
 def run_of(cluster: Cluster, caller: Caller, begin: int | None, is_short: bool = False) -> Run | None:
-    """A run by its report and, but where a short answer is wanted, by its series; None where these do not tell all, or a call
-    fails, which the longer way then tells."""
+    """A run by its report with what the sharper bounds say of it or, but where a short answer is wanted, by its report and its series;
+    None where these do not tell all, or a call fails, which the longer way then tells."""
     texts = caller.texts(cluster) if is_short or caller.second and is_plain(cluster) else None
-    printed = caller.answer(caller.program, ["run", *NAMES], texts) if texts else None
+    printed = caller.answer(caller.program, ["run", *NAMES, *(["sharp"] if is_short else [])], texts) if texts else None
     if printed is None or texts is None:
         return None
-    report, flutter = read_report(printed), flutter_of(cluster)
-    both = caller.sharp(cluster, flutter, texts)
+    series = None
+    if is_short:
+        found, report = read_sharp_report(printed)
+        told = told_by_report(found)
+    else:
+        assert caller.second is not None
+        report, printed = read_report(printed), caller.answer(caller.second, [*NAMES, "sharp"], texts)
+        if printed is None:
+            return None
+        series = read_series(printed)
+        told = told_by_series(series)
+    both = caller.sharp(cluster, told.flutter, texts)
     if both is None:
         return None
-    sharp = Sharp(flutter, both, both[kind_of(cluster, flutter).name])
+    sharp = Sharp(told, both, both[kind_of(cluster, told.flutter).name])
     run = Run(cluster, "", Bounds(), report, [], [], begin=begin, sharp=sharp)
-    if is_short:
+    if unlike(cluster, sharp, told):
+        return None
+    if series is None:
         run.in_sync_skew = skew_of(report)
         return run
-    assert caller.second is not None
-    printed = caller.answer(caller.second, [*NAMES, "sharp"], texts)
-    series = read_series(printed) if printed is not None else None
-    return with_series(run, series) if series is not None else None
+    return with_series(run, series)
 
 
 class Short(NamedTuple):
@@ -140,10 +149,9 @@ def with_series(run: Run, series: Series) -> Run | None:
     cycles, in_sync = series.cycles, list(series.cycles.in_sync[::2])
     synced = in_sync.index(True) if True in in_sync else None
     skew = series.greatest if synced is not None else None
-    if len(cycles) != run.cluster.cycles or unlike(run.cluster, run.sharp, series, False) or synced != run.report.in_sync or (
-            synced is not None and skew is None):
+    if len(cycles) != run.cluster.cycles or synced != run.report.in_sync or synced is not None and skew is None:
         return None
     # Of a run without a trace it is told how many cycles it has, and not what is in them.
     run.series, run.in_sync_skew, run.cycles, run.synced = series, skew, [{}] * len(cycles), in_sync
-    run.sharp.told, run.sharp.rows = series, list(cycles.sharp[::2])
+    run.sharp.rows = list(cycles.sharp[::2])
     return run

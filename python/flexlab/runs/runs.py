@@ -12,10 +12,10 @@ from ..toml.constraints import broken, explain_constraint
 from ..base.ending import NO, PROGRAM, Stop
 from ..base.files import put, whole, write_files
 from ..program.known import KnownToml
-from ..program.report import Bounds, Report, Series, Skew, Trace, read_bounds, read_report, read_series, read_trace
+from ..program.report import Bounds, Report, Series, Skew, Trace, read_bounds, read_series, read_sharp_report, read_trace
 from ..toml.cluster import Cluster
 from .settled import skew_in_sync
-from .sharp import Sharp, flutter_of, sharp_of, sharp_words, unlike
+from .sharp import Sharp, Told, sharp_of, sharp_words, told_by_report, told_by_series, unlike
 from .sync import fits, sync_of
 
 if TYPE_CHECKING:
@@ -105,9 +105,8 @@ def run_cluster(cluster: Cluster, folder: str, program: str, begin: int | None =
     told = answer(program, bound_words(cluster, paths[0]), cluster=cluster)
     keep(folder, "bound.txt", told)
     bounds = read_bounds(told)
-    told = answer(program, ["run", *paths])
-    keep(folder, "report.txt", told)
-    report = read_report(told)
+    sharply, report = read_sharp_report(answer(program, ["run", *paths, "sharp"]))
+    keep(folder, "report.txt", sharply.report.text)
     trace = os.path.join(folder, "trace.csv")
     with whole(trace, binary=True) as out:
         answer(program, ["trace", *paths], out)
@@ -116,25 +115,32 @@ def run_cluster(cluster: Cluster, folder: str, program: str, begin: int | None =
     if not fits(synced, report.in_sync, cluster.joins) and cycles and cluster.correct:
         first = next((at for at, good in enumerate(synced) if good), None)
         raise Stop(PROGRAM, f"flexray says in sync {report.in_sync}, and its trace says {first}")
-    sharp = call_sharp(cluster, folder, paths[0], cycles, program)
+    sharp = call_sharp(cluster, folder, paths[0], cycles, program, told_by_report(sharply))
     run = Run(cluster, folder, bounds, report, cycles, synced, sharp, files=paths, begin=begin)
     run.series = call_series(program, paths, folder)
     if run.series and synced != list(run.series.cycles.in_sync[::2]) and cycles:
         raise Stop(PROGRAM, "flexray-series says of a double cycle that it is in sync, and the trace does not, or back")
     run.in_sync_skew = find_skew(run, program)
     if run.series:
-        why = unlike(run.cluster, run.sharp, run.series, bool(cycles))
+        sharp.told = told_by_series(run.series)
+        why = unlike(cluster, sharp, sharp.told)
+        if why is None and cycles and list(run.series.cycles.sharp[::2]) != sharp.rows:
+            why = "flexray-series says of a double cycle that it is in sharp sync, and the trace does not, or back"
         if why:
             raise Stop(PROGRAM, why)
-        run.sharp.told = run.series
     return run
 
 
-def call_sharp(cluster: Cluster, folder: str, path: str, cycles: Trace, program: str) -> Sharp:
-    flutter = flutter_of(cluster)
-    text = answer(program, sharp_words(path, flutter, bool(cluster.joins)))
+def call_sharp(cluster: Cluster, folder: str, path: str, cycles: Trace, program: str, told: Told) -> Sharp:
+    text = answer(program, sharp_words(path, told.flutter, bool(cluster.joins)))
     keep(folder, "sharp.txt", text)
-    return sharp_of(cluster, flutter, text, cycles)
+    sharp = sharp_of(cluster, told, text, cycles)
+    why = unlike(cluster, sharp, told)
+    if why is None and cycles and cluster.correct and not fits(sharp.rows, told.synced, cluster.joins):
+        why = f"flexray says in sharp sync {told.synced}, and its trace says another double cycle"
+    if why:
+        raise Stop(PROGRAM, why)
+    return sharp
 
 
 def call_series(program: str, paths: list[str], folder: str) -> Series | None:

@@ -1,15 +1,18 @@
-"""The sharper bounds of a run: of the kind that its script has, and for the flutter of its own delays, asked of flexray bound;
-and what flexray-series says of them where that is installed."""
+"""The sharper bounds of a run: what flexray says of them of the double cycles from the first in sharp sync on, and the numbers of
+both kinds for the flutter of the run's delays from there on."""
 from __future__ import annotations
 
-from dataclasses import dataclass, field
+from collections.abc import Iterator
+from dataclasses import dataclass, field, replace
 from typing import TYPE_CHECKING, NamedTuple
+
+from flexray.results import Losses, SharpReport
 
 from ..base import ranges
 from .least import TICKS, Kind, sharp_bounds_of
 from ..program.report import Series, SharpBounds, Skew, Trace, read_sharp_bounds
-from ..toml.cluster import Cluster, Steps
-from .sync import is_in_sharp_sync, sync_of
+from ..toml.cluster import Cluster
+from .sync import is_in_sharp_sync
 
 if TYPE_CHECKING:
     from .runs import Run
@@ -18,58 +21,94 @@ if TYPE_CHECKING:
 MOST = 20000000
 
 
-class Gap(NamedTuple):
-    """Whether it is known, and the words of the first gap or None."""
-    known: bool
-    words: list[str] | None
-
-
-@dataclass
-class Sharp:
-    """Of a run: the flutter of its delays, the bounds of both kinds for that or the most that flexray bound takes, those of the
-    run's kind, in which double cycles its trace is in sharp sync, and what flexray-series told."""
-    flutter: int
-    both: dict[str, SharpBounds]
-    bounds: SharpBounds
-    rows: list[bool] = field(default_factory=list)
-    told: Series | None = None
-
-
-def delay_at(steps: Steps, cycle: int, wait: int) -> int:
-    before = [at for at in steps if at <= cycle]
-    return steps[max(before)] if before else wait
-
-
 class Turn(NamedTuple):
-    """By how many ticks the delay of a link on a channel differs between the two cycles of a double cycle: at the odd one, `cycle`."""
+    """By how many ticks the delay of a link on a channel differs between the two cycles of a double cycle."""
     ticks: int
     sender: int
     receiver: int
     channel: str
-    cycle: int
+    double: int
 
 
-def greatest_turn(cluster: Cluster) -> Turn | None:
-    """The first of those that differ most, from a correct sync node to another correct node, by sender, receiver, channel and cycle;
-    None where no delay differs."""
-    found: Turn | None = None
+class Told(NamedTuple):
+    """What a program says of the sharper bounds of a run: of the double cycles from `synced` on, the first in sharp sync in which no
+    node follows, and of the whole run where that is None."""
+    who: str
+    flutter: int
+    turn: Turn | None
+    kind: str
+    precision: int
+    gap: list[str] | None
+    synced: int | None
+    lasts: int | None
+    greatest: Skew | None
+    beyond: tuple[int, int] | None
+    losses: Losses
+
+
+def told_by_report(found: SharpReport) -> Told:
+    turn = Turn(found.flutter, *found.fluttering) if found.fluttering else None
+    beyond = (found.beyond.cycle, found.beyond.macrotick) if found.beyond else None
+    return Told("flexray run", found.flutter, turn, found.kind, found.precision, list(found.gaps[0]) if found.gaps else None, found.in_sync,
+                found.lasts, found.greatest, beyond, found.losses)
+
+
+def told_by_series(found: Series) -> Told:
+    turn = Turn(found.flutter, *found.fluttering) if found.fluttering else None
+    return Told("flexray-series", found.flutter, turn, found.kind, found.precision, list(found.sharp_gap) or None, found.sharp_synced,
+                found.lasts, found.sharp_greatest, found.sharp_beyond, found.losses)
+
+
+@dataclass
+class Sharp:
+    """Of a run: what a program told; the bounds of both kinds for that flutter or the most that flexray bound takes, those of the run's
+    kind, and in which double cycles its trace is in sharp sync."""
+    told: Told
+    both: dict[str, SharpBounds]
+    bounds: SharpBounds
+    rows: list[bool] = field(default_factory=list)
+
+    @property
+    def flutter(self) -> int:
+        return self.told.flutter
+
+
+def turns(cluster: Cluster, since: int = 0) -> Iterator[Turn]:
+    """Each of the double cycles from one on, from a correct sync node to another correct node; by sender, receiver, channel and double
+    cycle."""
     for (sender, receiver, channel), steps in sorted(cluster.delays.items()):
-        odd = sorted(cycle for cycle in steps if cycle % 2 == 1 and cycle < cluster.cycles)
         ends = [cluster.nodes[number] for number in (sender, receiver)]
-        if odd and ends[0].key_slot is not None and not any(node.arbitrary for node in ends):
-            wait = ranges.compensation(cluster.parameters, channel) * TICKS
-            for cycle in odd:
-                ticks = abs(steps[cycle] - delay_at(steps, cycle - 1, wait))
-                if ticks > (found.ticks if found else 0):
-                    found = Turn(ticks, sender, receiver, channel, cycle)
+        if ends[0].key_slot is not None and not any(node.arbitrary for node in ends) and channel in cluster.common(sender, receiver):
+            before = ranges.compensation(cluster.parameters, channel) * TICKS
+            for cycle, ticks in sorted(steps.items()):
+                if cycle % 2 == 1 and 2 * since < cycle < cluster.cycles and ticks != before:
+                    yield Turn(abs(ticks - before), sender, receiver, channel, cycle // 2)
+                before = ticks
+
+
+def greatest_turn(cluster: Cluster, since: int = 0) -> Turn | None:
+    """Of those that differ most the last one, and of several in that double cycle the first; None where no delay differs."""
+    found: Turn | None = None
+    for turn in turns(cluster, since):
+        if found is None or (turn.ticks, turn.double) > (found.ticks, found.double):
+            found = turn
     return found
 
 
-def flutter_of(cluster: Cluster) -> int:
-    """By how many ticks a delay of the run differs at most between the two cycles of a double cycle, from a correct sync node
-    to another correct node."""
-    turn = greatest_turn(cluster)
+def flutter_of(cluster: Cluster, since: int = 0) -> int:
+    """By how many ticks a delay of the run differs at most between the two cycles of a double cycle, from one on."""
+    turn = greatest_turn(cluster, since)
     return turn.ticks if turn else 0
+
+
+def flutters_of(cluster: Cluster) -> list[int]:
+    """The same from each double cycle on."""
+    found = [0] * (cluster.doubles + 1)
+    for turn in turns(cluster):
+        found[turn.double] = max(found[turn.double], turn.ticks)
+    for double in range(cluster.doubles - 1, -1, -1):
+        found[double] = max(found[double], found[double + 1])
+    return found[:-1]
 
 
 def kind_of(cluster: Cluster, flutter: int) -> Kind:
@@ -83,11 +122,32 @@ def sharp_words(path: str, flutter: int, join: bool = False) -> list[str]:
     return ["bound", path, "sharp", str(min(flutter, MOST))] + (["join"] if join else [])
 
 
-def sharp_of(cluster: Cluster, flutter: int, text: str, cycles: Trace) -> Sharp:
-    """The sharper side of a run, by what flexray bound printed for its flutter; but for what flexray-series tells."""
+class Limits(NamedTuple):
+    """How far lengths and starts of cycles lie apart in sharp sync, in ticks."""
+    lambda_: int
+    pi: int
+
+
+def sharp_of(cluster: Cluster, told: Told, text: str, cycles: Trace) -> Sharp:
+    """The sharper side of a run, by what a program told of it and flexray bound printed for its flutter."""
     both = read_sharp_bounds(text)
-    bounds = both[kind_of(cluster, flutter).name]
-    return Sharp(flutter, both, bounds, sync_of(cycles, bounds, cluster.parameters, is_in_sharp_sync))
+    bounds = both[kind_of(cluster, told.flutter).name]
+    return Sharp(told, both, bounds, rows_of(cluster, told, bounds, cycles))
+
+
+def rows_of(cluster: Cluster, told: Told, bounds: SharpBounds, cycles: Trace) -> list[bool]:
+    """In which double cycles of a trace clocks are in sharp sync: before the first in which they are by the numbers for the flutter from
+    the double cycle itself on."""
+    flutters, kind = flutters_of(cluster), kind_of(cluster, 0)
+    known: dict[int, Limits] = {told.flutter: Limits(bounds.lambda_, bounds.pi)} if told.flutter <= MOST else {}
+    found = []
+    for double in range(len(cycles) // 2):
+        flutter = flutters[double] if told.synced is None or double < told.synced else told.flutter
+        if flutter not in known:
+            numbers = sharp_bounds_of(cluster.parameters, replace(kind, flutter=flutter))
+            known[flutter] = Limits(numbers["lambda"], numbers["pi"])
+        found.append(is_in_sharp_sync(cycles[2 * double:2 * double + 2], known[flutter], cluster.parameters))
+    return found
 
 
 def walks_of(cluster: Cluster, sharp: Sharp) -> int | None:
@@ -96,56 +156,52 @@ def walks_of(cluster: Cluster, sharp: Sharp) -> int | None:
     return sharp_bounds_of(cluster.parameters, kind_of(cluster, sharp.flutter)).walks if sharp.bounds.is_held else sharp.bounds.lasts
 
 
-def unlike(cluster: Cluster, sharp: Sharp, told: Series, doubles: bool) -> str | None:
-    """What of the series does not fit the bounds, the file or the trace, or None."""
-    if told.flutter != sharp.flutter:
-        return f"flexray-series says that delays flutter by {told.flutter} ticks, and by the file it is {sharp.flutter}"
-    if sharp.flutter <= MOST and (told.kind, told.precision) != (sharp.bounds.kind, sharp.bounds.precision):
-        return "flexray-series tells another sharper precision than flexray bound"
-    lasts = walks_of(cluster, sharp) if told.sharp_gap else sharp.bounds.lasts
-    if sharp.flutter <= MOST and told.sharp_synced is not None and told.lasts != lasts:
-        return "flexray-series tells another number of double cycles for which sharp sync lasts than flexray bound"
-    if sharp.flutter <= MOST and doubles and list(told.cycles.sharp[::2]) != sharp.rows:
-        return "flexray-series says of a double cycle that it is in sharp sync, and the trace does not, or back"
+def unlike(cluster: Cluster, sharp: Sharp, told: Told) -> str | None:
+    """What of that which a program tells does not fit the bounds or the file, or None."""
+    turn = greatest_turn(cluster, told.synced or 0)
+    by_file = turn.ticks if turn else 0
+    if told.flutter != by_file:
+        return f"{told.who} says that delays flutter by {told.flutter} ticks, and by the file it is {by_file}"
+    if told.turn != turn:
+        return f"{told.who} names another delay that flutters most than the file, or another double cycle in which it last does"
+    if told.flutter > MOST:
+        return None
+    if (told.kind, told.precision) != (sharp.bounds.kind, sharp.bounds.precision):
+        return f"{told.who} tells another sharper precision than flexray bound"
+    lasts = walks_of(cluster, sharp) if told.gap else sharp.bounds.lasts
+    if told.synced is not None and told.lasts != lasts:
+        return f"{told.who} tells another number of double cycles for which sharp sync lasts than flexray bound"
     return None
 
 
 # ---- what is known of a run
 
 
-def gap_of(run: Run) -> Gap:
-    """(whether it is known, the words of the first gap of the sharper bounds or None). Without flexray-series they are those
-    of the report, where that names no older check, or has none that fails: the others are the same. Delays that flutter by
-    more than twice the greatest delay error have the gap `flutter` here; one of them is outside its limit."""
-    sharp = run.sharp
-    if sharp.flutter > MOST:
-        return Gap(True, ["flutter", str(sharp.flutter)])
-    if sharp.told:
-        return Gap(True, list(sharp.told.sharp_gap) or None)
-    if sharp.bounds.gap:
-        return Gap(True, sharp.bounds.gap)
-    gap = run.report.gap
-    return Gap(False, None) if gap and gap[0] == "check" else Gap(True, gap)
+def since_of(run: Run) -> int:
+    """The double cycle from which on gaps and flutter count: the first in sharp sync, and the first of all where there is none."""
+    return first_of(run) or 0
+
+
+def gap_of(run: Run) -> list[str] | None:
+    """The words of the first gap of the sharper bounds from there on, or None. Delays that flutter by more than twice the greatest delay
+    error have the gap `flutter` here; one of them is outside its limit."""
+    return ["flutter", str(run.sharp.flutter)] if run.sharp.flutter > MOST else run.sharp.told.gap
 
 
 def is_covered(run: Run) -> bool:
-    """Whether a run is known to be sharply covered."""
-    return gap_of(run) == (True, None)
+    """Whether a run is sharply covered."""
+    return gap_of(run) is None
 
 
 def lasts_of(run: Run) -> int | None:
-    """For how many double cycles from the first in sharp sync on the bounds hold, None where on and on: of a run that is not known to
-    be covered for as many as the rate limit holds the walk."""
+    """For how many double cycles from the first in sharp sync on the bounds hold, None where on and on: of a run that is not covered
+    for as many as the rate limit holds the walk."""
     return run.sharp.bounds.lasts if is_covered(run) else walks_of(run.cluster, run.sharp)
 
 
 def first_of(run: Run) -> int | None:
-    """The first double cycle in sharp sync in which no node follows, or None. Without flexray-series it is not told who follows:
-    only nodes that join can, in the two double cycles behind that in which they listen."""
-    if run.sharp.told:
-        return run.sharp.told.sharp_synced
-    following = {double + ago for double, _ in run.cluster.joins.values() for ago in (1, 2)}
-    return next((at for at, good in enumerate(run.sharp.rows) if good and at not in following), None)
+    """The first double cycle in sharp sync in which no node follows, or None."""
+    return run.sharp.told.synced
 
 
 def lost_of(run: Run) -> int | None:
@@ -162,17 +218,11 @@ def ends_of(run: Run) -> int | None:
 
 
 def skew_of(run: Run) -> Skew | None:
-    """(skew, cycle, macrotick) of the greatest skew since the first double cycle in sharp sync, None where it is not known."""
-    first = first_of(run)
-    if first is None:
-        return None
-    if run.sharp.told:
-        return run.sharp.told.sharp_greatest
-    whole = Skew(run.report.skew, run.report.cycle, run.report.macrotick)
-    return next((skew for skew in (whole, run.in_sync_skew) if skew and skew.cycle >= 2 * first), None)
+    """(skew, cycle, macrotick) of the greatest skew since the first double cycle in sharp sync, None where there is none."""
+    return run.sharp.told.greatest
 
 
 def is_within(run: Run) -> bool | None:
-    """Whether the skew stayed within the sharper precision since then; None where it is not known."""
+    """Whether the skew stayed within the sharper precision since then; None where there is no such double cycle."""
     skew = skew_of(run)
     return None if skew is None else skew.ticks <= run.sharp.bounds.precision

@@ -261,10 +261,8 @@ def measured(run_report: Report, unit: Fraction, in_sync_skew: int | None, at_en
 
 def sharply(run: Run, unit: Fraction) -> Line:
     """The columns of the sharper bounds."""
-    known, gap = sharp.gap_of(run)
-    found = {"sharply_covered": ("yes" if gap is None else "no") if known else "", "sharp_gap": " ".join(gap or [])}
     first, skew = sharp.first_of(run), sharp.skew_of(run)
-    return {**found, "sharp_precision_us": decimal(us_of_ticks(run.sharp.bounds.precision, unit), 6),
+    return {**shortly(run, unit),
             "in_sharp_sync_double": "never" if first is None else first,
             "sharp_skew_us": "" if skew is None else decimal(us_of_ticks(skew.ticks, unit), 6)}
 
@@ -286,9 +284,9 @@ def known_end(run_report: Report, joins: bool) -> bool | None:
 
 
 def shortly(run: Run, unit: Fraction) -> Line:
-    """The columns of the sharper bounds that a report and the bounds suffice for."""
-    known, gap = sharp.gap_of(run)
-    return {"sharply_covered": ("yes" if gap is None else "no") if known else "", "sharp_gap": " ".join(gap or []),
+    """Those of them that a short answer has."""
+    gap = sharp.gap_of(run)
+    return {"sharply_covered": "yes" if gap is None else "no", "sharp_gap": " ".join(gap or []),
             "sharp_precision_us": decimal(us_of_ticks(run.sharp.bounds.precision, unit), 6)}
 
 

@@ -15,7 +15,8 @@ from ..base.files import write_files
 from ..base.ranges import OF_CHANNELS, Parameters, compensation_name, version_of
 from .least import TICKS, Found, can_be_held, held_damping, least_damping, least_sharp, least_sharp_damping, least_values
 from ..program.report import Bounds, SharpBounds, read_bounds, read_sharp_bounds
-from .sharp import Gap, first_of, gap_of, kind_of
+from .every_gap import behind
+from .sharp import first_of, gap_of, kind_of, since_of
 from ..toml.cluster import Cluster, Link
 from ..base.units import decimal, lasting, microseconds, percent, rounded, us_of_ticks
 from .windows import exact, later, skews, window
@@ -74,7 +75,8 @@ class Way:
 
 @dataclass
 class Ways:
-    """The ways to checks that hold, why there are none of others, what the older bound asks besides, and the skew now."""
+    """The ways to checks that hold, why there are none of others, what the older bound asks besides, and the skew now; `since` is the
+    double cycle from which on the run needs other limits than in all of it, or 0."""
     checks: Checks
     wanted: bool = False
     held: list[Way] = field(default_factory=list)
@@ -84,6 +86,7 @@ class Ways:
     begin: int = 0
     skew: int = 0
     span: str = ""
+    since: int = 0
 
 
 class OlderChecks:
@@ -106,8 +109,13 @@ class OlderChecks:
         return None if bounds.failing else bounds
 
     @staticmethod
-    def gap(run: Run) -> Gap:
-        return Gap(True, run.report.gap)
+    def gap(run: Run) -> list[str] | None:
+        return run.report.gap
+
+    @staticmethod
+    def since(_: Run) -> int:
+        """The double cycle from which on limits have to be kept."""
+        return 0
 
     @staticmethod
     def first(run: Run) -> int | None:
@@ -140,8 +148,13 @@ class SharpChecks:
         return None if bounds.gap else bounds
 
     @staticmethod
-    def gap(run: Run) -> Gap:
+    def gap(run: Run) -> list[str] | None:
         return gap_of(run)
+
+    @staticmethod
+    def since(run: Run) -> int:
+        """The double cycle from which on limits have to be kept."""
+        return since_of(run)
 
     @staticmethod
     def first(run: Run) -> int | None:
@@ -260,7 +273,8 @@ def weigh(run: Run, program: str, run_cluster: Runs) -> Ways | None:
     would ask besides. None where neither is wanted."""
     cluster = run.cluster
     checks: Checks = SharpChecks(run)
-    wanted = bool(checks.failing or passed(cluster, needs(cluster)))
+    asked = behind(cluster, checks.since(run))
+    wanted = bool(checks.failing or passed(asked, needs(asked)))
     if not wanted and not run.bounds.failing:
         return None
     mine = later(run, run.begin)
@@ -269,19 +283,20 @@ def weigh(run: Run, program: str, run_cluster: Runs) -> Ways | None:
     mine = window(skews(run), begin, 2 * doubles - 1, "")
     whole = doubles == cluster.doubles
     found = Ways(checks, wanted, begin=begin, skew=mine.greatest if mine else 0,
-                 span=f"from cycle {begin} " + ("on" if whole else f"to {2 * doubles - 1}"))
+                 span=f"from cycle {begin} " + ("on" if whole else f"to {2 * doubles - 1}"),
+                 since=checks.since(run) if needs(asked) != needs(cluster) else 0)
     shutil.rmtree(os.path.join(run.folder, "advised"), ignore_errors=True)
     tries = Tries(run, program, run_cluster, begin, doubles)
     seen: list[Parameters | str | None] = [cluster.parameters]
     for with_amid in checks.amid if wanted else ():
-        for candidate in () if found.held else candidates(cluster, checks, with_amid, seen):
+        for candidate in () if found.held else candidates(asked, checks, with_amid, seen):
             way, why = tries.tried(checks, candidate, str(len(found.held) + 1))
             if way:
                 found.held.append(way)
             else:
                 found.refused.append(Refused(why, candidate.told))
     # A run that is never in sync has no later skew to go by.
-    found.held.sort(key=lambda way: (checks.gap(way.run).words is not None, checks.first(way.run) is None, way.skew))
+    found.held.sort(key=lambda way: (checks.gap(way.run) is not None, checks.first(way.run) is None, way.skew))
     if run.bounds.failing:
         ask_older(found, run, tries)
     return found
@@ -372,14 +387,13 @@ def cycle_ms(cluster: Cluster) -> Fraction:
 
 
 def way_words(way: Way, ways: Ways, cluster: Cluster) -> str:
-    unit, (known, gap) = cluster.microtick_ns, ways.checks.gap(way.run)
+    unit, gap = cluster.microtick_ns, ways.checks.gap(way.run)
     text = "; ".join(way.first) + ": " if way.first else ""
     text += "all checks hold" if not way.bounds.failing else "all checks but C1 hold"
     text += ", and the walk is held," if isinstance(way.bounds, SharpBounds) and way.bounds.is_held else ""
     text += f" with {values_words(way.changed, cluster)}. Precision {microseconds(way.bounds.precision, unit)}"
     text += lasting_words(way, cluster)
-    if known:
-        text += "; covered yes" if gap is None else f"; covered no ({' '.join(gap)})"
+    text += "; covered yes" if gap is None else f"; covered no ({' '.join(gap)})"
     text += f"; {skew_words(way, ways, unit)}" + ("" if ways.checks.first(way.run) is not None else "; never in sync")
     ends = way.run.report.ends
     still = sum(end.rate == 0 for end in ends.values())
@@ -403,7 +417,8 @@ def way_lines(ways: Ways, cluster: Cluster, field_: Lines) -> list[str]:
         return found
     found = field_("Ways", f"to checks that hold, each tried by flexray bound and run (files in advised/), the least "
                            f"simulated skew first; now it is {microseconds(ways.skew, unit)} {ways.span}. "
-                           "A lower limit is a promise that your oscillators and cables have to keep")
+                           "A lower limit is a promise that your oscillators and cables have to keep"
+                           + (f"; what lies before double cycle {ways.since}, the first in sync, does not count" if ways.since else ""))
     for number, way in enumerate(ways.held, 1):
         found += field_("", f"{number}. {way_words(way, ways, cluster)}")
     for why, told in ways.refused:

@@ -31,7 +31,7 @@ class FrameAt(NamedTuple):
 
 
 class Fate(NamedTuple):
-    """What becomes of such a frame: `lose`, `flip` with a bit, or `say` with a shift in ticks and the frame's bytes as digits."""
+    """What becomes of such a frame: the first field of its row, its bit or its shift in ticks, and the frame's bytes as digits."""
     kind: str
     value: int | str
     frame: str

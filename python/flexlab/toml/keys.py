@@ -8,7 +8,7 @@ from fractions import Fraction
 from typing import NamedTuple
 
 from ..base import ranges
-from ..base.ranges import NAMES
+from ..base.ranges import FRAME_DIGITS, NAMES
 from ..base.units import TICKS, Number
 
 # What a key that is left out stands for; None where it stands for nothing.
@@ -35,8 +35,8 @@ class Bound(NamedTuple):
 
 # How many ns one of a unit has: of units that no cluster changes.
 NS = {"ns": Fraction(1), "us": Fraction(1000), "ms": Fraction(1000000)}
-# The longest microtick in ns, and the most digits of a frame's bytes.
-LONGEST_MICROTICK, FRAME_DIGITS = 1000, 524
+# The longest microtick in ns.
+LONGEST_MICROTICK = 1000
 # Of a node's name: what fits on a page beside its number.
 NAME_LENGTH = 128
 

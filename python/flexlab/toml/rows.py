@@ -7,8 +7,9 @@ from typing import NamedTuple, TypeVar
 
 from ..base import ranges, units
 from ..base.ending import REFUSED, Stop
+from ..program.forms import HARMS, OF_FRAMES
 from .cluster import Cluster, Fate, FrameAt, Join, Keep, Link, Power, Steps, amount
-from .keys import FRAME_DIGITS, TIMES, sizes
+from .keys import TABLES, TIMES, sizes
 from .source import Source
 from .values import Table
 
@@ -58,7 +59,7 @@ def read_rows(source: Source, cluster: Cluster, keep: Keep) -> None:
         return [table for name in names for table in source.tables(name)]
 
     known = (cluster.cycles, cluster.microtick_ns, cluster.parameters["gPayloadLengthStatic"])
-    cluster.script, arbitrary = keep("script", source, many("two_faced", "say", "lose", "flip"), (*known, described(cluster)),
+    cluster.script, arbitrary = keep("script", source, many("two_faced", *OF_FRAMES), (*known, described(cluster)),
                                      lambda: read_script(source, cluster), cluster.notes)
     for node in arbitrary:
         cluster.nodes[node].arbitrary = True
@@ -213,14 +214,14 @@ def read_script(source: Source, cluster: Cluster) -> tuple[dict[FrameAt, Fate], 
     for name, table, node in said:
         with source.part():
             (read_two_faced if name == "two_faced" else read_say)(table, cluster, node)
-    for name in ("lose", "flip"):
+    for name in HARMS:
         for table in source.tables(name):
             with source.part():
                 senders = correct_only(table, "from", cluster, "says only what [[say]] says")
                 receivers = correct_only(table, "to", cluster, "hears nothing")
                 first, last = reach(table, cluster)
                 channels = table.channels("channels")
-                bit: int | str = table.whole_of("bit", most=frame_bits - 1) if name == "flip" else ""
+                bit: int | str = table.whole_of("bit", most=frame_bits - 1) if "bit" in TABLES[name].keys else ""
                 for link in links(table, cluster, senders, receivers, channels, "channels"):
                     put(table, cluster, link, first, last, Fate(name, bit, ""))
     return cluster.script, cluster.arbitrary
@@ -307,7 +308,7 @@ def read_say(table: Table, cluster: Cluster, node: int) -> None:
     channels = table.channels("channels")
     receivers = correct_only(table, "to", cluster, "hears nothing")
     ticks = amount(table, "", cluster.microtick_ns, default=0)
-    frame = table.hexadecimal("frame", FRAME_DIGITS)
+    frame = table.hexadecimal("frame", ranges.FRAME_DIGITS)
     for link in links(table, cluster, [node], receivers, channels, "channels"):
         put(table, cluster, link, first, last, Fate("say", ticks, frame))
 

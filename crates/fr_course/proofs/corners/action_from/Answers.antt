@@ -4,12 +4,13 @@ use Rattle.std.proofs.lemmas.Int.{to_z-of_z}
 use Rattle.fr_course.specs.Course.{share_from}
 use Rattle.fr_course.proofs.Counted.{action_between, counted_near}
 use Rattle.fr_course.proofs.Fits.{fits, low_near}
+use Rattle.fr_course.proofs.Numbers.{scale_is}
 use Rattle.fr_course.proofs.corners.action_from.Goals as goal
 
 pub share_from-requires-clause-macroticks : goal.share_from-requires-clause-macroticks
 share_from-requires-clause-macroticks c =
-    let action : FitsSigned w128 c.args.course.now.action = fits (record { le = tt }) (counted_near (action_between c.args.scale.now c.args.course.now c.requires.scale c.requires.course) c.requires.scale.macros_to) in
-    simp to_z-of_z (action_between c.args.scale.now c.args.course.now c.requires.scale c.requires.course)
+    let action : FitsSigned w128 c.args.course.now.action = fits (record { le = tt }) (counted_near (action_between c.args.scale.now c.args.course.now (scale_is c.scale.view_is c.scale.invariant) c.requires.course) (scale_is c.scale.view_is c.scale.invariant).macros_to) in
+    simp to_z-of_z (action_between c.args.scale.now c.args.course.now (scale_is c.scale.view_is c.scale.invariant) c.requires.course)
 
 pub share_from-requires-clause-length : goal.share_from-requires-clause-length
 share_from-requires-clause-length c =
@@ -18,7 +19,7 @@ share_from-requires-clause-length c =
 
 pub returns-clause-value : goal.returns-clause-value
 returns-clause-value c =
-    let action : FitsSigned w128 c.args.course.now.action = fits (record { le = tt }) (counted_near (action_between c.args.scale.now c.args.course.now c.requires.scale c.requires.course) c.requires.scale.macros_to) in
+    let action : FitsSigned w128 c.args.course.now.action = fits (record { le = tt }) (counted_near (action_between c.args.scale.now c.args.course.now (scale_is c.scale.view_is c.scale.invariant) c.requires.course) (scale_is c.scale.view_is c.scale.invariant).macros_to) in
     let length : FitsSigned w128 c.args.course.now.length.low = fits (record { le = tt }) (low_near {bound = pos 930_000_000_000_000_000} c.requires.course.length) in
     let share : FitsSigned w128 c.share_from.result = fits (record { le = tt }) c.share_from.ensures.within in
     let value : c.share_from.result ≡ share_from c.args.scale.now c.args.course.now.action c.args.course.now.length.low = simp to_z-of_z at c.share_from.ensures.value in

@@ -3,6 +3,7 @@ use Rattle.std.specs.Prelude.{◌+ℤ◌}
 use mir.Syntax.{w128}
 use Rattle.std.proofs.lemmas.Int.{ints, to_z-of_z}
 use Rattle.fr_course.specs.Course.{mean_to}
+use Rattle.fr_course.proofs.Numbers.{change_are, scale_is}
 use Rattle.fr_course.proofs.corners.between_to.Goals as goal
 
 pub returns-clause-value : goal.returns-clause-value
@@ -12,6 +13,6 @@ returns-clause-value c =
     let second : FitsSigned w128 (c.args.course.now.odd.high) = search rules in
     let change : FitsSigned w128 (c.args.scale.now.change) = search rules in
     let r : FitsSigned w128 (c.mean_to.result) = search rules in
-    let sum : FitsSigned w128 (c.mean_to.result +ℤ c.args.scale.now.change) = omega (arith, ints, c.mean_to.ensures.within, c.requires.scale.change) in
+    let sum : FitsSigned w128 (c.mean_to.result +ℤ c.args.scale.now.change) = omega (arith, ints, c.mean_to.ensures.within, (scale_is c.scale.view_is c.scale.invariant).change) in
     let mean : c.mean_to.result ≡ mean_to c.args.scale.now c.args.course.now.action c.args.course.now.even.high c.args.course.now.odd.high = simp to_z-of_z at c.mean_to.ensures.value in
-    simp to_z-of_z (rw mean refl)
+    simp (to_z-of_z, change_are c.scale.view_is) (rw mean refl)

@@ -6,34 +6,35 @@ use Rattle.fr_course.specs.Course.{share_from, share_to}
 use Rattle.fr_course.proofs.Counted.{before_none, counted_before, none_less, turned_near}
 use Rattle.fr_course.proofs.Fits.{difference_near, fits, high_near, low_near, micro_near, sum_near, wider_near}
 use Rattle.fr_course.proofs.Limits.{less_than_none, share_from-negz, share_to-negz}
+use Rattle.fr_course.proofs.Numbers.{micro_to_are, scale_is}
 use Rattle.fr_course.proofs.corners.macrotick_before.Goals as goal
 
 pub share_to-requires-clause-macroticks : goal.share_to-requires-clause-macroticks
 share_to-requires-clause-macroticks c =
     let a : FitsSigned w128 c.args.ahead = search rules in
-    let n : FitsSigned w128 (pos 0 -ℤ c.args.ahead) = fits (record { le = tt }) (none_less (counted_before c.requires.ahead c.requires.scale.macros_to)) in
+    let n : FitsSigned w128 (pos 0 -ℤ c.args.ahead) = fits (record { le = tt }) (none_less (counted_before c.requires.ahead (scale_is c.scale.view_is c.scale.invariant).macros_to)) in
     simp to_z-of_z (before_none c.requires.ahead)
 
 pub share_from-requires-clause-macroticks : goal.share_from-requires-clause-macroticks
 share_from-requires-clause-macroticks c =
     let a : FitsSigned w128 c.args.ahead = search rules in
-    let n : FitsSigned w128 (pos 0 -ℤ c.args.ahead) = fits (record { le = tt }) (none_less (counted_before c.requires.ahead c.requires.scale.macros_to)) in
+    let n : FitsSigned w128 (pos 0 -ℤ c.args.ahead) = fits (record { le = tt }) (none_less (counted_before c.requires.ahead (scale_is c.scale.view_is c.scale.invariant).macros_to)) in
     simp to_z-of_z (before_none c.requires.ahead)
 
 pub returns-clause-low : goal.returns-clause-low
 returns-clause-low c =
     let a : FitsSigned w128 c.args.ahead = search rules in
-    let n : FitsSigned w128 (neg_ℤ c.args.ahead) = fits (record { le = tt }) (turned_near (counted_before c.requires.ahead c.requires.scale.macros_to)) in
-    let n0 : FitsSigned w128 (pos 0 -ℤ c.args.ahead) = fits (record { le = tt }) (none_less (counted_before c.requires.ahead c.requires.scale.macros_to)) in
+    let n : FitsSigned w128 (neg_ℤ c.args.ahead) = fits (record { le = tt }) (turned_near (counted_before c.requires.ahead (scale_is c.scale.view_is c.scale.invariant).macros_to)) in
+    let n0 : FitsSigned w128 (pos 0 -ℤ c.args.ahead) = fits (record { le = tt }) (none_less (counted_before c.requires.ahead (scale_is c.scale.view_is c.scale.invariant).macros_to)) in
     let length : FitsSigned w128 c.args.course.now.length.high = fits (record { le = tt }) (high_near {bound = pos 930_000_000_000_000_000} c.requires.course.length) in
     let d : FitsSigned w128 c.args.course.now.odd.low = fits (record { le = tt }) (low_near {bound = pos 1_900_000_000_000_000_000} c.requires.course.odd) in
     let e : FitsSigned w128 c.share_to.result = fits (record { le = tt }) c.share_to.ensures.within in
     let f : FitsSigned w128 (c.args.course.now.odd.low -ℤ c.share_to.result) = fits (record { le = tt }) (difference_near (low_near {bound = pos 1_900_000_000_000_000_000} c.requires.course.odd) c.share_to.ensures.within) in
-    let g : FitsSigned w128 c.args.scale.now.micro_to = fits (record { le = tt }) (micro_near c.requires.scale.micro_to) in
-    let h : FitsSigned w128 ((c.args.course.now.odd.low -ℤ c.share_to.result) -ℤ c.args.scale.now.micro_to) = fits (record { le = tt }) (difference_near (difference_near (low_near {bound = pos 1_900_000_000_000_000_000} c.requires.course.odd) c.share_to.ensures.within) (micro_near c.requires.scale.micro_to)) in
+    let g : FitsSigned w128 c.args.scale.now.micro_to = fits (record { le = tt }) (micro_near (scale_is c.scale.view_is c.scale.invariant).micro_to) in
+    let h : FitsSigned w128 ((c.args.course.now.odd.low -ℤ c.share_to.result) -ℤ c.args.scale.now.micro_to) = fits (record { le = tt }) (difference_near (difference_near (low_near {bound = pos 1_900_000_000_000_000_000} c.requires.course.odd) c.share_to.ensures.within) (micro_near (scale_is c.scale.view_is c.scale.invariant).micro_to)) in
     let share : c.share_to.result ≡ share_to c.args.scale.now (neg_ℤ c.args.ahead) c.args.course.now.length.high = simp (to_z-of_z, less_than_none) at c.share_to.ensures.value in
     let turned : c.share_to.result ≡ neg_ℤ (share_from c.args.scale.now c.args.ahead c.args.course.now.length.high) = share ∙ share_to-negz c.args.scale.now c.args.ahead c.args.course.now.length.high in
-    simp to_z-of_z (taken c.args.course.now.odd.low c.share_to.result (share_from c.args.scale.now c.args.ahead c.args.course.now.length.high) c.args.scale.now.micro_to turned)
+    simp (to_z-of_z, micro_to_are c.scale.view_is) (taken c.args.course.now.odd.low c.share_to.result (share_from c.args.scale.now c.args.ahead c.args.course.now.length.high) c.args.scale.now.micro_to turned)
   where
     taken : (o s r m : ℤ) → s ≡ neg_ℤ r → (o -ℤ s) -ℤ m ≡ (o +ℤ r) -ℤ m
     taken o s r m is = omega (arith, ints)
@@ -41,17 +42,17 @@ returns-clause-low c =
 pub returns-clause-high : goal.returns-clause-high
 returns-clause-high c =
     let a : FitsSigned w128 c.args.ahead = search rules in
-    let n : FitsSigned w128 (neg_ℤ c.args.ahead) = fits (record { le = tt }) (turned_near (counted_before c.requires.ahead c.requires.scale.macros_to)) in
-    let n0 : FitsSigned w128 (pos 0 -ℤ c.args.ahead) = fits (record { le = tt }) (none_less (counted_before c.requires.ahead c.requires.scale.macros_to)) in
+    let n : FitsSigned w128 (neg_ℤ c.args.ahead) = fits (record { le = tt }) (turned_near (counted_before c.requires.ahead (scale_is c.scale.view_is c.scale.invariant).macros_to)) in
+    let n0 : FitsSigned w128 (pos 0 -ℤ c.args.ahead) = fits (record { le = tt }) (none_less (counted_before c.requires.ahead (scale_is c.scale.view_is c.scale.invariant).macros_to)) in
     let length : FitsSigned w128 c.args.course.now.length.low = fits (record { le = tt }) (low_near {bound = pos 930_000_000_000_000_000} c.requires.course.length) in
     let d : FitsSigned w128 c.args.course.now.odd.high = fits (record { le = tt }) (high_near {bound = pos 1_900_000_000_000_000_000} c.requires.course.odd) in
     let e : FitsSigned w128 c.share_from.result = fits (record { le = tt }) c.share_from.ensures.within in
     let f : FitsSigned w128 (c.args.course.now.odd.high -ℤ c.share_from.result) = fits (record { le = tt }) (difference_near (high_near {bound = pos 1_900_000_000_000_000_000} c.requires.course.odd) c.share_from.ensures.within) in
-    let g : FitsSigned w128 c.args.scale.now.micro_to = fits (record { le = tt }) (micro_near c.requires.scale.micro_to) in
-    let h : FitsSigned w128 ((c.args.course.now.odd.high -ℤ c.share_from.result) +ℤ c.args.scale.now.micro_to) = fits (record { le = tt }) (sum_near (difference_near (high_near {bound = pos 1_900_000_000_000_000_000} c.requires.course.odd) c.share_from.ensures.within) (micro_near c.requires.scale.micro_to)) in
+    let g : FitsSigned w128 c.args.scale.now.micro_to = fits (record { le = tt }) (micro_near (scale_is c.scale.view_is c.scale.invariant).micro_to) in
+    let h : FitsSigned w128 ((c.args.course.now.odd.high -ℤ c.share_from.result) +ℤ c.args.scale.now.micro_to) = fits (record { le = tt }) (sum_near (difference_near (high_near {bound = pos 1_900_000_000_000_000_000} c.requires.course.odd) c.share_from.ensures.within) (micro_near (scale_is c.scale.view_is c.scale.invariant).micro_to)) in
     let share : c.share_from.result ≡ share_from c.args.scale.now (neg_ℤ c.args.ahead) c.args.course.now.length.low = simp (to_z-of_z, less_than_none) at c.share_from.ensures.value in
     let turned : c.share_from.result ≡ neg_ℤ (share_to c.args.scale.now c.args.ahead c.args.course.now.length.low) = share ∙ share_from-negz c.args.scale.now c.args.ahead c.args.course.now.length.low in
-    simp to_z-of_z (taken c.args.course.now.odd.high c.share_from.result (share_to c.args.scale.now c.args.ahead c.args.course.now.length.low) c.args.scale.now.micro_to turned)
+    simp (to_z-of_z, micro_to_are c.scale.view_is) (taken c.args.course.now.odd.high c.share_from.result (share_to c.args.scale.now c.args.ahead c.args.course.now.length.low) c.args.scale.now.micro_to turned)
   where
     taken : (o s r m : ℤ) → s ≡ neg_ℤ r → (o -ℤ s) +ℤ m ≡ (o +ℤ r) +ℤ m
     taken o s r m is = omega (arith, ints)
@@ -61,12 +62,12 @@ returns-clause-near c =
     let d : FitsSigned w128 c.args.course.now.odd.low = fits (record { le = tt }) (low_near {bound = pos 1_900_000_000_000_000_000} c.requires.course.odd) in
     let e : FitsSigned w128 c.share_to.result = fits (record { le = tt }) c.share_to.ensures.within in
     let f : FitsSigned w128 (c.args.course.now.odd.low -ℤ c.share_to.result) = fits (record { le = tt }) (difference_near (low_near {bound = pos 1_900_000_000_000_000_000} c.requires.course.odd) c.share_to.ensures.within) in
-    let g : FitsSigned w128 c.args.scale.now.micro_to = fits (record { le = tt }) (micro_near c.requires.scale.micro_to) in
-    let h : FitsSigned w128 ((c.args.course.now.odd.low -ℤ c.share_to.result) -ℤ c.args.scale.now.micro_to) = fits (record { le = tt }) (difference_near (difference_near (low_near {bound = pos 1_900_000_000_000_000_000} c.requires.course.odd) c.share_to.ensures.within) (micro_near c.requires.scale.micro_to)) in
+    let g : FitsSigned w128 c.args.scale.now.micro_to = fits (record { le = tt }) (micro_near (scale_is c.scale.view_is c.scale.invariant).micro_to) in
+    let h : FitsSigned w128 ((c.args.course.now.odd.low -ℤ c.share_to.result) -ℤ c.args.scale.now.micro_to) = fits (record { le = tt }) (difference_near (difference_near (low_near {bound = pos 1_900_000_000_000_000_000} c.requires.course.odd) c.share_to.ensures.within) (micro_near (scale_is c.scale.view_is c.scale.invariant).micro_to)) in
     let i : FitsSigned w128 c.args.course.now.odd.high = fits (record { le = tt }) (high_near {bound = pos 1_900_000_000_000_000_000} c.requires.course.odd) in
     let j : FitsSigned w128 c.share_from.result = fits (record { le = tt }) c.share_from.ensures.within in
     let k : FitsSigned w128 (c.args.course.now.odd.high -ℤ c.share_from.result) = fits (record { le = tt }) (difference_near (high_near {bound = pos 1_900_000_000_000_000_000} c.requires.course.odd) c.share_from.ensures.within) in
-    let l : FitsSigned w128 ((c.args.course.now.odd.high -ℤ c.share_from.result) +ℤ c.args.scale.now.micro_to) = fits (record { le = tt }) (sum_near (difference_near (high_near {bound = pos 1_900_000_000_000_000_000} c.requires.course.odd) c.share_from.ensures.within) (micro_near c.requires.scale.micro_to)) in
-    let low = (wider_near {bound = pos 2_830_001_001_000_000_000} {other = pos 3_000_000_000_000_000_000} (record { le = tt }) (difference_near (difference_near (low_near {bound = pos 1_900_000_000_000_000_000} c.requires.course.odd) c.share_to.ensures.within) (micro_near c.requires.scale.micro_to))) in
-    let high = (wider_near {bound = pos 2_830_001_001_000_000_000} {other = pos 3_000_000_000_000_000_000} (record { le = tt }) (sum_near (difference_near (high_near {bound = pos 1_900_000_000_000_000_000} c.requires.course.odd) c.share_from.ensures.within) (micro_near c.requires.scale.micro_to))) in
-    simp to_z-of_z (record { low_from = low.low; low_to = low.high; high_from = high.low; high_to = high.high })
+    let l : FitsSigned w128 ((c.args.course.now.odd.high -ℤ c.share_from.result) +ℤ c.args.scale.now.micro_to) = fits (record { le = tt }) (sum_near (difference_near (high_near {bound = pos 1_900_000_000_000_000_000} c.requires.course.odd) c.share_from.ensures.within) (micro_near (scale_is c.scale.view_is c.scale.invariant).micro_to)) in
+    let low = (wider_near {bound = pos 2_830_001_001_000_000_000} {other = pos 3_000_000_000_000_000_000} (record { le = tt }) (difference_near (difference_near (low_near {bound = pos 1_900_000_000_000_000_000} c.requires.course.odd) c.share_to.ensures.within) (micro_near (scale_is c.scale.view_is c.scale.invariant).micro_to))) in
+    let high = (wider_near {bound = pos 2_830_001_001_000_000_000} {other = pos 3_000_000_000_000_000_000} (record { le = tt }) (sum_near (difference_near (high_near {bound = pos 1_900_000_000_000_000_000} c.requires.course.odd) c.share_from.ensures.within) (micro_near (scale_is c.scale.view_is c.scale.invariant).micro_to))) in
+    simp (to_z-of_z, micro_to_are c.scale.view_is) (record { low_from = low.low; low_to = low.high; high_from = high.low; high_to = high.high })

@@ -6,6 +6,7 @@ use Rattle.std.proofs.lemmas.Int.{to_z-of_z}
 use Rattle.fr_base.specs.Within.{IsWithin}
 use Rattle.fr_course.proofs.Fits.{difference_near, fits, high_near, micro_near, sum_near, wider_near}
 use Rattle.fr_course.proofs.Limits.{min_within, sum_fits, sum_within}
+use Rattle.fr_course.proofs.Numbers.{micro_to_are, scale_is}
 use Rattle.fr_course.proofs.corners.odd_start_to.Goals as goal
 
 before_near : (c : goal.After-result-1) → IsWithin (pos 2_900_000_000_000_000_000) (c.args.course.now.even.high +ℤ c.rest_to.result)
@@ -45,13 +46,13 @@ all c = outer c ∙ ap (int_min (c.args.course.now.even.high +ℤ c.rest_to.resu
 pub returns-clause-value : goal.returns-clause-value
 returns-clause-value c =
     let top : FitsSigned w128 c.min-2.result = fits (record { le = tt }) (outer_near c) in
-    let micro : FitsSigned w128 c.args.scale.now.micro_to = fits (record { le = tt }) (micro_near c.requires.scale.micro_to) in
-    let sum : FitsSigned w128 (c.min-2.result +ℤ c.args.scale.now.micro_to) = sum_fits c.min-2.result c.args.scale.now.micro_to (outer_near c) c.requires.scale.micro_to in
-    simp to_z-of_z (rw (all c, c.rest_to.ensures.value, c.action_from.ensures.value, c.between_to.ensures.value) refl)
+    let micro : FitsSigned w128 c.args.scale.now.micro_to = fits (record { le = tt }) (micro_near (scale_is c.scale.view_is c.scale.invariant).micro_to) in
+    let sum : FitsSigned w128 (c.min-2.result +ℤ c.args.scale.now.micro_to) = sum_fits c.min-2.result c.args.scale.now.micro_to (outer_near c) (scale_is c.scale.view_is c.scale.invariant).micro_to in
+    simp (to_z-of_z, micro_to_are c.scale.view_is) (rw (all c, c.rest_to.ensures.value, c.action_from.ensures.value, c.between_to.ensures.value) refl)
 
 pub returns-clause-within : goal.returns-clause-within
 returns-clause-within c =
     let top : FitsSigned w128 c.min-2.result = fits (record { le = tt }) (outer_near c) in
-    let micro : FitsSigned w128 c.args.scale.now.micro_to = fits (record { le = tt }) (micro_near c.requires.scale.micro_to) in
-    let sum : FitsSigned w128 (c.min-2.result +ℤ c.args.scale.now.micro_to) = sum_fits c.min-2.result c.args.scale.now.micro_to (outer_near c) c.requires.scale.micro_to in
-    simp to_z-of_z (sum_within c.min-2.result c.args.scale.now.micro_to (outer_near c) c.requires.scale.micro_to)
+    let micro : FitsSigned w128 c.args.scale.now.micro_to = fits (record { le = tt }) (micro_near (scale_is c.scale.view_is c.scale.invariant).micro_to) in
+    let sum : FitsSigned w128 (c.min-2.result +ℤ c.args.scale.now.micro_to) = sum_fits c.min-2.result c.args.scale.now.micro_to (outer_near c) (scale_is c.scale.view_is c.scale.invariant).micro_to in
+    simp (to_z-of_z, micro_to_are c.scale.view_is) (sum_within c.min-2.result c.args.scale.now.micro_to (outer_near c) (scale_is c.scale.view_is c.scale.invariant).micro_to)

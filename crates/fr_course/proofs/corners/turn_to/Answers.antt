@@ -5,32 +5,33 @@ use Rattle.std.proofs.lemmas.Int.{to_z-of_z}
 use Rattle.fr_course.specs.Course.{mean_to}
 use Rattle.fr_course.proofs.Counted.{action_between, ahead_between, before_between, correction_between, counted_near, macros_between}
 use Rattle.fr_course.proofs.Fits.{between_near, fits, high_near, sum_near, wider_near}
+use Rattle.fr_course.proofs.Numbers.{change_are, correction_are, macros_are, scale_is}
 use Rattle.fr_course.proofs.corners.turn_to.Goals as goal
 
 pub overflow_sub-ahead : goal.overflow_sub-ahead
 overflow_sub-ahead c =
-    let action : FitsSigned w128 c.args.course.now.action = fits (record { le = tt }) (counted_near (action_between c.args.scale.now c.args.course.now c.requires.scale c.requires.course) c.requires.scale.macros_to) in
-    let correction : FitsSigned w128 c.args.scale.now.correction = fits (record { le = tt }) (counted_near (correction_between c.requires.scale) c.requires.scale.macros_to) in
-    let ahead : FitsSigned w128 (c.args.scale.now.correction -ℤ c.args.course.now.action) = fits (record { le = tt }) (counted_near (ahead_between c.args.scale.now c.args.course.now c.requires.scale c.requires.course) c.requires.scale.macros_to) in
-    simp to_z-of_z ahead
+    let action : FitsSigned w128 c.args.course.now.action = fits (record { le = tt }) (counted_near (action_between c.args.scale.now c.args.course.now (scale_is c.scale.view_is c.scale.invariant) c.requires.course) (scale_is c.scale.view_is c.scale.invariant).macros_to) in
+    let correction : FitsSigned w128 c.args.scale.now.correction = fits (record { le = tt }) (counted_near (correction_between (scale_is c.scale.view_is c.scale.invariant)) (scale_is c.scale.view_is c.scale.invariant).macros_to) in
+    let ahead : FitsSigned w128 (c.args.scale.now.correction -ℤ c.args.course.now.action) = fits (record { le = tt }) (counted_near (ahead_between c.args.scale.now c.args.course.now (scale_is c.scale.view_is c.scale.invariant) c.requires.course) (scale_is c.scale.view_is c.scale.invariant).macros_to) in
+    simp (to_z-of_z, correction_are c.scale.view_is) ahead
 
 pub overflow_sub-before : goal.overflow_sub-before
 overflow_sub-before c =
-    let action : FitsSigned w128 c.args.course.now.action = fits (record { le = tt }) (counted_near (action_between c.args.scale.now c.args.course.now c.requires.scale c.requires.course) c.requires.scale.macros_to) in
-    let correction : FitsSigned w128 c.args.scale.now.correction = fits (record { le = tt }) (counted_near (correction_between c.requires.scale) c.requires.scale.macros_to) in
-    let ahead : FitsSigned w128 (c.args.scale.now.correction -ℤ c.args.course.now.action) = fits (record { le = tt }) (counted_near (ahead_between c.args.scale.now c.args.course.now c.requires.scale c.requires.course) c.requires.scale.macros_to) in
-    let macros : FitsSigned w128 c.args.scale.now.macros = fits (record { le = tt }) (between_near {least = pos 1} (record { le = tt }) (record { le = tt }) (macros_between c.requires.scale)) in
-    let before : FitsSigned w128 (c.args.scale.now.macros -ℤ (c.args.scale.now.correction -ℤ c.args.course.now.action)) = fits (record { le = tt }) (counted_near (before_between c.args.scale.now c.args.course.now c.requires.scale c.requires.course) c.requires.scale.macros_to) in
-    simp to_z-of_z before
+    let action : FitsSigned w128 c.args.course.now.action = fits (record { le = tt }) (counted_near (action_between c.args.scale.now c.args.course.now (scale_is c.scale.view_is c.scale.invariant) c.requires.course) (scale_is c.scale.view_is c.scale.invariant).macros_to) in
+    let correction : FitsSigned w128 c.args.scale.now.correction = fits (record { le = tt }) (counted_near (correction_between (scale_is c.scale.view_is c.scale.invariant)) (scale_is c.scale.view_is c.scale.invariant).macros_to) in
+    let ahead : FitsSigned w128 (c.args.scale.now.correction -ℤ c.args.course.now.action) = fits (record { le = tt }) (counted_near (ahead_between c.args.scale.now c.args.course.now (scale_is c.scale.view_is c.scale.invariant) c.requires.course) (scale_is c.scale.view_is c.scale.invariant).macros_to) in
+    let macros : FitsSigned w128 c.args.scale.now.macros = fits (record { le = tt }) (between_near {least = pos 1} (record { le = tt }) (record { le = tt }) (macros_between (scale_is c.scale.view_is c.scale.invariant))) in
+    let before : FitsSigned w128 (c.args.scale.now.macros -ℤ (c.args.scale.now.correction -ℤ c.args.course.now.action)) = fits (record { le = tt }) (counted_near (before_between c.args.scale.now c.args.course.now (scale_is c.scale.view_is c.scale.invariant) c.requires.course) (scale_is c.scale.view_is c.scale.invariant).macros_to) in
+    simp (to_z-of_z, macros_are c.scale.view_is, correction_are c.scale.view_is) before
 
 pub mean_to-requires-clause-before : goal.mean_to-requires-clause-before
 mean_to-requires-clause-before c =
-    let action : FitsSigned w128 c.args.course.now.action = fits (record { le = tt }) (counted_near (action_between c.args.scale.now c.args.course.now c.requires.scale c.requires.course) c.requires.scale.macros_to) in
-    let correction : FitsSigned w128 c.args.scale.now.correction = fits (record { le = tt }) (counted_near (correction_between c.requires.scale) c.requires.scale.macros_to) in
-    let ahead : FitsSigned w128 (c.args.scale.now.correction -ℤ c.args.course.now.action) = fits (record { le = tt }) (counted_near (ahead_between c.args.scale.now c.args.course.now c.requires.scale c.requires.course) c.requires.scale.macros_to) in
-    let macros : FitsSigned w128 c.args.scale.now.macros = fits (record { le = tt }) (between_near {least = pos 1} (record { le = tt }) (record { le = tt }) (macros_between c.requires.scale)) in
-    let before : FitsSigned w128 (c.args.scale.now.macros -ℤ (c.args.scale.now.correction -ℤ c.args.course.now.action)) = fits (record { le = tt }) (counted_near (before_between c.args.scale.now c.args.course.now c.requires.scale c.requires.course) c.requires.scale.macros_to) in
-    simp to_z-of_z (before_between c.args.scale.now c.args.course.now c.requires.scale c.requires.course)
+    let action : FitsSigned w128 c.args.course.now.action = fits (record { le = tt }) (counted_near (action_between c.args.scale.now c.args.course.now (scale_is c.scale.view_is c.scale.invariant) c.requires.course) (scale_is c.scale.view_is c.scale.invariant).macros_to) in
+    let correction : FitsSigned w128 c.args.scale.now.correction = fits (record { le = tt }) (counted_near (correction_between (scale_is c.scale.view_is c.scale.invariant)) (scale_is c.scale.view_is c.scale.invariant).macros_to) in
+    let ahead : FitsSigned w128 (c.args.scale.now.correction -ℤ c.args.course.now.action) = fits (record { le = tt }) (counted_near (ahead_between c.args.scale.now c.args.course.now (scale_is c.scale.view_is c.scale.invariant) c.requires.course) (scale_is c.scale.view_is c.scale.invariant).macros_to) in
+    let macros : FitsSigned w128 c.args.scale.now.macros = fits (record { le = tt }) (between_near {least = pos 1} (record { le = tt }) (record { le = tt }) (macros_between (scale_is c.scale.view_is c.scale.invariant))) in
+    let before : FitsSigned w128 (c.args.scale.now.macros -ℤ (c.args.scale.now.correction -ℤ c.args.course.now.action)) = fits (record { le = tt }) (counted_near (before_between c.args.scale.now c.args.course.now (scale_is c.scale.view_is c.scale.invariant) c.requires.course) (scale_is c.scale.view_is c.scale.invariant).macros_to) in
+    simp (to_z-of_z, macros_are c.scale.view_is, correction_are c.scale.view_is) (before_between c.args.scale.now c.args.course.now (scale_is c.scale.view_is c.scale.invariant) c.requires.course)
 
 pub mean_to-requires-clause-first : goal.mean_to-requires-clause-first
 mean_to-requires-clause-first c =
@@ -44,29 +45,29 @@ mean_to-requires-clause-second c =
 
 pub overflow_add-result : goal.overflow_add-result
 overflow_add-result c =
-    let change : FitsSigned w128 c.args.scale.now.change = fits (record { le = tt }) c.requires.scale.change in
+    let change : FitsSigned w128 c.args.scale.now.change = fits (record { le = tt }) (scale_is c.scale.view_is c.scale.invariant).change in
     let mean : FitsSigned w128 c.mean_to.result = fits (record { le = tt }) c.mean_to.ensures.within in
-    let sum : FitsSigned w128 (c.mean_to.result +ℤ c.args.scale.now.change) = fits (record { le = tt }) (sum_near c.mean_to.ensures.within c.requires.scale.change) in
-    simp to_z-of_z sum
+    let sum : FitsSigned w128 (c.mean_to.result +ℤ c.args.scale.now.change) = fits (record { le = tt }) (sum_near c.mean_to.ensures.within (scale_is c.scale.view_is c.scale.invariant).change) in
+    simp (to_z-of_z, change_are c.scale.view_is) sum
 
 pub returns-clause-value : goal.returns-clause-value
 returns-clause-value c =
-    let action : FitsSigned w128 c.args.course.now.action = fits (record { le = tt }) (counted_near (action_between c.args.scale.now c.args.course.now c.requires.scale c.requires.course) c.requires.scale.macros_to) in
-    let correction : FitsSigned w128 c.args.scale.now.correction = fits (record { le = tt }) (counted_near (correction_between c.requires.scale) c.requires.scale.macros_to) in
-    let ahead : FitsSigned w128 (c.args.scale.now.correction -ℤ c.args.course.now.action) = fits (record { le = tt }) (counted_near (ahead_between c.args.scale.now c.args.course.now c.requires.scale c.requires.course) c.requires.scale.macros_to) in
-    let macros : FitsSigned w128 c.args.scale.now.macros = fits (record { le = tt }) (between_near {least = pos 1} (record { le = tt }) (record { le = tt }) (macros_between c.requires.scale)) in
-    let before : FitsSigned w128 (c.args.scale.now.macros -ℤ (c.args.scale.now.correction -ℤ c.args.course.now.action)) = fits (record { le = tt }) (counted_near (before_between c.args.scale.now c.args.course.now c.requires.scale c.requires.course) c.requires.scale.macros_to) in
+    let action : FitsSigned w128 c.args.course.now.action = fits (record { le = tt }) (counted_near (action_between c.args.scale.now c.args.course.now (scale_is c.scale.view_is c.scale.invariant) c.requires.course) (scale_is c.scale.view_is c.scale.invariant).macros_to) in
+    let correction : FitsSigned w128 c.args.scale.now.correction = fits (record { le = tt }) (counted_near (correction_between (scale_is c.scale.view_is c.scale.invariant)) (scale_is c.scale.view_is c.scale.invariant).macros_to) in
+    let ahead : FitsSigned w128 (c.args.scale.now.correction -ℤ c.args.course.now.action) = fits (record { le = tt }) (counted_near (ahead_between c.args.scale.now c.args.course.now (scale_is c.scale.view_is c.scale.invariant) c.requires.course) (scale_is c.scale.view_is c.scale.invariant).macros_to) in
+    let macros : FitsSigned w128 c.args.scale.now.macros = fits (record { le = tt }) (between_near {least = pos 1} (record { le = tt }) (record { le = tt }) (macros_between (scale_is c.scale.view_is c.scale.invariant))) in
+    let before : FitsSigned w128 (c.args.scale.now.macros -ℤ (c.args.scale.now.correction -ℤ c.args.course.now.action)) = fits (record { le = tt }) (counted_near (before_between c.args.scale.now c.args.course.now (scale_is c.scale.view_is c.scale.invariant) c.requires.course) (scale_is c.scale.view_is c.scale.invariant).macros_to) in
     let first : FitsSigned w128 c.args.course.now.even.high = fits (record { le = tt }) (high_near {bound = pos 1_900_000_000_000_000_000} c.requires.course.even) in
     let second : FitsSigned w128 c.args.course.now.odd.high = fits (record { le = tt }) (high_near {bound = pos 1_900_000_000_000_000_000} c.requires.course.odd) in
-    let change : FitsSigned w128 c.args.scale.now.change = fits (record { le = tt }) c.requires.scale.change in
+    let change : FitsSigned w128 c.args.scale.now.change = fits (record { le = tt }) (scale_is c.scale.view_is c.scale.invariant).change in
     let mean : FitsSigned w128 c.mean_to.result = fits (record { le = tt }) c.mean_to.ensures.within in
-    let sum : FitsSigned w128 (c.mean_to.result +ℤ c.args.scale.now.change) = fits (record { le = tt }) (sum_near c.mean_to.ensures.within c.requires.scale.change) in
-    let value : c.mean_to.result ≡ mean_to c.args.scale.now (c.args.scale.now.macros -ℤ (c.args.scale.now.correction -ℤ c.args.course.now.action)) c.args.course.now.even.high c.args.course.now.odd.high = simp to_z-of_z at c.mean_to.ensures.value in
-    simp to_z-of_z (rw value refl)
+    let sum : FitsSigned w128 (c.mean_to.result +ℤ c.args.scale.now.change) = fits (record { le = tt }) (sum_near c.mean_to.ensures.within (scale_is c.scale.view_is c.scale.invariant).change) in
+    let value : c.mean_to.result ≡ mean_to c.args.scale.now (c.args.scale.now.macros -ℤ (c.args.scale.now.correction -ℤ c.args.course.now.action)) c.args.course.now.even.high c.args.course.now.odd.high = simp (to_z-of_z, macros_are c.scale.view_is, correction_are c.scale.view_is) at c.mean_to.ensures.value in
+    simp (to_z-of_z, change_are c.scale.view_is) (rw value refl)
 
 pub returns-clause-within : goal.returns-clause-within
 returns-clause-within c =
-    let change : FitsSigned w128 c.args.scale.now.change = fits (record { le = tt }) c.requires.scale.change in
+    let change : FitsSigned w128 c.args.scale.now.change = fits (record { le = tt }) (scale_is c.scale.view_is c.scale.invariant).change in
     let mean : FitsSigned w128 c.mean_to.result = fits (record { le = tt }) c.mean_to.ensures.within in
-    let sum : FitsSigned w128 (c.mean_to.result +ℤ c.args.scale.now.change) = fits (record { le = tt }) (sum_near c.mean_to.ensures.within c.requires.scale.change) in
-    simp to_z-of_z (wider_near (record { le = tt }) (sum_near c.mean_to.ensures.within c.requires.scale.change))
+    let sum : FitsSigned w128 (c.mean_to.result +ℤ c.args.scale.now.change) = fits (record { le = tt }) (sum_near c.mean_to.ensures.within (scale_is c.scale.view_is c.scale.invariant).change) in
+    simp (to_z-of_z, change_are c.scale.view_is) (wider_near (record { le = tt }) (sum_near c.mean_to.ensures.within (scale_is c.scale.view_is c.scale.invariant).change))

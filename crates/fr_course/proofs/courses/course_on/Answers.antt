@@ -5,6 +5,7 @@ use Rattle.std.proofs.lemmas.Int.{to_z-of_z}
 use Rattle.fr_course.specs.Near.{IsNearCourse}
 use Rattle.fr_course.proofs.Fits.{box_near, fits, high_near, low_near, sum_near}
 use Rattle.fr_course.proofs.Limits.{course_on-near}
+use Rattle.fr_course.proofs.Numbers.{length_from_are, length_to_are, scale_is}
 use Rattle.fr_course.proofs.courses.course_on.Goals as goal
 
 pub returns-clause-value : goal.returns-clause-value
@@ -12,12 +13,12 @@ returns-clause-value c =
     let action : FitsSigned w128 c.args.action = search rules in
     let l : FitsSigned w128 c.args.even.now.low = fits (record { le = tt }) (low_near {bound = pos 910_000_000_000_000_000} (box_near c.requires.even)) in
     let h : FitsSigned w128 c.args.even.now.high = fits (record { le = tt }) (high_near {bound = pos 910_000_000_000_000_000} (box_near c.requires.even)) in
-    let x : FitsSigned w128 c.args.scale.now.length_from = fits (record { le = tt }) c.requires.scale.length_from in
-    let y : FitsSigned w128 c.args.scale.now.length_to = fits (record { le = tt }) c.requires.scale.length_to in
-    let low : FitsSigned w128 (c.args.even.now.low +ℤ c.args.scale.now.length_from) = fits (record { le = tt }) (sum_near (low_near {bound = pos 910_000_000_000_000_000} (box_near c.requires.even)) c.requires.scale.length_from) in
-    let high : FitsSigned w128 (c.args.even.now.high +ℤ c.args.scale.now.length_to) = fits (record { le = tt }) (sum_near (high_near {bound = pos 910_000_000_000_000_000} (box_near c.requires.even)) c.requires.scale.length_to) in
-    rw (c.allowed.ensures.value, c.allowed-2.ensures.value) (simp to_z-of_z)
+    let x : FitsSigned w128 c.args.scale.now.length_from = fits (record { le = tt }) (scale_is c.scale.view_is c.scale.invariant).length_from in
+    let y : FitsSigned w128 c.args.scale.now.length_to = fits (record { le = tt }) (scale_is c.scale.view_is c.scale.invariant).length_to in
+    let low : FitsSigned w128 (c.args.even.now.low +ℤ c.args.scale.now.length_from) = fits (record { le = tt }) (sum_near (low_near {bound = pos 910_000_000_000_000_000} (box_near c.requires.even)) (scale_is c.scale.view_is c.scale.invariant).length_from) in
+    let high : FitsSigned w128 (c.args.even.now.high +ℤ c.args.scale.now.length_to) = fits (record { le = tt }) (sum_near (high_near {bound = pos 910_000_000_000_000_000} (box_near c.requires.even)) (scale_is c.scale.view_is c.scale.invariant).length_to) in
+    rw (c.allowed.ensures.value, c.allowed-2.ensures.value) (simp (to_z-of_z, length_from_are c.scale.view_is, length_to_are c.scale.view_is))
 
 pub returns-clause-near : goal.returns-clause-near
 returns-clause-near c =
-    subst (IsNearCourse c.args.scale.now) (sym (returns-clause-value c)) (course_on-near c.args.scale.now c.args.action c.args.even.now c.requires.scale c.requires.action c.requires.even)
+    subst (IsNearCourse c.args.scale.now) (sym (returns-clause-value c)) (course_on-near c.args.scale.now c.args.action c.args.even.now (scale_is c.scale.view_is c.scale.invariant) c.requires.action c.requires.even)

@@ -6,19 +6,19 @@ use Rattle.fr_course.specs.Readings.{Interval}
 use Rattle.fr_course.specs.Computed.{further_by, values_from, values_to}
 use Rattle.fr_course.proofs.measuring.counted_in.Goals as goal
 
-pub values_from-requires-clause-ticks : goal.values_from-requires-clause-ticks
-values_from-requires-clause-ticks c =
+pub values_from-requires : goal.values_from-requires
+values_from-requires c =
     let near = c.further_by-off.ensures.near (pos 6_200_000_000_000_000_000) c.requires.ticks in
     let fits : FitsSigned w128 c.further_by-off.result.low = omega (arith, ints, near, c.requires.error) in
     let within : IsWithin (pos 20_000_000_000_000_000_000) c.further_by-off.result.low = record { low = omega (arith, ints, near, c.requires.error); high = omega (arith, ints, near, c.requires.error) } in
-    simp to_z-of_z within
+    record { ticks = simp to_z-of_z within }
 
-pub values_to-requires-clause-ticks : goal.values_to-requires-clause-ticks
-values_to-requires-clause-ticks c =
+pub values_to-requires : goal.values_to-requires
+values_to-requires c =
     let near = c.further_by-off.ensures.near (pos 6_200_000_000_000_000_000) c.requires.ticks in
     let fits : FitsSigned w128 c.further_by-off.result.high = omega (arith, ints, near, c.requires.error) in
     let within : IsWithin (pos 20_000_000_000_000_000_000) c.further_by-off.result.high = record { low = omega (arith, ints, near, c.requires.error); high = omega (arith, ints, near, c.requires.error) } in
-    simp to_z-of_z within
+    record { ticks = simp to_z-of_z within }
 
 pub returns-clause-value : goal.returns-clause-value
 returns-clause-value c =

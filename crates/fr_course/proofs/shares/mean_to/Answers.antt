@@ -7,6 +7,7 @@ use Rattle.fr_course.specs.Readings.{ceiling_of}
 use Rattle.fr_course.proofs.Counted.{counted_near, macros_between}
 use Rattle.fr_course.proofs.Fits.{between_near, fits}
 use Rattle.fr_course.proofs.Limits.{ceiling_within}
+use Rattle.fr_course.proofs.Numbers.{macros_are, scale_is}
 use Rattle.fr_course.proofs.shares.mean_to.Goals as goal
 
 few : (macros x : ℤ) → macros ≤ℤ pos 16_000 → IsWithin (macros *ℤ (pos 1_900_000_000_000_000_000)) x → IsWithin (pos 10_000_000_000_000_000_000_000_000_000_000) x
@@ -15,21 +16,21 @@ few macros x to near = record { low = omega (arith, ints, near.low, to); high = 
 pub ceiling-requires-clause-number : goal.ceiling-requires-clause-number
 ceiling-requires-clause-number c =
     let w : FitsSigned w128 c.weighed.result = search rules in
-    simp to_z-of_z (few c.args.scale.now.macros c.weighed.result c.requires.scale.macros_to c.weighed.ensures.within)
+    simp to_z-of_z (few c.args.scale.now.macros c.weighed.result (scale_is c.scale.view_is c.scale.invariant).macros_to c.weighed.ensures.within)
 
 value_lem : (c : goal.After-ceiling) → c.ceiling.result ≡ ceiling_of c.weighed.result c.args.scale.now.macros
 value_lem c =
     let w : FitsSigned w128 c.weighed.result = search rules in
-    let macros : FitsSigned w128 c.args.scale.now.macros = fits (record { le = tt }) (between_near {least = pos 1} (record { le = tt }) (record { le = tt }) (macros_between c.requires.scale)) in
-    simp to_z-of_z at c.ceiling.ensures
+    let macros : FitsSigned w128 c.args.scale.now.macros = fits (record { le = tt }) (between_near {least = pos 1} (record { le = tt }) (record { le = tt }) (macros_between (scale_is c.scale.view_is c.scale.invariant))) in
+    simp (to_z-of_z, macros_are c.scale.view_is) at c.ceiling.ensures
 
 near_lem : (c : goal.After-ceiling) → IsWithin (pos 1_900_000_000_000_000_000) c.ceiling.result
-near_lem c = subst (IsWithin (pos 1_900_000_000_000_000_000)) (sym (value_lem c)) (ceiling_within c.weighed.result c.args.scale.now.macros (pos 1_900_000_000_000_000_000) c.requires.scale.macros_from c.weighed.ensures.within)
+near_lem c = subst (IsWithin (pos 1_900_000_000_000_000_000)) (sym (value_lem c)) (ceiling_within c.weighed.result c.args.scale.now.macros (pos 1_900_000_000_000_000_000) (scale_is c.scale.view_is c.scale.invariant).macros_from c.weighed.ensures.within)
 
 pub returns-clause-value : goal.returns-clause-value
 returns-clause-value c =
     let r : FitsSigned w128 c.ceiling.result = fits (record { le = tt }) (near_lem c) in
-    let before : FitsSigned w128 c.args.before = fits (record { le = tt }) (counted_near c.requires.before c.requires.scale.macros_to) in
+    let before : FitsSigned w128 c.args.before = fits (record { le = tt }) (counted_near c.requires.before (scale_is c.scale.view_is c.scale.invariant).macros_to) in
     let first : FitsSigned w128 c.args.first = fits (record { le = tt }) c.requires.first in
     let second : FitsSigned w128 c.args.second = fits (record { le = tt }) c.requires.second in
     let point : c.weighed.result ≡ (c.args.before *ℤ c.args.first) +ℤ ((c.args.scale.now.macros -ℤ c.args.before) *ℤ c.args.second) = simp to_z-of_z at c.weighed.ensures.value in

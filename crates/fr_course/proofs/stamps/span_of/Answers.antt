@@ -2,7 +2,7 @@ use Rattle.std.proofs.Common.{FitsSigned, pos, refl}
 use Rattle.std.specs.Prelude.{◌+ℤ◌, ◌-ℤ◌}
 use mir.Syntax.{w128}
 use Rattle.std.proofs.lemmas.Int.{to_z-of_z}
-use Rattle.fr_course.proofs.Fits.{between_near, difference_near, fits, high_near, low_near, sum_near, wider_near}
+use Rattle.fr_course.proofs.Fits.{difference_near, fits, sum_near, wider_near}
 use Rattle.fr_course.proofs.stamps.span_of.Goals as goal
 
 pub returns-clause-value : goal.returns-clause-value

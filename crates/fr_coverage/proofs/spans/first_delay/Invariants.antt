@@ -1,12 +1,13 @@
-use Rattle.std.proofs.Common.{◌≡◌, ◌≤◌, ◌-◌, None}
-use Rattle.fr_coverage.specs.First.{first_below}
+use Rattle.std.proofs.Common.{◌≡◌, ◌≤◌, ◌<◌, ◌*◌, ◌-◌, None}
+use Rattle.fr_coverage.specs.First.{first_between}
 use Rattle.fr_coverage.specs.Coverage.{delay_gap, how_many_cycles}
 use Rattle.fr_coverage.proofs.spans.first_delay.Given as goal
 
 abbrev pub invariant-loop-cycle : goal.invariant-loop-cycle
 invariant-loop-cycle l = record {
   within : l.cycle ≤ how_many_cycles l.drift;
-  none : first_below (delay_gap l.params l.drift l.sender l.receiver l.channel) l.cycle ≡ None;
+  behind : l.cycle < how_many_cycles l.drift → 2 * l.from ≤ l.cycle;
+  none : first_between (delay_gap l.params l.drift l.sender l.receiver l.channel) (2 * l.from) l.cycle ≡ None;
 }
 
 abbrev pub decreases-loop-cycle : goal.decreases-loop-cycle

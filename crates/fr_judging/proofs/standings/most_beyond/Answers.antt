@@ -4,7 +4,7 @@ use Rattle.std.specs.Prelude.{max}
 use Rattle.std.proofs.lemmas.List.{drop_all}
 use Rattle.fr_bound.specs.Judged.{from_none}
 use Rattle.fr_cluster.specs.Values.{Values}
-use Rattle.fr_course.specs.declared.scales.Scale.{Scale}
+use Rattle.fr_course.specs.Scales.{Scale}
 use Rattle.fr_sightings.specs.declared.sender.Sender.{Sender}
 use Rattle.fr_judging.specs.Knowing.{beyond_of, most_beyond}
 use Rattle.fr_judging.proofs.standings.most_beyond.Goals as goal

@@ -1,4 +1,4 @@
-use Rattle.std.proofs.Common.{◌≡◌, ℕ, ◌+◌, ◌<◌, ◌≤◌, List, [], ◌∷◌, Option, drop, filter_map, get_or, length, option_to_list, refl, sym, subst, arith, rules}
+use Rattle.std.proofs.Common.{◌≡◌, Option, filter_map, get_or, option_to_list, refl, sym, subst, arith, rules}
 use Rattle.std.specs.List.{Contains}
 use Rattle.std.proofs.lemmas.List.Elements.{Contains-get_or}
 use Rattle.fr_observe.specs.Telling.{sender_fault}

@@ -14,26 +14,24 @@ same_line : (cycle : ℕ) (kept : Kept) (in_sync found sharp found_sharp : Bool)
     → line (sharp_row cycle found found_sharp kept found_peak) ≡ line (sharp_row cycle in_sync sharp kept peak)
 same_line cycle kept in_sync found sharp found_sharp peak found_peak one other third = rw (one, other, third) refl
 
-pub returns-in_err-put_line-clause-text : goal.returns-in_err-put_line-clause-text
-returns-in_err-put_line-clause-text g c =
-    let scales = c.args.scales.now in
-    let grid = scales.older.grid in
-    let in_sync : Bool = are_in_sync scales.older.bounds c.args.even.now c.args.odd.now in
-    let sharp : Bool = are_in_sync_by_even scales.sharp.bounds c.args.even.now c.args.odd.now in
+pub returns-in_err-put_line : goal.returns-in_err-put_line
+returns-in_err-put_line g c =
+    let grid = c.args.older.now.grid in
+    let in_sync : Bool = are_in_sync c.args.older.now.bounds c.args.even.now c.args.odd.now in
+    let sharp : Bool = are_in_sync_by_even c.args.sharper.now.bounds c.args.even.now c.args.odd.now in
     let cycle : ℕ = 2 * c.args.double in
     let rest = line (sharp_row (cycle + 1) in_sync sharp c.args.kept (peak_by grid (cycle + 1) c.args.odd.now)) in
     let first : c.sharp_cycle_line.result ≡ line (sharp_row cycle in_sync sharp c.args.kept (peak_by grid cycle c.args.even.now)) =
     c.sharp_cycle_line.ensures
     ∙ same_line cycle c.args.kept in_sync _ sharp _ (peak_by grid cycle c.args.even.now) _ c.are_in_sync-in_sync.ensures c.are_in_sharp_sync-sharp.ensures c.peak.ensures in
     let P : List ℕ → Type 0 = λ l. Puts c.from_residual.result (g.O.Sink.state c.args.out.now) (g.O.Sink.state c.put_line.new.out) (l ++ rest) in
-    subst P first (cut c.from_residual.result rest c.in_err-put_line.ensures c.from_residual.ensures.0)
+    record { text = subst P first (cut c.from_residual.result rest c.in_err-put_line.ensures c.from_residual.ensures.0) }
 
-pub returns-clause-text : goal.returns-clause-text
-returns-clause-text g c =
-    let scales = c.args.scales.now in
-    let grid = scales.older.grid in
-    let in_sync : Bool = are_in_sync scales.older.bounds c.args.even.now c.args.odd.now in
-    let sharp : Bool = are_in_sync_by_even scales.sharp.bounds c.args.even.now c.args.odd.now in
+pub returns : goal.returns
+returns g c =
+    let grid = c.args.older.now.grid in
+    let in_sync : Bool = are_in_sync c.args.older.now.bounds c.args.even.now c.args.odd.now in
+    let sharp : Bool = are_in_sync_by_even c.args.sharper.now.bounds c.args.even.now c.args.odd.now in
     let cycle : ℕ = 2 * c.args.double in
     let first : c.sharp_cycle_line.result ≡ line (sharp_row cycle in_sync sharp c.args.kept (peak_by grid cycle c.args.even.now)) =
     c.sharp_cycle_line.ensures
@@ -42,4 +40,4 @@ returns-clause-text g c =
     c.sharp_cycle_line-2.ensures
     ∙ same_line (cycle + 1) c.args.kept in_sync _ sharp _ (peak_by grid (cycle + 1) c.args.odd.now) _ c.are_in_sync-in_sync.ensures c.are_in_sharp_sync-sharp.ensures c.peak-2.ensures in
     let P : List ℕ → Type 0 = λ l. Puts c.put_line-2.result (g.O.Sink.state c.args.out.now) (g.O.Sink.state c.put_line-2.new.out) l in
-    subst P (ap₂ (λ (l m : List ℕ). l ++ m) first last) (then c.put_line-2.result c.in_ok-put_line.ensures c.put_line-2.ensures)
+    record { text = subst P (ap₂ (λ (l m : List ℕ). l ++ m) first last) (then c.put_line-2.result c.in_ok-put_line.ensures c.put_line-2.ensures) }

@@ -1,5 +1,5 @@
-use Rattle.fr_sharp.proofs.RunCycles.{histories_keep_sharp_precision}
-use Rattle.fr_sharp.proofs.RunSync.{histories_are_sharp_doubles, histories_have_members, histories_keep_sharp_sync_lem, histories_step_sharply}
+use Rattle.fr_promise.proofs.RunCycles.{histories_keep_sharp_precision}
+use Rattle.fr_promise.proofs.RunSync.{histories_are_sharp_doubles, histories_have_members, histories_keep_sharp_sync_lem, histories_step_sharply}
 use Rattle.fr_sharp.proofs.histories.histories_keep_sharp_sync.Goals as goal
 
 pub returns-clause-members : goal.returns-clause-members

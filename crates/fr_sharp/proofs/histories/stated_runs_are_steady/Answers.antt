@@ -1,4 +1,4 @@
-use Rattle.fr_sharp.proofs.RunCycles.{stated_runs_are_steady}
+use Rattle.fr_promise.proofs.RunCycles.{stated_runs_are_steady}
 use Rattle.fr_sharp.proofs.RunStated.{stated_runs_begin_in_sharp_sync, stated_starts_are_sharp, timed_runs_begin_in_sharp_sync}
 use Rattle.fr_sharp.proofs.histories.stated_runs_are_steady.Goals as goal
 

@@ -1,3 +1,4 @@
+use Rattle.fr_sharp.proofs.BearingKinds.{through_is_apart}
 use Rattle.fr_sharp.proofs.LostHistories.{histories_keep_through_losses_lem, sharp_after_two_whole}
 use Rattle.fr_sharp.proofs.losing.histories_keep_through_losses.Goals as goal
 
@@ -6,3 +7,6 @@ returns-clause-keep c = histories_keep_through_losses_lem c.losses_last.ensures.
 
 pub returns-clause-again : goal.returns-clause-again
 returns-clause-again c = sharp_after_two_whole
+
+pub returns-clause-apart : goal.returns-clause-apart
+returns-clause-apart c = through_is_apart

@@ -1,3 +1,4 @@
+use Rattle.fr_sharp.proofs.BearingRows.{rows_bear}
 use Rattle.fr_sharp.proofs.HeardInCommon.{rows_meet}
 use Rattle.fr_sharp.proofs.HeardInPart.{rounds_in_part_compute_own}
 use Rattle.fr_sharp.proofs.RowsInPart.{rows_compute_own}
@@ -11,3 +12,6 @@ returns-clause-rows c = rows_compute_own
 
 pub returns-clause-meet : goal.returns-clause-meet
 returns-clause-meet c = rows_meet
+
+pub returns-clause-bear : goal.returns-clause-bear
+returns-clause-bear c = rows_bear

@@ -5,9 +5,9 @@ pub returns-clause-figures : goal.returns-clause-figures
 returns-clause-figures c = losses_are_told_lem
 
 pub returns-clause-covered : goal.returns-clause-covered
-returns-clause-covered c = λ p d s flutter sane some flutters.
-    let finds = c.found_gap_of_run_is_first.ensures p d s sane in
-    (through_is_covered p d s flutter finds some flutters, covered_is_through p d s flutter finds some)
+returns-clause-covered c = λ p d s from flutter sane some flutters.
+    let finds = c.found_gap_from_is_first.ensures.found p d s from sane in
+    (through_is_covered p d s from flutter finds some flutters, covered_is_through p d s from flutter finds some)
 
 pub returns-clause-keeps : goal.returns-clause-keeps
 returns-clause-keeps c = runs_keep_their_bounds c.histories_keep_through_losses.ensures.keep c.heard_numbers.ensures.later

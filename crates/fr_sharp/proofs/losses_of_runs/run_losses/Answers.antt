@@ -1,4 +1,4 @@
-use Rattle.std.proofs.Common.{◌≡◌, ◌∙◌, ℕ, Bool, ap, arith}
+use Rattle.std.proofs.Common.{◌≡◌, ◌∙◌, ℕ, ◌+◌, ◌-◌, Bool, ap, arith}
 use Rattle.fr_cluster.specs.Values.{Values}
 use Rattle.fr_drift.specs.Questions.{doubles_of}
 use Rattle.fr_script.specs.View.{ScriptView}
@@ -7,46 +7,47 @@ use Rattle.fr_sharp.specs.LossStatement.{whole_in}
 use Rattle.fr_sharp.specs.LossSteps.{most_lost}
 use Rattle.fr_precision.specs.Among.{spread_through_losses}
 use Rattle.fr_sharp.specs.SharpStatement.{has_arbitrary}
-use Rattle.fr_sharp.specs.Traffic.{all_trusted, heard_in, traffic_in}
+use Rattle.fr_sharp.specs.Traffic.{all_bear_from, heard_in, traffic_in}
 use Rattle.fr_sharp.specs.declared.losses_of_runs.RunLosses.{RunLosses}
 use Rattle.fr_sharp.proofs.LossTold.{losses_on, no_more_than_one, spread_on, widest}
 use Rattle.fr_sharp.proofs.losses_of_runs.run_losses.Goals as goal
 
-pub loop-double-init : goal.loop-double-init
+pub loop-passed-init : goal.loop-passed-init
 unfolding losses_by
-loop-double-init c =
+loop-passed-init c =
     let none : c.none-losses.result.doubles ≡ 0 = ap (λ (l : RunLosses). l.doubles) c.none-losses.ensures in
     let near : c.none-losses.result.reach ≡ 0 = ap (λ (l : RunLosses). l.reach) c.none-losses.ensures in
     record {
       spread =
-          c.first-spread.ensures.spread (heard_in (traffic_in c.args.params.now c.args.script.now))
-          ∙ ap (λ (b : Bool). spread_through_losses b c.args.params.now c.args.flutter (heard_in (traffic_in c.args.params.now c.args.script.now)) 0) c.has_arbitrary.ensures;
+          c.first-spread.ensures.spread (λ m. heard_in (traffic_in c.args.params.now c.args.script.now) (c.args.from + m))
+          ∙ ap (λ (b : Bool). spread_through_losses b c.args.params.now c.args.flutter (λ m. heard_in (traffic_in c.args.params.now c.args.script.now) (c.args.from + m)) 0) c.has_arbitrary.ensures;
       passed = c.first-spread.ensures.passed;
       losses = c.none-losses.ensures;
       few = omega (arith, none);
       most = omega (arith, near);
     }
 
-pub loop-double-preserved : goal.loop-double-preserved
-loop-double-preserved c =
+pub loop-passed-preserved : goal.loop-passed-preserved
+loop-passed-preserved c =
     let p : Values = c.args.params.now in
     let s : ScriptView = c.args.script.now in
     let t = c.args.flutter in
-    let n = c.loop-double.double in
+    let n = c.loop-passed.passed in
+    let from = c.args.from in
     let whole = c.is_whole-whole.result in
     let beside = has_arbitrary p s in
-    let was = c.loop-double.invariant in
+    let was = c.loop-passed.invariant in
     let count = ap (λ (l : RunLosses). l.doubles) c.followed-losses.ensures in
-    let few = no_more_than_one whole c.loop-double.losses.doubles n was.few in
+    let few = no_more_than_one whole c.loop-passed.losses.doubles n was.few in
     let far = ap (λ (l : RunLosses). l.reach) c.followed-losses.ensures in
-    let most = widest c.loop-double.losses.reach c.near.result most_lost was.most c.near.ensures.most in
+    let most = widest c.loop-passed.losses.reach c.near.result most_lost was.most c.near.ensures.most in
     record {
-      spread = spread_on beside p t (heard_in (traffic_in p s)) n c.heard_in-what.result c.loop-double.spread.spread c.step.new.self.spread c.heard_in-what.ensures was.spread c.step.ensures.spread;
+      spread = spread_on beside p t (λ m. heard_in (traffic_in p s) (from + m)) n c.heard_in-what.result c.loop-passed.spread.spread c.step.new.self.spread c.heard_in-what.ensures was.spread c.step.ensures.spread;
       passed = omega (arith, c.step.ensures.passed, was.passed);
       losses =
           c.followed-losses.ensures
-          ∙ losses_on beside p t (whole_in p s) (heard_in (traffic_in p s)) (all_trusted (traffic_in p s)) n whole c.all_trusted-trusted.result c.heard_in-what.result c.apart-apart.result c.near.result
-          c.loop-double.spread.spread c.loop-double.losses c.is_whole-whole.ensures c.all_trusted-trusted.ensures c.heard_in-what.ensures was.spread c.apart-apart.ensures.value
+          ∙ losses_on beside p from t (whole_in p s) (heard_in (traffic_in p s)) (all_bear_from p (traffic_in p s) from) n whole c.all_bear_from-trusted.result c.heard_in-what.result c.apart-apart.result c.near.result
+          c.loop-passed.spread.spread c.loop-passed.losses c.is_whole-whole.ensures c.all_bear_from-trusted.ensures c.heard_in-what.ensures was.spread c.apart-apart.ensures.value
           c.near.ensures.value was.losses;
       few = omega (arith, count, few);
       most = omega (arith, far, most);
@@ -56,6 +57,8 @@ pub returns-clause-value : goal.returns-clause-value
 returns-clause-value c =
     let p : Values = c.args.params.now in
     let s : ScriptView = c.args.script.now in
-    let value : c.doubles-double-end.result ≡ doubles_of c.args.drift.now = c.doubles-double-end.ensures.value in
-    let end : c.loop-double.double ≡ doubles_of c.args.drift.now = omega (arith, value, c.loop-double.auto.double-end, c.loop-double-test.false) in
-    c.loop-double.invariant.losses ∙ ap (λ (n : ℕ). losses_by (has_arbitrary p s) p c.args.flutter (whole_in p s) (heard_in (traffic_in p s)) (all_trusted (traffic_in p s)) n) end
+    let value : c.doubles.result ≡ doubles_of c.args.drift.now = c.doubles.ensures.value in
+    let count = c.saturating_sub-count.ensures in
+    let end : c.loop-passed.passed ≡ doubles_of c.args.drift.now - c.args.from = omega (arith, value, count, c.loop-passed.auto.passed-end, c.loop-passed-test.false) in
+    c.loop-passed.invariant.losses
+    ∙ ap (λ (n : ℕ). losses_by (has_arbitrary p s) p c.args.from c.args.flutter (whole_in p s) (heard_in (traffic_in p s)) (all_bear_from p (traffic_in p s) c.args.from) n) end

@@ -1,21 +1,23 @@
-use Rattle.std.proofs.Common.{◌≡◌, ◌≤◌}
+use Rattle.std.proofs.Common.{◌≡◌, ◌+◌, ◌≤◌}
 use Rattle.fr_precision.specs.Among.{spread_through_losses}
 use Rattle.fr_sharp.specs.LossRuns.{losses_by}
 use Rattle.fr_sharp.specs.LossStatement.{whole_in}
 use Rattle.fr_sharp.specs.LossSteps.{most_lost}
 use Rattle.fr_sharp.specs.SharpStatement.{has_arbitrary}
-use Rattle.fr_sharp.specs.Traffic.{all_trusted, heard_in, traffic_in}
+use Rattle.fr_sharp.specs.Traffic.{all_bear_from, heard_in, traffic_in}
 use Rattle.fr_sharp.proofs.losses_of_runs.run_losses.Given as goal
 
 -- the spread of this double cycle by what was heard before it, and what was lost there
-abbrev pub invariant-loop-double : goal.invariant-loop-double
-invariant-loop-double l = record {
-  spread : l.spread.spread ≡ spread_through_losses (has_arbitrary l.params l.script) l.params l.flutter (heard_in (traffic_in l.params l.script)) l.double;
-  passed : l.spread.passed ≡ l.double;
+abbrev pub invariant-loop-passed : goal.invariant-loop-passed
+invariant-loop-passed l = record {
+  spread :
+      l.spread.spread
+      ≡ spread_through_losses (has_arbitrary l.params l.script) l.params l.flutter (λ m. heard_in (traffic_in l.params l.script) (l.from + m)) l.passed;
+  passed : l.spread.passed ≡ l.passed;
   losses :
       l.losses
-      ≡ losses_by (has_arbitrary l.params l.script) l.params l.flutter (whole_in l.params l.script) (heard_in (traffic_in l.params l.script))
-      (all_trusted (traffic_in l.params l.script)) l.double;
-  few : l.losses.doubles ≤ l.double;
+      ≡ losses_by (has_arbitrary l.params l.script) l.params l.from l.flutter (whole_in l.params l.script) (heard_in (traffic_in l.params l.script))
+      (all_bear_from l.params (traffic_in l.params l.script) l.from) l.passed;
+  few : l.losses.doubles ≤ l.passed;
   most : l.losses.reach ≤ most_lost;
 }

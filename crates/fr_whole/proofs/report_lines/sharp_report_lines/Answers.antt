@@ -12,7 +12,7 @@ pub returns : goal.returns
 unfolding sharp_lines_of
 returns c =
     let b = c.args.basis.now in
-    let precision : c.precision_line.result ≡ line (precision_told b.scales.sharp.precision b.beside) = search rules in
+    let precision : c.precision_line.result ≡ line (precision_told b.precision b.beside) = search rules in
     let one = behind c.flutter_line.ensures precision in
     let covered = behind one (ap shown c.covered_line.ensures) in
     let second = behind covered (ap shown c.gap_shown.ensures) in

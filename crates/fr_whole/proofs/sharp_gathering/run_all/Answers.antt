@@ -1,38 +1,46 @@
-use Rattle.std.proofs.Common.{◌≡◌, ◌∙◌, ℕ, ◌*◌, ◌<◌, [], ap, subst, sym, arith}
+use Rattle.std.proofs.Common.{◌≡◌, ◌∙◌, ℕ, ◌+◌, ◌*◌, ◌<◌, [], Option, ap, subst, sym, arith}
+use Rattle.std.specs.Prelude.{unwrap_or}
 use Rattle.fr_drift.specs.Questions.{doubles_of}
 use Rattle.fr_history.specs.Cycles.{Cycles}
 use Rattle.fr_history.specs.Next.{cycles_of}
 use Rattle.fr_lines.specs.Held.{ReportHolds}
-use Rattle.fr_time.specs.Position.{grid_for}
 use Rattle.fr_world.specs.World.{WorldView, setting_after, world_cycles}
-use Rattle.fr_series.specs.Basis.{sharp_figures_of, AreScales}
+use Rattle.fr_series.specs.Basis.{sharp_figures_of, IsCourse}
+use Rattle.fr_series.specs.Writing.{first_sharp_at}
 use Rattle.fr_series.proofs.Doubles.{no_cycles}
-use Rattle.fr_series.proofs.SharpWorlds.{sharp_figures-more}
+use Rattle.fr_series.proofs.SharpWorlds.{first_none}
 use Rattle.fr_series.proofs.Worlds.{two-more}
 use Rattle.fr_whole.proofs.sharp_gathering.run_all.Goals as goal
 
 pub loop-double-init : goal.loop-double-init
 loop-double-init c =
     let w : WorldView = c.args.world.now in
-    let b = c.args.basis.now in
     let none : world_cycles w ≡ [] = ap (cycles_of (setting_after w)) c.requires.fresh ∙ no_cycles (setting_after w) in
     let P : Cycles → Type 0 = λ h. ReportHolds w.params c.args.report.now h in
+    let course : IsCourse w.params w.drift w.script 0 c.from-course.result =
+    rw (← c.params.ensures.value, ← c.drift-2.ensures.value, ← c.script.ensures.value) c.from-course.ensures.is in
     record {
       ran = ap (λ (n : ℕ). record w { cycles = n }) c.requires.fresh;
       held = subst P (sym none) c.requires.held;
-      figures = c.requires.none ∙ ap (sharp_figures_of b.beside w.params b.flutter) (sym (no_cycles (setting_after w)));
+      proper = c.from-course.ensures.proper;
+      course = subst (λ (o : Option ℕ). IsCourse w.params w.drift w.script (unwrap_or o 0) c.from-course.result) (sym (first_none w)) course;
+      figures = c.requires.none ∙ ap (sharp_figures_of w.params w.drift w.script) (sym (no_cycles (setting_after w)));
     }
 
 pub loop-double-preserved : goal.loop-double-preserved
 loop-double-preserved c =
     let w : WorldView = c.args.world.now in
-    let b = c.args.basis.now in
+    let v : WorldView = c.loop-double.world in
     let inv = c.loop-double.invariant in
     let n = c.loop-double.double in
     record {
-      ran = two-more w c.loop-double.world c.add_double.new.world n inv.ran c.add_double.ensures.ran;
+      ran = two-more w v c.add_double.new.world n inv.ran c.add_double.ensures.ran;
       held = c.add_double.ensures.held;
-      figures = sharp_figures-more b.beside b.flutter w c.loop-double.world n b.scales c.loop-double.figures c.add_double.new.figures inv.ran c.requires.scales inv.figures c.add_double.ensures.figures;
+      proper = c.add_double.ensures.proper;
+      course = subst (λ (u : WorldView). IsCourse u.params u.drift u.script (unwrap_or (first_sharp_at u (n + 1)) (n + 1)) c.add_double.new.course) inv.ran c.add_double.ensures.course;
+      figures =
+          c.add_double.ensures.figures
+          ∙ ap (λ (u : WorldView). sharp_figures_of u.params u.drift u.script (cycles_of (setting_after u) (2 * (n + 1)))) inv.ran;
     }
 
 pub returns-clause-ran : goal.returns-clause-ran
@@ -48,10 +56,9 @@ returns-clause-held c = c.loop-double.invariant.held
 pub returns-clause-figures : goal.returns-clause-figures
 returns-clause-figures c =
     let w : WorldView = c.args.world.now in
-    let b = c.args.basis.now in
     let doubles : c.doubles-doubles.result ≡ doubles_of w.drift = c.doubles-doubles.ensures.value ∙ ap doubles_of c.drift.ensures.value in
     let end : c.loop-double.double ≡ doubles_of w.drift = omega (arith, doubles) in
-    let P : ℕ → Type 0 = λ k. c.loop-double.figures ≡ sharp_figures_of b.beside w.params b.flutter (cycles_of (setting_after w) (2 * k)) in
+    let P : ℕ → Type 0 = λ k. c.loop-double.figures ≡ sharp_figures_of w.params w.drift w.script (cycles_of (setting_after w) (2 * k)) in
     subst P end c.loop-double.invariant.figures
 
 pub add_double-requires-clause-at : goal.add_double-requires-clause-at
@@ -68,10 +75,16 @@ add_double-requires-clause-at c =
       few = omega (arith, doubles, below, c.doubles-doubles.ensures.to);
     }
 
-pub add_double-requires-clause-proper : goal.add_double-requires-clause-proper
-add_double-requires-clause-proper c =
-    let P : WorldView → Type 0 = λ v. AreScales (grid_for v.params) c.args.basis.now.scales in
-    subst P (sym c.loop-double.invariant.ran) c.requires.proper
+pub add_double-requires-clause-course : goal.add_double-requires-clause-course
+add_double-requires-clause-course c =
+    let n = c.loop-double.double in
+    subst (λ (u : WorldView). IsCourse u.params u.drift u.script (unwrap_or (first_sharp_at u n) n) c.loop-double.course) (sym c.loop-double.invariant.ran) c.loop-double.invariant.course
 
 pub add_double-requires-clause-held : goal.add_double-requires-clause-held
 add_double-requires-clause-held c = c.loop-double.invariant.held
+
+pub add_double-requires-clause-figures : goal.add_double-requires-clause-figures
+add_double-requires-clause-figures c =
+    let n = c.loop-double.double in
+    c.loop-double.invariant.figures
+    ∙ ap (λ (u : WorldView). sharp_figures_of u.params u.drift u.script (cycles_of (setting_after u) (2 * n))) (sym c.loop-double.invariant.ran)

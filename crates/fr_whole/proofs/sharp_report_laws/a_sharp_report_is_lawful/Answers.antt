@@ -4,5 +4,5 @@ use Rattle.fr_whole.proofs.sharp_report_laws.a_sharp_report_is_lawful.Goals as g
 
 pub returns : goal.returns
 returns c = λ p d s sane drift script proper.
-    sharp_report_of c.files_decide_one_run.ensures.only p d s (sharp_series_text p d s) (c.a_run_is_lawful.ensures.text p d s sane drift script proper) (c.each_kind_is_found.ensures p d s sane)
+    sharp_report_of c.files_decide_one_run.ensures.only p d s (sharp_series_text p d s) (c.a_run_is_lawful.ensures.text p d s sane drift script proper) (λ from. c.each_kind_is_found.ensures p d s from sane)
     (c.a_sharp_series_is_lawful.ensures p d s sane (λ joins. (drift, script)) proper)

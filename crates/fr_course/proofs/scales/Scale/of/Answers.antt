@@ -27,8 +27,8 @@ fits64 near = omega (arith, ints, near.low, near.high)
 
 -- ---- of the call
 
-pub returns-clause-value : goal.returns-clause-value
-returns-clause-value c =
+pub returns : goal.returns
+returns c =
     let is = c.grid_of-grid.ensures.placeable.is_grid in
     let macros_near : IsWithin (pos 16_000) c.grid_of-grid.result.macros = between_near {least = pos 1} (record { le = tt }) (record { le = tt }) (grid_macros c.grid_of-grid.result is) in
     let correction_near : IsWithin (pos 16_000) c.grid_of-grid.result.correction = between_near {least = pos 0} (record { le = tt }) (record { le = tt }) (grid_correction c.grid_of-grid.result is) in
@@ -58,10 +58,10 @@ returns-clause-value c =
     let micro_to_fits : FitsSigned w128 c.longest_micro.result = fits (record { le = tt }) (between_near {least = pos 998_500} (record { le = tt }) (record { le = tt }) c.longest_micro.ensures.within) in
     let micro_to_at : c.most_reading-3.result ≡ most_reading c.args.drift c.longest_micro.result = simp to_z-of_z at c.most_reading-3.ensures.value in
     let micro_to_is : c.most_reading-3.result ≡ most_reading c.args.drift (pos (longest_micro c.args.params.now)) = micro_to_at ∙ ap (most_reading c.args.drift) c.longest_micro.ensures.value in
-    simp to_z-of_z (rw (length_from_is, length_to_is, change_is, micro_from_is, micro_to_is, macros, correction) refl)
+    record { value = simp to_z-of_z (rw (length_from_is, length_to_is, change_is, micro_from_is, micro_to_is, macros, correction) refl) }
 
-pub returns-clause-sane : goal.returns-clause-sane
-returns-clause-sane c =
+pub invariant_of-result : goal.invariant_of-result
+invariant_of-result c =
     let is = c.grid_of-grid.ensures.placeable.is_grid in
     let short = c.least_reading-2.ensures.some (omega (arith, ints, c.shortest_micro.ensures.within)) in
     let long = c.most_reading-3.ensures.some (omega (arith, ints, c.longest_micro.ensures.within)) in

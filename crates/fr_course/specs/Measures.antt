@@ -1,0 +1,20 @@
+-- How the nodes of a cluster measure.
+use Rattle.std.specs.Prelude.{ℤ, pos}
+use Rattle.fr_base.specs.Within.{IsBetween}
+
+-- the error of an arrival, and how far a rate value may place a sender's action points from their true distance; the shortest and
+-- the longest microtick, all in ticks; the damping of rate terms, in microticks
+pub record Measuring : Type 0 where
+  pub arrival_error : ℤ
+  pub rate_error : ℤ
+  pub shortest : ℤ
+  pub longest : ℤ
+  pub damping : ℤ
+
+-- they lie in the ranges of clusters
+pub record IsMeasuring (m : Measuring) : Type 0 where
+  pub arrival_error : IsBetween (pos 0) (pos 10_000_000_000_000_000_000) m.arrival_error
+  pub rate_error : IsBetween (pos 0) (pos 10_000_000_000_000_000_000) m.rate_error
+  pub shortest : IsBetween (pos 998_500) (pos 1_001_500) m.shortest
+  pub longest : IsBetween (pos 998_500) (pos 1_001_500) m.longest
+  pub damping : IsBetween (pos 0) (pos 1_000_000) m.damping

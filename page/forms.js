@@ -1,0 +1,106 @@
+"use strict";
+// Written by tools/forms from python/flexlab/program/forms.py: which kinds of fields are numbers; and of each file how many
+// fields a record has, and by its first field those behind it, each with its name, its kind and its range. A limit is
+// a parameter, and of which multiple and which number each end is the sum. At last by which fields a second record is
+// of the same. What the first field of a record says is of a stranger, so these are Maps: it may be constructor.
+const LAST_CYCLE = 199999, NUMERIC = ["number", "node", "key", "value", "rate", "offset", "bit"];
+const FORMS = {
+  params: [5, new Map([
+    ["version", [
+      { name: "VERSION", kind: "number", least: 2, most: 2 },
+      { kind: "empty" },
+      { kind: "empty" },
+      { kind: "empty" },
+    ]],
+    ["param", [
+      { name: "NAME", kind: "name" },
+      { name: "VALUE", kind: "value" },
+      { kind: "empty" },
+      { kind: "empty" },
+    ]],
+    ["node", [
+      { name: "ID", kind: "number", least: 1, most: 64 },
+      { name: "KEY", kind: "key", least: 1, most: 1023 },
+      { name: "CHANNELS", kind: "channels", words: ["A", "B", "AB"] },
+      { name: "COLD", kind: "number", least: 0, most: 1 },
+    ]],
+    ["slot", [
+      { name: "SLOT", kind: "number", least: 1, most: 1023 },
+      { name: "NODE", kind: "node", least: 1, most: 64 },
+      { name: "BASE", kind: "number", least: 0, most: 63 },
+      { name: "REPETITION", kind: "number", least: 1, most: 64 },
+    ]],
+  ]), new Map([["param", ["NAME"]], ["node", ["ID"]], ["slot", ["SLOT"]]])],
+  drift: [6, new Map([
+    ["doubles", [
+      { name: "COUNT", kind: "number", least: 1, most: 100000, unit: "double cycles" },
+      { kind: "empty" },
+      { kind: "empty" },
+      { kind: "empty" },
+      { kind: "empty" },
+    ]],
+    ["start", [
+      { name: "NODE", kind: "node", least: 1, most: 64 },
+      { name: "TICKS", kind: "number", least: 0, most: 1000000000000, unit: "ticks" },
+      { name: "RATE", kind: "rate", unit: "microticks", limit: ["pRateCorrectionOut", -1, 0, 1, 0] },
+      { kind: "empty" },
+      { kind: "empty" },
+    ]],
+    ["length", [
+      { name: "NODE", kind: "node", least: 1, most: 64 },
+      { name: "FROM", kind: "number", least: 0, most: 199999, unit: "cycles" },
+      { name: "TICKS", kind: "number", least: 500000, most: 1500000, unit: "ticks" },
+      { kind: "empty" },
+      { kind: "empty" },
+    ]],
+    ["delay", [
+      { name: "SENDER", kind: "node", least: 1, most: 64 },
+      { name: "RECEIVER", kind: "node", least: 1, most: 64 },
+      { name: "CHANNEL", kind: "channel", words: ["A", "B"] },
+      { name: "FROM", kind: "number", least: 0, most: 199999, unit: "cycles" },
+      { name: "TICKS", kind: "number", least: 0, most: 1000000000, unit: "ticks" },
+    ]],
+  ]), new Map([["doubles", []], ["start", ["NODE"]], ["length", ["NODE", "FROM"]], ["delay", ["SENDER", "RECEIVER", "CHANNEL", "FROM"]]])],
+  script: [7, new Map([
+    ["arbitrary", [
+      { name: "NODE", kind: "node", least: 1, most: 64 },
+      { kind: "empty" },
+      { kind: "empty" },
+      { kind: "empty" },
+      { kind: "empty" },
+      { kind: "empty" },
+    ]],
+    ["join", [
+      { name: "DOUBLE", kind: "number", least: 0, most: 99999, unit: "double cycles" },
+      { name: "NODE", kind: "node", least: 1, most: 64 },
+      { name: "REFERENCE", kind: "node", least: 1, most: 64 },
+      { kind: "empty" },
+      { kind: "empty" },
+      { kind: "empty" },
+    ]],
+    ["say", [
+      { name: "CYCLE", kind: "number", least: 0, most: 199999 },
+      { name: "SENDER", kind: "node", least: 1, most: 64 },
+      { name: "RECEIVER", kind: "node", least: 1, most: 64 },
+      { name: "CHANNEL", kind: "channel", words: ["A", "B"] },
+      { name: "SHIFT", kind: "number", least: -1000000000000, most: 1000000000000, unit: "ticks" },
+      { name: "BYTES", kind: "hex" },
+    ]],
+    ["lose", [
+      { name: "CYCLE", kind: "number", least: 0, most: 199999 },
+      { name: "SENDER", kind: "node", least: 1, most: 64 },
+      { name: "RECEIVER", kind: "node", least: 1, most: 64 },
+      { name: "CHANNEL", kind: "channel", words: ["A", "B"] },
+      { kind: "empty" },
+      { kind: "empty" },
+    ]],
+    ["flip", [
+      { name: "CYCLE", kind: "number", least: 0, most: 199999 },
+      { name: "SENDER", kind: "node", least: 1, most: 64 },
+      { name: "RECEIVER", kind: "node", least: 1, most: 64 },
+      { name: "CHANNEL", kind: "channel", words: ["A", "B"] },
+      { name: "BIT", kind: "bit", unit: "bits", limit: ["gPayloadLengthStatic", 0, 0, 16, 63] },
+      { kind: "empty" },
+    ]],
+  ]), new Map([["arbitrary", ["NODE"]], ["join", ["NODE"]], ["say", ["CYCLE", "SENDER", "RECEIVER", "CHANNEL"]], ["lose", ["CYCLE", "SENDER", "RECEIVER", "CHANNEL"]], ["flip", ["CYCLE", "SENDER", "RECEIVER", "CHANNEL"]]])],
+};
