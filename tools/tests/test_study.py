@@ -385,8 +385,9 @@ STUDIES = os.path.join(os.path.dirname(os.path.realpath(__file__)), "studies")
 
 
 class AsBefore(Bench):
-    """Studies of which studies/ has the results as they were when each run was made with its trace: by the programs with and without
-    flexray-series, byte for byte. The column of seconds is empty there."""
+    """Studies of which studies/ has the results: by the programs with flexray-series and without it, byte for byte. They are as they were
+    when each run was made with its trace, but for the gaps of the sharper bounds, which are asked from the first double cycle in sync
+    on, and for what the report alone tells of these bounds. The column of seconds is empty there."""
 
     def results(self, name, env, *more):
         folder = name + ".study"
