@@ -24,7 +24,7 @@ use Rattle.fr_runs.proofs.Standing.{how_follows, is_follower}
 use Rattle.fr_runs.proofs.Lawful.{lawful_cycles_run}
 use Rattle.fr_runs.proofs.Whole.{double_runs, fresh_at, none_follows}
 use Rattle.fr_precision.specs.Lengths.{CanWalk}
-use Rattle.fr_bound.specs.SharpBounds.{last_action, sharp_lambda, sharp_near, sharp_pi}
+use Rattle.fr_bound.specs.SharpBounds.{last_action, near_by, sharp_lambda, sharp_near, sharp_pi}
 use Rattle.fr_promise.specs.SharpFollowing.{AreFollowersInReach}
 use Rattle.fr_promise.specs.SharpGroup.{IsSharpRoundFollowed}
 use Rattle.fr_promise.specs.SharpJoining.{sharp_first_apart, sharp_first_lengths, sharp_reach, sharp_second_apart}
@@ -89,6 +89,11 @@ module _
     near_takes : pos (sharp_near beside x.params flutter) ≤ℤ reach
     near_takes = in_natural (sharp_near beside x.params flutter) (sharp_reach beside x.params flutter) reach (followers_come_nearer_lem beside x.params flutter s.covered.sane).3 takes
 
+    seconds_take : pos (near_by x.params (sharp_second_apart beside x.params flutter) (sharp_lambda beside x.params flutter)) ≤ℤ reach
+    seconds_take =
+        in_natural (near_by x.params (sharp_second_apart beside x.params flutter) (sharp_lambda beside x.params flutter)) (sharp_reach beside x.params flutter) reach
+        (followers_come_nearer_lem beside x.params flutter s.covered.sane).2 takes
+
     rows_in : AreRowsInReach x h even odd reach
     rows_in = record {
       active_even = g.active_even;
@@ -118,8 +123,7 @@ module _
         elim (since_when x h double follower s.counted there) [
           | inl second ↦
               let member = follower_member 2 follower second in
-              apart_reached p (sharp_second_apart beside p flutter) (sharp_lambda beside p flutter) reach is_odd row node action s.covered.sane
-              (in_natural _ (sharp_reach beside p flutter) reach (followers_come_nearer_lem beside p flutter s.covered.sane).2 takes) one other
+              apart_reached p (sharp_second_apart beside p flutter) (sharp_lambda beside p flutter) reach is_odd row node action s.covered.sane seconds_take one other
               (g.placed.seconds_start row node (row_member sender here) member) (g.placed.seconds_last row node (inl (row_member sender here)) member) from to
           | inr first ↦
               let member = follower_member 1 follower first in
@@ -158,7 +162,7 @@ module _
             round = r.round;
             arbitrary = r.arbitrary;
             walks = walks;
-            takes = record { limit = limit; fits = near_takes; fits_followers = λ node follows. takes };
+            takes = record { limit = limit; fits = near_takes; fits_seconds = λ node here. seconds_take; fits_firsts = λ node here. takes };
             placed = g.placed;
             supplied = supplied;
             among = r.among;

@@ -127,7 +127,8 @@ module _
       let odds : map (next_row odd2) members ≡ odd2.told.rows = rows odd2 ∙ rows_are nodes odd2.told.rows ascend s.later.two.odd_rows.nodes in
       let Even : List NodeRow → Type 0 = λ rows. IsInSharpSync beside p flutter next rows (map (next_row odd2) members) in
       let Odd : List NodeRow → Type 0 = λ rows. IsInSharpSync beside p flutter next even2.told.rows rows in
-      subst Odd odds (subst Even evens (s.kept.next_rows members (next_row even2) (next_row odd2) each))
+      let kept = s.kept.next_rows members (next_row even2) (next_row odd2) each in
+      subst Odd odds (subst Even evens (record { active_even = kept.0; active_odd = kept.1; rows = kept.2 }))
 
   -- ---- those that follow
 

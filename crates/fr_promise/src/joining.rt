@@ -1,4 +1,4 @@
-ghost use Rattle.fr_promise.specs.SharpJoining.{FollowersComeNearer, OlderJoinChecksSuffice, SharpJoinChecksSuffice};
+ghost use Rattle.fr_promise.specs.SharpJoining.{FollowersComeNearer, NextGroupSpreadDraws, OlderJoinChecksSuffice, SharpGroupSpreadDraws, SharpJoinChecksSuffice};
 
 /// A law: the bounds of a node that follows come nearer, in ticks. Its second lengths may lie no further from the others'
 /// than its first ones, and its second start no further than its first one; and the sharper reach takes in how far action
@@ -6,6 +6,13 @@ ghost use Rattle.fr_promise.specs.SharpJoining.{FollowersComeNearer, OlderJoinCh
 /// lie, and not of where it lies.
 pub fn followers_come_nearer()
     ensures { FollowersComeNearer }
+{}
+
+/// A law: the bounds of the next double cycle of a cluster that nodes join are such as the step draws to, in ticks, for as
+/// many double cycles as one likes; and those of sharp sync stay.
+pub fn group_spreads_draw()
+    ensures next { NextGroupSpreadDraws }
+    ensures sharp { SharpGroupSpreadDraws }
 {}
 
 /// A law: under the sharper checks of nodes that join the offset limit suffices for the sharper reach, slots leave room
