@@ -12,10 +12,11 @@ use Rattle.fr_bound.specs.Checks.{back_need_of, front_need_of, left_of, right_of
 use Rattle.fr_precision.proofs.Figures.{nat_le-true}
 use Rattle.fr_bound.specs.SharpBounds.{last_action, near_by, odd_spread, precision_by, sharp_lambda, sharp_near, sharp_pi, steady_error, wide_change}
 use Rattle.fr_bound.specs.SharpChecks.{SharpChecksHold}
-use Rattle.fr_bound.specs.SharpSpreads.{next_sharp_spread}
-use Rattle.fr_promise.specs.SharpJoining.{counted_error, first_apart_by, first_lengths_by, second_apart_by, sharp_first_apart, sharp_first_lengths, sharp_join_right_of, sharp_reach, sharp_second_apart, FollowersComeNearer, NextGroupSpreadDraws, OlderJoinChecksSuffice, SharpGroupSpreadDraws, SharpJoinChecksHold, SharpJoinChecksSuffice}
+use Rattle.fr_bound.specs.Judged.{heard_spread}
+use Rattle.fr_precision.specs.Among.{GoesTo}
+use Rattle.fr_promise.specs.SharpJoining.{all_heard, counted_error, first_apart_by, first_lengths_by, second_apart_by, sharp_first_apart, sharp_first_lengths, sharp_join_right_of, sharp_reach, sharp_second_apart, FollowersComeNearer, NextGroupSpreadGoes, OlderJoinChecksSuffice, SharpGroupSpreadGoes, SharpJoinChecksHold, SharpJoinChecksSuffice}
 use Rattle.fr_precision.proofs.BoundLemmas.{near_is_below, sharp_checks_suffice_lem, sharp_is_below, wide_le}
-use Rattle.fr_precision.proofs.SettlingLemmas.{next_spread_draws}
+use Rattle.fr_promise.proofs.HeardNumbers.{goes_by}
 use Rattle.fr_precision.proofs.StepLemmas.{sharp_sync_draws}
 
 at_most : (a b c : ℕ) → a ≤ b → b ≤ c → a ≤ c
@@ -83,21 +84,26 @@ followers_come_nearer_lem beside p flutter sane = (
 itself : (n : ℕ) → n ≤ n
 itself n = omega arith
 
-pub next_group_spread_draws : NextGroupSpreadDraws
-next_group_spread_draws beside p flutter s wide = (
+pub next_group_spread_goes : NextGroupSpreadGoes
+next_group_spread_goes what p flutter s wide = (
   record {
-    rows = next_spread_draws beside p flutter s.rows;
+    rows = goes_by what p flutter s.rows;
     wide = wide;
-    seconds = itself (second_apart_by beside p s.rows.starts s.rows.lengths s.firsts.lengths);
+    seconds = itself (second_apart_by what p s.rows.starts s.rows.lengths s.firsts.lengths);
     first_starts = itself (first_apart_by p flutter s.rows.starts s.rows.lengths);
-    first_lengths = le-max_left (first_lengths_by p flutter s.rows.lengths) (next_sharp_spread beside p flutter s.rows).lengths;
+    first_lengths = le-max_left (first_lengths_by p flutter s.rows.lengths) (heard_spread what p flutter s.rows).lengths;
   },
-  le-max_right (first_lengths_by p flutter s.rows.lengths) (next_sharp_spread beside p flutter s.rows).lengths,
+  le-max_right (first_lengths_by p flutter s.rows.lengths) (heard_spread what p flutter s.rows).lengths,
 )
 
-pub sharp_group_spread_draws : SharpGroupSpreadDraws
-sharp_group_spread_draws beside p flutter = record {
-  rows = sharp_sync_draws beside p flutter;
+stays : (beside : Bool) (p : Values) (flutter : ℕ)
+    → GoesTo (all_heard beside) p flutter (sharp_pi beside p flutter) (sharp_lambda beside p flutter) (sharp_pi beside p flutter) (sharp_lambda beside p flutter)
+stays false p flutter = sharp_sync_draws false p flutter
+stays true p flutter = sharp_sync_draws true p flutter
+
+pub sharp_group_spread_goes : SharpGroupSpreadGoes
+sharp_group_spread_goes beside p flutter = record {
+  rows = stays beside p flutter;
   wide = lengths_nearer beside p flutter;
   seconds = itself (sharp_second_apart beside p flutter);
   first_starts = itself (sharp_first_apart beside p flutter);

@@ -136,20 +136,23 @@ module _
 
 pub steady_rounds_are_followed : SteadyRoundsAreFollowed
 steady_rounds_are_followed beside r flutter now beyond walk g reach s =
-    let rows = rows_sharp beside r flutter now beyond walk g reach s in
-    record {
-      sane = s.round.sane;
-      walks = s.walks;
-      takes = s.takes;
-      among = rows.among;
-      acts = rows.acts;
-      placed = s.placed;
-      computes =
-          λ node here.
-          let n = hearer_of beside r flutter now beyond walk g reach s node here in
-          subst (ComputesSharply r.params flutter (senders_of r)) n.2 (computes_at beside r flutter now beyond walk g reach s n.0 n.1);
-      keep = keep beside r flutter now beyond walk g reach s;
-    }
+    let rows = rows_sharp beside r flutter now beyond walk g reach s in (
+      record {
+        sane = s.round.sane;
+        walks = s.walks;
+        takes = s.takes;
+        among = rows.among;
+        acts = rows.acts;
+        placed = s.placed;
+      },
+      record {
+        computes =
+            λ node here.
+            let n = hearer_of beside r flutter now beyond walk g reach s node here in
+            subst (ComputesSharply r.params flutter (senders_of r)) n.2 (computes_at beside r flutter now beyond walk g reach s n.0 n.1);
+        keep = keep beside r flutter now beyond walk g reach s;
+      },
+    )
 
 pub sharp_rounds_are_followed : SharpRoundsAreFollowed
 sharp_rounds_are_followed beside r flutter = steady_rounds_are_followed beside r flutter (sharp_group_spread beside r.params flutter)

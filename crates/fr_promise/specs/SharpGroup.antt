@@ -1,6 +1,6 @@
 -- The sharper step of a cluster that nodes join: the nodes with rows, and those that follow for the first and for the second
 -- double cycle, from one double cycle to the next.
-use Rattle.std.specs.Prelude.{◌≡◌, ◌+◌, ◌≤◌, ℕ, Bool, ℤ, pos, ◌+ℤ◌, ◌-ℤ◌, ◌≤ℤ◌, List, All, map, Contains}
+use Rattle.std.specs.Prelude.{◌≡◌, ◌+◌, ◌≤◌, ℕ, Bool, true, false, ℤ, pos, ◌+ℤ◌, ◌-ℤ◌, ◌≤ℤ◌, List, All, map, Contains}
 use Rattle.fr_base.specs.declared.node_row.NodeRow.{NodeRow}
 use Rattle.fr_base.specs.declared.state.Outcome.TheVariants.{Within}
 use Rattle.fr_base.specs.declared.state.State.TheVariants.{Active}
@@ -9,6 +9,8 @@ use Rattle.fr_cluster.specs.Values.{Values}
 use Rattle.fr_cluster.specs.Sane.{IsSane}
 use Rattle.fr_cluster.specs.declared.nodes.NodeSpec.{NodeSpec}
 use Rattle.fr_reception.specs.Listening.{Caught, first_start_of}
+use Rattle.fr_bound.specs.declared.judging.Heard.{Heard}
+use Rattle.fr_bound.specs.declared.judging.Heard.TheVariants as heard
 use Rattle.fr_bound.specs.Bounds.{longest_micro}
 use Rattle.fr_bound.specs.Sync.{cycle_length_of}
 use Rattle.fr_precision.specs.Rows.{corrected_end_of, Sender}
@@ -21,10 +23,11 @@ use Rattle.fr_runs.specs.Hearers.{group_of, Hearers, IsOneOf}
 use Rattle.fr_runs.specs.Listening.{BeginsAt}
 use Rattle.fr_bound.specs.SharpBounds.{last_action, near_by, precision_by, sharp_precision}
 use Rattle.fr_precision.specs.Lengths.{CanWalk, IsNextEven, KeepSenders, WalksOn}
+use Rattle.fr_precision.specs.Among.{ComputesOwn}
 use Rattle.fr_precision.specs.SharpStep.{AreSharp, ComputesSharply}
 use Rattle.fr_precision.specs.Hearing.{AllowsArbitrary}
 use Rattle.fr_precision.specs.SharpRound.{IsSteadilySupplied}
-use Rattle.fr_promise.specs.SharpJoining.{sharp_group_spread, GroupDrawsTo, GroupSpread}
+use Rattle.fr_promise.specs.SharpJoining.{sharp_group_spread, GroupGoesTo, GroupSpread}
 use Rattle.fr_promise.specs.SharpListening.{IsCaughtSharply, RateTakesIn}
 
 -- the starts of two nodes' double cycles lie at most so far apart, and the lengths of their even cycles
@@ -51,19 +54,29 @@ pub record TakesInGroup (p : Values) (s : GroupSpread) (g : Group) (reach : ℤ)
   pub fits_seconds : (node : Member) → Contains g.seconds node → pos (near_by p s.seconds s.rows.lengths) ≤ℤ reach
   pub fits_firsts : (node : Member) → Contains g.firsts node → pos (near_by p s.firsts.starts s.firsts.lengths) ≤ℤ reach
 
--- so placed, with such a reach, each computes its terms from its values of every sender, and the senders are among the nodes with
--- rows
-pub record IsSteadyGroup (beside : Bool) (p : Values) (flutter : ℕ) (s : GroupSpread) (beyond walk : ℤ) (senders : List Sender) (g : Group) (reach : ℤ) : Type 0 where
+-- so placed, with such a reach; the senders are among the nodes with rows
+pub record IsSteadyGroup (p : Values) (flutter : ℕ) (s : GroupSpread) (beyond walk : ℤ) (senders : List Sender) (g : Group) (reach : ℤ) : Type 0 where
   pub sane : IsSane p
   pub walks : CanWalk p flutter beyond walk
   pub takes : TakesInGroup p s g reach
   pub among : All (IsAmong g.rows) senders
   pub acts : All (λ sender. IsBetween (pos 0) (pos (last_action p)) sender.action) senders
   pub placed : IsSteadyPlacing p s beyond g
+
+-- each computes its terms from its values of every sender
+pub record AllIsHeard (beside : Bool) (p : Values) (flutter : ℕ) (senders : List Sender) (g : Group) : Type 0 where
   pub computes : (node : Member) → IsOf g node → ComputesSharply p flutter senders node
   pub keep :
       (one other : Member) → IsOf g one → IsOf g other
       → KeepSenders beside senders one.offsets other.offsets × KeepSenders beside senders one.rates other.rates
+
+-- what is heard: all of all, without arbitrary nodes or beside them; or each computes its terms from values of senders of its own,
+-- some of the nodes with rows
+abbrev pub GroupHears : Heard → Values → ℕ → List Sender → Group → Type 0
+GroupHears heard.Clean p flutter senders g = AllIsHeard false p flutter senders g
+GroupHears heard.Meeting p flutter senders g = AllIsHeard true p flutter senders g
+GroupHears heard.Poor p flutter senders g =
+    (node : Member) → IsOf g node → ComputesOwn p flutter g.rows (pos (last_action p)) node
 
 -- what the group comes to, with the bounds of the next double cycle; next is how far beyond their range lengths may lie in it
 pub record IsSteadyGroupKept (p : Values) (flutter : ℕ) (to : GroupSpread) (apart : ℕ) (beyond next : ℤ) (senders : List Sender) (g : Group) (reach : ℤ) : Type 0 where
@@ -109,8 +122,8 @@ pub record IsSteadyGroupKept (p : Values) (flutter : ℕ) (to : GroupSpread) (ap
 
 abbrev pub SteadyGroupsAreKept : Type 0
 SteadyGroupsAreKept =
-    (beside : Bool) (p : Values) (flutter : ℕ) (s to : GroupSpread) (apart : ℕ) (beyond walk next : ℤ) (senders : List Sender) (g : Group) (reach : ℤ)
-    → IsSteadyGroup beside p flutter s beyond walk senders g reach → GroupDrawsTo beside p flutter s to
+    (what : Heard) (p : Values) (flutter : ℕ) (s to : GroupSpread) (apart : ℕ) (beyond walk next : ℤ) (senders : List Sender) (g : Group) (reach : ℤ)
+    → IsSteadyGroup p flutter s beyond walk senders g reach → GroupHears what p flutter senders g → GroupGoesTo what p flutter s to
     → precision_by p s.rows.starts s.rows.lengths ≤ apart → to.rows.starts + longest_micro p ≤ apart
     → pos 0 ≤ℤ next → (beyond +ℤ walk) ≤ℤ next → IsSteadyGroupKept p flutter to apart beyond next senders g reach
 
@@ -121,7 +134,7 @@ IsSharpPlacing beside p flutter beyond g = IsSteadyPlacing p (sharp_group_spread
 
 abbrev pub IsSharpGroup : Bool → Values → ℕ → ℤ → ℤ → List Sender → Group → ℤ → Type 0
 IsSharpGroup beside p flutter beyond walk senders g reach =
-    IsSteadyGroup beside p flutter (sharp_group_spread beside p flutter) beyond walk senders g reach
+    IsSteadyGroup p flutter (sharp_group_spread beside p flutter) beyond walk senders g reach × AllIsHeard beside p flutter senders g
 
 abbrev pub IsSharpGroupKept : Bool → Values → ℕ → ℤ → ℤ → List Sender → Group → ℤ → Type 0
 IsSharpGroupKept beside p flutter beyond next senders g reach =
@@ -147,12 +160,13 @@ pub record IsSteadyRoundFollowed (beside : Bool) (r : Round) (flutter : ℕ) (s 
       (node : NodeSpec) (slot : ℕ) → IsSender r node slot
       → (n : Hearer) × Contains g.rows n × (n.even ≡ r.even node.id) × (n.odd ≡ r.odd node.id)
 
--- then it is such a group
+-- then it is such a group, in which all is heard
 abbrev pub SteadyRoundsAreFollowed : Type 0
 SteadyRoundsAreFollowed =
     (beside : Bool) (r : Round) (flutter : ℕ) (s : GroupSpread) (beyond walk : ℤ) (g : Hearers) (reach : ℤ)
     → IsSteadyRoundFollowed beside r flutter s beyond walk g reach
-    → IsSteadyGroup beside r.params flutter s beyond walk (senders_of r) (group_of r.params g) reach
+    → IsSteadyGroup r.params flutter s beyond walk (senders_of r) (group_of r.params g) reach
+    × AllIsHeard beside r.params flutter (senders_of r) (group_of r.params g)
 
 abbrev pub IsSharpRoundFollowed : Bool → Round → ℕ → ℤ → ℤ → Hearers → ℤ → Type 0
 IsSharpRoundFollowed beside r flutter beyond walk g reach =

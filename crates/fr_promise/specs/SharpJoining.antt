@@ -8,13 +8,16 @@ use Rattle.fr_bound.specs.Bounds.{arrival_error, cycle_change, longest_micro}
 use Rattle.fr_bound.specs.Checks.{holds_of, left_of, right_of}
 use Rattle.fr_bound.specs.Settling.{settle_holds_of, settle_right_of}
 use Rattle.fr_bound.specs.declared.checking.CheckSides.{CheckSides}
+use Rattle.fr_bound.specs.declared.judging.Heard.{Heard}
+use Rattle.fr_bound.specs.declared.judging.Heard.TheVariants as heard
 use Rattle.fr_bound.specs.declared.settling.Spread.{Spread}
 use Rattle.fr_precision.specs.Offsets.{LimitSuffices}
 use Rattle.fr_precision.specs.Reception.{LeavesRoom}
 use Rattle.fr_bound.specs.SharpBounds.{near_by, odd_spread, sharp_lambda, sharp_near, sharp_pi, steady_error}
 use Rattle.fr_bound.specs.SharpChecks.{RateSuffices, SharpChecksHold}
-use Rattle.fr_bound.specs.SharpSpreads.{next_sharp_spread, sharp_spread}
-use Rattle.fr_precision.specs.SharpStep.{DrawsTo}
+use Rattle.fr_bound.specs.Judged.{heard_spread}
+use Rattle.fr_bound.specs.SharpSpreads.{sharp_spread}
+use Rattle.fr_precision.specs.Among.{GoesTo}
 
 -- how far the length that a listener counts between two frames of its reference, in its own even microticks, may lie from
 -- that of the reference's even cycle: flutter, a change, and a microtick that it rounds by
@@ -35,12 +38,20 @@ abbrev pub first_apart_by : Values → ℕ → ℕ → ℕ → ℕ
 first_apart_by p flutter starts lengths =
     starts + 2 * lengths + 4 * cycle_change p + 2 * arrival_error p + flutter + 4 * longest_micro p
 
--- how far its second start may, where its first lengths may lie so far from those of the others: beside arbitrary nodes half as
--- far as the others' starts and its first lengths, without them by its first lengths alone; its second lengths lie as near as all
-abbrev pub second_apart_by : Bool → Values → ℕ → ℕ → ℕ → ℕ
-second_apart_by false p starts lengths first = odd_spread p first + 2 * arrival_error p + 3 * longest_micro p
-second_apart_by true p starts lengths first =
+-- how far its second start may, by what was heard in its first double cycle, where its first lengths may lie so far from those of
+-- the others: where all is heard by these alone; where lists meet half as far as the others' starts and these; and else as far as
+-- both. Its second lengths lie as near as all
+abbrev pub second_apart_by : Heard → Values → ℕ → ℕ → ℕ → ℕ
+second_apart_by heard.Clean p starts lengths first = odd_spread p first + 2 * arrival_error p + 3 * longest_micro p
+second_apart_by heard.Meeting p starts lengths first =
     (starts + lengths + 2 * odd_spread p first + 4 * arrival_error p + 7 * longest_micro p) / 2
+second_apart_by heard.Poor p starts lengths first =
+    starts + lengths + odd_spread p first + 2 * arrival_error p + 3 * longest_micro p
+
+-- where all is heard of all: beside arbitrary nodes that counts as lists that meet
+abbrev pub all_heard : Bool → Heard
+all_heard false = heard.Clean
+all_heard true = heard.Meeting
 
 -- the same from nodes in sharp sync
 abbrev pub sharp_first_lengths : Bool → Values → ℕ → ℕ
@@ -51,7 +62,7 @@ sharp_first_apart beside p flutter = first_apart_by p flutter (sharp_pi beside p
 
 abbrev pub sharp_second_apart : Bool → Values → ℕ → ℕ
 sharp_second_apart beside p flutter =
-    second_apart_by beside p (sharp_pi beside p flutter) (sharp_lambda beside p flutter) (sharp_first_lengths beside p flutter)
+    second_apart_by (all_heard beside) p (sharp_pi beside p flutter) (sharp_lambda beside p flutter) (sharp_first_lengths beside p flutter)
 
 -- the sharper reach: how far action points of a node that follows may lie from those of the others
 abbrev pub sharp_reach : Bool → Values → ℕ → ℕ
@@ -73,37 +84,38 @@ sharp_group_spread beside p flutter = record {
   firsts = record { starts = sharp_first_apart beside p flutter; lengths = sharp_first_lengths beside p flutter };
 }
 
--- in the double cycle after one; first lengths are taken no nearer than those of the nodes with rows, which may have lain nearer
--- when the node listened
-abbrev pub next_group_spread : Bool → Values → ℕ → GroupSpread → GroupSpread
-next_group_spread beside p flutter s = record {
-  rows = next_sharp_spread beside p flutter s.rows;
-  seconds = second_apart_by beside p s.rows.starts s.rows.lengths s.firsts.lengths;
+-- in the double cycle after one, by what is heard in this one; first lengths are taken no nearer than those of the nodes with rows,
+-- which may have lain nearer when the node listened
+abbrev pub next_group_spread : Heard → Values → ℕ → GroupSpread → GroupSpread
+next_group_spread what p flutter s = record {
+  rows = heard_spread what p flutter s.rows;
+  seconds = second_apart_by what p s.rows.starts s.rows.lengths s.firsts.lengths;
   firsts = record {
     starts = first_apart_by p flutter s.rows.starts s.rows.lengths;
-    lengths = max (first_lengths_by p flutter s.rows.lengths) (next_sharp_spread beside p flutter s.rows).lengths;
+    lengths = max (first_lengths_by p flutter s.rows.lengths) (heard_spread what p flutter s.rows).lengths;
   };
 }
 
--- bounds of a double cycle and of the next one that the step draws to; first lengths lie no nearer than those of the nodes with rows
-pub record GroupDrawsTo (beside : Bool) (p : Values) (flutter : ℕ) (s to : GroupSpread) : Type 0 where
-  pub rows : DrawsTo beside p flutter s.rows.starts s.rows.lengths to.rows.starts to.rows.lengths
+-- bounds of a double cycle and of the next one to which they go, by what is heard; first lengths lie no nearer than those of the
+-- nodes with rows
+pub record GroupGoesTo (what : Heard) (p : Values) (flutter : ℕ) (s to : GroupSpread) : Type 0 where
+  pub rows : GoesTo what p flutter s.rows.starts s.rows.lengths to.rows.starts to.rows.lengths
   pub wide : s.rows.lengths ≤ s.firsts.lengths
-  pub seconds : second_apart_by beside p s.rows.starts s.rows.lengths s.firsts.lengths ≤ to.seconds
+  pub seconds : second_apart_by what p s.rows.starts s.rows.lengths s.firsts.lengths ≤ to.seconds
   pub first_starts : first_apart_by p flutter s.rows.starts s.rows.lengths ≤ to.firsts.starts
   pub first_lengths : first_lengths_by p flutter s.rows.lengths ≤ to.firsts.lengths
 
--- those of the next double cycle are, and they are so from there on; and those of sharp sync stay
-abbrev pub NextGroupSpreadDraws : Type 0
-NextGroupSpreadDraws =
-    (beside : Bool) (p : Values) (flutter : ℕ) (s : GroupSpread) → s.rows.lengths ≤ s.firsts.lengths
-    → GroupDrawsTo beside p flutter s (next_group_spread beside p flutter s)
-    × ((next_group_spread beside p flutter s).rows.lengths ≤ (next_group_spread beside p flutter s).firsts.lengths)
+-- they go to those of the next double cycle, and so on from there; and those of sharp sync stay where all is heard
+abbrev pub NextGroupSpreadGoes : Type 0
+NextGroupSpreadGoes =
+    (what : Heard) (p : Values) (flutter : ℕ) (s : GroupSpread) → s.rows.lengths ≤ s.firsts.lengths
+    → GroupGoesTo what p flutter s (next_group_spread what p flutter s)
+    × ((next_group_spread what p flutter s).rows.lengths ≤ (next_group_spread what p flutter s).firsts.lengths)
 
-abbrev pub SharpGroupSpreadDraws : Type 0
-SharpGroupSpreadDraws =
+abbrev pub SharpGroupSpreadGoes : Type 0
+SharpGroupSpreadGoes =
     (beside : Bool) (p : Values) (flutter : ℕ)
-    → GroupDrawsTo beside p flutter (sharp_group_spread beside p flutter) (sharp_group_spread beside p flutter)
+    → GroupGoesTo (all_heard beside) p flutter (sharp_group_spread beside p flutter) (sharp_group_spread beside p flutter)
 
 -- a node that follows comes nearer: no second number is above the first, and the reach takes in its second double cycle and
 -- that of nodes in sharp sync
