@@ -1,6 +1,6 @@
 -- The sharper step of a cluster that nodes join.
-use Rattle.std.proofs.Common.{◌≡◌, ℕ, ◌+◌, ◌-◌, ◌*◌, ◌/◌, ◌≤◌, Bool, true, false, ℤ, pos, List, map, All, refl, inl, inr, arith}
-use Rattle.std.specs.Prelude.{◌+ℤ◌, ◌-ℤ◌, ◌*ℤ◌, ◌≤ℤ◌, Contains}
+use Rattle.std.proofs.Common.{◌≡◌, ℕ, ◌+◌, ◌-◌, ◌*◌, ◌/◌, ◌≤◌, Bool, true, false, ℤ, pos, List, ◌++◌, map, All, refl, sym, subst, inl, inr, arith}
+use Rattle.std.specs.Prelude.{◌⊎◌, ◌+ℤ◌, ◌-ℤ◌, ◌*ℤ◌, ◌≤ℤ◌, Contains}
 use Rattle.std.proofs.lemmas.Int.{ints}
 use Rattle.std.proofs.lemmas.List.Elements.{All-contains, All-contains_itself, All-map}
 use Rattle.fr_base.specs.declared.node_row.NodeRow.{NodeRow}
@@ -30,15 +30,16 @@ use Rattle.fr_runs.specs.Group.{Group, IsOf, WillHaveRow}
 use Rattle.fr_bound.specs.SharpBounds.{last_action, near_by, odd_spread, sharp_precision, steady_error, wide_change}
 use Rattle.fr_precision.specs.Lengths.{EvensAreAbout, IsNextEven, WalksOn, next_length_error}
 use Rattle.fr_precision.specs.Ends.{EndsCome, SendApart, TakesOffsets}
-use Rattle.fr_precision.specs.Among.{ComputesOwn, GoesTo, LieAcross}
+use Rattle.fr_precision.specs.Among.{GoesTo, HearInCommon, LieAcross}
 use Rattle.fr_precision.specs.SharpStep.{ActInReach, AreSharp, ComeSharply, DrawsTo, IsSharpLimit}
 use Rattle.fr_promise.specs.SharpJoining.{all_heard, second_apart_by, sharp_group_spread, GroupGoesTo, GroupSpread}
-use Rattle.fr_promise.specs.SharpGroup.{AllIsHeard, GroupHears, IsSteadyGroup, LastApart, SharpGroupsAreKept, StartApart, SteadyGroupsAreKept}
+use Rattle.fr_promise.specs.SharpGroup.{AllIsHeard, EachHears, GroupHears, IsSteadyGroup, LastApart, SharpGroupsAreKept, StartApart, SteadyGroupsAreKept}
 use Rattle.fr_precision.proofs.AmongSteps.{sends}
 use Rattle.fr_precision.proofs.BoundLemmas.{floor_is, key_slots_act_early}
 use Rattle.fr_precision.proofs.EndLemmas.{end_is_near, ending_of, ends_come_among_lem, ends_come_near_lem, Ending}
 use Rattle.fr_promise.proofs.JoinBounds.{sharp_group_spread_goes}
 use Rattle.fr_precision.proofs.LengthLemmas.{lengths_come_among_lem, lengths_come_near_lem, near_length, range_walks}
+use Rattle.fr_precision.proofs.MeetingSteps.{ends_come, lengths_come, lengths_itself, none_apart, of_one, of_other}
 use Rattle.fr_precision.proofs.NearLemmas.{actions_lie_near, odd_lengths_follow}
 use Rattle.fr_promise.proofs.SharpListened.{sharp_first_length_is_near, sharp_first_start_is_near}
 use Rattle.fr_precision.proofs.StepLemmas.{among_rows, ends_fit, le_itself, lengths_by, macroticks_stay_sharp, next_is_near, nodes_near, runs_of, senders_about, senders_near, some_senders, turned, Double}
@@ -59,6 +60,12 @@ second_by true p starts lengths first apart come = step starts lengths (odd_spre
   where
     step : (s l o e q half : ℕ) (x : ℤ) → half ≡ (s + l + 2 * o + 4 * e + 7 * q) / 2 → IsWithin (pos s +ℤ pos l +ℤ (pos 2 *ℤ pos o) +ℤ pos (4 * e + 7 * q)) (pos 2 *ℤ x) → IsWithin (pos half) x
     step s l o e q half x is near = let most : s + l + 2 * o + 4 * e + 7 * q ≤ 2 * half + 1 = omega (arith, is) in record { low = omega (arith, ints, most, near.low); high = omega (arith, ints, most, near.high) }
+
+odds_wider : (p : Values) (a b : ℕ) → a ≤ b → odd_spread p a ≤ odd_spread p b
+odds_wider p a b le = step a b (cycle_change p) le
+  where
+    step : (a b j : ℕ) → a ≤ b → a + 2 * j ≤ b + 2 * j
+    step a b j le = omega (arith, le)
 
 poor_sum : (s l o e q : ℕ) (x : ℤ) → IsWithin (pos s +ℤ pos l +ℤ pos o +ℤ pos (2 * e + 3 * q)) x → IsWithin (pos (s + l + o + 2 * e + 3 * q)) x
 poor_sum s l o e q x near = record { low = omega (arith, ints, near.low); high = omega (arith, ints, near.high) }
@@ -134,7 +141,7 @@ pub record IsPlaced (p : Values) (rows : List Member) (lengths : ℕ) (reach : �
 module _
     (p : Values) (flutter : ℕ) (now : GroupSpread) (beyond walk : ℤ) (senders : List Sender) (g : Group) (reach : ℤ)
     (s : IsSteadyGroup p flutter now beyond walk senders g reach) (wide : now.rows.lengths ≤ now.firsts.lengths)
-    (own : (node : Member) → IsOf g node → ComputesOwn p flutter g.rows (pos (last_action p)) node) where
+    (own : EachHears p flutter g) where
   row_of : (node : Member) → Contains g.rows node → IsOf g node
   row_of node here = inl (inl here)
 
@@ -199,11 +206,8 @@ module _
   pair_odd : (lengths : ℕ) → now.rows.lengths ≤ lengths → (one other : Sender) → IsAmong g.rows one → IsAmong g.rows other
       → IsWithin (pos (odd_spread p lengths)) (cycle_length_of p one.odd -ℤ cycle_length_of p other.odd)
   pair_odd lengths le one other among also =
-      widen (odd_spread p now.rows.lengths) (odd_spread p lengths) (cycle_length_of p one.odd -ℤ cycle_length_of p other.odd) (odds_wider now.rows.lengths lengths (cycle_change p) le)
+      widen (odd_spread p now.rows.lengths) (odd_spread p lengths) (cycle_length_of p one.odd -ℤ cycle_length_of p other.odd) (odds_wider p now.rows.lengths lengths le)
       (pair_near one other among also).by_odd
-    where
-      odds_wider : (a b j : ℕ) → a ≤ b → a + 2 * j ≤ b + 2 * j
-      odds_wider a b j le = omega (arith, le)
 
   across : (number : Sender → ℤ) (bound : ℤ) (some others : List Sender) → All (IsAmong g.rows) some → All (IsAmong g.rows) others
       → ((one other : Sender) → IsAmong g.rows one → IsAmong g.rows other → IsWithin bound (number one -ℤ number other)) → LieAcross number bound some others
@@ -321,6 +325,45 @@ module _
       is.by_rate as_well.by_rate after other_after
       )
 
+  -- ---- any two that hear enough in common
+
+  ends_common : (lengths : ℕ) (one other : Member) → now.rows.lengths ≤ lengths → IsOf g one → IsOf g other → IsPlaced p g.rows lengths reach one → IsPlaced p g.rows lengths reach other → LastApart p lengths one other
+      → (one ≡ other) ⊎ HearInCommon p flutter g.rows (pos (last_action p)) one other
+      → IsWithin (pos (second_apart_by heard.Meeting p now.rows.starts now.rows.lengths lengths)) (corrected_end_of p one.odd -ℤ corrected_end_of p other.odd)
+  ends_common lengths one other le here there placed also near (inl same) =
+      let Near : Member → Type 0 = λ node. IsWithin (pos (second_apart_by heard.Meeting p now.rows.starts now.rows.lengths lengths)) (corrected_end_of p one.odd -ℤ corrected_end_of p node.odd) in
+      subst Near same (none_apart (second_apart_by heard.Meeting p now.rows.starts now.rows.lengths lengths) (corrected_end_of p one.odd))
+  ends_common lengths one other le here there placed also near (inr common) =
+      let Early : Sender → Type 0 = λ sender. IsBetween (pos 0) (pos (last_action p)) sender.action in
+      let offsets = of_one (IsAmong g.rows) common.offset_common common.offset_own common.offset_other common.offsets_among in
+      let other_offsets = of_other (IsAmong g.rows) common.offset_common common.offset_own common.offset_other common.offsets_among in
+      let acts = of_one Early common.offset_common common.offset_own common.offset_other common.acts in
+      let other_acts = of_other Early common.offset_common common.offset_own common.offset_other common.acts in
+      second_by true p now.rows.starts now.rows.lengths lengths (corrected_end_of p one.odd -ℤ corrected_end_of p other.odd)
+      (
+      ends_come p flutter g.rows now.rows.starts now.rows.lengths beyond walk reach (pos (last_action p)) limit rows_act double one other (odd_spread p lengths) (odds_wider p now.rows.lengths lengths le)
+      (odd_near lengths one here placed) (odd_near lengths other there also) (odd_lengths_follow p lengths one.even one.odd other.even other.odd s.sane (regular one here) (regular other there) near)
+      common.offset_common common.offset_own common.offset_other offsets other_offsets acts other_acts common.enough_offsets
+      (takes lengths one here placed (common.offset_common ++ common.offset_own) offsets acts common.by_offset)
+      (takes lengths other there also (common.offset_common ++ common.offset_other) other_offsets other_acts common.other_by_offset)
+      )
+
+  lengths_common : (next_starts next_lengths : ℕ) (one other : Member) (even other_even : NodeRow) → DrawsTo true p flutter now.rows.starts now.rows.lengths next_starts next_lengths → IsOf g one → IsOf g other
+      → (one ≡ other) ⊎ HearInCommon p flutter g.rows (pos (last_action p)) one other
+      → IsNextEven p one.odd one.rate_term even → IsNextEven p other.odd other.rate_term other_even → IsWithin (pos next_lengths) (cycle_length_of p even -ℤ cycle_length_of p other_even)
+  lengths_common next_starts next_lengths one other even other_even draws here there (inl same) after other_after =
+      let is = own one here in
+      let Next : Member → Type 0 = λ node. IsNextEven p node.odd node.rate_term other_even in
+      lengths_itself p flutter is.rate_senders now.rows.lengths next_lengths beyond walk one even other_even s.sane s.walks draws.1 is.some_rates (about is.rate_senders is.rates_among) is.by_rate after
+      (subst Next (sym same) other_after)
+  lengths_common next_starts next_lengths one other even other_even draws here there (inr common) after other_after =
+      lengths_by true p flutter now.rows.starts now.rows.lengths next_starts next_lengths (cycle_length_of p even -ℤ cycle_length_of p other_even) draws
+      (
+      lengths_come p flutter g.rows now.rows.starts now.rows.lengths beyond walk reach (pos (last_action p)) limit rows_act double one other common.rate_common common.rate_own common.rate_other
+      (of_one (IsAmong g.rows) common.rate_common common.rate_own common.rate_other common.rates_among) (of_other (IsAmong g.rows) common.rate_common common.rate_own common.rate_other common.rates_among)
+      common.enough_rates common.by_rate common.other_by_rate even other_even after other_after
+      )
+
   -- ---- any two, where all is heard
 
   module _ (beside : Bool) (heard : AllIsHeard beside p flutter senders g) where
@@ -356,7 +399,7 @@ module _
 
 -- each node computes its terms from senders of its own
 own_all : (beside : Bool) (p : Values) (flutter : ℕ) (now : GroupSpread) (beyond walk : ℤ) (senders : List Sender) (g : Group) (reach : ℤ) → IsSteadyGroup p flutter now beyond walk senders g reach
-    → AllIsHeard beside p flutter senders g → (node : Member) → IsOf g node → ComputesOwn p flutter g.rows (pos (last_action p)) node
+    → AllIsHeard beside p flutter senders g → EachHears p flutter g
 own_all beside p flutter now beyond walk senders g reach s hears node here =
     let computes = hears.computes node here in
     let some = some_senders beside senders node.offsets node.offsets (hears.keep node node here here).0 in
@@ -374,9 +417,10 @@ own_all beside p flutter now beyond walk senders g reach s hears node here =
     }
 
 owns : (what : Heard) (p : Values) (flutter : ℕ) (now : GroupSpread) (beyond walk : ℤ) (senders : List Sender) (g : Group) (reach : ℤ) → IsSteadyGroup p flutter now beyond walk senders g reach
-    → GroupHears what p flutter senders g → (node : Member) → IsOf g node → ComputesOwn p flutter g.rows (pos (last_action p)) node
+    → GroupHears what p flutter senders g → EachHears p flutter g
 owns Clean p flutter now beyond walk senders g reach s hears = own_all false p flutter now beyond walk senders g reach s hears
-owns Meeting p flutter now beyond walk senders g reach s hears = own_all true p flutter now beyond walk senders g reach s hears
+owns Meeting p flutter now beyond walk senders g reach s (inl hears) = own_all true p flutter now beyond walk senders g reach s hears
+owns Meeting p flutter now beyond walk senders g reach s (inr hears) = hears.0
 owns Poor p flutter now beyond walk senders g reach s hears = hears
 
 module _
@@ -385,24 +429,31 @@ module _
   ends : (what : Heard) → (hears : GroupHears what p flutter senders g) → now.rows.lengths ≤ now.firsts.lengths → (lengths : ℕ) (one other : Member) → now.rows.lengths ≤ lengths → IsOf g one → IsOf g other
       → IsPlaced p g.rows lengths reach one → IsPlaced p g.rows lengths reach other → LastApart p lengths one other
       → IsWithin (pos (second_apart_by what p now.rows.starts now.rows.lengths lengths)) (corrected_end_of p one.odd -ℤ corrected_end_of p other.odd)
-  ends Clean hears wide = ends_all p flutter now beyond walk senders g reach s wide (owns heard.Clean p flutter now beyond walk senders g reach s hears) false hears
-  ends Meeting hears wide = ends_all p flutter now beyond walk senders g reach s wide (owns heard.Meeting p flutter now beyond walk senders g reach s hears) true hears
-  ends Poor hears wide = ends_own p flutter now beyond walk senders g reach s wide hears
+  ends Clean hears wide lengths one other le here there placed also near =
+      ends_all p flutter now beyond walk senders g reach s wide (own_all false p flutter now beyond walk senders g reach s hears) false hears lengths one other le here there placed also near
+  ends Meeting (inl hears) wide lengths one other le here there placed also near =
+      ends_all p flutter now beyond walk senders g reach s wide (own_all true p flutter now beyond walk senders g reach s hears) true hears lengths one other le here there placed also near
+  ends Meeting (inr hears) wide lengths one other le here there placed also near =
+      ends_common p flutter now beyond walk senders g reach s wide hears.0 lengths one other le here there placed also near (hears.1 one other here there)
+  ends Poor hears wide lengths one other le here there placed also near =
+      ends_own p flutter now beyond walk senders g reach s wide hears lengths one other le here there placed also near
 
   lasts : (what : Heard) → (hears : GroupHears what p flutter senders g) → GroupGoesTo what p flutter now to → (one other : Member) (even other_even : NodeRow) → IsOf g one → IsOf g other
       → IsNextEven p one.odd one.rate_term even → IsNextEven p other.odd other.rate_term other_even → IsWithin (pos to.rows.lengths) (cycle_length_of p even -ℤ cycle_length_of p other_even)
-  lasts Clean hears goes one other even other_even =
-      lengths_all p flutter now beyond walk senders g reach s goes.wide (owns heard.Clean p flutter now beyond walk senders g reach s hears) false hears to.rows.starts to.rows.lengths one other even other_even goes.rows
-  lasts Meeting hears goes one other even other_even =
-      lengths_all p flutter now beyond walk senders g reach s goes.wide (owns heard.Meeting p flutter now beyond walk senders g reach s hears) true hears to.rows.starts to.rows.lengths one other even other_even goes.rows
-  lasts Poor hears goes one other even other_even = lengths_own p flutter now beyond walk senders g reach s goes.wide hears to.rows.lengths one other even other_even goes.rows.1
+  lasts Clean hears goes one other even other_even here there =
+      lengths_all p flutter now beyond walk senders g reach s goes.wide (own_all false p flutter now beyond walk senders g reach s hears) false hears to.rows.starts to.rows.lengths one other even other_even goes.rows here there
+  lasts Meeting (inl hears) goes one other even other_even here there =
+      lengths_all p flutter now beyond walk senders g reach s goes.wide (own_all true p flutter now beyond walk senders g reach s hears) true hears to.rows.starts to.rows.lengths one other even other_even goes.rows here there
+  lasts Meeting (inr hears) goes one other even other_even here there =
+      lengths_common p flutter now beyond walk senders g reach s goes.wide hears.0 to.rows.starts to.rows.lengths one other even other_even goes.rows here there (hears.1 one other here there)
+  lasts Poor hears goes one other even other_even here there = lengths_own p flutter now beyond walk senders g reach s goes.wide hears to.rows.lengths one other even other_even goes.rows.1 here there
 
 -- ---- the step
 
 module _
     (what : Heard) (p : Values) (flutter : ℕ) (now to : GroupSpread) (beyond walk : ℤ) (senders : List Sender) (g : Group) (reach : ℤ)
     (s : IsSteadyGroup p flutter now beyond walk senders g reach) (hears : GroupHears what p flutter senders g) (goes : GroupGoesTo what p flutter now to) where
-  computes : (node : Member) → IsOf g node → ComputesOwn p flutter g.rows (pos (last_action p)) node
+  computes : EachHears p flutter g
   computes = owns what p flutter now beyond walk senders g reach s hears
 
   will_lie : (node : Member) → WillHaveRow g node → IsPlaced p g.rows now.rows.lengths reach node
@@ -477,4 +528,4 @@ sharp_groups_are_kept beside p flutter beyond walk next senders g reach s next_f
   where
     hears_all : (beside : Bool) → AllIsHeard beside p flutter senders g → GroupHears (all_heard beside) p flutter senders g
     hears_all false heard = heard
-    hears_all true heard = heard
+    hears_all true heard = inl heard

@@ -1,6 +1,6 @@
 -- The sharper step of a cluster that nodes join: the nodes with rows, and those that follow for the first and for the second
 -- double cycle, from one double cycle to the next.
-use Rattle.std.specs.Prelude.{◌≡◌, ◌+◌, ◌≤◌, ℕ, Bool, true, false, ℤ, pos, ◌+ℤ◌, ◌-ℤ◌, ◌≤ℤ◌, List, All, map, Contains}
+use Rattle.std.specs.Prelude.{◌≡◌, ◌⊎◌, ◌+◌, ◌≤◌, ℕ, Bool, true, false, ℤ, pos, ◌+ℤ◌, ◌-ℤ◌, ◌≤ℤ◌, List, All, map, Contains}
 use Rattle.fr_base.specs.declared.node_row.NodeRow.{NodeRow}
 use Rattle.fr_base.specs.declared.state.Outcome.TheVariants.{Within}
 use Rattle.fr_base.specs.declared.state.State.TheVariants.{Active}
@@ -23,7 +23,7 @@ use Rattle.fr_runs.specs.Hearers.{group_of, Hearers, IsOneOf}
 use Rattle.fr_runs.specs.Listening.{BeginsAt}
 use Rattle.fr_bound.specs.SharpBounds.{last_action, near_by, precision_by, sharp_precision}
 use Rattle.fr_precision.specs.Lengths.{CanWalk, IsNextEven, KeepSenders, WalksOn}
-use Rattle.fr_precision.specs.Among.{ComputesOwn}
+use Rattle.fr_precision.specs.Among.{ComputesOwn, HearInCommon}
 use Rattle.fr_precision.specs.SharpStep.{AreSharp, ComputesSharply}
 use Rattle.fr_precision.specs.Hearing.{AllowsArbitrary}
 use Rattle.fr_precision.specs.SharpRound.{IsSteadilySupplied}
@@ -70,13 +70,20 @@ pub record AllIsHeard (beside : Bool) (p : Values) (flutter : ℕ) (senders : Li
       (one other : Member) → IsOf g one → IsOf g other
       → KeepSenders beside senders one.offsets other.offsets × KeepSenders beside senders one.rates other.rates
 
--- what is heard: all of all, without arbitrary nodes or beside them; or each computes its terms from values of senders of its own,
--- some of the nodes with rows
+-- each computes its terms from values of senders of its own, some of the nodes with rows
+abbrev pub EachHears : Values → ℕ → Group → Type 0
+EachHears p flutter g = (node : Member) → IsOf g node → ComputesOwn p flutter g.rows (pos (last_action p)) node
+
+-- any two hear enough of them in common
+abbrev pub AnyTwoMeet : Values → ℕ → Group → Type 0
+AnyTwoMeet p flutter g =
+    (one other : Member) → IsOf g one → IsOf g other → (one ≡ other) ⊎ HearInCommon p flutter g.rows (pos (last_action p)) one other
+
+-- what is heard: all of all, without arbitrary nodes; all of all beside them, or enough in common; or what there is
 abbrev pub GroupHears : Heard → Values → ℕ → List Sender → Group → Type 0
 GroupHears heard.Clean p flutter senders g = AllIsHeard false p flutter senders g
-GroupHears heard.Meeting p flutter senders g = AllIsHeard true p flutter senders g
-GroupHears heard.Poor p flutter senders g =
-    (node : Member) → IsOf g node → ComputesOwn p flutter g.rows (pos (last_action p)) node
+GroupHears heard.Meeting p flutter senders g = AllIsHeard true p flutter senders g ⊎ (EachHears p flutter g × AnyTwoMeet p flutter g)
+GroupHears heard.Poor p flutter senders g = EachHears p flutter g
 
 -- what the group comes to, with the bounds of the next double cycle; next is how far beyond their range lengths may lie in it
 pub record IsSteadyGroupKept (p : Values) (flutter : ℕ) (to : GroupSpread) (apart : ℕ) (beyond next : ℤ) (senders : List Sender) (g : Group) (reach : ℤ) : Type 0 where

@@ -5,8 +5,8 @@ ghost use Rattle.fr_promise.specs.SharpGroup.{SharpGroupsAreKept, SharpRoundsAre
 /// all lie within the bounds of the next double cycle to which these go by what is heard: whoever followed twice is among
 /// the nodes with rows, and whoever followed once or listened lies near them. No macrotick of two nodes with rows lies
 /// further apart than both double cycles say. Each computes its terms from its values of every sender, or where frames are
-/// lost of senders of its own. A round whose receivers lie so near and are so supplied is such a cluster in which all is
-/// heard, whatever supplies it.
+/// lost of senders of its own, with enough in common or not. A round whose receivers lie so near and are so supplied is
+/// such a cluster in which all is heard, whatever supplies it.
 pub fn steady_groups_are_kept()
     ensures kept { SteadyGroupsAreKept }
     ensures round { SteadyRoundsAreFollowed }
