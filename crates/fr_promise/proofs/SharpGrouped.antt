@@ -98,12 +98,6 @@ first_length_sum : (l t q w c j k n : ℕ) (next other first : ℤ) → k ≡ t 
     → IsWithin (pos (t + (q - 1) + 3 * j)) (first -ℤ other) → IsWithin (pos n) (next -ℤ first)
 first_length_sum l t q w c j k n next other first is le near also = record { low = omega (arith, ints, is, le, near.low, also.high); high = omega (arith, ints, is, le, near.high, also.low) }
 
-no_less_than : (a b : ℕ) → a ≤ b → pos a ≤ℤ pos b
-no_less_than a b le = omega (arith, ints, le)
-
-pub in_natural : (a b : ℕ) (r : ℤ) → a ≤ b → pos b ≤ℤ r → pos a ≤ℤ r
-in_natural a b r le fits = omega (arith, ints, le, fits)
-
 -- what lies so near lies in the reach
 near_fits : (p : Values) (starts lengths : ℕ) (reach : ℤ) → IsSane p → pos (near_by p starts lengths) ≤ℤ reach
     → (pos starts +ℤ pos lengths +ℤ floor_of (pos (last_action p) *ℤ pos (odd_spread p lengths)) p.macros +ℤ pos (longest_micro p)) ≤ℤ reach
@@ -521,11 +515,11 @@ steady_groups_are_kept what p flutter now to apart beyond walk next senders g re
           (sharp_first_length_is_near p flutter beyond c reference.even reference.odd first_even first_odd s.sane rate caught begins);
     }
 
+pub hears_all : (beside : Bool) (p : Values) (flutter : ℕ) (senders : List Sender) (g : Group) → AllIsHeard beside p flutter senders g → GroupHears (all_heard beside) p flutter senders g
+hears_all false p flutter senders g heard = heard
+hears_all true p flutter senders g heard = inl heard
+
 pub sharp_groups_are_kept : SharpGroupsAreKept
 sharp_groups_are_kept beside p flutter beyond walk next senders g reach s next_from next_to =
     steady_groups_are_kept (all_heard beside) p flutter (sharp_group_spread beside p flutter) (sharp_group_spread beside p flutter) (sharp_precision beside p flutter) beyond walk next senders g reach s.0
-    (hears_all beside s.1) (sharp_group_spread_goes beside p flutter) (le_itself (sharp_precision beside p flutter)) (ends_fit beside p flutter) next_from next_to
-  where
-    hears_all : (beside : Bool) → AllIsHeard beside p flutter senders g → GroupHears (all_heard beside) p flutter senders g
-    hears_all false heard = heard
-    hears_all true heard = inl heard
+    (hears_all beside p flutter senders g s.1) (sharp_group_spread_goes beside p flutter) (le_itself (sharp_precision beside p flutter)) (ends_fit beside p flutter) next_from next_to
