@@ -27,7 +27,7 @@ use Rattle.fr_bound.specs.SharpBounds.{last_action, near_by, sharp_lambda, sharp
 use Rattle.fr_promise.specs.SharpFollowing.{AreFollowersInReach}
 use Rattle.fr_promise.specs.SharpGroup.{IsSteadyRoundFollowed, TakesInGroup}
 use Rattle.fr_promise.specs.SharpJoining.{all_heard, sharp_group_spread, sharp_reach, sharp_second_apart, GroupSpread}
-use Rattle.fr_promise.specs.SharpJoined.{FollowedDoublesAreKept, IsFollowedDouble, IsSteadyJoinedFrom, JoinedDoublesAreKept, JoinedIsInSharpSync, UnfollowedIsJoined}
+use Rattle.fr_promise.specs.SharpJoined.{FollowedDoublesAreKept, IsFollowedDouble, IsSteadyJoinedFrom, JoinedDoublesAreKept, JoinedIsInSharpSync, UnfollowedIsFollowed, UnfollowedIsJoined}
 use Rattle.fr_precision.specs.SharpRound.{as_member, IsSteadilySupplied}
 use Rattle.fr_precision.specs.SharpStep.{AreSharp}
 use Rattle.fr_runs.specs.SteadyRuns.{row_members, AreRowsInReach, IsTimedPartFrom, IsWhole, MayHaveArbitrary}
@@ -196,19 +196,18 @@ none_member x h even odd ago double node none here =
     let from = map_contains at (followers_since x h ago double) n.0 n.1 in
     none from.0 (is_since x h ago double from.0 from.1)
 
-pub unfollowed_is_joined : UnfollowedIsJoined
-unfollowed_is_joined beside x from flutter h double earlier even odd beyond w late d suffices sync unfollowed =
-    let p = x.params in
-    let s = timed_rows_from x from flutter h (joined_part beside x from flutter h w) double late earlier even odd d in
-    let runs = double_runs x h double earlier even odd d (lawful_cycles_run x h w.lawful) in
+pub unfollowed_is_followed : UnfollowedIsFollowed
+unfollowed_is_followed x from flutter h double earlier even odd now beyond part late d suffices active_even active_odd sharp unfollowed =
+    let s = timed_rows_from x from flutter h part double late earlier even odd d in
+    let runs = double_runs x h double earlier even odd d (lawful_cycles_run x h part.lawful) in
     let none = λ (node : NodeSpec) (among : Contains (following_nodes x earlier) node). none_follows x earlier even node runs.1.0 unfollowed among in
-    let Sharp : List NodeRow → Type 0 = λ rows. AreSharp p (sharp_pi beside x.params flutter) (sharp_lambda beside x.params flutter) beyond rows in
+    let Sharp : List NodeRow → Type 0 = λ rows. AreSharp x.params now.rows.starts now.rows.lengths beyond rows in
     record {
-      active_even = sync.active_even;
-      active_odd = sync.active_odd;
-      rows = record { rates = rates_in_limit x flutter earlier even odd double s beyond suffices sync.rows.about; about = sync.rows.about };
+      active_even = active_even;
+      active_odd = active_odd;
+      rows = record { rates = rates_in_limit x flutter earlier even odd double s beyond suffices sharp.about; about = sharp.about };
       placed = record {
-        sharp = subst Sharp (sym (evens_are x flutter earlier even odd double s)) sync.rows;
+        sharp = subst Sharp (sym (evens_are x flutter earlier even odd double s)) sharp;
         seconds_start = λ row node here there. absurd (none_member x earlier even odd 2 double node none there);
         seconds_last = λ other node here there. absurd (none_member x earlier even odd 2 double node none there);
         firsts_start = λ row node here there. absurd (none_member x earlier even odd 1 double node none there);
@@ -217,6 +216,10 @@ unfollowed_is_joined beside x from flutter h double earlier even odd beyond w la
       follower_rates = λ node among. absurd (none node among);
       fresh = λ node there has. fresh_at x earlier node runs.1.1 there has;
     }
+
+pub unfollowed_is_joined : UnfollowedIsJoined
+unfollowed_is_joined beside x from flutter h double earlier even odd beyond w late d suffices sync unfollowed =
+    unfollowed_is_followed x from flutter h double earlier even odd (sharp_group_spread beside x.params flutter) beyond (joined_part beside x from flutter h w) late d suffices sync.active_even sync.active_odd sync.rows unfollowed
 
 pub joined_is_in_sharp_sync : JoinedIsInSharpSync
 joined_is_in_sharp_sync beside x from flutter h double earlier even odd beyond w late d g =

@@ -26,7 +26,7 @@ use Rattle.fr_promise.specs.SharpFollowing.{AreRowsAbout}
 use Rattle.fr_promise.specs.SharpGroup.{IsSharpGroupKept, IsSteadyGroupKept, IsSteadyPlacing, TakesInGroup}
 use Rattle.fr_promise.specs.SharpJoining.{all_heard, sharp_group_spread, sharp_reach, GroupGoesTo, GroupSpread, SharpJoinChecksHold}
 use Rattle.fr_promise.specs.SharpListening.{RateTakesIn}
-use Rattle.fr_precision.specs.SharpStep.{IsInSharpSync}
+use Rattle.fr_precision.specs.SharpStep.{AreSharp, IsInSharpSync}
 use Rattle.fr_runs.specs.SteadyRuns.{IsSteadyFrom, IsTimedPartFrom, IsWhole, MayHaveArbitrary}
 
 -- lawful cycles of a run that nodes join, with or without arbitrary sync nodes, what is stated of the run from a double cycle on, and
@@ -55,6 +55,15 @@ pub record IsFollowedDouble (x : Setting) (s : GroupSpread) (beyond : ℤ) (h : 
   pub fresh :
       (node : NodeSpec) → Contains (correct_nodes x) node → has_row x h node.id ≡ false
       → outcomes_in x.params (told_of h) node.id ≡ []
+
+-- one in which no node follows is such a one where the nodes with rows lie so near, whatever is said of followers
+abbrev pub UnfollowedIsFollowed : Type 0
+UnfollowedIsFollowed =
+    (x : Setting) (from flutter : ℕ) (h : Cycles) (double : ℕ) (earlier : Cycles) (even odd : Cycle) (s : GroupSpread) (beyond : ℤ)
+    → IsTimedPartFrom x from flutter h → from ≤ double → IsDoubleOf h double earlier even odd → RateSuffices x.params beyond
+    → All (λ row. row.state ≡ Active) even.told.rows → All (λ row. row.state ≡ Active) odd.told.rows
+    → AreSharp x.params s.rows.starts s.rows.lengths beyond even.told.rows → even.followers ≡ []
+    → IsFollowedDouble x s beyond earlier even odd double
 
 -- what its group comes to
 abbrev pub IsFollowedKept : Setting → ℕ → GroupSpread → ℕ → ℤ → ℤ → ℤ → Cycles → Cycle → Cycle → ℕ → Type 0
