@@ -26,7 +26,7 @@ use Rattle.fr_precision.proofs.EndLemmas.{ends_come_among_lem}
 use Rattle.fr_precision.proofs.LengthLemmas.{lengths_come_among_lem, near_length, range_walks}
 use Rattle.fr_precision.proofs.StepLemmas.{acts_in_cycle, among_rows, node_about, nodes_near, sender_near, senders_about, senders_near, turned, Double}
 
-widen : (a b : ℕ) (x : ℤ) → a ≤ b → IsWithin (pos a) x → IsWithin (pos b) x
+pub widen : (a b : ℕ) (x : ℤ) → a ≤ b → IsWithin (pos a) x → IsWithin (pos b) x
 widen a b x le near = record { low = omega (arith, ints, near.low); high = omega (arith, ints, near.high) }
 
 starts_sum : (s l o e q n : ℕ) (x : ℤ) → s + l + o + 2 * e + 3 * q ≤ n → IsWithin (pos s +ℤ pos l +ℤ pos o +ℤ pos (2 * e + 3 * q)) x → IsWithin (pos n) x

@@ -255,13 +255,13 @@ end_value_sum : (starts evens odds end at act v t other_end : ℤ) (e q : ℕ)
 end_value_sum starts evens odds end at act v t other_end e q near a b c = record { low = omega (arith, ints, near.low); high = omega (arith, ints, near.high) }
 
 -- a sender and the one whose end is looked at
-record Ending (p : Values) (starts evens odds : ℤ) (row : NodeRow) (reference sender : Sender) : Type 0 where
+pub record Ending (p : Values) (starts evens odds : ℤ) (row : NodeRow) (reference sender : Sender) : Type 0 where
   sends : IsSending p sender
   start : IsWithin (starts +ℤ evens) (sender.odd.start -ℤ reference.odd.start)
   odd : IsWithin odds (cycle_length_of p sender.odd -ℤ cycle_length_of p reference.odd)
   from_row : IsWithin odds (cycle_length_of p row -ℤ cycle_length_of p reference.odd)
 
-ending_of : (p : Values) (starts evens odds : ℤ) (row : NodeRow) (reference sender : Sender) → IsSending p reference → IsSending p sender
+pub ending_of : (p : Values) (starts evens odds : ℤ) (row : NodeRow) (reference sender : Sender) → IsSending p reference → IsSending p sender
     → IsWithin starts (sender.even.start -ℤ reference.even.start) → IsWithin evens (cycle_length_of p sender.even -ℤ cycle_length_of p reference.even)
     → IsWithin odds (cycle_length_of p sender.odd -ℤ cycle_length_of p reference.odd) → IsWithin odds (cycle_length_of p row -ℤ cycle_length_of p reference.odd)
     → Ending p starts evens odds row reference sender
@@ -292,37 +292,33 @@ end_value p senders starts evens odds row values term reference sender v sane ro
     )
     dev.low dev.high round.micro.most
 
-module _
-    (p : Values) (senders : List Sender) (starts evens odds reach : ℤ) (row : NodeRow) (values : List ℤ) (term : Term)
-    (sane : IsSane p) (some : 1 ≤ length senders) (send : SendApart p starts evens odds senders) (takes : TakesOffsets p senders reach odds row values term) where
-  endings : All (λ reference. All (Ending p starts evens odds row reference) senders) senders
-  endings i d short j e below =
-      ending_of p starts evens odds row _ _ (send.sending i d short) (send.sending j e below) (send.by_start j e below i d short) (send.by_even j e below i d short) (send.by_odd j e below i d short) (takes.near i d short)
-
-  end_near : (reference : Sender) → All (Ending p starts evens odds row reference) senders
-      → IsWithin (starts +ℤ evens +ℤ odds +ℤ pos (arrival_error p + 2 * longest_micro p)) (corrected_end_of p row -ℤ end_of p reference.odd)
-  end_near reference all =
-      let bound = ((starts +ℤ evens) +ℤ odds) +ℤ pos (arrival_error p + 2 * longest_micro p) in
-      let one = corrected p senders reach odds row values term sane some takes in
-      let among =
-      one_between_lem takes.round.hears.said (end_of p reference.odd -ℤ bound) (end_of p reference.odd +ℤ bound) (ends_at p row values) one.mid (keeps_said p senders row values term sane takes.round)
-      (
-      zip_said (Ending p starts evens odds row reference) (λ (sender : Sender) value. IsDeviation p true sender.action row sender.odd value)
-      (λ v. IsBetween (end_of p reference.odd -ℤ bound) (end_of p reference.odd +ℤ bound) (place_at (ends_at p row values) v)) senders takes.round.hears.said
-      (λ sender v ends dev. end_value p senders starts evens odds row values term reference sender v sane takes.round ends dev) all takes.round.hears.each
-      )
-      one.middle in
-      back bound (corrected_end_of p row) (place_at (ends_at p row values) one.mid) (end_of p reference.odd) one.is among
-    where
-      back : (bound x y end : ℤ) → x ≡ y → IsBetween (end -ℤ bound) (end +ℤ bound) y → IsWithin bound (x -ℤ end)
-      back bound x y end is between = record { low = omega (arith, ints, between.low); high = omega (arith, ints, between.high) }
+pub end_is_near : (p : Values) (senders : List Sender) (starts evens odds reach : ℤ) (row : NodeRow) (values : List ℤ) (term : Term) → IsSane p → 1 ≤ length senders
+    → TakesOffsets p senders reach odds row values term → (reference : Sender) → All (Ending p starts evens odds row reference) senders
+    → IsWithin (starts +ℤ evens +ℤ odds +ℤ pos (arrival_error p + 2 * longest_micro p)) (corrected_end_of p row -ℤ end_of p reference.odd)
+end_is_near p senders starts evens odds reach row values term sane some takes reference all =
+    let bound = ((starts +ℤ evens) +ℤ odds) +ℤ pos (arrival_error p + 2 * longest_micro p) in
+    let one = corrected p senders reach odds row values term sane some takes in
+    let among =
+    one_between_lem takes.round.hears.said (end_of p reference.odd -ℤ bound) (end_of p reference.odd +ℤ bound) (ends_at p row values) one.mid (keeps_said p senders row values term sane takes.round)
+    (
+    zip_said (Ending p starts evens odds row reference) (λ (sender : Sender) value. IsDeviation p true sender.action row sender.odd value)
+    (λ v. IsBetween (end_of p reference.odd -ℤ bound) (end_of p reference.odd +ℤ bound) (place_at (ends_at p row values) v)) senders takes.round.hears.said
+    (λ sender v ends dev. end_value p senders starts evens odds row values term reference sender v sane takes.round ends dev) all takes.round.hears.each
+    )
+    one.middle in
+    back bound (corrected_end_of p row) (place_at (ends_at p row values) one.mid) (end_of p reference.odd) one.is among
+  where
+    back : (bound x y end : ℤ) → x ≡ y → IsBetween (end -ℤ bound) (end +ℤ bound) y → IsWithin bound (x -ℤ end)
+    back bound x y end is between = record { low = omega (arith, ints, between.low); high = omega (arith, ints, between.high) }
 
 pub corrected_end_is_near : CorrectedEndIsNear
 corrected_end_is_near p senders starts evens odds reach row values term sane some send takes =
+    let endings : All (λ reference. All (Ending p starts evens odds row reference) senders) senders =
+    λ i d short j e below.
+    ending_of p starts evens odds row _ _ (send.sending i d short) (send.sending j e below) (send.by_start j e below i d short) (send.by_even j e below i d short) (send.by_odd j e below i d short) (takes.near i d short) in
     All-along (λ (reference : Sender). All (Ending p starts evens odds row reference) senders)
     (λ (reference : Sender). IsWithin (starts +ℤ evens +ℤ odds +ℤ pos (arrival_error p + 2 * longest_micro p)) (corrected_end_of p row -ℤ end_of p reference.odd)) senders
-    (λ reference all. end_near p senders starts evens odds reach row values term sane some send takes reference all)
-    (endings p senders starts evens odds reach row values term sane some send takes)
+    (λ reference all. end_is_near p senders starts evens odds reach row values term sane some takes reference all) endings
 
 -- ---- two receivers, whichever senders each of them has heard
 

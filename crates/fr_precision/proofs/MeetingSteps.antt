@@ -7,6 +7,7 @@ use Rattle.std.proofs.lemmas.List.Elements.{All-append, All-cons, All-contains, 
 use Rattle.fr_base.specs.declared.node_row.NodeRow.{NodeRow}
 use Rattle.fr_base.specs.Within.{IsBetween, IsWithin}
 use Rattle.fr_cluster.specs.Values.{Values, amount}
+use Rattle.fr_cluster.specs.Sane.{IsSane}
 use Rattle.fr_cluster.specs.declared.names.ParamName.TheVariants as name
 use Rattle.fr_midpoint.specs.Midpoint.{discarded}
 use Rattle.fr_midpoint.specs.Receivers.{place_at}
@@ -20,12 +21,12 @@ use Rattle.fr_precision.specs.Offsets.{IsDeviation, IsOffsetRound}
 use Rattle.fr_precision.specs.Placement.{IsRegular}
 use Rattle.fr_precision.specs.Step.{IsAmong, Member}
 use Rattle.fr_precision.proofs.OffsetLaws.{micro_lasts, offset_terms_are_uncut}
-use Rattle.fr_precision.specs.Ends.{EndsCome}
-use Rattle.fr_precision.specs.Lengths.{IsNextEven, IsSteadyRound, LengthsCome}
+use Rattle.fr_precision.specs.Ends.{EndsCome, TakesOffsets}
+use Rattle.fr_precision.specs.Lengths.{CanWalk, EvensAreAbout, IsNextEven, IsSteadyRound, LengthsCome}
 use Rattle.fr_precision.specs.Steady.{between_actions, placed_length, PlacesEven}
 use Rattle.fr_precision.specs.SharpStep.{ActInReach, AreSharp, ComeSharply, DrawsTo, IsSharpLimit}
 use Rattle.fr_precision.specs.Among.{ComputesOwn, MeetingSpreadsDraw}
-use Rattle.fr_precision.proofs.AmongSteps.{lost_spreads_grow, odds, sends, takes_of, two}
+use Rattle.fr_precision.proofs.AmongSteps.{lost_spreads_grow, odds, sends, takes_of, two, widen}
 use Rattle.fr_precision.proofs.EndLemmas.{beside_ends, corrected, cross_value, ends_at, pair_of, same_value}
 use Rattle.fr_precision.proofs.LengthLemmas.{beside_sum, cross_sum, damping_is, far_of, far_to, next_near, range_walks, rates_at, round_of, same_sum}
 use Rattle.fr_precision.proofs.MeetingReceivers.{two_meeting, Meet}
@@ -42,11 +43,11 @@ back P [] ys all = all
 back P (x ∷ xs) ys all = back P xs ys (All-tail P x (xs ++ ys) all)
 
 -- what holds of all holds of those of one node, and of those of the other
-of_one : {X : Type 0} (P : X → Type 0) (common own other : List X) → All P (common ++ (own ++ other)) → All P (common ++ own)
+pub of_one : {X : Type 0} (P : X → Type 0) (common own other : List X) → All P (common ++ (own ++ other)) → All P (common ++ own)
 of_one P common own other all =
     All-append P common own (front P common (own ++ other) all) (front P own other (back P common (own ++ other) all))
 
-of_other : {X : Type 0} (P : X → Type 0) (common own other : List X) → All P (common ++ (own ++ other)) → All P (common ++ other)
+pub of_other : {X : Type 0} (P : X → Type 0) (common own other : List X) → All P (common ++ (own ++ other)) → All P (common ++ other)
 of_other P common own other all =
     All-append P common other (front P common (own ++ other) all) (back P own other (back P common (own ++ other) all))
 
@@ -56,7 +57,7 @@ some_of k k' common own enough = omega (arith, length-append common own, enough)
 module _
     (p : Values) (flutter : ℕ) (nodes : List Member) (starts lengths : ℕ) (beyond walk reach last : ℤ)
     (is : IsSharpLimit p flutter beyond walk reach last) (acting : ActInReach p reach last nodes) (double : Double p starts lengths beyond nodes)
-    (one other : Member) (here : Contains nodes one) (there : Contains nodes other) where
+    (one other : Member) where
   near_two : (x y : Sender) → IsAmong nodes x → IsAmong nodes y → LieNear p (pos starts) (pos lengths) (pos (odd_spread p lengths)) x.even x.odd y.even y.odd
   near_two x y among also = two p flutter nodes starts lengths beyond walk reach last is acting double x y among also
 
@@ -89,7 +90,7 @@ module _
       enough = enough;
     }
 
-    lengths_come : (even other_even : NodeRow) → IsNextEven p one.odd one.rate_term even → IsNextEven p other.odd other.rate_term other_even
+    pub lengths_come : (even other_even : NodeRow) → IsNextEven p one.odd one.rate_term even → IsNextEven p other.odd other.rate_term other_even
         → LengthsCome true p flutter (pos lengths) (cycle_length_of p even -ℤ cycle_length_of p other_even)
     lengths_come even other_even after other_after =
         let some = some_of (discarded (length one.rates)) (discarded (length other.rates)) common own enough in
@@ -116,19 +117,27 @@ module _
   IsEarly : Sender → Type 0
   IsEarly sender = IsAmong nodes sender × IsBetween (pos 0) last sender.action
 
+  -- both receivers' odd lengths lie so near those of each of the nodes, and to each other
   module _
+      (odds : ℕ) (further : odd_spread p lengths ≤ odds)
+      (one_odds : (sender : Sender) → IsAmong nodes sender → IsWithin (pos odds) (cycle_length_of p one.odd -ℤ cycle_length_of p sender.odd))
+      (other_odds : (sender : Sender) → IsAmong nodes sender → IsWithin (pos odds) (cycle_length_of p other.odd -ℤ cycle_length_of p sender.odd))
+      (near_odd : IsWithin (pos odds) (cycle_length_of p one.odd -ℤ cycle_length_of p other.odd))
       (common own other_own : List Sender)
       (among : All (IsAmong nodes) (common ++ own)) (also_among : All (IsAmong nodes) (common ++ other_own))
       (acts : All (λ sender. IsBetween (pos 0) last sender.action) (common ++ own)) (also_acts : All (λ sender. IsBetween (pos 0) last sender.action) (common ++ other_own))
       (enough : discarded (length one.offsets) + discarded (length other.offsets) + 1 ≤ length common)
-      (round : IsOffsetRound p (common ++ own) one.odd one.offsets one.offset_term)
-      (also : IsOffsetRound p (common ++ other_own) other.odd other.offsets other.offset_term) where
-    near_odd : IsWithin (pos (odd_spread p lengths)) (cycle_length_of p one.odd -ℤ cycle_length_of p other.odd)
-    near_odd = (nodes_near p starts lengths beyond nodes double one other here there).by_odd
+      (takes : TakesOffsets p (common ++ own) reach (pos odds) one.odd one.offsets one.offset_term)
+      (also_takes : TakesOffsets p (common ++ other_own) reach (pos odds) other.odd other.offsets other.offset_term) where
+    round : IsOffsetRound p (common ++ own) one.odd one.offsets one.offset_term
+    round = takes.round
+
+    also : IsOffsetRound p (common ++ other_own) other.odd other.offsets other.offset_term
+    also = also_takes.round
 
     ends_meet : Meet IsEarly (λ (sender : Sender) value. IsDeviation p true sender.action one.odd sender.odd value) (λ (sender : Sender) value. IsDeviation p true sender.action other.odd sender.odd value)
-        common own other_own (pos (odd_spread p lengths) +ℤ pos (2 * arrival_error p + 2 * longest_micro p))
-        (((pos starts +ℤ pos lengths) +ℤ pos (odd_spread p lengths)) +ℤ pos (2 * arrival_error p + 3 * longest_micro p)) (pos (longest_micro p)) (ends_at p one.odd one.offsets) (ends_at p other.odd other.offsets)
+        common own other_own (pos odds +ℤ pos (2 * arrival_error p + 2 * longest_micro p))
+        (((pos starts +ℤ pos lengths) +ℤ pos odds) +ℤ pos (2 * arrival_error p + 3 * longest_micro p)) (pos (longest_micro p)) (ends_at p one.odd one.offsets) (ends_at p other.odd other.offsets)
     unfolding IsEarly
     ends_meet = record {
       lasts = (micro_lasts p one.odd is.sane round.micro).some;
@@ -140,37 +149,35 @@ module _
       hears = round.hears;
       also_hears = also.hears;
       each = λ x v u early dev also_dev.
-          same_value p (common ++ own) (common ++ other_own) (pos (odd_spread p lengths)) one.odd other.odd one.offsets other.offsets one.offset_term other.offset_term x v u is.sane round also near_odd
+          same_value p (common ++ own) (common ++ other_own) (pos odds) one.odd other.odd one.offsets other.offsets one.offset_term other.offset_term x v u is.sane round also near_odd
           (sends p flutter nodes starts lengths beyond walk reach last is acting double x early.0 early.1) dev also_dev;
       all = λ x y v u early also_early dev also_dev.
           let near = near_two x y early.0 also_early.0 in
-          cross_value p (common ++ own) (common ++ other_own) (pos starts) (pos lengths) (pos (odd_spread p lengths)) one.odd other.odd one.offsets other.offsets one.offset_term other.offset_term x y v u is.sane
+          cross_value p (common ++ own) (common ++ other_own) (pos starts) (pos lengths) (pos odds) one.odd other.odd one.offsets other.offsets one.offset_term other.offset_term x y v u is.sane
           round also near_odd
           (
-          pair_of p (pos starts) (pos lengths) (pos (odd_spread p lengths)) one.odd other.odd x y
+          pair_of p (pos starts) (pos lengths) (pos odds) one.odd other.odd x y
           (sends p flutter nodes starts lengths beyond walk reach last is acting double x early.0 early.1) (sends p flutter nodes starts lengths beyond walk reach last is acting double y also_early.0 also_early.1)
-          near.by_start near.by_even near.by_odd
-          (odds p flutter nodes starts lengths beyond walk reach last is acting double one here y also_early.0) (odds p flutter nodes starts lengths beyond walk reach last is acting double other there x early.0)
+          near.by_start near.by_even (widen (odd_spread p lengths) odds (cycle_length_of p x.odd -ℤ cycle_length_of p y.odd) further near.by_odd)
+          (one_odds y also_early.0) (other_odds x early.0)
           )
           dev also_dev;
       enough = enough;
     }
 
-    ends_come : EndsCome true p (pos starts) (pos lengths) (pos (odd_spread p lengths)) (corrected_end_of p one.odd -ℤ corrected_end_of p other.odd)
+    pub ends_come : EndsCome true p (pos starts) (pos lengths) (pos odds) (corrected_end_of p one.odd -ℤ corrected_end_of p other.odd)
     unfolding IsEarly
     ends_come =
         let some = some_of (discarded (length one.offsets)) (discarded (length other.offsets)) common own enough in
         let also_some = some_of (discarded (length one.offsets)) (discarded (length other.offsets)) common other_own enough in
-        let first = corrected p (common ++ own) reach (pos (odd_spread p lengths)) one.odd one.offsets one.offset_term is.sane some
-        (takes_of p flutter nodes starts lengths beyond walk reach last is acting double one here (common ++ own) among acts round) in
-        let second = corrected p (common ++ other_own) reach (pos (odd_spread p lengths)) other.odd other.offsets other.offset_term is.sane also_some
-        (takes_of p flutter nodes starts lengths beyond walk reach last is acting double other there (common ++ other_own) also_among also_acts also) in
-        beside_ends (pos starts) (pos lengths) (pos (odd_spread p lengths)) (arrival_error p) (longest_micro p)
+        let first = corrected p (common ++ own) reach (pos odds) one.odd one.offsets one.offset_term is.sane some takes in
+        let second = corrected p (common ++ other_own) reach (pos odds) other.odd other.offsets other.offset_term is.sane also_some also_takes in
+        beside_ends (pos starts) (pos lengths) (pos odds) (arrival_error p) (longest_micro p)
         (corrected_end_of p one.odd) (place_at (ends_at p one.odd one.offsets) first.mid) (corrected_end_of p other.odd) (place_at (ends_at p other.odd other.offsets) second.mid) first.is second.is
         (
         two_meeting IsEarly (λ (sender : Sender) value. IsDeviation p true sender.action one.odd sender.odd value) (λ (sender : Sender) value. IsDeviation p true sender.action other.odd sender.odd value)
-        common own other_own (pos (odd_spread p lengths) +ℤ pos (2 * arrival_error p + 2 * longest_micro p))
-        (((pos starts +ℤ pos lengths) +ℤ pos (odd_spread p lengths)) +ℤ pos (2 * arrival_error p + 3 * longest_micro p)) (pos (longest_micro p)) (ends_at p one.odd one.offsets) (ends_at p other.odd other.offsets)
+        common own other_own (pos odds +ℤ pos (2 * arrival_error p + 2 * longest_micro p))
+        (((pos starts +ℤ pos lengths) +ℤ pos odds) +ℤ pos (2 * arrival_error p + 3 * longest_micro p)) (pos (longest_micro p)) (ends_at p one.odd one.offsets) (ends_at p other.odd other.offsets)
         first.mid second.mid ends_meet first.middle second.middle
         )
 
@@ -183,6 +190,8 @@ meeting_spreads_draw p flutter nodes starts lengths next_starts next_lengths bey
     } in
     let offsets = of_one (IsAmong nodes) common.offset_common common.offset_own common.offset_other common.offsets_among in
     let acts = of_one (λ sender. IsBetween (pos 0) last sender.action) common.offset_common common.offset_own common.offset_other common.acts in
+    let other_offsets = of_other (IsAmong nodes) common.offset_common common.offset_own common.offset_other common.offsets_among in
+    let other_acts = of_other (λ sender. IsBetween (pos 0) last sender.action) common.offset_common common.offset_own common.offset_other common.acts in
     let rates = of_one (IsAmong nodes) common.rate_common common.rate_own common.rate_other common.rates_among in
     let takes =
     takes_of p flutter nodes starts lengths beyond walk reach last is acting double one here (common.offset_common ++ common.offset_own) offsets acts common.by_offset in
@@ -197,16 +206,17 @@ meeting_spreads_draw p flutter nodes starts lengths next_starts next_lengths bey
       ends =
           ends_by true p flutter starts lengths next_starts next_lengths (corrected_end_of p one.odd -ℤ corrected_end_of p other.odd) draws
           (
-          ends_come p flutter nodes starts lengths beyond walk reach last is acting double one other here there common.offset_common common.offset_own common.offset_other
-          offsets (of_other (IsAmong nodes) common.offset_common common.offset_own common.offset_other common.offsets_among)
-          acts (of_other (λ sender. IsBetween (pos 0) last sender.action) common.offset_common common.offset_own common.offset_other common.acts)
-          common.enough_offsets common.by_offset common.other_by_offset
+          ends_come p flutter nodes starts lengths beyond walk reach last is acting double one other (odd_spread p lengths) (le_itself (odd_spread p lengths))
+          (odds p flutter nodes starts lengths beyond walk reach last is acting double one here) (odds p flutter nodes starts lengths beyond walk reach last is acting double other there)
+          (nodes_near p starts lengths beyond nodes double one other here there).by_odd common.offset_common common.offset_own common.offset_other
+          offsets other_offsets acts other_acts common.enough_offsets takes
+          (takes_of p flutter nodes starts lengths beyond walk reach last is acting double other there (common.offset_common ++ common.offset_other) other_offsets other_acts common.other_by_offset)
           );
       lengths =
           λ even other_even after other_after.
           lengths_by true p flutter starts lengths next_starts next_lengths (cycle_length_of p even -ℤ cycle_length_of p other_even) draws
           (
-          lengths_come p flutter nodes starts lengths beyond walk reach last is acting double one other here there common.rate_common common.rate_own common.rate_other
+          lengths_come p flutter nodes starts lengths beyond walk reach last is acting double one other common.rate_common common.rate_own common.rate_other
           rates (of_other (IsAmong nodes) common.rate_common common.rate_own common.rate_other common.rates_among)
           common.enough_rates common.by_rate common.other_by_rate even other_even after other_after
           );
@@ -222,8 +232,21 @@ itself_sum l b n e q cq j c u v w is le sum near also = record {
   high = omega (arith, ints, is, le, sum, near.low, near.high, also.low, also.high);
 }
 
-none_apart : (n : ℕ) (x : ℤ) → IsWithin (pos n) (x -ℤ x)
+pub none_apart : (n : ℕ) (x : ℤ) → IsWithin (pos n) (x -ℤ x)
 none_apart n x = record { low = omega (arith, ints); high = omega (arith, ints) }
+
+pub lengths_itself : (p : Values) (flutter : ℕ) (senders : List Sender) (lengths next_lengths : ℕ) (beyond walk : ℤ) (one : Member) (even other_even : NodeRow)
+    → IsSane p → CanWalk p flutter beyond walk → lengths + sharp_lambda true p flutter ≤ 2 * next_lengths + 1 → 1 ≤ length senders → EvensAreAbout p beyond senders
+    → IsSteadyRound p flutter senders one.odd one.rates one.rate_term → IsNextEven p one.odd one.rate_term even → IsNextEven p one.odd one.rate_term other_even
+    → IsWithin (pos next_lengths) (cycle_length_of p even -ℤ cycle_length_of p other_even)
+lengths_itself p flutter senders lengths next_lengths beyond walk one even other_even sane walks le some about round after other_after =
+    let is = round_of p flutter senders beyond walk (beyond +ℤ walk) one.odd one.rates one.rate_term sane walks (itself (beyond +ℤ walk)) some about round in
+    itself_sum lengths (sharp_lambda true p flutter) next_lengths (steady_error p flutter) (longest_micro p) (amount p name.pClusterDriftDamping * longest_micro p) (cycle_change p) (p.damping *ℤ pos (longest_micro p))
+    (place_at (rates_at p one.odd one.rates) is.mid) (cycle_length_of p even) (cycle_length_of p other_even) (damping_is p sane) le refl
+    (next_near p one.odd one.rates one.rate_term (beyond +ℤ walk) even sane round.micro is after) (next_near p one.odd one.rates one.rate_term (beyond +ℤ walk) other_even sane round.micro is other_after)
+  where
+    itself : (a : ℤ) → a ≤ℤ a
+    itself a = omega (arith, ints)
 
 pub comes_near_itself : (p : Values) (flutter : ℕ) (nodes : List Member) (starts lengths next_starts next_lengths : ℕ) (beyond walk next reach last : ℤ) (one : Member)
     → IsSharpLimit p flutter beyond walk reach last → ActInReach p reach last nodes → pos 0 ≤ℤ next → (beyond +ℤ walk) ≤ℤ next
@@ -235,20 +258,12 @@ comes_near_itself p flutter nodes starts lengths next_starts next_lengths beyond
     let grown =
     lost_spreads_grow p flutter nodes starts lengths (lost_starts p starts lengths) (lost_lengths p flutter lengths) beyond walk next reach last one one is acting next_from to_next
     (le_itself (lost_starts p starts lengths)) (le_itself (lost_lengths p flutter lengths)) sharp computes here here in
-    let round =
-    round_of p flutter own.rate_senders beyond walk (beyond +ℤ walk) one.odd one.rates one.rate_term is.sane is.walks (itself (beyond +ℤ walk)) own.some_rates
-    (senders_about p starts lengths beyond nodes own.rate_senders double own.rates_among) own.by_rate in
     record {
       uncut = grown.uncut;
       range = grown.range;
       ends = none_apart next_starts (corrected_end_of p one.odd);
       lengths =
           λ even other_even after other_after.
-          itself_sum lengths (sharp_lambda true p flutter) next_lengths (steady_error p flutter) (longest_micro p) (amount p name.pClusterDriftDamping * longest_micro p) (cycle_change p) (p.damping *ℤ pos (longest_micro p))
-          (place_at (rates_at p one.odd one.rates) round.mid) (cycle_length_of p even) (cycle_length_of p other_even) (damping_is p is.sane) draws.1 refl
-          (next_near p one.odd one.rates one.rate_term (beyond +ℤ walk) even is.sane own.by_rate.micro round after)
-          (next_near p one.odd one.rates one.rate_term (beyond +ℤ walk) other_even is.sane own.by_rate.micro round other_after);
+          lengths_itself p flutter own.rate_senders lengths next_lengths beyond walk one even other_even is.sane is.walks draws.1 own.some_rates (senders_about p starts lengths beyond nodes own.rate_senders double own.rates_among)
+          own.by_rate after other_after;
     }
-  where
-    itself : (a : ℤ) → a ≤ℤ a
-    itself a = omega (arith, ints)

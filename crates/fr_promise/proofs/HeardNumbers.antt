@@ -19,7 +19,7 @@ le_itself n = omega arith
 
 -- ---- as the step asks for
 
-goes_by : (what : Heard) (p : Values) (flutter : ℕ) (s : Spread) → GoesTo what p flutter s.starts s.lengths (heard_spread what p flutter s).starts (heard_spread what p flutter s).lengths
+pub goes_by : (what : Heard) (p : Values) (flutter : ℕ) (s : Spread) → GoesTo what p flutter s.starts s.lengths (heard_spread what p flutter s).starts (heard_spread what p flutter s).lengths
 goes_by Clean p flutter s = next_spread_draws false p flutter s
 goes_by Meeting p flutter s = next_spread_draws true p flutter s
 goes_by Poor p flutter s = (le_itself (lost_starts p s.starts s.lengths), le_itself (lost_lengths p flutter s.lengths))

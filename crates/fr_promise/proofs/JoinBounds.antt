@@ -3,7 +3,7 @@ use Rattle.std.proofs.Common.{◌≡◌, ℕ, zero, suc, ◌+◌, ◌-◌, ◌*�
 use Rattle.std.specs.Prelude.{◌+ℤ◌, ◌≤ℤ◌, nat_le, nat_lt}
 use Rattle.std.proofs.lemmas.Bool.Decides.{nat_tests}
 use Rattle.std.proofs.lemmas.Int.{ints}
-use Rattle.std.proofs.Math.Nat.{div-mul-le_self, le-div_iff_mul-le, mul-le-mul_left}
+use Rattle.std.proofs.Math.Nat.{div-mul-le_self, le-div_iff_mul-le, le-max_left, le-max_right, mul-le-mul_left}
 use Rattle.fr_cluster.specs.Values.{Values, amount}
 use Rattle.fr_cluster.specs.Sane.{IsSane}
 use Rattle.fr_cluster.specs.declared.names.ParamName.TheVariants as name
@@ -12,8 +12,12 @@ use Rattle.fr_bound.specs.Checks.{back_need_of, front_need_of, left_of, right_of
 use Rattle.fr_precision.proofs.Figures.{nat_le-true}
 use Rattle.fr_bound.specs.SharpBounds.{last_action, near_by, odd_spread, precision_by, sharp_lambda, sharp_near, sharp_pi, steady_error, wide_change}
 use Rattle.fr_bound.specs.SharpChecks.{SharpChecksHold}
-use Rattle.fr_promise.specs.SharpJoining.{counted_error, sharp_first_apart, sharp_first_lengths, sharp_join_right_of, sharp_reach, sharp_second_apart, FollowersComeNearer, OlderJoinChecksSuffice, SharpJoinChecksHold, SharpJoinChecksSuffice}
+use Rattle.fr_bound.specs.Judged.{heard_spread}
+use Rattle.fr_precision.specs.Among.{GoesTo}
+use Rattle.fr_promise.specs.SharpJoining.{all_heard, counted_error, first_apart_by, first_lengths_by, second_apart_by, sharp_first_apart, sharp_first_lengths, sharp_join_right_of, sharp_reach, sharp_second_apart, FollowersComeNearer, NextGroupSpreadGoes, OlderJoinChecksSuffice, SharpGroupSpreadGoes, SharpJoinChecksHold, SharpJoinChecksSuffice}
 use Rattle.fr_precision.proofs.BoundLemmas.{near_is_below, sharp_checks_suffice_lem, sharp_is_below, wide_le}
+use Rattle.fr_promise.proofs.HeardNumbers.{goes_by}
+use Rattle.fr_precision.proofs.StepLemmas.{sharp_sync_draws}
 
 at_most : (a b c : ℕ) → a ≤ b → b ≤ c → a ≤ c
 at_most a b c h k = omega arith
@@ -74,6 +78,37 @@ followers_come_nearer_lem beside p flutter sane = (
   near_grows p (sharp_second_apart beside p flutter) (sharp_lambda beside p flutter) (sharp_first_apart beside p flutter) (sharp_first_lengths beside p flutter) sane (second_nearer beside p flutter) (lengths_nearer beside p flutter),
   near_grows p (sharp_pi beside p flutter) (sharp_lambda beside p flutter) (sharp_first_apart beside p flutter) (sharp_first_lengths beside p flutter) sane (starts_nearer beside p flutter) (lengths_nearer beside p flutter),
 )
+
+-- ---- the bounds of a double cycle go on
+
+itself : (n : ℕ) → n ≤ n
+itself n = omega arith
+
+pub next_group_spread_goes : NextGroupSpreadGoes
+next_group_spread_goes what p flutter s wide = (
+  record {
+    rows = goes_by what p flutter s.rows;
+    wide = wide;
+    seconds = itself (second_apart_by what p s.rows.starts s.rows.lengths s.firsts.lengths);
+    first_starts = itself (first_apart_by p flutter s.rows.starts s.rows.lengths);
+    first_lengths = le-max_left (first_lengths_by p flutter s.rows.lengths) (heard_spread what p flutter s.rows).lengths;
+  },
+  le-max_right (first_lengths_by p flutter s.rows.lengths) (heard_spread what p flutter s.rows).lengths,
+)
+
+stays : (beside : Bool) (p : Values) (flutter : ℕ)
+    → GoesTo (all_heard beside) p flutter (sharp_pi beside p flutter) (sharp_lambda beside p flutter) (sharp_pi beside p flutter) (sharp_lambda beside p flutter)
+stays false p flutter = sharp_sync_draws false p flutter
+stays true p flutter = sharp_sync_draws true p flutter
+
+pub sharp_group_spread_goes : SharpGroupSpreadGoes
+sharp_group_spread_goes beside p flutter = record {
+  rows = stays beside p flutter;
+  wide = lengths_nearer beside p flutter;
+  seconds = itself (sharp_second_apart beside p flutter);
+  first_starts = itself (sharp_first_apart beside p flutter);
+  first_lengths = itself (sharp_first_lengths beside p flutter);
+}
 
 -- ---- the checks
 

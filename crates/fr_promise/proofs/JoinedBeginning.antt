@@ -1,5 +1,5 @@
 -- A node that listens in a double cycle of a run that nodes join begins to follow behind it.
-use Rattle.std.proofs.Common.{◌≡◌, ℕ, suc, ◌*◌, ◌==◌, true, cond, ℤ, pos, Some, None, ◌∷◌, length, refl, ap, sym, ◌∙◌, subst}
+use Rattle.std.proofs.Common.{◌≡◌, ℕ, suc, ◌*◌, ◌==◌, true, cond, pos, Some, None, ◌∷◌, length, refl, ap, sym, ◌∙◌, subst}
 use Rattle.std.specs.Prelude.{◌≤ℤ◌, option_and_then}
 use Rattle.fr_base.specs.Event.Event.{Regular}
 use Rattle.fr_base.specs.declared.channel.Channel.{Channel}
@@ -18,7 +18,7 @@ use Rattle.fr_runs.proofs.Catches.{caught_either, caught_from, reference_key}
 use Rattle.fr_promise.specs.SharpJoined.{JoinedListenersBegin}
 use Rattle.fr_promise.proofs.JoinBounds.{sharp_join_checks_suffice_lem}
 use Rattle.fr_promise.proofs.JoinedDoubles.{joined_part}
-use Rattle.fr_runs.proofs.RowsSupplied.{lawful_rows_from}
+use Rattle.fr_runs.proofs.RowsSupplied.{timed_rows_from}
 use Rattle.fr_promise.proofs.SharpCatches.{both_caught, reference_listened, IsOf}
 use Rattle.fr_promise.proofs.SharpListened.{sharp_catches_suffice}
 
@@ -26,7 +26,7 @@ pub joined_listeners_begin : JoinedListenersBegin
 unfolding begins_with
 joined_listeners_begin beside x from flutter h double earlier even odd beyond node join w behind d takes g there at listens natural =
     let p = x.params in
-    let s = lawful_rows_from x from flutter h (joined_part beside x from flutter h w) double behind earlier even odd d in
+    let s = timed_rows_from x from flutter h (joined_part beside x from flutter h w) double behind earlier even odd d in
     let counted = s.counted in
     let ref : IsReference x node join = w.referenced node join there at in
     let reference : NodeSpec = ref.reference in

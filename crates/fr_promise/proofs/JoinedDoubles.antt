@@ -1,5 +1,5 @@
 -- A double cycle of a run that nodes join: its round is such a group as the sharper step asks for.
-use Rattle.std.proofs.Common.{◌≡◌, ◌⊎◌, ℕ, ◌*◌, Bool, true, false, ℤ, pos, Option, Some, None, List, length, map, refl, ap, sym, ◌∙◌, subst, inl, inr, arith}
+use Rattle.std.proofs.Common.{◌≡◌, ◌⊎◌, ◌≤◌, ℕ, ◌*◌, Bool, true, false, ℤ, pos, Option, Some, None, List, length, map, refl, ap, sym, ◌∙◌, subst, inl, inr, arith}
 use Rattle.std.specs.Prelude.{◌≤ℤ◌, Contains}
 use Rattle.std.proofs.lemmas.Int.{ints}
 use Rattle.fr_base.specs.declared.node_row.NodeRow.{NodeRow}
@@ -9,7 +9,6 @@ use Rattle.fr_cluster.specs.declared.join.Join.{Join}
 use Rattle.fr_cluster.specs.declared.nodes.NodeSpec.{NodeSpec}
 use Rattle.fr_cluster.proofs.Elements.{filtered}
 use Rattle.fr_precision.specs.Instants.{gap_of, row_in}
-use Rattle.fr_precision.specs.Offsets.{LimitSuffices}
 use Rattle.fr_precision.specs.Reception.{LeavesRoom}
 use Rattle.fr_precision.specs.Round.{Hearer}
 use Rattle.fr_precision.specs.Step.{Member}
@@ -24,24 +23,24 @@ use Rattle.fr_runs.proofs.Standing.{how_follows, is_follower}
 use Rattle.fr_runs.proofs.Lawful.{lawful_cycles_run}
 use Rattle.fr_runs.proofs.Whole.{double_runs, fresh_at, none_follows}
 use Rattle.fr_precision.specs.Lengths.{CanWalk}
-use Rattle.fr_bound.specs.SharpBounds.{last_action, sharp_lambda, sharp_near, sharp_pi}
+use Rattle.fr_bound.specs.SharpBounds.{last_action, near_by, sharp_lambda, sharp_near, sharp_pi, sharp_precision}
 use Rattle.fr_promise.specs.SharpFollowing.{AreFollowersInReach}
-use Rattle.fr_promise.specs.SharpGroup.{IsSharpRoundFollowed}
-use Rattle.fr_promise.specs.SharpJoining.{sharp_first_apart, sharp_first_lengths, sharp_reach, sharp_second_apart}
-use Rattle.fr_promise.specs.SharpJoined.{IsJoinedDouble, IsSteadyJoinedFrom, JoinedDoublesAreKept, JoinedIsInSharpSync, UnfollowedIsJoined}
+use Rattle.fr_promise.specs.SharpGroup.{IsSteadyRoundFollowed, TakesInGroup}
+use Rattle.fr_promise.specs.SharpJoining.{all_heard, sharp_group_spread, sharp_reach, sharp_second_apart, GroupSpread}
+use Rattle.fr_promise.specs.SharpJoined.{FollowedDoublesAreKept, IsFollowedDouble, IsSteadyJoinedFrom, JoinedDoublesAreKept, JoinedIsInSharpSync, UnfollowedIsFollowed, UnfollowedIsJoined}
 use Rattle.fr_precision.specs.SharpRound.{as_member, IsSteadilySupplied}
 use Rattle.fr_precision.specs.SharpStep.{AreSharp}
-use Rattle.fr_runs.specs.SteadyRuns.{row_members, AreRowsInReach, IsSteadyPartFrom, IsWhole, MayHaveArbitrary}
+use Rattle.fr_runs.specs.SteadyRuns.{row_members, AreRowsInReach, IsTimedPartFrom, IsWhole, MayHaveArbitrary}
 use Rattle.fr_promise.proofs.FollowersSupplied.{follower_regular, supplied_at as follower_supplied}
-use Rattle.fr_promise.proofs.JoinBounds.{followers_come_nearer_lem, sharp_join_checks_suffice_lem}
-use Rattle.fr_runs.proofs.RowsSupplied.{lawful_rows_from, members_regular, rates_in_limit, round_in_reach, row_regular, supplied_at as row_supplied, LawfulRows}
+use Rattle.fr_promise.proofs.JoinBounds.{followers_come_nearer_lem, sharp_group_spread_goes, sharp_join_checks_suffice_lem}
+use Rattle.fr_runs.proofs.RowsSupplied.{double_within, members_regular, rates_in_limit, round_in_reach, row_regular, supplied_at as row_supplied, timed_rows_from, LawfulRows}
 use Rattle.fr_promise.proofs.RunDoubles.{evens_are}
-use Rattle.fr_promise.proofs.SharpFollowed.{sharp_rounds_are_followed}
-use Rattle.fr_promise.proofs.SharpGrouped.{apart_reached, in_natural, sharp_groups_are_kept}
-use Rattle.fr_precision.proofs.StepLemmas.{nodes_near, Double}
+use Rattle.fr_promise.proofs.SharpFollowed.{steady_rounds_are_followed}
+use Rattle.fr_promise.proofs.SharpGrouped.{apart_reached, hears_all, steady_groups_are_kept}
+use Rattle.fr_precision.proofs.StepLemmas.{ends_fit, le_itself, nodes_near, Double}
 
-pub joined_part : (beside : Bool) (x : Setting) (from flutter : ℕ) (h : Cycles) → IsSteadyJoinedFrom beside x from flutter h → IsSteadyPartFrom x from flutter h
-joined_part beside x from flutter h w = record { covered = w.covered; lawful = w.lawful; within = (let whole = w.whole in omega (arith, whole)) }
+pub joined_part : (beside : Bool) (x : Setting) (from flutter : ℕ) (h : Cycles) → IsSteadyJoinedFrom beside x from flutter h → IsTimedPartFrom x from flutter h
+joined_part beside x from flutter h w = record { covered = w.covered.timed; lawful = w.lawful; within = (let whole = w.whole in omega (arith, whole)) }
 
 -- whoever follows does so for the second or for the first double cycle
 pub since_when : (x : Setting) (h : Cycles) (double : ℕ) (node : NodeSpec) → length h ≡ 2 * double → Contains (following_nodes x h) node
@@ -61,12 +60,12 @@ since_when x h double node counted among =
           | inr goes ↦ inl (is_follower x h 2 double node join at there does (sym goes.1))
         ]
 
-no_less : (n : ℕ) → pos n ≤ℤ pos n
-no_less n = omega (arith, ints)
+no_more : (a b : ℕ) → a ≤ b → pos a ≤ℤ pos b
+no_more a b le = omega (arith, ints, le)
 
 module _
-    (beside : Bool) (x : Setting) (flutter : ℕ) (h : Cycles) (even odd : Cycle) (double : ℕ) (beyond : ℤ)
-    (s : LawfulRows x flutter h even odd double) (may : MayHaveArbitrary beside x) (g : IsJoinedDouble beside x flutter beyond h even odd double) where
+    (x : Setting) (flutter : ℕ) (now : GroupSpread) (h : Cycles) (even odd : Cycle) (double : ℕ) (beyond : ℤ)
+    (s : LawfulRows x flutter h even odd double) (g : IsFollowedDouble x now beyond h even odd double) where
   -- ---- members by their nodes
 
   pub row_member : (node : NodeSpec) → Contains (row_nodes x h) node → Contains (row_members x h even odd) (as_member x.params (row_hearer x even odd node.id))
@@ -80,26 +79,23 @@ module _
       let at : NodeSpec → Hearer = λ n. follower_hearer x even odd n.id in
       contains_map (member_from x.params) (map at (followers_since x h ago double)) (at node) (contains_map at (followers_since x h ago double) node among)
 
-  module _ (reach : ℤ) (limit : LimitSuffices x.params reach) (room : LeavesRoom x.params reach) (takes : pos (sharp_reach beside x.params flutter) ≤ℤ reach) where
+  module _ (reach : ℤ) (room : LeavesRoom x.params reach) (takes : TakesInGroup x.params now (group_of x.params (hearers_of x h even odd double)) reach) where
     -- ---- each is within reach of those with rows
 
-    doubled : Double x.params (sharp_pi beside x.params flutter) (sharp_lambda beside x.params flutter) beyond (row_members x h even odd)
+    doubled : Double x.params now.rows.starts now.rows.lengths beyond (row_members x h even odd)
     doubled = record { sane = s.covered.sane; sharp = g.placed.sharp; regular = members_regular x flutter h even odd double s g.rows.rates }
-
-    near_takes : pos (sharp_near beside x.params flutter) ≤ℤ reach
-    near_takes = in_natural (sharp_near beside x.params flutter) (sharp_reach beside x.params flutter) reach (followers_come_nearer_lem beside x.params flutter s.covered.sane).3 takes
 
     rows_in : AreRowsInReach x h even odd reach
     rows_in = record {
       active_even = g.active_even;
       active_odd = g.active_odd;
       rates = g.rows.rates;
-      limit = limit;
+      limit = takes.limit;
       room = room;
       acts =
           λ is_odd one other action here there from to.
-          let near = nodes_near x.params (sharp_pi beside x.params flutter) (sharp_lambda beside x.params flutter) beyond (row_members x h even odd) doubled one other here there in
-          apart_reached x.params (sharp_pi beside x.params flutter) (sharp_lambda beside x.params flutter) reach is_odd one other action s.covered.sane near_takes (members_regular x flutter h even odd double s g.rows.rates one here)
+          let near = nodes_near x.params now.rows.starts now.rows.lengths beyond (row_members x h even odd) doubled one other here there in
+          apart_reached x.params now.rows.starts now.rows.lengths reach is_odd one other action s.covered.sane takes.fits (members_regular x flutter h even odd double s g.rows.rates one here)
           (members_regular x flutter h even odd double s g.rows.rates other there) near.by_start near.by_even from to;
     }
 
@@ -118,12 +114,11 @@ module _
         elim (since_when x h double follower s.counted there) [
           | inl second ↦
               let member = follower_member 2 follower second in
-              apart_reached p (sharp_second_apart beside p flutter) (sharp_lambda beside p flutter) reach is_odd row node action s.covered.sane
-              (in_natural _ (sharp_reach beside p flutter) reach (followers_come_nearer_lem beside p flutter s.covered.sane).2 takes) one other
+              apart_reached p now.seconds now.rows.lengths reach is_odd row node action s.covered.sane (takes.fits_seconds node member) one other
               (g.placed.seconds_start row node (row_member sender here) member) (g.placed.seconds_last row node (inl (row_member sender here)) member) from to
           | inr first ↦
               let member = follower_member 1 follower first in
-              apart_reached p (sharp_first_apart beside p flutter) (sharp_first_lengths beside p flutter) reach is_odd row node action s.covered.sane takes one other
+              apart_reached p now.firsts.starts now.firsts.lengths reach is_odd row node action s.covered.sane (takes.fits_firsts node member) one other
               (g.placed.firsts_start row node (row_member sender here) member) (g.placed.firsts_last row node (inl (row_member sender here)) member) from to
         ]
 
@@ -132,14 +127,14 @@ module _
       active_even = g.active_even;
       active_odd = g.active_odd;
       rates = g.follower_rates;
-      limit = limit;
+      limit = takes.limit;
       room = room;
       acts = follower_reached;
     }
 
     -- ---- so all are supplied, where all is heard
 
-    module _ (links : IsWhole x double) where
+    module _ (beside : Bool) (may : MayHaveArbitrary beside x) (links : IsWhole x double) where
       supplied : (n : Hearer) → IsOneOf (hearers_of x h even odd double) n → IsSteadilySupplied (round_at x h even odd) flutter n
       supplied n (inl (inl here)) =
           let from = map_contains (λ (m : NodeSpec). row_hearer x even odd m.id) (row_nodes x h) n here in
@@ -151,31 +146,45 @@ module _
           let from = map_contains (λ (m : NodeSpec). follower_hearer x even odd m.id) (followers_since x h 1 double) n here in
           subst (IsSteadilySupplied (round_at x h even odd) flutter) from.2 (follower_supplied x flutter h even odd double reach s followers_in links from.0 (is_since x h 1 double from.0 from.1))
 
-      pub round_followed : (walk : ℤ) → CanWalk x.params flutter beyond walk → IsSharpRoundFollowed beside (round_at x h even odd) flutter beyond walk (hearers_of x h even odd double) reach
+      pub round_followed : (walk : ℤ) → CanWalk x.params flutter beyond walk → IsSteadyRoundFollowed beside (round_at x h even odd) flutter now beyond walk (hearers_of x h even odd double) reach
       round_followed walk walks =
           let r = round_in_reach x flutter h even odd double reach s rows_in links beside may in
           record {
             round = r.round;
             arbitrary = r.arbitrary;
             walks = walks;
-            takes = record { limit = limit; fits = near_takes; fits_followers = λ node follows. takes };
+            takes = takes;
             placed = g.placed;
             supplied = supplied;
             among = r.among;
           }
 
+pub followed_doubles_are_kept : FollowedDoublesAreKept
+followed_doubles_are_kept beside x from flutter h double earlier even odd now to apart reach beyond walk next part late d may links walks next_from next_to room takes goes fits ends g =
+    let p = x.params in
+    let s = timed_rows_from x from flutter h part double late earlier even odd d in
+    let followed =
+    steady_rounds_are_followed beside (round_at x earlier even odd) flutter now beyond walk (hearers_of x earlier even odd double) reach
+    (round_followed x flutter now earlier even odd double beyond s g reach room takes beside may links walk walks) in
+    steady_groups_are_kept (all_heard beside) p flutter now to apart beyond walk next _ (group_of p (hearers_of x earlier even odd double)) reach followed.0
+    (hears_all beside p flutter _ (group_of p (hearers_of x earlier even odd double)) followed.1) goes fits ends next_from next_to
+
 pub joined_doubles_are_kept : JoinedDoublesAreKept
 joined_doubles_are_kept beside x from flutter h double earlier even odd beyond walk next w late d n g =
     let p = x.params in
-    let reach = sharp_reach beside p flutter in
+    let sharp = sharp_group_spread beside p flutter in
     let suffice = sharp_join_checks_suffice_lem beside p flutter w.covered.timed.sane w.checks in
-    let s = lawful_rows_from x from flutter h (joined_part beside x from flutter h w) double late earlier even odd d in
-    sharp_groups_are_kept beside p flutter beyond walk next _ (group_of p (hearers_of x earlier even odd double)) (pos reach)
+    let nearer = followers_come_nearer_lem beside p flutter w.covered.timed.sane in
+    followed_doubles_are_kept beside x from flutter h double earlier even odd sharp sharp (sharp_precision beside p flutter) (pos (sharp_reach beside p flutter)) beyond walk next (joined_part beside x from flutter h w) late d
+    w.arbitrary (w.covered.links double late (double_within h double x.doubles earlier even odd d (joined_part beside x from flutter h w).within)) n.walks n.from n.to suffice.1
     (
-    sharp_rounds_are_followed beside (round_at x earlier even odd) flutter beyond walk (hearers_of x earlier even odd double) (pos reach)
-    (round_followed beside x flutter earlier even odd double beyond s w.arbitrary g (pos reach) suffice.0 suffice.1 (no_less reach) (w.covered.links double late s.within) walk n.walks)
-    )
-    n.from n.to
+    record {
+      limit = suffice.0;
+      fits = no_more (sharp_near beside p flutter) (sharp_reach beside p flutter) nearer.3;
+      fits_seconds = λ node here. no_more (near_by p (sharp_second_apart beside p flutter) (sharp_lambda beside p flutter)) (sharp_reach beside p flutter) nearer.2;
+      fits_firsts = λ node here. no_more (sharp_reach beside p flutter) (sharp_reach beside p flutter) (le_itself (sharp_reach beside p flutter));
+    }
+    ) (sharp_group_spread_goes beside p flutter) (le_itself (sharp_precision beside p flutter)) (ends_fit beside p flutter) g
 
 -- ---- where it begins
 
@@ -187,19 +196,18 @@ none_member x h even odd ago double node none here =
     let from = map_contains at (followers_since x h ago double) n.0 n.1 in
     none from.0 (is_since x h ago double from.0 from.1)
 
-pub unfollowed_is_joined : UnfollowedIsJoined
-unfollowed_is_joined beside x from flutter h double earlier even odd beyond w late d suffices sync unfollowed =
-    let p = x.params in
-    let s = lawful_rows_from x from flutter h (joined_part beside x from flutter h w) double late earlier even odd d in
-    let runs = double_runs x h double earlier even odd d (lawful_cycles_run x h w.lawful) in
+pub unfollowed_is_followed : UnfollowedIsFollowed
+unfollowed_is_followed x from flutter h double earlier even odd now beyond part late d suffices active_even active_odd sharp unfollowed =
+    let s = timed_rows_from x from flutter h part double late earlier even odd d in
+    let runs = double_runs x h double earlier even odd d (lawful_cycles_run x h part.lawful) in
     let none = λ (node : NodeSpec) (among : Contains (following_nodes x earlier) node). none_follows x earlier even node runs.1.0 unfollowed among in
-    let Sharp : List NodeRow → Type 0 = λ rows. AreSharp p (sharp_pi beside x.params flutter) (sharp_lambda beside x.params flutter) beyond rows in
+    let Sharp : List NodeRow → Type 0 = λ rows. AreSharp x.params now.rows.starts now.rows.lengths beyond rows in
     record {
-      active_even = sync.active_even;
-      active_odd = sync.active_odd;
-      rows = record { rates = rates_in_limit x flutter earlier even odd double s beyond suffices sync.rows.about; about = sync.rows.about };
+      active_even = active_even;
+      active_odd = active_odd;
+      rows = record { rates = rates_in_limit x flutter earlier even odd double s beyond suffices sharp.about; about = sharp.about };
       placed = record {
-        sharp = subst Sharp (sym (evens_are x flutter earlier even odd double s)) sync.rows;
+        sharp = subst Sharp (sym (evens_are x flutter earlier even odd double s)) sharp;
         seconds_start = λ row node here there. absurd (none_member x earlier even odd 2 double node none there);
         seconds_last = λ other node here there. absurd (none_member x earlier even odd 2 double node none there);
         firsts_start = λ row node here there. absurd (none_member x earlier even odd 1 double node none there);
@@ -209,9 +217,13 @@ unfollowed_is_joined beside x from flutter h double earlier even odd beyond w la
       fresh = λ node there has. fresh_at x earlier node runs.1.1 there has;
     }
 
+pub unfollowed_is_joined : UnfollowedIsJoined
+unfollowed_is_joined beside x from flutter h double earlier even odd beyond w late d suffices sync unfollowed =
+    unfollowed_is_followed x from flutter h double earlier even odd (sharp_group_spread beside x.params flutter) beyond (joined_part beside x from flutter h w) late d suffices sync.active_even sync.active_odd sync.rows unfollowed
+
 pub joined_is_in_sharp_sync : JoinedIsInSharpSync
 joined_is_in_sharp_sync beside x from flutter h double earlier even odd beyond w late d g =
     let p = x.params in
-    let s = lawful_rows_from x from flutter h (joined_part beside x from flutter h w) double late earlier even odd d in
+    let s = timed_rows_from x from flutter h (joined_part beside x from flutter h w) double late earlier even odd d in
     let Sharp : List NodeRow → Type 0 = λ rows. AreSharp p (sharp_pi beside x.params flutter) (sharp_lambda beside x.params flutter) beyond rows in
     record { active_even = g.active_even; active_odd = g.active_odd; rows = subst Sharp (evens_are x flutter earlier even odd double s) g.placed.sharp }

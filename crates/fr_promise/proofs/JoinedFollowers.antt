@@ -11,26 +11,23 @@ use Rattle.fr_history.specs.Catching.{begins_with}
 use Rattle.fr_history.specs.Cycles.{Cycle, Cycles}
 use Rattle.fr_history.specs.Standing.{followed_well, following_nodes, follows, follows_by, goes_on, has_row, has_row_by, row_nodes}
 use Rattle.fr_history.proofs.Standing.{equal}
-use Rattle.fr_precision.specs.Round.{senders_of}
 use Rattle.fr_cluster.proofs.Elements.{kept_filtered}
 use Rattle.fr_precision.proofs.RoundLemmas.{contains_map}
 use Rattle.fr_runs.proofs.Rows.{has_row as row_there}
-use Rattle.fr_runs.specs.Gathered.{follower_hearer, followers_since, hearers_of, round_at}
-use Rattle.fr_runs.specs.Hearers.{IsOneOf, group_of, member_from}
+use Rattle.fr_runs.specs.Gathered.{follower_hearer, followers_since, hearers_of}
+use Rattle.fr_runs.specs.Hearers.{IsOneOf, member_from}
 use Rattle.fr_runs.proofs.Standing.{follower_of, follows_stays, is_follower}
 use Rattle.fr_runs.proofs.Joined.{is_of, steady_at}
-use Rattle.fr_promise.specs.SharpGroup.{IsSharpGroupKept}
-use Rattle.fr_promise.specs.SharpJoined.{JoinedFollowersJoin}
-use Rattle.fr_promise.specs.SharpJoining.{sharp_reach}
+use Rattle.fr_bound.specs.SharpBounds.{sharp_precision}
+use Rattle.fr_promise.specs.SharpJoined.{IsFollowedKept, JoinedFollowersJoin, SteadyFollowersJoin}
+use Rattle.fr_promise.specs.SharpJoining.{sharp_group_spread, sharp_reach, GroupSpread}
 use Rattle.fr_promise.proofs.JoinedDoubles.{joined_doubles_are_kept, joined_part}
-use Rattle.fr_runs.proofs.RowsSupplied.{lawful_rows_from, LawfulRows}
+use Rattle.fr_runs.proofs.RowsSupplied.{timed_rows_from, LawfulRows}
 
 -- a double cycle whose clocks run by their laws, and in which no term is cut
-record AtDouble (beside : Bool) (x : Setting) (flutter : ℕ) (beyond next : ℤ) (h : Cycles) (even odd : Cycle) (double : ℕ) : Type 0 where
+record AtDouble (x : Setting) (flutter : ℕ) (to : GroupSpread) (apart : ℕ) (reach beyond next : ℤ) (h : Cycles) (even odd : Cycle) (double : ℕ) : Type 0 where
   rows : LawfulRows x flutter h even odd double
-  kept :
-      IsSharpGroupKept beside x.params flutter beyond next (senders_of (round_at x h even odd)) (group_of x.params (hearers_of x h even odd double))
-      (pos (sharp_reach beside x.params flutter))
+  kept : IsFollowedKept x flutter to apart reach beyond next h even odd double
 
 both_true : (a b : Bool) → a ≡ true → b ≡ true → (a && b) ≡ true
 both_true a b one other = ap₂ (λ c d. c && d) one other
@@ -40,10 +37,10 @@ record FollowedWell (x : Setting) (h : Cycles) (even odd : Cycle) (node : NodeSp
   there : is_some (row_of odd.followers node.id) ≡ true
   well : followed_well x.params odd (even ∷ h) (row_of odd.followers node.id) ≡ true
 
-follows_well : (beside : Bool) (x : Setting) (flutter : ℕ) (beyond next : ℤ) (h : Cycles) (even odd : Cycle) (double : ℕ) (node : NodeSpec) → AtDouble beside x flutter beyond next h even odd double
+follows_well : (x : Setting) (flutter : ℕ) (to : GroupSpread) (apart : ℕ) (reach beyond next : ℤ) (h : Cycles) (even odd : Cycle) (double : ℕ) (node : NodeSpec) → AtDouble x flutter to apart reach beyond next h even odd double
     → Contains (correct_nodes x) node → follows x h node.id ≡ true → IsOneOf (hearers_of x h even odd double) (follower_hearer x even odd node.id)
     → FollowedWell x h even odd node
-follows_well beside x flutter beyond next h even odd double node g there does one =
+follows_well x flutter to apart reach beyond next h even odd double node g there does one =
     let still : follows x (even ∷ h) node.id ≡ true = follows_stays x h even double node g.rows.counted g.rows.even_runs there ∙ does in
     let among = kept_filtered (λ (n : NodeSpec). follows x (even ∷ h) n.id) (correct_nodes x) node there still in
     let row = row_there (following_nodes x (even ∷ h)) odd.followers node g.rows.odd_runs.followers.nodes among in
@@ -58,13 +55,13 @@ follows_well beside x flutter beyond next h even odd double node g there does on
     }
 
 -- whoever follows for the second time has a row then
-second_has : (beside : Bool) (x : Setting) (flutter : ℕ) (beyond next : ℤ) (h : Cycles) (even odd : Cycle) (double : ℕ) → AtDouble beside x flutter beyond next h even odd double
+second_has : (x : Setting) (flutter : ℕ) (to : GroupSpread) (apart : ℕ) (reach beyond next : ℤ) (h : Cycles) (even odd : Cycle) (double : ℕ) → AtDouble x flutter to apart reach beyond next h even odd double
     → (node : NodeSpec) → Contains (followers_since x h 2 double) node → Contains (row_nodes x (odd ∷ even ∷ h)) node
-second_has beside x flutter beyond next h even odd double g node among =
+second_has x flutter to apart reach beyond next h even odd double g node among =
     let f = follower_of x h 2 double node among in
     let does : follows x h node.id ≡ true = ap (follows_by x h node.id) f.joins ∙ f.does in
     let one = contains_map (λ (n : NodeSpec). follower_hearer x even odd n.id) (followers_since x h 2 double) node among in
-    let followed = follows_well beside x flutter beyond next h even odd double node g f.correct does (inl (inr one)) in
+    let followed = follows_well x flutter to apart reach beyond next h even odd double node g f.correct does (inl (inr one)) in
     let counted : length h ≡ 2 * double = g.rows.counted in
     let since : f.join.double + 2 ≡ double = f.since in
     let now : Bool = suc (suc (length h)) == 2 * f.join.double + 6 in
@@ -75,13 +72,13 @@ second_has beside x flutter beyond next h even odd double g node among =
     kept_filtered (λ (n : NodeSpec). has_row x (odd ∷ even ∷ h) n.id) (correct_nodes x) node f.correct has
 
 -- and whoever follows for the first time follows for the second time
-first_follows : (beside : Bool) (x : Setting) (flutter : ℕ) (beyond next : ℤ) (h : Cycles) (even odd : Cycle) (double : ℕ) → AtDouble beside x flutter beyond next h even odd double
+first_follows : (x : Setting) (flutter : ℕ) (to : GroupSpread) (apart : ℕ) (reach beyond next : ℤ) (h : Cycles) (even odd : Cycle) (double : ℕ) → AtDouble x flutter to apart reach beyond next h even odd double
     → (node : NodeSpec) → Contains (followers_since x h 1 double) node → Contains (followers_since x (odd ∷ even ∷ h) 2 (suc double)) node
-first_follows beside x flutter beyond next h even odd double g node among =
+first_follows x flutter to apart reach beyond next h even odd double g node among =
     let f = follower_of x h 1 double node among in
     let does : follows x h node.id ≡ true = ap (follows_by x h node.id) f.joins ∙ f.does in
     let one = contains_map (λ (n : NodeSpec). follower_hearer x even odd n.id) (followers_since x h 1 double) node among in
-    let followed = follows_well beside x flutter beyond next h even odd double node g f.correct does (inr one) in
+    let followed = follows_well x flutter to apart reach beyond next h even odd double node g f.correct does (inr one) in
     let counted : length h ≡ 2 * double = g.rows.counted in
     let since : f.join.double + 1 ≡ double = f.since in
     let now : Bool = suc (suc (length h)) == 2 * f.join.double + 4 in
@@ -94,10 +91,13 @@ first_follows beside x flutter beyond next h even odd double g node among =
     ap (follows_by x (odd ∷ even ∷ h) node.id) f.joins ∙ or_right (is_some (begins_with x (odd ∷ even ∷ h) node.id f.join)) (goes_on x (odd ∷ even ∷ h) node.id f.join) goes in
     is_follower x (odd ∷ even ∷ h) 2 (suc double) node f.join f.joins f.correct again (omega (arith, since))
 
+pub steady_followers_join : SteadyFollowersJoin
+steady_followers_join x from flutter h double earlier even odd to apart reach beyond next part late d kept =
+    let at : AtDouble x flutter to apart reach beyond next earlier even odd double =
+    record { rows = timed_rows_from x from flutter h part double late earlier even odd d; kept = kept } in
+    (second_has x flutter to apart reach beyond next earlier even odd double at, first_follows x flutter to apart reach beyond next earlier even odd double at)
+
 pub joined_followers_join : JoinedFollowersJoin
 joined_followers_join beside x from flutter h double earlier even odd beyond walk next w late d n g =
-    let at : AtDouble beside x flutter beyond next earlier even odd double = record {
-      rows = lawful_rows_from x from flutter h (joined_part beside x from flutter h w) double late earlier even odd d;
-      kept = joined_doubles_are_kept beside x from flutter h double earlier even odd beyond walk next w late d n g;
-    } in
-    (second_has beside x flutter beyond next earlier even odd double at, first_follows beside x flutter beyond next earlier even odd double at)
+    steady_followers_join x from flutter h double earlier even odd (sharp_group_spread beside x.params flutter) (sharp_precision beside x.params flutter) (pos (sharp_reach beside x.params flutter)) beyond next
+    (joined_part beside x from flutter h w) late d (joined_doubles_are_kept beside x from flutter h double earlier even odd beyond walk next w late d n g)

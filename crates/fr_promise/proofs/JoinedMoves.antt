@@ -1,5 +1,5 @@
--- A run that nodes join: what follows a double cycle in sharp sync at each node that had a row in it, followed or listened.
-use Rattle.std.proofs.Common.{◌≡◌, ℕ, suc, ◌*◌, ◌<◌, Bool, true, false, ℤ, pos, Some, None, ◌∷◌, length, map, refl, ap, sym, ◌∙◌, inl, inr, arith}
+-- A run that nodes join: what follows a double cycle at each node that had a row in it, followed or listened.
+use Rattle.std.proofs.Common.{◌≡◌, ℕ, suc, ◌*◌, ◌<◌, Bool, true, false, ℤ, Some, None, ◌∷◌, length, map, refl, ap, sym, ◌∙◌, inl, inr, arith}
 use Rattle.std.specs.Prelude.{Contains}
 use Rattle.fr_base.specs.declared.node_row.NodeRow.{NodeRow}
 use Rattle.fr_base.specs.declared.state.State.TheVariants.{Active}
@@ -11,14 +11,14 @@ use Rattle.fr_cluster.proofs.Elements.{filtered, kept_filtered}
 use Rattle.fr_correct.specs.declared.term.Term.{Term}
 use Rattle.fr_precision.specs.Rows.{corrected_end_of}
 use Rattle.fr_precision.specs.Rates.{IsNext}
-use Rattle.fr_precision.specs.Round.{senders_of, Hearer}
+use Rattle.fr_precision.specs.Round.{Hearer}
 use Rattle.fr_history.specs.Cycles.{Cycle, Cycles, told_of}
 use Rattle.fr_history.specs.History.{row_for}
 use Rattle.fr_history.specs.Laws.{follower_laws, follower_offset, rate_of_next, row_laws, start_of_next}
 use Rattle.fr_history.specs.Rows.{offset_after}
 use Rattle.fr_history.specs.Standing.{following_nodes, has_row, row_nodes}
 use Rattle.fr_history.specs.Terms.{offset_term_in, status_in}
-use Rattle.fr_runs.specs.Gathered.{follower_hearer, followers_since, hearers_of, round_at, row_hearer}
+use Rattle.fr_runs.specs.Gathered.{follower_hearer, followers_since, hearers_of, row_hearer}
 use Rattle.fr_runs.specs.Group.{WillHaveRow}
 use Rattle.fr_runs.specs.Hearers.{group_of, member_from}
 use Rattle.fr_runs.specs.References.{HaveReferences}
@@ -31,23 +31,20 @@ use Rattle.fr_runs.proofs.Outcomes.{active_after, begun_active, outcomes_none}
 use Rattle.fr_precision.proofs.RoundLemmas.{contains_map}
 use Rattle.fr_runs.proofs.Rows.{each_row, has_row as has_row_in, row_runs_by}
 use Rattle.fr_precision.specs.Lengths.{IsNextEven}
-use Rattle.fr_promise.specs.SharpGroup.{IsSharpGroupKept}
-use Rattle.fr_promise.specs.SharpJoining.{sharp_reach}
-use Rattle.fr_promise.specs.SharpJoined.{IsJoinedDouble}
+use Rattle.fr_promise.specs.SharpJoining.{GroupSpread}
+use Rattle.fr_promise.specs.SharpJoined.{IsFollowedDouble, IsFollowedKept}
 use Rattle.fr_promise.specs.SharpListening.{RateTakesIn}
 use Rattle.fr_runs.proofs.RowsSupplied.{proper_in, steady_in, LawfulRows}
 
--- a double cycle in sharp sync and the next one
-pub record IsSharpStep (beside : Bool) (x : Setting) (flutter : ℕ) (beyond next : ℤ) (h : Cycles) (even odd even2 odd2 : Cycle) (double : ℕ) : Type 0 where
-  pub joined : IsJoinedDouble beside x flutter beyond h even odd double
+-- a double cycle whose group comes to so much, and the next one
+pub record IsFollowedStep (x : Setting) (flutter : ℕ) (now to : GroupSpread) (apart : ℕ) (reach beyond next : ℤ) (h : Cycles) (even odd even2 odd2 : Cycle) (double : ℕ) : Type 0 where
+  pub joined : IsFollowedDouble x now beyond h even odd double
   pub referenced : HaveReferences x
   pub rows : LawfulRows x flutter h even odd double
   pub later : LawfulRows x flutter (odd ∷ even ∷ h) even2 odd2 (suc double)
   pub succeeded : IsSucceeded x h even odd double
   pub joins : RateTakesIn x.params flutter beyond
-  pub kept :
-      IsSharpGroupKept beside x.params flutter beyond next (senders_of (round_at x h even odd)) (group_of x.params (hearers_of x h even odd double))
-      (pos (sharp_reach beside x.params flutter))
+  pub kept : IsFollowedKept x flutter to apart reach beyond next h even odd double
 
 -- the rows with which a receiver goes on
 pub record Moves (p : Values) (n : Hearer) (even odd : NodeRow) : Type 0 where
@@ -64,15 +61,15 @@ pub record GoesOnBy (x : Setting) (h : Cycles) (even odd : Cycle) (node : ℕ) (
   pub long : n.odd.length ≡ x.microtick node (suc (length h))
 
 -- what follows at a node that has a row behind the double cycle
-pub record MovedTo (beside : Bool) (x : Setting) (flutter : ℕ) (h : Cycles) (even odd even2 odd2 : Cycle) (double : ℕ) (node : NodeSpec) (n : Hearer) : Type 0 where
+pub record MovedTo (x : Setting) (flutter : ℕ) (h : Cycles) (even odd even2 odd2 : Cycle) (double : ℕ) (node : NodeSpec) (n : Hearer) : Type 0 where
   pub will : WillHaveRow (group_of x.params (hearers_of x h even odd double)) (member_from x.params n)
   pub number : n.even.node ≡ node.id
   pub moves : Moves x.params n (row_for even2.told.rows node.id) (row_for odd2.told.rows node.id)
   pub active : (status_in x.params (told_of (odd ∷ even ∷ h)) node.id).state ≡ Active
 
 module _
-    (beside : Bool) (x : Setting) (flutter : ℕ) (beyond next : ℤ) (h : Cycles) (even odd even2 odd2 : Cycle) (double : ℕ)
-    (s : IsSharpStep beside x flutter beyond next h even odd even2 odd2 double) where
+    (x : Setting) (flutter : ℕ) (now to : GroupSpread) (apart : ℕ) (reach beyond next : ℤ) (h : Cycles) (even odd even2 odd2 : Cycle) (double : ℕ)
+    (s : IsFollowedStep x flutter now to apart reach beyond next h even odd even2 odd2 double) where
   moves_by : (node : NodeSpec) (n : Hearer) (row later : NodeRow) → Contains (correct_nodes x) node → GoesOnBy x h even odd node.id n
       → row.start ≡ corrected_end_of x.params n.odd → row.rate ≡ (member_from x.params n).rate_term.value → NodeTwo x (odd ∷ even ∷ h) row later node → Moves x.params n row later
   moves_by node n row later correct on start rate at =
@@ -187,10 +184,10 @@ module _
 
   -- ---- a node that has a row behind the double cycle, by whether it had one
 
-  pub moved : (node : NodeSpec) → Contains (row_nodes x (odd ∷ even ∷ h)) node → MovedTo beside x flutter h even odd even2 odd2 double node (hearer_by x even odd (has_row x h node.id) node.id)
+  pub moved : (node : NodeSpec) → Contains (row_nodes x (odd ∷ even ∷ h)) node → MovedTo x flutter h even odd even2 odd2 double node (hearer_by x even odd (has_row x h node.id) node.id)
   moved node among = by_kind (has_row x h node.id) refl
     where
-      by_kind : (b : Bool) → has_row x h node.id ≡ b → MovedTo beside x flutter h even odd even2 odd2 double node (hearer_by x even odd b node.id)
+      by_kind : (b : Bool) → has_row x h node.id ≡ b → MovedTo x flutter h even odd even2 odd2 double node (hearer_by x even odd b node.id)
       by_kind true has =
           let had = kept_filtered (λ (n : NodeSpec). has_row x h n.id) (correct_nodes x) node (is_correct_row x (odd ∷ even ∷ h) node among) has in
           record {

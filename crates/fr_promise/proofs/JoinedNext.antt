@@ -1,8 +1,9 @@
 -- A run that nodes join: the double cycle behind one in sharp sync is such a one, whoever joined.
-use Rattle.std.proofs.Common.{◌≡◌, ℕ, suc, ◌*◌, ◌<◌, Bool, ℤ, pos, List, ◌∷◌, length, map, ap, sym, ◌∙◌, subst, inl, inr, arith}
+use Rattle.std.proofs.Common.{◌≡◌, ℕ, suc, ◌*◌, ◌<◌, ℤ, pos, List, ◌∷◌, length, map, All, ap, sym, ◌∙◌, subst, inl, inr, arith}
 use Rattle.std.specs.Prelude.{◌-ℤ◌, Contains}
 use Rattle.fr_base.specs.Within.{IsWithin}
 use Rattle.fr_base.specs.declared.node_row.NodeRow.{NodeRow}
+use Rattle.fr_base.specs.declared.state.State.TheVariants.{Active}
 use Rattle.fr_cluster.specs.Setting.{Setting}
 use Rattle.fr_cluster.specs.Values.{Values}
 use Rattle.fr_cluster.specs.declared.nodes.NodeSpec.{NodeSpec}
@@ -32,16 +33,16 @@ use Rattle.fr_runs.proofs.Receivers.{same_mapped}
 use Rattle.fr_precision.proofs.RoundLemmas.{contains_map, map_contains}
 use Rattle.fr_runs.proofs.Rows.{row_runs_by, rows_are}
 use Rattle.fr_runs.proofs.Whole.{prior_of}
-use Rattle.fr_bound.specs.SharpBounds.{sharp_lambda, sharp_pi}
-use Rattle.fr_promise.specs.SharpGroup.{IsSharpPlacing, LastApart, StartApart}
-use Rattle.fr_promise.specs.SharpJoining.{sharp_first_apart, sharp_first_lengths, sharp_second_apart}
-use Rattle.fr_promise.specs.SharpJoined.{JoinedDoublesGoOn}
+use Rattle.fr_bound.specs.SharpBounds.{sharp_precision}
+use Rattle.fr_promise.specs.SharpGroup.{IsSteadyPlacing, LastApart, StartApart}
+use Rattle.fr_promise.specs.SharpJoining.{sharp_group_spread, sharp_reach, GroupSpread}
+use Rattle.fr_promise.specs.SharpJoined.{FollowedDoublesGoOn, JoinedDoublesGoOn}
 use Rattle.fr_promise.specs.SharpListening.{IsCaughtSharply}
-use Rattle.fr_precision.specs.SharpStep.{AreSharp, IsInSharpSync}
+use Rattle.fr_precision.specs.SharpStep.{AreSharp}
 use Rattle.fr_promise.proofs.JoinedDoubles.{joined_doubles_are_kept, joined_part}
-use Rattle.fr_promise.proofs.JoinedMoves.{follower_moves, moved, next_even_of, parity, IsSharpStep, MovedTo, Moves}
+use Rattle.fr_promise.proofs.JoinedMoves.{follower_moves, moved, next_even_of, parity, IsFollowedStep, MovedTo, Moves}
 use Rattle.fr_runs.proofs.Succeeding.{nodes_succeed}
-use Rattle.fr_runs.proofs.RowsSupplied.{lawful_rows_from, proper_in, rates_in_limit, steady_in}
+use Rattle.fr_runs.proofs.RowsSupplied.{timed_rows_from, proper_in, rates_in_limit, steady_in}
 use Rattle.fr_promise.proofs.RunDoubles.{evens_are}
 use Rattle.fr_promise.proofs.SharpCatches.{caught_at}
 use Rattle.fr_promise.proofs.SharpListened.{sharp_first_rate_is_within}
@@ -70,12 +71,12 @@ record FirstAt (x : Setting) (flutter : ℕ) (beyond : ℤ) (h : Cycles) (even o
   begins : BeginsAt x.params caught (row_for even2.followers node.id) (row_for odd2.followers node.id)
 
 module _
-    (beside : Bool) (x : Setting) (flutter : ℕ) (beyond next : ℤ) (h : Cycles) (even odd even2 odd2 : Cycle) (double : ℕ)
-    (s : IsSharpStep beside x flutter beyond next h even odd even2 odd2 double) where
-  move : (node : NodeSpec) → Contains (row_nodes x (odd ∷ even ∷ h)) node → MovedTo beside x flutter h even odd even2 odd2 double node (hearer_by x even odd (has_row x h node.id) node.id)
-  move = moved beside x flutter beyond next h even odd even2 odd2 double s
+    (x : Setting) (flutter : ℕ) (now to : GroupSpread) (apart : ℕ) (reach beyond next : ℤ) (h : Cycles) (even odd even2 odd2 : Cycle) (double : ℕ)
+    (s : IsFollowedStep x flutter now to apart reach beyond next h even odd even2 odd2 double) where
+  move : (node : NodeSpec) → Contains (row_nodes x (odd ∷ even ∷ h)) node → MovedTo x flutter h even odd even2 odd2 double node (hearer_by x even odd (has_row x h node.id) node.id)
+  move = moved x flutter now to apart reach beyond next h even odd even2 odd2 double s
 
-  -- ---- the rows of the next double cycle are in sharp sync
+  -- ---- the rows of the next double cycle are as near
 
   next_row_is : (c : Cycle) (node : NodeSpec) → Contains (row_nodes x (odd ∷ even ∷ h)) node → next_row c (member_at x h even odd node) ≡ row_for c.told.rows node.id
   unfolding member_at next_row
@@ -98,7 +99,9 @@ module _
         active_odd = late.state ∙ status_even x (told_of after) even2.told node.id even_after ∙ goes.active;
       }
 
-  next_sync : IsInSharpSync beside x.params flutter next even2.told.rows odd2.told.rows
+  next_sync :
+      All (λ row. row.state ≡ Active) even2.told.rows × All (λ row. row.state ≡ Active) odd2.told.rows
+      × AreSharp x.params to.rows.starts to.rows.lengths next even2.told.rows
   unfolding member_at
   next_sync =
       let p = x.params in
@@ -125,8 +128,10 @@ module _
       let ascend = rows_ascend x (odd ∷ even ∷ h) s.rows.covered.sane in
       let evens : map (next_row even2) members ≡ even2.told.rows = rows even2 ∙ rows_are nodes even2.told.rows ascend s.later.two.even_rows.nodes in
       let odds : map (next_row odd2) members ≡ odd2.told.rows = rows odd2 ∙ rows_are nodes odd2.told.rows ascend s.later.two.odd_rows.nodes in
-      let Even : List NodeRow → Type 0 = λ rows. IsInSharpSync beside p flutter next rows (map (next_row odd2) members) in
-      let Odd : List NodeRow → Type 0 = λ rows. IsInSharpSync beside p flutter next even2.told.rows rows in
+      let Even : List NodeRow → Type 0 = λ rows.
+      All (λ row. row.state ≡ Active) rows × All (λ row. row.state ≡ Active) (map (next_row odd2) members) × AreSharp p to.rows.starts to.rows.lengths next rows in
+      let Odd : List NodeRow → Type 0 = λ rows.
+      All (λ row. row.state ≡ Active) even2.told.rows × All (λ row. row.state ≡ Active) rows × AreSharp p to.rows.starts to.rows.lengths next even2.told.rows in
       subst Odd odds (subst Even evens (s.kept.next_rows members (next_row even2) (next_row odd2) each))
 
   -- ---- those that follow
@@ -142,19 +147,19 @@ module _
   second_moves : (node : NodeSpec) → Contains (followers_since x (odd ∷ even ∷ h) 2 (suc double)) node
       → Moves x.params (follower_hearer x even odd node.id) (row_for even2.followers node.id) (row_for odd2.followers node.id)
   second_moves node second =
-      follower_moves beside x flutter beyond next h even odd even2 odd2 double s node (is_since x h 1 double node (s.succeeded.seconds_from node second)) (is_since x (odd ∷ even ∷ h) 2 (suc double) node second)
+      follower_moves x flutter now to apart reach beyond next h even odd even2 odd2 double s node (is_since x h 1 double node (s.succeeded.seconds_from node second)) (is_since x (odd ∷ even ∷ h) 2 (suc double) node second)
 
   second_start : (row node : NodeSpec) → Contains (row_nodes x (odd ∷ even ∷ h)) row → Contains (followers_since x (odd ∷ even ∷ h) 2 (suc double)) node
-      → IsWithin (pos (sharp_second_apart beside x.params flutter)) ((row_for even2.told.rows row.id).start -ℤ (row_for even2.followers node.id).start)
+      → IsWithin (pos to.seconds) ((row_for even2.told.rows row.id).start -ℤ (row_for even2.followers node.id).start)
   unfolding member_at
   second_start row node among second =
       let goes = move row among in
       let moves = second_moves node second in
-      same_apart (pos (sharp_second_apart beside x.params flutter)) (row_for even2.told.rows row.id).start (row_for even2.followers node.id).start _ _ goes.moves.start moves.start
+      same_apart (pos to.seconds) (row_for even2.told.rows row.id).start (row_for even2.followers node.id).start _ _ goes.moves.start moves.start
       (s.kept.second_starts (member_at x h even odd row) (member_from x.params (follower_hearer x even odd node.id)) goes.will (first_member node (s.succeeded.seconds_from node second)))
 
   second_last : (row node : NodeSpec) → Contains (row_nodes x (odd ∷ even ∷ h)) row → Contains (followers_since x (odd ∷ even ∷ h) 2 (suc double)) node
-      → IsWithin (pos (sharp_lambda beside x.params flutter)) (cycle_length_of x.params (row_for even2.told.rows row.id) -ℤ cycle_length_of x.params (row_for even2.followers node.id))
+      → IsWithin (pos to.rows.lengths) (cycle_length_of x.params (row_for even2.told.rows row.id) -ℤ cycle_length_of x.params (row_for even2.followers node.id))
   unfolding member_at
   second_last row node among second =
       let p = x.params in
@@ -165,7 +170,7 @@ module _
       (next_even_of p (follower_hearer x even odd node.id) (row_for even2.followers node.id) (row_for odd2.followers node.id) (second_moves node second))
 
   second_lasts_too : (other node : NodeSpec) → Contains (followers_since x (odd ∷ even ∷ h) 2 (suc double)) other → Contains (followers_since x (odd ∷ even ∷ h) 2 (suc double)) node
-      → IsWithin (pos (sharp_lambda beside x.params flutter)) (cycle_length_of x.params (row_for even2.followers other.id) -ℤ cycle_length_of x.params (row_for even2.followers node.id))
+      → IsWithin (pos to.rows.lengths) (cycle_length_of x.params (row_for even2.followers other.id) -ℤ cycle_length_of x.params (row_for even2.followers node.id))
   second_lasts_too other node also second =
       let p = x.params in
       s.kept.second_lasts (member_from p (follower_hearer x even odd other.id)) (member_from p (follower_hearer x even odd node.id)) (row_for even2.followers other.id) (row_for even2.followers node.id)
@@ -187,7 +192,7 @@ module _
       let begins = s.succeeded.firsts_from node since in
       let found = caught_at x flutter beyond h even odd double node begins.join begins.caught s.rows s.joined.rows s.referenced correct begins.joins begins.begins in
       let first = row_runs_by (follower_laws x after) (follower_offset p after even2.follower_devs) (following_nodes x after) even2.followers node s.later.two.even_followers among in
-      let at = follower_two x after even2 odd2 node s.later.two (parity beside x flutter beyond next h even odd even2 odd2 double s) among in
+      let at = follower_two x after even2 odd2 node s.later.two (parity x flutter now to apart reach beyond next h even odd even2 odd2 double s) among in
       let rate = first.rate ∙ rate_begun x (even ∷ h) odd node.id begins.join begins.caught begins.no_row begins.no_follower begins.joins begins.begins in
       let early = proper_in x double flutter node (suc (suc (length h))) (row_for even2.followers node.id).length covered correct (omega (arith, counted)) (omega (arith, less)) at.even_length in
       let late = proper_in x double flutter node (suc (suc (suc (length h)))) (row_for odd2.followers node.id).length covered correct (omega (arith, counted)) less at.odd_length in
@@ -208,16 +213,16 @@ module _
       }
 
   first_start : (row node : NodeSpec) → Contains (row_nodes x (odd ∷ even ∷ h)) row → Contains (followers_since x (odd ∷ even ∷ h) 1 (suc double)) node
-      → IsWithin (pos (sharp_first_apart beside x.params flutter)) ((row_for even2.told.rows row.id).start -ℤ (row_for even2.followers node.id).start)
+      → IsWithin (pos to.firsts.starts) ((row_for even2.told.rows row.id).start -ℤ (row_for even2.followers node.id).start)
   unfolding member_at
   first_start row node among since =
       let goes = move row among in
       let first = first_at node since in
-      same_apart (pos (sharp_first_apart beside x.params flutter)) (row_for even2.told.rows row.id).start (row_for even2.followers node.id).start _ _ goes.moves.start first.begins.start
+      same_apart (pos to.firsts.starts) (row_for even2.told.rows row.id).start (row_for even2.followers node.id).start _ _ goes.moves.start first.begins.start
       (s.kept.first_starts (member_at x h even odd row) first.caught first.reference s.joins goes.will first.there first.is_caught)
 
   first_last : (row node : NodeSpec) → Contains (row_nodes x (odd ∷ even ∷ h)) row → Contains (followers_since x (odd ∷ even ∷ h) 1 (suc double)) node
-      → IsWithin (pos (sharp_first_lengths beside x.params flutter)) (cycle_length_of x.params (row_for even2.told.rows row.id) -ℤ cycle_length_of x.params (row_for even2.followers node.id))
+      → IsWithin (pos to.firsts.lengths) (cycle_length_of x.params (row_for even2.told.rows row.id) -ℤ cycle_length_of x.params (row_for even2.followers node.id))
   unfolding member_at
   first_last row node among since =
       let goes = move row among in
@@ -226,7 +231,7 @@ module _
       (next_even_of x.params (hearer_by x even odd (has_row x h row.id) row.id) (row_for even2.told.rows row.id) (row_for odd2.told.rows row.id) goes.moves) first.there first.is_caught first.begins
 
   first_lasts_too : (other node : NodeSpec) → Contains (followers_since x (odd ∷ even ∷ h) 2 (suc double)) other → Contains (followers_since x (odd ∷ even ∷ h) 1 (suc double)) node
-      → IsWithin (pos (sharp_first_lengths beside x.params flutter)) (cycle_length_of x.params (row_for even2.followers other.id) -ℤ cycle_length_of x.params (row_for even2.followers node.id))
+      → IsWithin (pos to.firsts.lengths) (cycle_length_of x.params (row_for even2.followers other.id) -ℤ cycle_length_of x.params (row_for even2.followers node.id))
   first_lasts_too other node second since =
       let first = first_at node since in
       s.kept.first_lasts (member_from x.params (follower_hearer x even odd other.id)) first.caught first.reference (row_for even2.followers other.id) (row_for even2.followers node.id) (row_for odd2.followers node.id) s.joins
@@ -249,7 +254,7 @@ module _
 
   -- ---- where they all lie
 
-  next_placed : IsSharpPlacing beside x.params flutter next (group_of x.params (hearers_of x (odd ∷ even ∷ h) even2 odd2 (suc double)))
+  next_placed : IsSteadyPlacing x.params to next (group_of x.params (hearers_of x (odd ∷ even ∷ h) even2 odd2 (suc double)))
   next_placed =
       let p = x.params in
       let after = odd ∷ even ∷ h in
@@ -258,40 +263,40 @@ module _
       let firsts = followers_since x after 1 (suc double) in
       let row : NodeSpec → Hearer = λ n. row_hearer x even2 odd2 n.id in
       let follower : NodeSpec → Hearer = λ n. follower_hearer x even2 odd2 n.id in
-      let Sharp : List NodeRow → Type 0 = λ evens. AreSharp p (sharp_pi beside p flutter) (sharp_lambda beside p flutter) next evens in
+      let Sharp : List NodeRow → Type 0 = λ evens. AreSharp p to.rows.starts to.rows.lengths next evens in
       record {
-        sharp = subst Sharp (sym (evens_are x flutter after even2 odd2 (suc double) s.later)) next_sync.rows;
+        sharp = subst Sharp (sym (evens_are x flutter after even2 odd2 (suc double) s.later)) next_sync.2;
         seconds_start =
             λ one node here there.
             let a = spec_of p row rows one here in
             let b = spec_of p follower seconds node there in
-            both_moved (StartApart (sharp_second_apart beside p flutter)) (member_from p (row a.0)) one (member_from p (follower b.0)) node a.2 b.2 (second_start a.0 b.0 a.1 b.1);
+            both_moved (StartApart to.seconds) (member_from p (row a.0)) one (member_from p (follower b.0)) node a.2 b.2 (second_start a.0 b.0 a.1 b.1);
         seconds_last =
             λ one node here there.
             let b = spec_of p follower seconds node there in
             elim here [
               | inl at ↦
                   let a = spec_of p row rows one at in
-                  both_moved (LastApart p (sharp_lambda beside p flutter)) (member_from p (row a.0)) one (member_from p (follower b.0)) node a.2 b.2 (second_last a.0 b.0 a.1 b.1)
+                  both_moved (LastApart p to.rows.lengths) (member_from p (row a.0)) one (member_from p (follower b.0)) node a.2 b.2 (second_last a.0 b.0 a.1 b.1)
               | inr at ↦
                   let a = spec_of p follower seconds one at in
-                  both_moved (LastApart p (sharp_lambda beside p flutter)) (member_from p (follower a.0)) one (member_from p (follower b.0)) node a.2 b.2 (second_lasts_too a.0 b.0 a.1 b.1)
+                  both_moved (LastApart p to.rows.lengths) (member_from p (follower a.0)) one (member_from p (follower b.0)) node a.2 b.2 (second_lasts_too a.0 b.0 a.1 b.1)
             ];
         firsts_start =
             λ one node here there.
             let a = spec_of p row rows one here in
             let b = spec_of p follower firsts node there in
-            both_moved (StartApart (sharp_first_apart beside p flutter)) (member_from p (row a.0)) one (member_from p (follower b.0)) node a.2 b.2 (first_start a.0 b.0 a.1 b.1);
+            both_moved (StartApart to.firsts.starts) (member_from p (row a.0)) one (member_from p (follower b.0)) node a.2 b.2 (first_start a.0 b.0 a.1 b.1);
         firsts_last =
             λ one node here there.
             let b = spec_of p follower firsts node there in
             elim here [
               | inl at ↦
                   let a = spec_of p row rows one at in
-                  both_moved (LastApart p (sharp_first_lengths beside p flutter)) (member_from p (row a.0)) one (member_from p (follower b.0)) node a.2 b.2 (first_last a.0 b.0 a.1 b.1)
+                  both_moved (LastApart p to.firsts.lengths) (member_from p (row a.0)) one (member_from p (follower b.0)) node a.2 b.2 (first_last a.0 b.0 a.1 b.1)
               | inr at ↦
                   let a = spec_of p follower seconds one at in
-                  both_moved (LastApart p (sharp_first_lengths beside p flutter)) (member_from p (follower a.0)) one (member_from p (follower b.0)) node a.2 b.2 (first_lasts_too a.0 b.0 a.1 b.1)
+                  both_moved (LastApart p to.firsts.lengths) (member_from p (follower a.0)) one (member_from p (follower b.0)) node a.2 b.2 (first_lasts_too a.0 b.0 a.1 b.1)
             ];
       }
     where
@@ -300,34 +305,33 @@ module _
           let First : Member → Type 0 = λ m. R m node in
           subst First same (subst (R a) also holds)
 
-pub joined_doubles_go_on : JoinedDoublesGoOn
-joined_doubles_go_on beside x from flutter h double earlier even odd even2 odd2 beyond walk next w late d n suffices g =
-    let part = joined_part beside x from flutter h w in
+pub followed_doubles_go_on : FollowedDoublesGoOn
+followed_doubles_go_on x from flutter h double earlier even odd even2 odd2 now to apart reach beyond next part referenced late d joins suffices g kept =
     let before = prior_of h double earlier even odd even2 odd2 d in
-    let rows = lawful_rows_from x from flutter h part double late earlier even odd before in
-    let later = lawful_rows_from x from flutter h part (suc double) (omega (arith, late)) (odd ∷ even ∷ earlier) even2 odd2 d in
+    let rows = timed_rows_from x from flutter h part double late earlier even odd before in
+    let later = timed_rows_from x from flutter h part (suc double) (omega (arith, late)) (odd ∷ even ∷ earlier) even2 odd2 d in
     let succeeded = nodes_succeed x earlier even odd even2 double rows.counted rows.even_runs rows.odd_runs later.even_runs in
-    let s : IsSharpStep beside x flutter beyond next earlier even odd even2 odd2 double = record {
-      joined = g;
-      referenced = w.referenced;
-      rows = rows;
-      later = later;
-      succeeded = succeeded;
-      joins = n.joins;
-      kept = joined_doubles_are_kept beside x from flutter h double earlier even odd beyond walk next w late before n g;
-    } in
-    let sync = next_sync beside x flutter beyond next earlier even odd even2 odd2 double s in
+    let s : IsFollowedStep x flutter now to apart reach beyond next earlier even odd even2 odd2 double =
+    record { joined = g; referenced = referenced; rows = rows; later = later; succeeded = succeeded; joins = joins; kept = kept } in
+    let sync = next_sync x flutter now to apart reach beyond next earlier even odd even2 odd2 double s in
     record {
-      active_even = sync.active_even;
-      active_odd = sync.active_odd;
+      active_even = sync.0;
+      active_odd = sync.1;
       rows = record {
-        rates = rates_in_limit x flutter (odd ∷ even ∷ earlier) even2 odd2 (suc double) later next suffices sync.rows.about;
-        about = sync.rows.about;
+        rates = rates_in_limit x flutter (odd ∷ even ∷ earlier) even2 odd2 (suc double) later next suffices sync.2.about;
+        about = sync.2.about;
       };
-      placed = next_placed beside x flutter beyond next earlier even odd even2 odd2 double s;
-      follower_rates = next_follower_rate beside x flutter beyond next earlier even odd even2 odd2 double s;
+      placed = next_placed x flutter now to apart reach beyond next earlier even odd even2 odd2 double s;
+      follower_rates = next_follower_rate x flutter now to apart reach beyond next earlier even odd even2 odd2 double s;
       fresh =
           λ node correct has.
           let fresh = succeeded.fresh_from node correct has in
           outcomes_none x earlier even odd double node.id rows.counted fresh.1 ∙ g.fresh node correct fresh.0;
     }
+
+pub joined_doubles_go_on : JoinedDoublesGoOn
+joined_doubles_go_on beside x from flutter h double earlier even odd even2 odd2 beyond walk next w late d n suffices g =
+    let sharp = sharp_group_spread beside x.params flutter in
+    followed_doubles_go_on x from flutter h double earlier even odd even2 odd2 sharp sharp (sharp_precision beside x.params flutter) (pos (sharp_reach beside x.params flutter)) beyond next
+    (joined_part beside x from flutter h w) w.referenced late d n.joins suffices g
+    (joined_doubles_are_kept beside x from flutter h double earlier even odd beyond walk next w late (prior_of h double earlier even odd even2 odd2 d) n g)

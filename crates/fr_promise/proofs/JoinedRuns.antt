@@ -61,7 +61,7 @@ use Rattle.fr_promise.proofs.JoinBounds.{sharp_join_checks_suffice_lem}
 use Rattle.fr_promise.proofs.JoinedDoubles.{joined_doubles_are_kept, joined_is_in_sharp_sync, joined_part, unfollowed_is_joined}
 use Rattle.fr_promise.proofs.JoinedNext.{joined_doubles_go_on}
 use Rattle.fr_promise.proofs.JoinedUncut.{even_uncut, odd_uncut, terms_within}
-use Rattle.fr_runs.proofs.RowsSupplied.{lawful_rows_from, LawfulRows}
+use Rattle.fr_runs.proofs.RowsSupplied.{timed_rows_from, LawfulRows}
 use Rattle.fr_promise.proofs.RunDoubles.{rows_lie}
 
 -- ---- numbers
@@ -191,7 +191,7 @@ module _ (beside : Bool) (x : Setting) (from flutter : ℕ) (h : Cycles) (w : Is
       (k : ℕ) (behind : from ≤ k) (beyond walk next : ℤ) (earlier : Cycles) (even odd : Cycle) (d : IsDoubleOf h k earlier even odd) (n : WalksJoined beside x flutter beyond walk next)
       (g : IsJoinedDouble beside x flutter beyond earlier even odd k) where
     lawful : LawfulRows x flutter earlier even odd k
-    lawful = lawful_rows_from x from flutter h (joined_part beside x from flutter h w) k behind earlier even odd d
+    lawful = timed_rows_from x from flutter h (joined_part beside x from flutter h w) k behind earlier even odd d
 
     kept :
         IsSharpGroupKept beside x.params flutter beyond next (senders_of (round_at x earlier even odd)) (group_of x.params (hearers_of x earlier even odd k))

@@ -13,17 +13,16 @@ use Rattle.fr_precision.specs.Round.{offsets_of, rates_of, senders_of, Hearer, I
 use Rattle.fr_precision.specs.Step.{Member}
 use Rattle.fr_runs.specs.Group.{IsOf}
 use Rattle.fr_runs.specs.Hearers.{group_of, member_from, Hearers, IsOneOf}
-use Rattle.fr_bound.specs.SharpBounds.{last_action, near_by, sharp_lambda, sharp_pi}
+use Rattle.fr_bound.specs.SharpBounds.{last_action}
 use Rattle.fr_precision.specs.Lengths.{KeepSenders}
 use Rattle.fr_precision.specs.SharpRound.{IsRoundInReach}
 use Rattle.fr_precision.specs.SharpStep.{ComputesSharply, IsSharpDouble}
-use Rattle.fr_promise.specs.SharpJoining.{sharp_first_apart, sharp_first_lengths, sharp_reach, sharp_second_apart}
-use Rattle.fr_promise.specs.SharpGroup.{IsSharpRoundFollowed, SharpRoundsAreFollowed}
+use Rattle.fr_promise.specs.SharpJoining.{sharp_group_spread, GroupSpread}
+use Rattle.fr_promise.specs.SharpGroup.{IsSteadyRoundFollowed, SharpRoundsAreFollowed, SteadyRoundsAreFollowed}
 use Rattle.fr_precision.proofs.BoundLemmas.{key_slots_act_early}
 use Rattle.fr_precision.proofs.HearingLemmas.{hearers_keep_senders, hears_all_steadily}
-use Rattle.fr_promise.proofs.JoinBounds.{followers_come_nearer_lem}
 use Rattle.fr_precision.proofs.RoundLemmas.{rounds_in_reach_are_sharp, contains_map, map_contains}
-use Rattle.fr_promise.proofs.SharpGrouped.{apart_reached, in_natural}
+use Rattle.fr_promise.proofs.SharpGrouped.{apart_reached}
 use Rattle.fr_precision.proofs.StepLemmas.{nodes_near, Double}
 
 no_less : (n : ℕ) → pos 0 ≤ℤ pos n
@@ -32,7 +31,9 @@ no_less n = omega (arith, ints)
 no_more : (a b : ℕ) → a ≤ b → pos a ≤ℤ pos b
 no_more a b le = omega (arith, ints, le)
 
-module _ (beside : Bool) (r : Round) (flutter : ℕ) (beyond walk : ℤ) (g : Hearers) (reach : ℤ) (s : IsSharpRoundFollowed beside r flutter beyond walk g reach) where
+module _
+    (beside : Bool) (r : Round) (flutter : ℕ) (now : GroupSpread) (beyond walk : ℤ) (g : Hearers) (reach : ℤ)
+    (s : IsSteadyRoundFollowed beside r flutter now beyond walk g reach) where
   -- ---- receivers and nodes of the step
 
   is_of : (n : Hearer) → IsOneOf g n → IsOf (group_of r.params g) (member_from r.params n)
@@ -53,20 +54,19 @@ module _ (beside : Bool) (r : Round) (flutter : ℕ) (beyond walk : ℤ) (g : He
 
   -- ---- each is within reach of those with rows
 
-  double : Double r.params (sharp_pi beside r.params flutter) (sharp_lambda beside r.params flutter) beyond (group_of r.params g).rows
+  double : Double r.params now.rows.starts now.rows.lengths beyond (group_of r.params g).rows
   double = record { sane = s.round.sane; sharp = s.placed.sharp; regular = λ node here. regular node (inl (inl here)) }
 
   reached : (is_odd : Bool) (row node : Member) (action : ℤ) → Contains (group_of r.params g).rows row → IsOf (group_of r.params g) node → pos 0 ≤ℤ action → action ≤ℤ pos (last_action r.params)
       → IsWithin reach (gap_of r.params is_odd action (row_in is_odd row.even row.odd) (row_in is_odd node.even node.odd))
   reached is_odd row node action there (inl (inl here)) from to =
-      let near = nodes_near r.params (sharp_pi beside r.params flutter) (sharp_lambda beside r.params flutter) beyond (group_of r.params g).rows double row node there here in
-      apart_reached r.params (sharp_pi beside r.params flutter) (sharp_lambda beside r.params flutter) reach is_odd row node action s.round.sane s.takes.fits (regular row (inl (inl there))) (regular node (inl (inl here))) near.by_start near.by_even from to
+      let near = nodes_near r.params now.rows.starts now.rows.lengths beyond (group_of r.params g).rows double row node there here in
+      apart_reached r.params now.rows.starts now.rows.lengths reach is_odd row node action s.round.sane s.takes.fits (regular row (inl (inl there))) (regular node (inl (inl here))) near.by_start near.by_even from to
   reached is_odd row node action there (inl (inr here)) from to =
-      apart_reached r.params (sharp_second_apart beside r.params flutter) (sharp_lambda beside r.params flutter) reach is_odd row node action s.round.sane
-      (in_natural (near_by r.params (sharp_second_apart beside r.params flutter) (sharp_lambda beside r.params flutter)) (sharp_reach beside r.params flutter) reach (followers_come_nearer_lem beside r.params flutter s.round.sane).2 (s.takes.fits_followers node (inl here)))
-      (regular row (inl (inl there))) (regular node (inl (inr here))) (s.placed.seconds_start row node there here) (s.placed.seconds_last row node (inl there) here) from to
+      apart_reached r.params now.seconds now.rows.lengths reach is_odd row node action s.round.sane
+      (s.takes.fits_seconds node here) (regular row (inl (inl there))) (regular node (inl (inr here))) (s.placed.seconds_start row node there here) (s.placed.seconds_last row node (inl there) here) from to
   reached is_odd row node action there (inr here) from to =
-      apart_reached r.params (sharp_first_apart beside r.params flutter) (sharp_first_lengths beside r.params flutter) reach is_odd row node action s.round.sane (s.takes.fits_followers node (inr here))
+      apart_reached r.params now.firsts.starts now.firsts.lengths reach is_odd row node action s.round.sane (s.takes.fits_firsts node here)
       (regular row (inl (inl there))) (regular node (inr here)) (s.placed.firsts_start row node there here) (s.placed.firsts_last row node (inl there) here) from to
 
   rows_in_reach : IsRoundInReach beside r flutter reach g.rows
@@ -134,19 +134,25 @@ module _ (beside : Bool) (r : Round) (flutter : ℕ) (beyond walk : ℤ) (g : He
       let First : Member → Type 0 = λ a. Keep a other in
       subst First first.2 (subst (Keep (member_from r.params first.0)) second.2 kept)
 
+pub steady_rounds_are_followed : SteadyRoundsAreFollowed
+steady_rounds_are_followed beside r flutter now beyond walk g reach s =
+    let rows = rows_sharp beside r flutter now beyond walk g reach s in (
+      record {
+        sane = s.round.sane;
+        walks = s.walks;
+        takes = s.takes;
+        among = rows.among;
+        acts = rows.acts;
+        placed = s.placed;
+      },
+      record {
+        computes =
+            λ node here.
+            let n = hearer_of beside r flutter now beyond walk g reach s node here in
+            subst (ComputesSharply r.params flutter (senders_of r)) n.2 (computes_at beside r flutter now beyond walk g reach s n.0 n.1);
+        keep = keep beside r flutter now beyond walk g reach s;
+      },
+    )
+
 pub sharp_rounds_are_followed : SharpRoundsAreFollowed
-sharp_rounds_are_followed beside r flutter beyond walk g reach s =
-    let rows = rows_sharp beside r flutter beyond walk g reach s in
-    record {
-      sane = s.round.sane;
-      walks = s.walks;
-      takes = s.takes;
-      among = rows.among;
-      acts = rows.acts;
-      placed = s.placed;
-      computes =
-          λ node here.
-          let n = hearer_of beside r flutter beyond walk g reach s node here in
-          subst (ComputesSharply r.params flutter (senders_of r)) n.2 (computes_at beside r flutter beyond walk g reach s n.0 n.1);
-      keep = keep beside r flutter beyond walk g reach s;
-    }
+sharp_rounds_are_followed beside r flutter = steady_rounds_are_followed beside r flutter (sharp_group_spread beside r.params flutter)

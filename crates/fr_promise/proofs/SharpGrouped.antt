@@ -1,9 +1,10 @@
 -- The sharper step of a cluster that nodes join.
-use Rattle.std.proofs.Common.{◌≡◌, ℕ, ◌+◌, ◌-◌, ◌*◌, ◌/◌, ◌≤◌, Bool, true, false, ℤ, pos, List, length, map, All, refl, inl, inr, arith}
-use Rattle.std.specs.Prelude.{◌+ℤ◌, ◌-ℤ◌, ◌*ℤ◌, ◌≤ℤ◌, Contains}
+use Rattle.std.proofs.Common.{◌≡◌, ℕ, ◌+◌, ◌-◌, ◌*◌, ◌/◌, ◌≤◌, Bool, true, false, ℤ, pos, List, ◌++◌, map, All, refl, sym, subst, inl, inr, arith}
+use Rattle.std.specs.Prelude.{◌⊎◌, ◌+ℤ◌, ◌-ℤ◌, ◌*ℤ◌, ◌≤ℤ◌, Contains}
 use Rattle.std.proofs.lemmas.Int.{ints}
 use Rattle.std.proofs.lemmas.List.Elements.{All-contains, All-contains_itself, All-map}
 use Rattle.fr_base.specs.declared.node_row.NodeRow.{NodeRow}
+use Rattle.fr_base.specs.declared.state.Outcome.TheVariants.{Within}
 use Rattle.fr_base.specs.declared.state.State.TheVariants.{Active}
 use Rattle.fr_base.specs.Within.{IsBetween, IsWithin}
 use Rattle.fr_cluster.specs.Values.{Values, amount}
@@ -11,68 +12,91 @@ use Rattle.fr_cluster.specs.Sane.{IsSane}
 use Rattle.fr_cluster.specs.declared.names.ParamName.TheVariants as name
 use Rattle.fr_time.specs.Position.{floor_of}
 use Rattle.fr_reception.specs.Listening.{first_start_of}
+use Rattle.fr_bound.specs.declared.judging.Heard.{Heard}
+use Rattle.fr_bound.specs.declared.judging.Heard.TheVariants.{Clean, Meeting, Poor}
+use Rattle.fr_bound.specs.declared.judging.Heard.TheVariants as heard
 use Rattle.fr_bound.specs.Bounds.{arrival_error, cycle_change, longest_micro}
+use Rattle.fr_bound.specs.SharpSpreads.{lost_lengths}
 use Rattle.fr_bound.specs.Sync.{cycle_length_of}
-use Rattle.fr_precision.specs.Rows.{corrected_end_of, end_of, AreNear, Sender}
-use Rattle.fr_precision.specs.Instants.{gap_of, row_in}
+use Rattle.fr_precision.specs.Rows.{corrected_end_of, end_of, Sender}
+use Rattle.fr_precision.specs.Instants.{gap_of, row_in, LieNear}
+use Rattle.fr_precision.specs.Offsets.{IsOffsetRound, IsSending, NearAll}
 use Rattle.fr_precision.specs.Placement.{IsRegular}
 use Rattle.fr_precision.specs.Step.{IsAmong, IsFollowed, Member}
 use Rattle.fr_precision.proofs.InstantLaws.{wider}
 use Rattle.fr_precision.proofs.OffsetLaws.{offset_terms_are_uncut}
 use Rattle.fr_precision.proofs.Senders.{All-along}
 use Rattle.fr_runs.specs.Group.{Group, IsOf, WillHaveRow}
-use Rattle.fr_bound.specs.SharpBounds.{last_action, near_by, odd_spread, sharp_lambda, sharp_pi, sharp_precision, steady_error, wide_change}
-use Rattle.fr_precision.specs.Lengths.{EvensAreAbout, LengthsCome, next_length_error}
+use Rattle.fr_bound.specs.SharpBounds.{last_action, near_by, odd_spread, sharp_precision, steady_error, wide_change}
+use Rattle.fr_precision.specs.Lengths.{EvensAreAbout, IsNextEven, WalksOn, next_length_error}
 use Rattle.fr_precision.specs.Ends.{EndsCome, SendApart, TakesOffsets}
-use Rattle.fr_precision.specs.SharpStep.{ComeSharply, ComputesSharply, IsInSharpSync, IsSharpDouble, IsSharpLimit}
-use Rattle.fr_promise.specs.SharpJoining.{sharp_first_apart, sharp_first_lengths, sharp_reach, sharp_second_apart}
-use Rattle.fr_promise.specs.SharpGroup.{IsSharpGroup, LastApart, SharpGroupsAreKept, StartApart}
+use Rattle.fr_precision.specs.Among.{GoesTo, HearInCommon, LieAcross}
+use Rattle.fr_precision.specs.SharpStep.{ActInReach, AreSharp, ComeSharply, DrawsTo, IsSharpLimit}
+use Rattle.fr_promise.specs.SharpJoining.{all_heard, second_apart_by, sharp_group_spread, GroupGoesTo, GroupSpread}
+use Rattle.fr_promise.specs.SharpGroup.{AllIsHeard, EachHears, GroupHears, IsSteadyGroup, LastApart, SharpGroupsAreKept, StartApart, SteadyGroupsAreKept}
+use Rattle.fr_precision.proofs.AmongSteps.{sends}
 use Rattle.fr_precision.proofs.BoundLemmas.{floor_is, key_slots_act_early}
-use Rattle.fr_precision.proofs.EndLemmas.{corrected_end_is_near, ends_come_near_lem}
-use Rattle.fr_promise.proofs.JoinBounds.{followers_come_nearer_lem, lengths_nearer}
-use Rattle.fr_precision.proofs.LengthLemmas.{lengths_come_near_lem, next_length_is_near, range_walks}
+use Rattle.fr_precision.proofs.EndLemmas.{end_is_near, ending_of, ends_come_among_lem, ends_come_near_lem, Ending}
+use Rattle.fr_promise.proofs.JoinBounds.{sharp_group_spread_goes}
+use Rattle.fr_precision.proofs.LengthLemmas.{lengths_come_among_lem, lengths_come_near_lem, near_length, range_walks}
+use Rattle.fr_precision.proofs.MeetingSteps.{ends_come, lengths_come, lengths_itself, none_apart, of_one, of_other}
 use Rattle.fr_precision.proofs.NearLemmas.{actions_lie_near, odd_lengths_follow}
 use Rattle.fr_promise.proofs.SharpListened.{sharp_first_length_is_near, sharp_first_start_is_near}
-use Rattle.fr_precision.proofs.StepLemmas.{among_rows, double_of, ends_fit, le_itself, macroticks_stay_sharp, next_is_near, nodes_near, receivers_come_sharply, runs_of, send_apart, senders_about, sharp_sync_draws, some_senders, turned, Double}
+use Rattle.fr_precision.proofs.StepLemmas.{among_rows, ends_fit, le_itself, lengths_by, macroticks_stay_sharp, next_is_near, nodes_near, runs_of, senders_about, senders_near, some_senders, turned, Double}
 
 -- ---- numbers
 
+widen : (a b : ℕ) (x : ℤ) → a ≤ b → IsWithin (pos a) x → IsWithin (pos b) x
+widen a b x le near = record { low = omega (arith, ints, le, near.low); high = omega (arith, ints, le, near.high) }
+
 -- what two ends that come near are to the second start
-second_by : (beside : Bool) (p : Values) (flutter : ℕ) (apart : ℤ)
-    → EndsCome beside p (pos (sharp_pi beside p flutter)) (pos (sharp_lambda beside p flutter)) (pos (odd_spread p (sharp_first_lengths beside p flutter))) apart
-    → IsWithin (pos (sharp_second_apart beside p flutter)) apart
-second_by false p flutter apart come = step (odd_spread p (sharp_first_lengths false p flutter)) (arrival_error p) (longest_micro p) apart come
+second_by : (beside : Bool) (p : Values) (starts lengths first : ℕ) (apart : ℤ) → EndsCome beside p (pos starts) (pos lengths) (pos (odd_spread p first)) apart
+    → IsWithin (pos (second_apart_by (all_heard beside) p starts lengths first)) apart
+second_by false p starts lengths first apart come = step (odd_spread p first) (arrival_error p) (longest_micro p) apart come
   where
     step : (o e q : ℕ) (x : ℤ) → IsWithin (pos o +ℤ pos (2 * e + 3 * q)) x → IsWithin (pos (o + 2 * e + 3 * q)) x
     step o e q x near = record { low = omega (arith, ints, near.low); high = omega (arith, ints, near.high) }
-second_by true p flutter apart come = step (sharp_pi true p flutter) (sharp_lambda true p flutter) (odd_spread p (sharp_first_lengths true p flutter)) (arrival_error p) (longest_micro p) (sharp_second_apart true p flutter) apart refl come
+second_by true p starts lengths first apart come = step starts lengths (odd_spread p first) (arrival_error p) (longest_micro p) (second_apart_by (all_heard true) p starts lengths first) apart refl come
   where
     step : (s l o e q half : ℕ) (x : ℤ) → half ≡ (s + l + 2 * o + 4 * e + 7 * q) / 2 → IsWithin (pos s +ℤ pos l +ℤ (pos 2 *ℤ pos o) +ℤ pos (4 * e + 7 * q)) (pos 2 *ℤ x) → IsWithin (pos half) x
     step s l o e q half x is near = let most : s + l + 2 * o + 4 * e + 7 * q ≤ 2 * half + 1 = omega (arith, is) in record { low = omega (arith, ints, most, near.low); high = omega (arith, ints, most, near.high) }
 
--- what lengths that come near are to lambda
-lambda_by : (beside : Bool) (p : Values) (flutter : ℕ) (apart : ℤ) → LengthsCome beside p flutter (pos (sharp_lambda beside p flutter)) apart → IsWithin (pos (sharp_lambda beside p flutter)) apart
-lambda_by false p flutter apart come = come
-lambda_by true p flutter apart come = step (sharp_lambda true p flutter) apart come
+odds_wider : (p : Values) (a b : ℕ) → a ≤ b → odd_spread p a ≤ odd_spread p b
+odds_wider p a b le = step a b (cycle_change p) le
   where
-    step : (l : ℕ) (x : ℤ) → IsWithin (pos l +ℤ pos l) (pos 2 *ℤ x) → IsWithin (pos l) x
-    step l x near = record { low = omega (arith, ints, near.low); high = omega (arith, ints, near.high) }
+    step : (a b j : ℕ) → a ≤ b → a + 2 * j ≤ b + 2 * j
+    step a b j le = omega (arith, le)
+
+poor_sum : (s l o e q : ℕ) (x : ℤ) → IsWithin (pos s +ℤ pos l +ℤ pos o +ℤ pos (2 * e + 3 * q)) x → IsWithin (pos (s + l + o + 2 * e + 3 * q)) x
+poor_sum s l o e q x near = record { low = omega (arith, ints, near.low); high = omega (arith, ints, near.high) }
+
+lengths_sum : (l m n : ℕ) (x : ℤ) → l + m ≤ n → IsWithin (pos l +ℤ pos m) x → IsWithin (pos n) x
+lengths_sum l m n x le near = record { low = omega (arith, ints, near.low); high = omega (arith, ints, near.high) }
+
+-- the next starts take in those of nodes whose lengths lie as near as all
+starts_by : (what : Heard) (p : Values) (flutter starts lengths next_starts next_lengths : ℕ) → GoesTo what p flutter starts lengths next_starts next_lengths
+    → second_apart_by what p starts lengths lengths ≤ next_starts
+starts_by Clean p flutter starts lengths next_starts next_lengths goes = goes.0
+starts_by Meeting p flutter starts lengths next_starts next_lengths goes = half (starts + lengths + 2 * odd_spread p lengths + 4 * arrival_error p + 7 * longest_micro p) next_starts goes.0
+  where
+    half : (a n : ℕ) → a ≤ 2 * n + 1 → a / 2 ≤ n
+    half a n le = omega (arith, le)
+starts_by Poor p flutter starts lengths next_starts next_lengths goes = goes.0
+
+draws_by : (beside : Bool) (p : Values) (flutter starts lengths next_starts next_lengths : ℕ) → GoesTo (all_heard beside) p flutter starts lengths next_starts next_lengths
+    → DrawsTo beside p flutter starts lengths next_starts next_lengths
+draws_by false p flutter starts lengths next_starts next_lengths goes = goes
+draws_by true p flutter starts lengths next_starts next_lengths goes = goes
 
 -- a corrected end, a reference's end and a first start
-first_start_sum : (pi l j e t q : ℕ) (end other start : ℤ) → IsWithin (pos pi +ℤ pos l +ℤ pos (l + 2 * j) +ℤ pos (e + 2 * q)) (end -ℤ other) → IsWithin (pos (e + t + 2 * q + 2 * j)) (start -ℤ other)
-    → IsWithin (pos (pi + 2 * l + 4 * j + 2 * e + t + 4 * q)) (end -ℤ start)
-first_start_sum pi l j e t q end other start near also = record { low = omega (arith, ints, near.low, also.high); high = omega (arith, ints, near.high, also.low) }
+first_start_sum : (s l j e t q n : ℕ) (end other start : ℤ) → s + 2 * l + 4 * j + 2 * e + t + 4 * q ≤ n → IsWithin (pos s +ℤ pos l +ℤ pos (l + 2 * j) +ℤ pos (e + 2 * q)) (end -ℤ other)
+    → IsWithin (pos (e + t + 2 * q + 2 * j)) (start -ℤ other) → IsWithin (pos n) (end -ℤ start)
+first_start_sum s l j e t q n end other start le near also = record { low = omega (arith, ints, le, near.low, also.high); high = omega (arith, ints, le, near.high, also.low) }
 
 -- a next length, a reference's length and a first length
-first_length_sum : (l t q w c j k : ℕ) (next other first : ℤ) → k ≡ t + (q - 1) + w → IsWithin (pos l +ℤ pos (k + c + j)) (next -ℤ other) → IsWithin (pos (t + (q - 1) + 3 * j)) (first -ℤ other)
-    → IsWithin (pos (l + 2 * k + c + 4 * j)) (next -ℤ first)
-first_length_sum l t q w c j k next other first is near also = record { low = omega (arith, ints, is, near.low, also.high); high = omega (arith, ints, is, near.high, also.low) }
-
-no_less_than : (a b : ℕ) → a ≤ b → pos a ≤ℤ pos b
-no_less_than a b le = omega (arith, ints, le)
-
-pub in_natural : (a b : ℕ) (r : ℤ) → a ≤ b → pos b ≤ℤ r → pos a ≤ℤ r
-in_natural a b r le fits = omega (arith, ints, le, fits)
+first_length_sum : (l t q w c j k n : ℕ) (next other first : ℤ) → k ≡ t + (q - 1) + w → l + 2 * k + c + 4 * j ≤ n → IsWithin (pos l +ℤ pos (k + c + j)) (next -ℤ other)
+    → IsWithin (pos (t + (q - 1) + 3 * j)) (first -ℤ other) → IsWithin (pos n) (next -ℤ first)
+first_length_sum l t q w c j k n next other first is le near also = record { low = omega (arith, ints, is, le, near.low, also.high); high = omega (arith, ints, is, le, near.high, also.low) }
 
 -- what lies so near lies in the reach
 near_fits : (p : Values) (starts lengths : ℕ) (reach : ℤ) → IsSane p → pos (near_by p starts lengths) ≤ℤ reach
@@ -99,222 +123,403 @@ apart_reached p starts lengths reach is_odd row node action sane fits one other 
     from to (key_slots_act_early p sane).1
     )
 
--- senders lie within more than they do
-near_wider : (number : Sender → ℤ) (spread more : ℤ) (senders : List Sender) → spread ≤ℤ more → AreNear number spread senders → AreNear number more senders
-near_wider number spread more senders le near =
-    All-along (λ (one : Sender). All (λ (other : Sender). IsWithin spread (number one -ℤ number other)) senders)
-    (λ (one : Sender). All (λ (other : Sender). IsWithin more (number one -ℤ number other)) senders) senders
-    (λ one all.
-    All-along (λ (other : Sender). IsWithin spread (number one -ℤ number other)) (λ (other : Sender). IsWithin more (number one -ℤ number other)) senders
-    (λ other close. wider spread more (number one -ℤ number other) le close) all)
-    near
-
 -- ---- how near a node lies to the nodes with rows
 
--- a node lies so near each node with a row, and the reach takes that in
-pub record IsPlaced (p : Values) (rows : List Member) (starts lengths : ℕ) (reach : ℤ) (node : Member) : Type 0 where
-  pub start : (row : Member) → Contains rows row → StartApart starts row node
+-- a node's action points lie within reach of those of each node with a row, and its even length so near theirs
+pub record IsPlaced (p : Values) (rows : List Member) (lengths : ℕ) (reach : ℤ) (node : Member) : Type 0 where
+  pub reached :
+      (is_odd : Bool) (row : Member) (action : ℤ) → Contains rows row → pos 0 ≤ℤ action → action ≤ℤ pos (last_action p)
+      → IsWithin reach (gap_of p is_odd action (row_in is_odd row.even row.odd) (row_in is_odd node.even node.odd))
   pub last : (row : Member) → Contains rows row → LastApart p lengths row node
-  pub fits : pos (near_by p starts lengths) ≤ℤ reach
 
 module _
-    (beside : Bool) (p : Values) (flutter : ℕ) (beyond walk : ℤ) (senders : List Sender) (g : Group) (reach : ℤ)
-    (s : IsSharpGroup beside p flutter beyond walk senders g reach) where
+    (p : Values) (flutter : ℕ) (now : GroupSpread) (beyond walk : ℤ) (senders : List Sender) (g : Group) (reach : ℤ)
+    (s : IsSteadyGroup p flutter now beyond walk senders g reach) (wide : now.rows.lengths ≤ now.firsts.lengths)
+    (own : EachHears p flutter g) where
   row_of : (node : Member) → Contains g.rows node → IsOf g node
   row_of node here = inl (inl here)
-
-  heard : IsSharpDouble beside p flutter senders g.rows (pos (last_action p))
-  heard = record {
-    among = s.among;
-    acts = s.acts;
-    computes = All-along (Contains g.rows) (ComputesSharply p flutter senders) g.rows (λ node here. s.computes node (row_of node here)) (All-contains_itself g.rows);
-    keep = λ one other here there. s.keep one other (row_of one here) (row_of other there);
-  }
 
   limit : IsSharpLimit p flutter beyond walk reach (pos (last_action p))
   limit = record { sane = s.sane; walks = s.walks; suffices = s.takes.limit; early = (key_slots_act_early p s.sane).1 }
 
-  double : Double p (sharp_pi beside p flutter) (sharp_lambda beside p flutter) beyond g.rows
-  double = double_of beside p flutter senders g.rows (sharp_pi beside p flutter) (sharp_lambda beside p flutter) beyond (pos (last_action p)) s.sane s.placed.sharp heard
-
-  send : SendApart p (pos (sharp_pi beside p flutter)) (pos (sharp_lambda beside p flutter)) (pos (odd_spread p (sharp_lambda beside p flutter))) senders
-  send = send_apart beside p flutter senders g.rows (sharp_pi beside p flutter) (sharp_lambda beside p flutter) beyond walk reach (pos (last_action p)) limit double heard
-
-  send_wide : SendApart p (pos (sharp_pi beside p flutter)) (pos (sharp_lambda beside p flutter)) (pos (odd_spread p (sharp_first_lengths beside p flutter))) senders
-  send_wide = record {
-    sending = send.sending;
-    by_start = send.by_start;
-    by_even = send.by_even;
-    by_odd =
-        near_wider (λ sender. cycle_length_of p sender.odd) (pos (odd_spread p (sharp_lambda beside p flutter))) (pos (odd_spread p (sharp_first_lengths beside p flutter))) senders
-        (odds_wider (sharp_lambda beside p flutter) (sharp_first_lengths beside p flutter) (cycle_change p) (lengths_nearer beside p flutter)) send.by_odd;
-  }
-    where
-      odds_wider : (a b j : ℕ) → a ≤ b → pos (a + 2 * j) ≤ℤ pos (b + 2 * j)
-      odds_wider a b j le = omega (arith, ints, le)
-
-  about : EvensAreAbout p beyond senders
-  about = senders_about p (sharp_pi beside p flutter) (sharp_lambda beside p flutter) beyond g.rows senders double s.among
-
   regular : (node : Member) → IsOf g node → IsRegular p node.even node.odd
-  regular node here = (s.computes node here).regular
+  regular node here = (own node here).regular
 
-  some : (node : Member) → IsOf g node → 1 ≤ length senders
-  some node here = some_senders beside senders node.offsets node.offsets (s.keep node node here here).0
+  double : Double p now.rows.starts now.rows.lengths beyond g.rows
+  double = record { sane = s.sane; sharp = s.placed.sharp; regular = λ node here. regular node (row_of node here) }
 
-  -- ---- where the nodes lie
+  rows_near : (one other : Member) → Contains g.rows one → Contains g.rows other → LieNear p (pos now.rows.starts) (pos now.rows.lengths) (pos (odd_spread p now.rows.lengths)) one.even one.odd other.even other.odd
+  rows_near one other here there = nodes_near p now.rows.starts now.rows.lengths beyond g.rows double one other here there
 
-  row_placed : (node : Member) → Contains g.rows node → IsPlaced p g.rows (sharp_pi beside p flutter) (sharp_lambda beside p flutter) reach node
-  row_placed node here = record {
-    start = λ row there. (nodes_near p (sharp_pi beside p flutter) (sharp_lambda beside p flutter) beyond g.rows double row node there here).by_start;
-    last = λ row there. (nodes_near p (sharp_pi beside p flutter) (sharp_lambda beside p flutter) beyond g.rows double row node there here).by_even;
-    fits = s.takes.fits;
+  placed_by : (starts lengths : ℕ) (node : Member) → IsOf g node → pos (near_by p starts lengths) ≤ℤ reach → ((row : Member) → Contains g.rows row → StartApart starts row node)
+      → ((row : Member) → Contains g.rows row → LastApart p lengths row node) → IsPlaced p g.rows lengths reach node
+  placed_by starts lengths node here fits start last = record {
+    reached = λ is_odd row action there from to.
+        apart_reached p starts lengths reach is_odd row node action s.sane fits (regular row (row_of row there)) (regular node here) (start row there) (last row there) from to;
+    last = last;
   }
 
-  second_placed : (node : Member) → Contains g.seconds node → IsPlaced p g.rows (sharp_second_apart beside p flutter) (sharp_lambda beside p flutter) reach node
-  second_placed node here = record {
-    start = λ row there. s.placed.seconds_start row node there here;
-    last = λ row there. s.placed.seconds_last row node (inl there) here;
-    fits = in_natural (near_by p (sharp_second_apart beside p flutter) (sharp_lambda beside p flutter)) (sharp_reach beside p flutter) reach (followers_come_nearer_lem beside p flutter s.sane).2 (s.takes.fits_followers node (inl here));
-  }
+  will_placed : (node : Member) → WillHaveRow g node → IsPlaced p g.rows now.rows.lengths reach node
+  will_placed node (inl here) =
+      placed_by now.rows.starts now.rows.lengths node (inl (inl here)) s.takes.fits (λ row there. (rows_near row node there here).by_start) (λ row there. (rows_near row node there here).by_even)
+  will_placed node (inr here) =
+      placed_by now.seconds now.rows.lengths node (inl (inr here)) (s.takes.fits_seconds node here) (λ row there. s.placed.seconds_start row node there here)
+      (λ row there. s.placed.seconds_last row node (inl there) here)
 
-  first_placed : (node : Member) → Contains g.firsts node → IsPlaced p g.rows (sharp_first_apart beside p flutter) (sharp_first_lengths beside p flutter) reach node
-  first_placed node here = record {
-    start = λ row there. s.placed.firsts_start row node there here;
-    last = λ row there. s.placed.firsts_last row node (inl there) here;
-    fits = s.takes.fits_followers node (inr here);
-  }
+  all_placed : (node : Member) → IsOf g node → IsPlaced p g.rows now.firsts.lengths reach node
+  all_placed node (inl here) =
+      let placed = will_placed node here in
+      record {
+        reached = placed.reached;
+        last = λ row there. widen now.rows.lengths now.firsts.lengths (cycle_length_of p row.even -ℤ cycle_length_of p node.even) wide (placed.last row there);
+      }
+  all_placed node (inr here) =
+      placed_by now.firsts.starts now.firsts.lengths node (inr here) (s.takes.fits_firsts node here) (λ row there. s.placed.firsts_start row node there here)
+      (λ row there. s.placed.firsts_last row node (inl there) here)
 
-  -- so action points of a node lie within reach of those of each with a row
-  placed_reached : (starts lengths : ℕ) (is_odd : Bool) (row node : Member) (action : ℤ) → IsPlaced p g.rows starts lengths reach node → Contains g.rows row → IsOf g node → pos 0 ≤ℤ action → action ≤ℤ pos (last_action p)
-      → IsWithin reach (gap_of p is_odd action (row_in is_odd row.even row.odd) (row_in is_odd node.even node.odd))
-  placed_reached starts lengths is_odd row node action placed there here from to =
-      apart_reached p starts lengths reach is_odd row node action s.sane placed.fits (regular row (row_of row there)) (regular node here) (placed.start row there) (placed.last row there) from to
+  rows_act : ActInReach p reach (pos (last_action p)) g.rows
+  rows_act is_odd one other action here there from to = (will_placed other (inl there)).reached is_odd one action here from to
 
-  -- and it takes the senders' offsets, whose odd lengths lie so near its own
-  takes : (starts lengths : ℕ) (node : Member) → IsPlaced p g.rows starts lengths reach node → IsOf g node → TakesOffsets p senders reach (pos (odd_spread p lengths)) node.odd node.offsets node.offset_term
-  takes starts lengths node placed here = record {
+  lasts_near : (one other : Member) → WillHaveRow g one → WillHaveRow g other → LastApart p now.rows.lengths one other
+  lasts_near one other here (inr there) = s.placed.seconds_last one other here there
+  lasts_near one other (inl here) (inl there) = (rows_near one other here there).by_even
+  lasts_near one other (inr here) (inl there) = turned (pos now.rows.lengths) (cycle_length_of p other.even) (cycle_length_of p one.even) (s.placed.seconds_last other one (inl there) here)
+
+  -- ---- senders among the nodes with rows, and what a node takes from them
+
+  sends_one : (sender : Sender) → IsAmong g.rows sender → IsBetween (pos 0) (pos (last_action p)) sender.action → IsSending p sender
+  sends_one = sends p flutter g.rows now.rows.starts now.rows.lengths beyond walk reach (pos (last_action p)) limit rows_act double
+
+  sends_all : (others : List Sender) → All (IsAmong g.rows) others → All (λ sender. IsBetween (pos 0) (pos (last_action p)) sender.action) others → All (IsSending p) others
+  sends_all others among acts i d short = sends_one _ (among i d short) (acts i d short)
+
+  pair_near : (one other : Sender) → IsAmong g.rows one → IsAmong g.rows other
+      → LieNear p (pos now.rows.starts) (pos now.rows.lengths) (pos (odd_spread p now.rows.lengths)) one.even one.odd other.even other.odd
+  pair_near one other among also = senders_near p now.rows.starts now.rows.lengths beyond g.rows double one other among also
+
+  pair_odd : (lengths : ℕ) → now.rows.lengths ≤ lengths → (one other : Sender) → IsAmong g.rows one → IsAmong g.rows other
+      → IsWithin (pos (odd_spread p lengths)) (cycle_length_of p one.odd -ℤ cycle_length_of p other.odd)
+  pair_odd lengths le one other among also =
+      widen (odd_spread p now.rows.lengths) (odd_spread p lengths) (cycle_length_of p one.odd -ℤ cycle_length_of p other.odd) (odds_wider p now.rows.lengths lengths le)
+      (pair_near one other among also).by_odd
+
+  across : (number : Sender → ℤ) (bound : ℤ) (some others : List Sender) → All (IsAmong g.rows) some → All (IsAmong g.rows) others
+      → ((one other : Sender) → IsAmong g.rows one → IsAmong g.rows other → IsWithin bound (number one -ℤ number other)) → LieAcross number bound some others
+  across number bound some others among also near =
+      All-along (IsAmong g.rows) (λ one. All (λ (other : Sender). IsWithin bound (number one -ℤ number other)) others) some
+      (λ one is_among. All-along (IsAmong g.rows) (λ other. IsWithin bound (number one -ℤ number other)) others (λ other also_among. near one other is_among also_among) also) among
+
+  odd_near : (lengths : ℕ) (node : Member) → IsOf g node → IsPlaced p g.rows lengths reach node → (sender : Sender) → IsAmong g.rows sender
+      → IsWithin (pos (odd_spread p lengths)) (cycle_length_of p node.odd -ℤ cycle_length_of p sender.odd)
+  odd_near lengths node here placed sender among =
+      among_rows (λ even odd. IsWithin (pos (odd_spread p lengths)) (cycle_length_of p node.odd -ℤ cycle_length_of p odd)) g.rows sender among
+      (λ row there.
+      turned (pos (odd_spread p lengths)) (cycle_length_of p row.odd) (cycle_length_of p node.odd)
+      (odd_lengths_follow p lengths row.even row.odd node.even node.odd s.sane (regular row (row_of row there)) (regular node here) (placed.last row there)))
+
+  near_all : (lengths : ℕ) (node : Member) → IsOf g node → IsPlaced p g.rows lengths reach node → (others : List Sender) → All (IsAmong g.rows) others → NearAll p (pos (odd_spread p lengths)) others node.odd
+  near_all lengths node here placed others among =
+      All-along (IsAmong g.rows) (λ (sender : Sender). IsWithin (pos (odd_spread p lengths)) (cycle_length_of p node.odd -ℤ cycle_length_of p sender.odd)) others
+      (λ sender is. odd_near lengths node here placed sender is) among
+
+  takes : (lengths : ℕ) (node : Member) → IsOf g node → IsPlaced p g.rows lengths reach node → (others : List Sender) → All (IsAmong g.rows) others
+      → All (λ sender. IsBetween (pos 0) (pos (last_action p)) sender.action) others → IsOffsetRound p others node.odd node.offsets node.offset_term
+      → TakesOffsets p others reach (pos (odd_spread p lengths)) node.odd node.offsets node.offset_term
+  takes lengths node here placed others among acts round = record {
     suffices = s.takes.limit;
-    reached = λ i d short. reached _ (s.among i d short) (s.acts i d short);
-    near = All-along (IsAmong g.rows) (λ sender. IsWithin (pos (odd_spread p lengths)) (cycle_length_of p node.odd -ℤ cycle_length_of p sender.odd)) senders (λ sender is. odds sender is) s.among;
-    round = (s.computes node here).by_offset;
+    reached = λ i d short. reached _ (among i d short) (acts i d short);
+    near = near_all lengths node here placed others among;
+    round = round;
   }
     where
       reached : (sender : Sender) → IsAmong g.rows sender → IsBetween (pos 0) (pos (last_action p)) sender.action → IsWithin reach (gap_of p true sender.action sender.odd node.odd)
       reached sender is acts =
           among_rows (λ even odd. IsWithin reach (gap_of p true sender.action odd node.odd)) g.rows sender is
-          (λ row there. placed_reached starts lengths true row node sender.action placed there here acts.low acts.high)
+          (λ row there. placed.reached true row sender.action there acts.low acts.high)
 
-      odds : (sender : Sender) → IsAmong g.rows sender → IsWithin (pos (odd_spread p lengths)) (cycle_length_of p node.odd -ℤ cycle_length_of p sender.odd)
-      odds sender is =
-          among_rows (λ even odd. IsWithin (pos (odd_spread p lengths)) (cycle_length_of p node.odd -ℤ cycle_length_of p odd)) g.rows sender is
-          (λ row there.
-          turned (pos (odd_spread p lengths)) (cycle_length_of p row.odd) (cycle_length_of p node.odd)
-          (odd_lengths_follow p lengths row.even row.odd node.even node.odd s.sane (regular row (row_of row there)) (regular node here) (placed.last row there)))
+  takes_own : (lengths : ℕ) (node : Member) (here : IsOf g node) → IsPlaced p g.rows lengths reach node
+      → TakesOffsets p (own node here).offset_senders reach (pos (odd_spread p lengths)) node.odd node.offsets node.offset_term
+  takes_own lengths node here placed = takes lengths node here placed (own node here).offset_senders (own node here).offsets_among (own node here).acts (own node here).by_offset
 
-  will_take : (node : Member) → WillHaveRow g node → TakesOffsets p senders reach (pos (odd_spread p (sharp_lambda beside p flutter))) node.odd node.offsets node.offset_term
-  will_take node (inl here) = takes (sharp_pi beside p flutter) (sharp_lambda beside p flutter) node (row_placed node here) (inl (inl here))
-  will_take node (inr here) = takes (sharp_second_apart beside p flutter) (sharp_lambda beside p flutter) node (second_placed node here) (inl (inr here))
+  about : (others : List Sender) → All (IsAmong g.rows) others → EvensAreAbout p beyond others
+  about others among = senders_about p now.rows.starts now.rows.lengths beyond g.rows others double among
 
-  will_take_wide : (node : Member) → WillHaveRow g node → TakesOffsets p senders reach (pos (odd_spread p (sharp_first_lengths beside p flutter))) node.odd node.offsets node.offset_term
-  will_take_wide node here = record {
-    suffices = s.takes.limit;
-    reached = (will_take node here).reached;
-    near =
-        All-along (λ sender. IsWithin (pos (odd_spread p (sharp_lambda beside p flutter))) (cycle_length_of p node.odd -ℤ cycle_length_of p sender.odd)) (λ sender. IsWithin (pos (odd_spread p (sharp_first_lengths beside p flutter))) (cycle_length_of p node.odd -ℤ cycle_length_of p sender.odd)) senders
-        (λ sender near. wide_step (sharp_lambda beside p flutter) (sharp_first_lengths beside p flutter) (cycle_change p) (cycle_length_of p node.odd -ℤ cycle_length_of p sender.odd) (lengths_nearer beside p flutter) near) (will_take node here).near;
-    round = (s.computes node (inl here)).by_offset;
-  }
+  -- ---- each node
+
+  own_uncut : (node : Member) → IsOf g node → node.offset_term.outcome ≡ Within
+  own_uncut node here =
+      let is = own node here in
+      let offsets = takes_own now.firsts.lengths node here (all_placed node here) in
+      offset_terms_are_uncut p is.offset_senders reach node.odd node.offsets node.offset_term s.sane s.takes.limit is.some_offsets offsets.reached offsets.round
+
+  own_range : (next : ℤ) (node : Member) → IsOf g node → pos 0 ≤ℤ next → (beyond +ℤ walk) ≤ℤ next → WalksOn p next node.odd node.rate_term
+  own_range next node here next_from next_to =
+      let is = own node here in
+      range_walks p flutter is.rate_senders beyond walk next node.odd node.rates node.rate_term s.sane s.walks is.some_rates (about is.rate_senders is.rates_among) is.by_rate next_from next_to
+
+  -- the corrected end of one that will have a row lies near each sender's end, and the next length of each near its even one
+  end_by_reference : (row : Member) (reference : Sender) → WillHaveRow g row → Contains senders reference
+      → IsWithin (pos now.rows.starts +ℤ pos now.rows.lengths +ℤ pos (odd_spread p now.rows.lengths) +ℤ pos (arrival_error p + 2 * longest_micro p)) (corrected_end_of p row.odd -ℤ end_of p reference.odd)
+  end_by_reference row reference here there =
+      let is = own row (inl here) in
+      end_is_near p is.offset_senders (pos now.rows.starts) (pos now.rows.lengths) (pos (odd_spread p now.rows.lengths)) reach row.odd row.offsets row.offset_term s.sane is.some_offsets
+      (takes_own now.rows.lengths row (inl here) (will_placed row here)) reference
+      (λ i d short. ending _ (is.offsets_among i d short) (is.acts i d short))
     where
-      wide_step : (a b j : ℕ) (x : ℤ) → a ≤ b → IsWithin (pos (a + 2 * j)) x → IsWithin (pos (b + 2 * j)) x
-      wide_step a b j x le near = record { low = omega (arith, ints, le, near.low); high = omega (arith, ints, le, near.high) }
+      ending : (sender : Sender) → IsAmong g.rows sender → IsBetween (pos 0) (pos (last_action p)) sender.action
+          → Ending p (pos now.rows.starts) (pos now.rows.lengths) (pos (odd_spread p now.rows.lengths)) row.odd reference sender
+      ending sender is_among is_early =
+          let among = All-contains (IsAmong g.rows) senders reference s.among there in
+          let near = pair_near sender reference is_among among in
+          ending_of p (pos now.rows.starts) (pos now.rows.lengths) (pos (odd_spread p now.rows.lengths)) row.odd reference sender
+          (sends_one reference among (All-contains (λ (sender : Sender). IsBetween (pos 0) (pos (last_action p)) sender.action) senders reference s.acts there)) (sends_one sender is_among is_early)
+          near.by_start near.by_even near.by_odd (odd_near now.rows.lengths row (inl here) (will_placed row here) reference among)
 
-  -- ---- nodes that will have rows
+  length_by_reference : (other : Member) (reference : Sender) (even : NodeRow) → IsOf g other → Contains senders reference → IsNextEven p other.odd other.rate_term even
+      → IsWithin (pos now.rows.lengths +ℤ pos (next_length_error p flutter)) (cycle_length_of p even -ℤ cycle_length_of p reference.even)
+  length_by_reference other reference even here there after =
+      let is = own other here in
+      let among = All-contains (IsAmong g.rows) senders reference s.among there in
+      near_length p flutter is.rate_senders (pos now.rows.lengths) beyond walk (cycle_length_of p reference.even) other.odd other.rates other.rate_term even s.sane s.walks is.some_rates (about is.rate_senders is.rates_among)
+      (
+      All-along (IsAmong g.rows) (λ (sender : Sender). IsWithin (pos now.rows.lengths) (cycle_length_of p reference.even -ℤ cycle_length_of p sender.even)) is.rate_senders
+      (λ sender also. (pair_near reference sender among also).by_even) is.rates_among
+      ) is.by_rate after
 
-  lasts_near : (one other : Member) → WillHaveRow g one → WillHaveRow g other → LastApart p (sharp_lambda beside p flutter) one other
-  lasts_near one other here (inr there) = s.placed.seconds_last one other here there
-  lasts_near one other (inl here) (inl there) = (nodes_near p (sharp_pi beside p flutter) (sharp_lambda beside p flutter) beyond g.rows double one other here there).by_even
-  lasts_near one other (inr here) (inl there) =
-      turned (pos (sharp_lambda beside p flutter)) (cycle_length_of p other.even) (cycle_length_of p one.even) (s.placed.seconds_last other one (inl there) here)
+  -- ---- any two, where each has heard senders of its own
 
-  come : (next : ℤ) (one other : Member) → pos 0 ≤ℤ next → (beyond +ℤ walk) ≤ℤ next → WillHaveRow g one → WillHaveRow g other → ComeSharply p (sharp_pi beside p flutter) (sharp_lambda beside p flutter) next one other
-  come next one other next_from next_to here there =
-      let kept = s.keep one other (inl here) (inl there) in
-      receivers_come_sharply beside p flutter senders (sharp_pi beside p flutter) (sharp_lambda beside p flutter) (sharp_pi beside p flutter) (sharp_lambda beside p flutter) beyond walk next reach reach one other s.sane s.walks next_from next_to (sharp_sync_draws beside p flutter) send about
-      (record { offsets = will_take one here; rates = (s.computes one (inl here)).by_rate }) (record { offsets = will_take other there; rates = (s.computes other (inl there)).by_rate })
-      (odd_lengths_follow p (sharp_lambda beside p flutter) one.even one.odd other.even other.odd s.sane (regular one (inl here)) (regular other (inl there)) (lasts_near one other here there)) kept.0 kept.1
+  ends_own : (lengths : ℕ) (one other : Member) → now.rows.lengths ≤ lengths → IsOf g one → IsOf g other → IsPlaced p g.rows lengths reach one → IsPlaced p g.rows lengths reach other → LastApart p lengths one other
+      → IsWithin (pos (second_apart_by heard.Poor p now.rows.starts now.rows.lengths lengths)) (corrected_end_of p one.odd -ℤ corrected_end_of p other.odd)
+  ends_own lengths one other le here there placed also near =
+      let is = own one here in
+      let as_well = own other there in
+      let odds = pos (odd_spread p lengths) in
+      poor_sum now.rows.starts now.rows.lengths (odd_spread p lengths) (arrival_error p) (longest_micro p) (corrected_end_of p one.odd -ℤ corrected_end_of p other.odd)
+      (
+      ends_come_among_lem p is.offset_senders as_well.offset_senders (pos now.rows.starts) (pos now.rows.lengths) odds reach reach one.odd other.odd one.offsets other.offsets one.offset_term other.offset_term
+      s.sane is.some_offsets as_well.some_offsets (sends_all is.offset_senders is.offsets_among is.acts) (sends_all as_well.offset_senders as_well.offsets_among as_well.acts)
+      (across (λ sender. sender.even.start) (pos now.rows.starts) is.offset_senders as_well.offset_senders is.offsets_among as_well.offsets_among (λ x y among also_among. (pair_near x y among also_among).by_start))
+      (across (λ sender. cycle_length_of p sender.even) (pos now.rows.lengths) is.offset_senders as_well.offset_senders is.offsets_among as_well.offsets_among (λ x y among also_among. (pair_near x y among also_among).by_even))
+      (across (λ sender. cycle_length_of p sender.odd) odds is.offset_senders as_well.offset_senders is.offsets_among as_well.offsets_among (λ x y among also_among. pair_odd lengths le x y among also_among))
+      (takes_own lengths one here placed) (takes_own lengths other there also)
+      (near_all lengths one here placed as_well.offset_senders as_well.offsets_among) (near_all lengths other there also is.offset_senders is.offsets_among)
+      (odd_lengths_follow p lengths one.even one.odd other.even other.odd s.sane (regular one here) (regular other there) near)
+      )
+
+  lengths_own : (next_lengths : ℕ) (one other : Member) (even other_even : NodeRow) → lost_lengths p flutter now.rows.lengths ≤ next_lengths → IsOf g one → IsOf g other
+      → IsNextEven p one.odd one.rate_term even → IsNextEven p other.odd other.rate_term other_even → IsWithin (pos next_lengths) (cycle_length_of p even -ℤ cycle_length_of p other_even)
+  lengths_own next_lengths one other even other_even longer here there after other_after =
+      let is = own one here in
+      let as_well = own other there in
+      lengths_sum now.rows.lengths (2 * steady_error p flutter + 2 * (amount p name.pClusterDriftDamping * longest_micro p) + 2 * cycle_change p) next_lengths (cycle_length_of p even -ℤ cycle_length_of p other_even) longer
+      (
+      lengths_come_among_lem p flutter is.rate_senders as_well.rate_senders (pos now.rows.lengths) beyond walk one.odd other.odd one.rates other.rates one.rate_term other.rate_term even other_even s.sane s.walks
+      is.some_rates as_well.some_rates (about is.rate_senders is.rates_among) (about as_well.rate_senders as_well.rates_among)
+      (across (λ sender. cycle_length_of p sender.even) (pos now.rows.lengths) is.rate_senders as_well.rate_senders is.rates_among as_well.rates_among (λ x y among also_among. (pair_near x y among also_among).by_even))
+      is.by_rate as_well.by_rate after other_after
+      )
+
+  -- ---- any two that hear enough in common
+
+  ends_common : (lengths : ℕ) (one other : Member) → now.rows.lengths ≤ lengths → IsOf g one → IsOf g other → IsPlaced p g.rows lengths reach one → IsPlaced p g.rows lengths reach other → LastApart p lengths one other
+      → (one ≡ other) ⊎ HearInCommon p flutter g.rows (pos (last_action p)) one other
+      → IsWithin (pos (second_apart_by heard.Meeting p now.rows.starts now.rows.lengths lengths)) (corrected_end_of p one.odd -ℤ corrected_end_of p other.odd)
+  ends_common lengths one other le here there placed also near (inl same) =
+      let Near : Member → Type 0 = λ node. IsWithin (pos (second_apart_by heard.Meeting p now.rows.starts now.rows.lengths lengths)) (corrected_end_of p one.odd -ℤ corrected_end_of p node.odd) in
+      subst Near same (none_apart (second_apart_by heard.Meeting p now.rows.starts now.rows.lengths lengths) (corrected_end_of p one.odd))
+  ends_common lengths one other le here there placed also near (inr common) =
+      let Early : Sender → Type 0 = λ sender. IsBetween (pos 0) (pos (last_action p)) sender.action in
+      let offsets = of_one (IsAmong g.rows) common.offset_common common.offset_own common.offset_other common.offsets_among in
+      let other_offsets = of_other (IsAmong g.rows) common.offset_common common.offset_own common.offset_other common.offsets_among in
+      let acts = of_one Early common.offset_common common.offset_own common.offset_other common.acts in
+      let other_acts = of_other Early common.offset_common common.offset_own common.offset_other common.acts in
+      second_by true p now.rows.starts now.rows.lengths lengths (corrected_end_of p one.odd -ℤ corrected_end_of p other.odd)
+      (
+      ends_come p flutter g.rows now.rows.starts now.rows.lengths beyond walk reach (pos (last_action p)) limit rows_act double one other (odd_spread p lengths) (odds_wider p now.rows.lengths lengths le)
+      (odd_near lengths one here placed) (odd_near lengths other there also) (odd_lengths_follow p lengths one.even one.odd other.even other.odd s.sane (regular one here) (regular other there) near)
+      common.offset_common common.offset_own common.offset_other offsets other_offsets acts other_acts common.enough_offsets
+      (takes lengths one here placed (common.offset_common ++ common.offset_own) offsets acts common.by_offset)
+      (takes lengths other there also (common.offset_common ++ common.offset_other) other_offsets other_acts common.other_by_offset)
+      )
+
+  lengths_common : (next_starts next_lengths : ℕ) (one other : Member) (even other_even : NodeRow) → DrawsTo true p flutter now.rows.starts now.rows.lengths next_starts next_lengths → IsOf g one → IsOf g other
+      → (one ≡ other) ⊎ HearInCommon p flutter g.rows (pos (last_action p)) one other
+      → IsNextEven p one.odd one.rate_term even → IsNextEven p other.odd other.rate_term other_even → IsWithin (pos next_lengths) (cycle_length_of p even -ℤ cycle_length_of p other_even)
+  lengths_common next_starts next_lengths one other even other_even draws here there (inl same) after other_after =
+      let is = own one here in
+      let Next : Member → Type 0 = λ node. IsNextEven p node.odd node.rate_term other_even in
+      lengths_itself p flutter is.rate_senders now.rows.lengths next_lengths beyond walk one even other_even s.sane s.walks draws.1 is.some_rates (about is.rate_senders is.rates_among) is.by_rate after
+      (subst Next (sym same) other_after)
+  lengths_common next_starts next_lengths one other even other_even draws here there (inr common) after other_after =
+      lengths_by true p flutter now.rows.starts now.rows.lengths next_starts next_lengths (cycle_length_of p even -ℤ cycle_length_of p other_even) draws
+      (
+      lengths_come p flutter g.rows now.rows.starts now.rows.lengths beyond walk reach (pos (last_action p)) limit rows_act double one other common.rate_common common.rate_own common.rate_other
+      (of_one (IsAmong g.rows) common.rate_common common.rate_own common.rate_other common.rates_among) (of_other (IsAmong g.rows) common.rate_common common.rate_own common.rate_other common.rates_among)
+      common.enough_rates common.by_rate common.other_by_rate even other_even after other_after
+      )
+
+  -- ---- any two, where all is heard
+
+  module _ (beside : Bool) (heard : AllIsHeard beside p flutter senders g) where
+    send : (lengths : ℕ) → now.rows.lengths ≤ lengths → SendApart p (pos now.rows.starts) (pos now.rows.lengths) (pos (odd_spread p lengths)) senders
+    send lengths le = record {
+      sending = sends_all senders s.among s.acts;
+      by_start = across (λ sender. sender.even.start) (pos now.rows.starts) senders senders s.among s.among (λ x y among also. (pair_near x y among also).by_start);
+      by_even = across (λ sender. cycle_length_of p sender.even) (pos now.rows.lengths) senders senders s.among s.among (λ x y among also. (pair_near x y among also).by_even);
+      by_odd = across (λ sender. cycle_length_of p sender.odd) (pos (odd_spread p lengths)) senders senders s.among s.among (λ x y among also. pair_odd lengths le x y among also);
+    }
+
+    ends_all : (lengths : ℕ) (one other : Member) → now.rows.lengths ≤ lengths → IsOf g one → IsOf g other → IsPlaced p g.rows lengths reach one → IsPlaced p g.rows lengths reach other → LastApart p lengths one other
+        → IsWithin (pos (second_apart_by (all_heard beside) p now.rows.starts now.rows.lengths lengths)) (corrected_end_of p one.odd -ℤ corrected_end_of p other.odd)
+    ends_all lengths one other le here there placed also near =
+        second_by beside p now.rows.starts now.rows.lengths lengths (corrected_end_of p one.odd -ℤ corrected_end_of p other.odd)
+        (
+        ends_come_near_lem beside p senders (pos now.rows.starts) (pos now.rows.lengths) (pos (odd_spread p lengths)) reach reach one.odd other.odd one.offsets other.offsets one.offset_term other.offset_term s.sane (send lengths le)
+        (takes lengths one here placed senders s.among s.acts (heard.computes one here).by_offset) (takes lengths other there also senders s.among s.acts (heard.computes other there).by_offset)
+        (odd_lengths_follow p lengths one.even one.odd other.even other.odd s.sane (regular one here) (regular other there) near) (heard.keep one other here there).0
+        )
+
+    lengths_all : (next_starts next_lengths : ℕ) (one other : Member) (even other_even : NodeRow) → GoesTo (all_heard beside) p flutter now.rows.starts now.rows.lengths next_starts next_lengths → IsOf g one → IsOf g other
+        → IsNextEven p one.odd one.rate_term even → IsNextEven p other.odd other.rate_term other_even → IsWithin (pos next_lengths) (cycle_length_of p even -ℤ cycle_length_of p other_even)
+    lengths_all next_starts next_lengths one other even other_even goes here there after other_after =
+        lengths_by beside p flutter now.rows.starts now.rows.lengths next_starts next_lengths (cycle_length_of p even -ℤ cycle_length_of p other_even)
+        (draws_by beside p flutter now.rows.starts now.rows.lengths next_starts next_lengths goes)
+        (
+        lengths_come_near_lem beside p flutter senders (pos now.rows.lengths) beyond walk one.odd other.odd one.rates other.rates one.rate_term other.rate_term even other_even s.sane s.walks (about senders s.among)
+        (send now.rows.lengths (le_itself now.rows.lengths)).by_even (heard.computes one here).by_rate (heard.computes other there).by_rate (heard.keep one other here there).1 after other_after
+        )
+
+-- ---- by what is heard
+
+-- each node computes its terms from senders of its own
+own_all : (beside : Bool) (p : Values) (flutter : ℕ) (now : GroupSpread) (beyond walk : ℤ) (senders : List Sender) (g : Group) (reach : ℤ) → IsSteadyGroup p flutter now beyond walk senders g reach
+    → AllIsHeard beside p flutter senders g → EachHears p flutter g
+own_all beside p flutter now beyond walk senders g reach s hears node here =
+    let computes = hears.computes node here in
+    let some = some_senders beside senders node.offsets node.offsets (hears.keep node node here here).0 in
+    record {
+      regular = computes.regular;
+      offset_senders = senders;
+      rate_senders = senders;
+      some_offsets = some;
+      some_rates = some;
+      offsets_among = s.among;
+      rates_among = s.among;
+      acts = s.acts;
+      by_offset = computes.by_offset;
+      by_rate = computes.by_rate;
+    }
+
+owns : (what : Heard) (p : Values) (flutter : ℕ) (now : GroupSpread) (beyond walk : ℤ) (senders : List Sender) (g : Group) (reach : ℤ) → IsSteadyGroup p flutter now beyond walk senders g reach
+    → GroupHears what p flutter senders g → EachHears p flutter g
+owns Clean p flutter now beyond walk senders g reach s hears = own_all false p flutter now beyond walk senders g reach s hears
+owns Meeting p flutter now beyond walk senders g reach s (inl hears) = own_all true p flutter now beyond walk senders g reach s hears
+owns Meeting p flutter now beyond walk senders g reach s (inr hears) = hears.0
+owns Poor p flutter now beyond walk senders g reach s hears = hears
+
+module _
+    (p : Values) (flutter : ℕ) (now to : GroupSpread) (beyond walk : ℤ) (senders : List Sender) (g : Group) (reach : ℤ)
+    (s : IsSteadyGroup p flutter now beyond walk senders g reach) where
+  ends : (what : Heard) → (hears : GroupHears what p flutter senders g) → now.rows.lengths ≤ now.firsts.lengths → (lengths : ℕ) (one other : Member) → now.rows.lengths ≤ lengths → IsOf g one → IsOf g other
+      → IsPlaced p g.rows lengths reach one → IsPlaced p g.rows lengths reach other → LastApart p lengths one other
+      → IsWithin (pos (second_apart_by what p now.rows.starts now.rows.lengths lengths)) (corrected_end_of p one.odd -ℤ corrected_end_of p other.odd)
+  ends Clean hears wide lengths one other le here there placed also near =
+      ends_all p flutter now beyond walk senders g reach s wide (own_all false p flutter now beyond walk senders g reach s hears) false hears lengths one other le here there placed also near
+  ends Meeting (inl hears) wide lengths one other le here there placed also near =
+      ends_all p flutter now beyond walk senders g reach s wide (own_all true p flutter now beyond walk senders g reach s hears) true hears lengths one other le here there placed also near
+  ends Meeting (inr hears) wide lengths one other le here there placed also near =
+      ends_common p flutter now beyond walk senders g reach s wide hears.0 lengths one other le here there placed also near (hears.1 one other here there)
+  ends Poor hears wide lengths one other le here there placed also near =
+      ends_own p flutter now beyond walk senders g reach s wide hears lengths one other le here there placed also near
+
+  lasts : (what : Heard) → (hears : GroupHears what p flutter senders g) → GroupGoesTo what p flutter now to → (one other : Member) (even other_even : NodeRow) → IsOf g one → IsOf g other
+      → IsNextEven p one.odd one.rate_term even → IsNextEven p other.odd other.rate_term other_even → IsWithin (pos to.rows.lengths) (cycle_length_of p even -ℤ cycle_length_of p other_even)
+  lasts Clean hears goes one other even other_even here there =
+      lengths_all p flutter now beyond walk senders g reach s goes.wide (own_all false p flutter now beyond walk senders g reach s hears) false hears to.rows.starts to.rows.lengths one other even other_even goes.rows here there
+  lasts Meeting (inl hears) goes one other even other_even here there =
+      lengths_all p flutter now beyond walk senders g reach s goes.wide (own_all true p flutter now beyond walk senders g reach s hears) true hears to.rows.starts to.rows.lengths one other even other_even goes.rows here there
+  lasts Meeting (inr hears) goes one other even other_even here there =
+      lengths_common p flutter now beyond walk senders g reach s goes.wide hears.0 to.rows.starts to.rows.lengths one other even other_even goes.rows here there (hears.1 one other here there)
+  lasts Poor hears goes one other even other_even here there = lengths_own p flutter now beyond walk senders g reach s goes.wide hears to.rows.lengths one other even other_even goes.rows.1 here there
+
+-- ---- the step
+
+module _
+    (what : Heard) (p : Values) (flutter : ℕ) (now to : GroupSpread) (beyond walk : ℤ) (senders : List Sender) (g : Group) (reach : ℤ)
+    (s : IsSteadyGroup p flutter now beyond walk senders g reach) (hears : GroupHears what p flutter senders g) (goes : GroupGoesTo what p flutter now to) where
+  computes : EachHears p flutter g
+  computes = owns what p flutter now beyond walk senders g reach s hears
+
+  will_lie : (node : Member) → WillHaveRow g node → IsPlaced p g.rows now.rows.lengths reach node
+  will_lie = will_placed p flutter now beyond walk senders g reach s goes.wide computes
+
+  all_lie_near : (node : Member) → IsOf g node → IsPlaced p g.rows now.firsts.lengths reach node
+  all_lie_near = all_placed p flutter now beyond walk senders g reach s goes.wide computes
+
+  come : (next : ℤ) (one other : Member) → pos 0 ≤ℤ next → (beyond +ℤ walk) ≤ℤ next → WillHaveRow g one → WillHaveRow g other → ComeSharply p to.rows.starts to.rows.lengths next one other
+  come next one other next_from next_to here there = record {
+    uncut = own_uncut p flutter now beyond walk senders g reach s goes.wide computes one (inl here);
+    range = own_range p flutter now beyond walk senders g reach s goes.wide computes next one (inl here) next_from next_to;
+    ends =
+        widen (second_apart_by what p now.rows.starts now.rows.lengths now.rows.lengths) to.rows.starts (corrected_end_of p one.odd -ℤ corrected_end_of p other.odd)
+        (starts_by what p flutter now.rows.starts now.rows.lengths to.rows.starts to.rows.lengths goes.rows)
+        (
+        ends p flutter now to beyond walk senders g reach s what hears goes.wide now.rows.lengths one other (le_itself now.rows.lengths) (inl here) (inl there) (will_lie one here) (will_lie other there)
+        (lasts_near p flutter now beyond walk senders g reach s goes.wide computes one other here there)
+        );
+    lengths = λ even other_even after other_after. lasts p flutter now to beyond walk senders g reach s what hears goes one other even other_even (inl here) (inl there) after other_after;
+  }
 
   rows_next : (next : ℤ) → pos 0 ≤ℤ next → (beyond +ℤ walk) ≤ℤ next → (nodes : List Member) (next_even next_odd : Member → NodeRow)
       → ((node : Member) → Contains nodes node → WillHaveRow g node × IsFollowed p node (next_even node) (next_odd node))
-      → IsInSharpSync beside p flutter next (map next_even nodes) (map next_odd nodes)
+      → All (λ row. row.state ≡ Active) (map next_even nodes) × All (λ row. row.state ≡ Active) (map next_odd nodes) × AreSharp p to.rows.starts to.rows.lengths next (map next_even nodes)
   rows_next next next_from next_to nodes next_even next_odd follow =
       let Follows : Member → Type 0 = λ node. IsFollowed p node (next_even node) (next_odd node) in
-      let followed = All-along (Contains nodes) Follows nodes (λ node here. (follow node here).1) (All-contains_itself nodes) in
-      record {
-        active_even = All-map (λ (row : NodeRow). row.state ≡ Active) next_even nodes (All-along Follows (λ node. (next_even node).state ≡ Active) nodes (λ node is. is.active_even) followed);
-        active_odd = All-map (λ (row : NodeRow). row.state ≡ Active) next_odd nodes (All-along Follows (λ node. (next_odd node).state ≡ Active) nodes (λ node is. is.active_odd) followed);
-        rows =
-            next_is_near p nodes (sharp_pi beside p flutter) (sharp_lambda beside p flutter) next next_even next_odd
-            (λ one other here there. come next one other next_from next_to (follow one here).0 (follow other there).0) followed;
-      }
-
-  -- ---- all
-
-  all_reached : (is_odd : Bool) (row node : Member) (action : ℤ) → Contains g.rows row → IsOf g node → pos 0 ≤ℤ action → action ≤ℤ pos (last_action p)
-      → IsWithin reach (gap_of p is_odd action (row_in is_odd row.even row.odd) (row_in is_odd node.even node.odd))
-  all_reached is_odd row node action there (inl (inl here)) from to = placed_reached (sharp_pi beside p flutter) (sharp_lambda beside p flutter) is_odd row node action (row_placed node here) there (inl (inl here)) from to
-  all_reached is_odd row node action there (inl (inr here)) from to = placed_reached (sharp_second_apart beside p flutter) (sharp_lambda beside p flutter) is_odd row node action (second_placed node here) there (inl (inr here)) from to
-  all_reached is_odd row node action there (inr here) from to = placed_reached (sharp_first_apart beside p flutter) (sharp_first_lengths beside p flutter) is_odd row node action (first_placed node here) there (inr here) from to
-
-  all_take : (node : Member) → IsOf g node → TakesOffsets p senders reach (pos (odd_spread p (sharp_first_lengths beside p flutter))) node.odd node.offsets node.offset_term
-  all_take node (inl here) = will_take_wide node here
-  all_take node (inr here) = takes (sharp_first_apart beside p flutter) (sharp_first_lengths beside p flutter) node (first_placed node here) (inr here)
-
-  starts_second : (row node : Member) → WillHaveRow g row → Contains g.firsts node → IsWithin (pos (sharp_second_apart beside p flutter)) (corrected_end_of p row.odd -ℤ corrected_end_of p node.odd)
-  starts_second row node here there =
-      second_by beside p flutter (corrected_end_of p row.odd -ℤ corrected_end_of p node.odd)
-      (
-      ends_come_near_lem beside p senders (pos (sharp_pi beside p flutter)) (pos (sharp_lambda beside p flutter)) (pos (odd_spread p (sharp_first_lengths beside p flutter))) reach reach row.odd node.odd row.offsets node.offsets row.offset_term node.offset_term s.sane send_wide
-      (will_take_wide row here) (all_take node (inr there))
-      (odd_lengths_follow p (sharp_first_lengths beside p flutter) row.even row.odd node.even node.odd s.sane (regular row (inl here)) (regular node (inr there)) (s.placed.firsts_last row node here there))
-      (s.keep row node (inl here) (inr there)).0
+      let followed = All-along (Contains nodes) Follows nodes (λ node here. (follow node here).1) (All-contains_itself nodes) in (
+        All-map (λ (row : NodeRow). row.state ≡ Active) next_even nodes (All-along Follows (λ node. (next_even node).state ≡ Active) nodes (λ node is. is.active_even) followed),
+        All-map (λ (row : NodeRow). row.state ≡ Active) next_odd nodes (All-along Follows (λ node. (next_odd node).state ≡ Active) nodes (λ node is. is.active_odd) followed),
+        next_is_near p nodes to.rows.starts to.rows.lengths next next_even next_odd (λ one other here there. come next one other next_from next_to (follow one here).0 (follow other there).0) followed,
       )
 
-pub sharp_groups_are_kept : SharpGroupsAreKept
-sharp_groups_are_kept beside p flutter beyond walk next senders g reach s next_from next_to = record {
-  reached = all_reached beside p flutter beyond walk senders g reach s;
-  uncut =
-      λ node here.
-      let offsets = all_take beside p flutter beyond walk senders g reach s node here in
-      offset_terms_are_uncut p senders reach node.odd node.offsets node.offset_term s.sane s.takes.limit (some beside p flutter beyond walk senders g reach s node here) offsets.reached offsets.round;
-  range =
-      λ node here.
-      range_walks p flutter senders beyond walk next node.odd node.rates node.rate_term s.sane s.walks (some beside p flutter beyond walk senders g reach s node here) (about beside p flutter beyond walk senders g reach s)
-      (s.computes node here).by_rate next_from next_to;
-  precise =
-      λ one other macrotick is_odd here there from to.
-      macroticks_stay_sharp p (sharp_pi beside p flutter) (sharp_lambda beside p flutter) (sharp_pi beside p flutter) (sharp_lambda beside p flutter) beyond next g.rows one other (sharp_precision beside p flutter) macrotick is_odd s.sane s.placed.sharp
-      (All-along (Contains g.rows) (λ (node : Member). IsRegular p node.even node.odd) g.rows (λ node at. (s.computes node (inl (inl at))).regular) (All-contains_itself g.rows)) here there
-      (come beside p flutter beyond walk senders g reach s next one other next_from next_to (inl here) (inl there)) (le_itself (sharp_precision beside p flutter)) (ends_fit beside p flutter) from to;
-  next_rows = rows_next beside p flutter beyond walk senders g reach s next next_from next_to;
-  second_starts = starts_second beside p flutter beyond walk senders g reach s;
-  second_lasts =
-      λ other node even node_even here there after node_after.
-      lambda_by beside p flutter (cycle_length_of p even -ℤ cycle_length_of p node_even)
+  starts_second : (row node : Member) → WillHaveRow g row → Contains g.firsts node → IsWithin (pos to.seconds) (corrected_end_of p row.odd -ℤ corrected_end_of p node.odd)
+  starts_second row node here there =
+      widen (second_apart_by what p now.rows.starts now.rows.lengths now.firsts.lengths) to.seconds (corrected_end_of p row.odd -ℤ corrected_end_of p node.odd) goes.seconds
       (
-      lengths_come_near_lem beside p flutter senders (pos (sharp_lambda beside p flutter)) beyond walk other.odd node.odd other.rates node.rates other.rate_term node.rate_term even node_even s.sane s.walks (about beside p flutter beyond walk senders g reach s)
-      (send beside p flutter beyond walk senders g reach s).by_even (s.computes other here).by_rate (s.computes node (inr there)).by_rate (s.keep other node here (inr there)).1 after node_after
-      );
-  first_starts =
-      λ row c reference rate here there caught.
-      let all = corrected_end_is_near p senders (pos (sharp_pi beside p flutter)) (pos (sharp_lambda beside p flutter)) (pos (odd_spread p (sharp_lambda beside p flutter))) reach row.odd row.offsets row.offset_term s.sane (some beside p flutter beyond walk senders g reach s row (inl here)) (send beside p flutter beyond walk senders g reach s) (will_take beside p flutter beyond walk senders g reach s row here) in
-      first_start_sum (sharp_pi beside p flutter) (sharp_lambda beside p flutter) (cycle_change p) (arrival_error p) flutter (longest_micro p) (corrected_end_of p row.odd) (end_of p reference.odd) (first_start_of p c)
-      (All-contains (λ (sender : Sender). IsWithin (pos (sharp_pi beside p flutter) +ℤ pos (sharp_lambda beside p flutter) +ℤ pos (odd_spread p (sharp_lambda beside p flutter)) +ℤ pos (arrival_error p + 2 * longest_micro p)) (corrected_end_of p row.odd -ℤ end_of p sender.odd)) senders reference all there)
-      (sharp_first_start_is_near p flutter beyond c reference.even reference.odd s.sane rate caught);
-  first_lasts =
-      λ other c reference even first_even first_odd rate here after there caught begins.
-      let all = next_length_is_near p flutter senders (pos (sharp_lambda beside p flutter)) beyond walk other.odd other.rates other.rate_term even s.sane s.walks (some beside p flutter beyond walk senders g reach s other here) (about beside p flutter beyond walk senders g reach s) (send beside p flutter beyond walk senders g reach s).by_even (s.computes other here).by_rate after in
-      first_length_sum (sharp_lambda beside p flutter) flutter (longest_micro p) (wide_change p) (amount p name.pClusterDriftDamping * longest_micro p) (cycle_change p) (steady_error p flutter) (cycle_length_of p even) (cycle_length_of p reference.even) (cycle_length_of p first_even) refl
-      (All-contains (λ (sender : Sender). IsWithin (pos (sharp_lambda beside p flutter) +ℤ pos (next_length_error p flutter)) (cycle_length_of p even -ℤ cycle_length_of p sender.even)) senders reference all there)
-      (sharp_first_length_is_near p flutter beyond c reference.even reference.odd first_even first_odd s.sane rate caught begins);
-}
+      ends p flutter now to beyond walk senders g reach s what hears goes.wide now.firsts.lengths row node goes.wide (inl here) (inr there) (all_lie_near row (inl here)) (all_lie_near node (inr there))
+      (s.placed.firsts_last row node here there)
+      )
+
+pub steady_groups_are_kept : SteadyGroupsAreKept
+steady_groups_are_kept what p flutter now to apart beyond walk next senders g reach s hears goes fits ends_fit next_from next_to =
+    let own = owns what p flutter now beyond walk senders g reach s hears in
+    record {
+      reached = λ is_odd row node action there here from last. (all_placed p flutter now beyond walk senders g reach s goes.wide own node here).reached is_odd row action there from last;
+      uncut = λ node here. own_uncut p flutter now beyond walk senders g reach s goes.wide own node here;
+      range = λ node here. own_range p flutter now beyond walk senders g reach s goes.wide own next node here next_from next_to;
+      precise =
+          λ one other macrotick is_odd here there from last.
+          macroticks_stay_sharp p now.rows.starts now.rows.lengths to.rows.starts to.rows.lengths beyond next g.rows one other apart macrotick is_odd s.sane s.placed.sharp
+          (All-along (Contains g.rows) (λ (node : Member). IsRegular p node.even node.odd) g.rows (λ node at. (own node (inl (inl at))).regular) (All-contains_itself g.rows)) here there
+          (come what p flutter now to beyond walk senders g reach s hears goes next one other next_from next_to (inl here) (inl there)) fits ends_fit from last;
+      next_rows = rows_next what p flutter now to beyond walk senders g reach s hears goes next next_from next_to;
+      second_starts = starts_second what p flutter now to beyond walk senders g reach s hears goes;
+      second_lasts = λ other node even node_even here there after node_after. lasts p flutter now to beyond walk senders g reach s what hears goes other node even node_even here (inr there) after node_after;
+      first_starts =
+          λ row c reference rate here there caught.
+          first_start_sum now.rows.starts now.rows.lengths (cycle_change p) (arrival_error p) flutter (longest_micro p) to.firsts.starts (corrected_end_of p row.odd) (end_of p reference.odd) (first_start_of p c) goes.first_starts
+          (end_by_reference p flutter now beyond walk senders g reach s goes.wide own row reference here there) (sharp_first_start_is_near p flutter beyond c reference.even reference.odd s.sane rate caught);
+      first_lasts =
+          λ other c reference even first_even first_odd rate here after there caught begins.
+          first_length_sum now.rows.lengths flutter (longest_micro p) (wide_change p) (amount p name.pClusterDriftDamping * longest_micro p) (cycle_change p) (steady_error p flutter) to.firsts.lengths (cycle_length_of p even)
+          (cycle_length_of p reference.even) (cycle_length_of p first_even) refl goes.first_lengths (length_by_reference p flutter now beyond walk senders g reach s goes.wide own other reference even here there after)
+          (sharp_first_length_is_near p flutter beyond c reference.even reference.odd first_even first_odd s.sane rate caught begins);
+    }
+
+pub hears_all : (beside : Bool) (p : Values) (flutter : ℕ) (senders : List Sender) (g : Group) → AllIsHeard beside p flutter senders g → GroupHears (all_heard beside) p flutter senders g
+hears_all false p flutter senders g heard = heard
+hears_all true p flutter senders g heard = inl heard
+
+pub sharp_groups_are_kept : SharpGroupsAreKept
+sharp_groups_are_kept beside p flutter beyond walk next senders g reach s next_from next_to =
+    steady_groups_are_kept (all_heard beside) p flutter (sharp_group_spread beside p flutter) (sharp_group_spread beside p flutter) (sharp_precision beside p flutter) beyond walk next senders g reach s.0
+    (hears_all beside p flutter senders g s.1) (sharp_group_spread_goes beside p flutter) (le_itself (sharp_precision beside p flutter)) (ends_fit beside p flutter) next_from next_to

@@ -1,4 +1,4 @@
-ghost use Rattle.fr_promise.specs.SharpJoining.{FollowersComeNearer, OlderJoinChecksSuffice, SharpJoinChecksSuffice};
+ghost use Rattle.fr_promise.specs.SharpJoining.{FollowersComeNearer, NextGroupSpreadGoes, OlderJoinChecksSuffice, SharpGroupSpreadGoes, SharpJoinChecksSuffice};
 
 /// A law: the bounds of a node that follows come nearer, in ticks. Its second lengths may lie no further from the others'
 /// than its first ones, and its second start no further than its first one; and the sharper reach takes in how far action
@@ -6,6 +6,13 @@ ghost use Rattle.fr_promise.specs.SharpJoining.{FollowersComeNearer, OlderJoinCh
 /// lie, and not of where it lies.
 pub fn followers_come_nearer()
     ensures { FollowersComeNearer }
+{}
+
+/// A law: the bounds of a cluster that nodes join go to those of the next double cycle, in ticks, whatever is heard, for as
+/// many double cycles as one likes; and those of sharp sync stay where all is heard.
+pub fn group_spreads_go()
+    ensures next { NextGroupSpreadGoes }
+    ensures sharp { SharpGroupSpreadGoes }
 {}
 
 /// A law: under the sharper checks of nodes that join the offset limit suffices for the sharper reach, slots leave room
