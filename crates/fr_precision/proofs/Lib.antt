@@ -38,3 +38,4 @@ pub mod SettlingLemmas
 pub mod LastingLemmas
 pub mod OlderLemmas
 pub mod RateRange
+pub mod StrayLemmas
