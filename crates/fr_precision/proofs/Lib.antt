@@ -38,4 +38,3 @@ pub mod SettlingLemmas
 pub mod LastingLemmas
 pub mod OlderLemmas
 pub mod RateRange
-pub mod StrayLemmas

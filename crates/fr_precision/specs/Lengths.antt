@@ -103,8 +103,8 @@ WalkIsHeldThrough =
 -- from a later double cycle on they stray no further than from an earlier one on
 abbrev pub LaterStraysLess : Type 0
 LaterStraysLess =
-    (p : Values) (flutter : ℕ) (keeps : ℕ → Bool) (double passed : ℕ)
-    → strayed_after p flutter (λ m. keeps (double + m)) passed ≤ strayed_after p flutter keeps (double + passed)
+    (p : Values) (flutter : ℕ) (keeps later : ℕ → Bool) (double passed : ℕ)
+    → ((m : ℕ) → later m ≡ keeps (double + m)) → strayed_after p flutter later passed ≤ strayed_after p flutter keeps (double + passed)
 
 -- and not at all where no node keeps its rate, or oscillators do not change
 abbrev pub NoneStrays : Type 0

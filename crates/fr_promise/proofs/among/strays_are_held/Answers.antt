@@ -1,4 +1,4 @@
-use Rattle.fr_precision.proofs.StrayLemmas.{later_strays_less, none_strays, walk_is_held_through}
+use Rattle.fr_promise.proofs.StrayLemmas.{later_strays_less, none_strays, walk_is_held_through}
 use Rattle.fr_promise.proofs.among.strays_are_held.Goals as goal
 
 pub returns-clause-held : goal.returns-clause-held

@@ -5,10 +5,12 @@ use Rattle.std.proofs.lemmas.Int.{ints}
 use Rattle.fr_cluster.specs.Values.{Values}
 use Rattle.fr_bound.specs.Bounds.{cycle_change}
 use Rattle.fr_bound.specs.SharpBounds.{rate_walk}
-use Rattle.fr_bound.specs.Checks.{left_of, right_of}
+use Rattle.fr_bound.specs.SharpChecks.{RateSuffices}
+use Rattle.fr_bound.specs.Checks.{holds_of, left_of, right_of}
 use Rattle.fr_midpoint.proofs.Products.{addz-mulz, mulz_from}
 use Rattle.fr_precision.specs.Lengths.{strayed_after, walk_back, walk_on, walked_after, walked_through, LaterStraysLess, NoneStrays, WalkIsHeldThrough}
-use Rattle.fr_precision.proofs.BoundLemmas.{walk_is_bounded}
+use Rattle.fr_precision.proofs.BoundLemmas.{walk_is_bounded, walked_none}
+use Rattle.fr_precision.proofs.Figures.{nat_le-true}
 
 -- ---- one double cycle
 
@@ -99,6 +101,22 @@ walk_is_held_through p flutter keeps passed sane suffices =
     less : (a b : ℕ) (x y : ℤ) → x ≤ℤ y → (pos a +ℤ y) ≤ℤ pos b → (pos a +ℤ x) ≤ℤ pos b
     less a b x y le fits = omega (arith, ints, le, fits)
 
+-- ---- the first
+
+pub none_strayed : (p : Values) (flutter : ℕ) (keeps : ℕ → Bool) → walked_through p flutter keeps 0 ≡ pos 0
+unfolding strayed_after
+none_strayed p flutter keeps = nothing (walked_after p flutter 0) (walked_none p flutter)
+  where
+    nothing : (x : ℤ) → x ≡ pos 0 → x +ℤ pos 0 ≡ pos 0
+    nothing x is = omega (arith, ints)
+
+-- under the second check the rate limit suffices for the range
+pub in_range : (p : Values) → holds_of 2 p ≡ true → RateSuffices p (pos 0)
+in_range p second = still (right_of 2 p) (left_of 2 p) (nat_le-true (right_of 2 p) (left_of 2 p) second)
+  where
+    still : (a b : ℕ) → a ≤ b → (pos a +ℤ pos 0) ≤ℤ pos b
+    still a b le = omega (arith, ints)
+
 -- ---- many
 
 next_grows : (keeps : Bool) (a b adds back : ℕ) → a ≤ b → next_stray keeps a adds back ≤ next_stray keeps b adds back
@@ -107,13 +125,15 @@ next_grows false a b adds back le = omega (arith, le)
 
 pub later_strays_less : LaterStraysLess
 unfolding strayed_after
-later_strays_less p flutter keeps double zero = omega arith
-later_strays_less p flutter keeps double (suc k) =
-    let less = later_strays_less p flutter keeps double k in
+later_strays_less p flutter keeps later double zero same = omega arith
+later_strays_less p flutter keeps later double (suc k) same =
+    let adds = 2 * cycle_change p - walk_on p flutter in
+    let back = walk_back p flutter in
+    let less = later_strays_less p flutter keeps later double k same in
     let one : suc (double + k) ≡ double + suc k = omega arith in
-    let At : ℕ → Type 0 = λ n. strayed_after p flutter (λ m. keeps (double + m)) (suc k) ≤ strayed_after p flutter keeps n in
-    subst At one
-    (next_grows (keeps (double + k)) (strayed_after p flutter (λ m. keeps (double + m)) k) (strayed_after p flutter keeps (double + k)) (2 * cycle_change p - walk_on p flutter) (walk_back p flutter) less)
+    let At : ℕ → Type 0 = λ n. strayed_after p flutter later (suc k) ≤ strayed_after p flutter keeps n in
+    let By : Bool → Type 0 = λ b. next_stray b (strayed_after p flutter later k) adds back ≤ next_stray (keeps (double + k)) (strayed_after p flutter keeps (double + k)) adds back in
+    subst At one (subst By (sym (same k)) (next_grows (keeps (double + k)) (strayed_after p flutter later k) (strayed_after p flutter keeps (double + k)) adds back less))
 
 none_next : (keeps : Bool) (strayed change on back : ℕ) → strayed ≡ 0 → (keeps ≡ true → change ≡ 0) → next_stray keeps strayed (2 * change - on) back ≡ 0
 none_next true strayed change on back none still = let zero : change ≡ 0 = still refl in omega (arith, none, zero)
