@@ -1,7 +1,8 @@
 -- The step of a double cycle in which anything may be lost.
-use Rattle.std.proofs.Common.{◌≡◌, ℕ, ◌+◌, ◌*◌, ◌≤◌, ℤ, pos, true, false, List, All, length, inl, inr, refl, sym, ap₂, ◌∙◌, subst, arith}
+use Rattle.std.proofs.Common.{◌≡◌, ℕ, ◌+◌, ◌-◌, ◌*◌, ◌≤◌, Bool, ℤ, pos, true, false, List, All, length, inl, inr, refl, sym, ap, ◌∙◌, subst, arith}
 use Rattle.std.specs.Prelude.{◌+ℤ◌, ◌-ℤ◌, ◌*ℤ◌, ◌≤ℤ◌, Contains}
 use Rattle.std.proofs.lemmas.Int.{ints}
+use Rattle.std.proofs.Math.Nat.{mul-le-mul_right}
 use Rattle.fr_base.specs.declared.node_row.NodeRow.{NodeRow}
 use Rattle.fr_base.specs.declared.state.Outcome.TheVariants.{Within}
 use Rattle.fr_base.specs.Within.{IsBetween, IsWithin}
@@ -14,16 +15,21 @@ use Rattle.fr_precision.specs.Instants.{gap_of, LieNear}
 use Rattle.fr_precision.specs.Offsets.{IsOffsetRound, IsSending, NearAll}
 use Rattle.fr_precision.specs.Placement.{IsRegular}
 use Rattle.fr_precision.specs.Step.{IsAmong, Member}
+use Rattle.fr_midpoint.proofs.Products.{mulz-subz, mulz_within}
+use Rattle.fr_time.proofs.Placing.{is_grid_lem}
 use Rattle.fr_precision.proofs.OffsetLaws.{micro_lasts, offset_terms_are_uncut}
 use Rattle.fr_precision.proofs.Senders.{All-along}
 use Rattle.fr_bound.specs.SharpBounds.{odd_spread, sharp_lambda, steady_error}
-use Rattle.fr_bound.specs.SharpSpreads.{lost_lengths, lost_starts}
+use Rattle.fr_bound.specs.SharpSpreads.{lost_lengths}
 use Rattle.fr_precision.specs.Ends.{TakesOffsets}
 use Rattle.fr_precision.specs.SharpStep.{ActInReach, IsSharpLimit}
-use Rattle.fr_precision.specs.Among.{ComputesOrKeeps, ComputesOwn, DeafSpreadsGrow, KeepsRate, LieAcross, LostSpreadsGrow, OneLossCosts, most_change}
-use Rattle.fr_precision.specs.Lengths.{next_length_error, IsAboutCycle, IsNextEven, WalksOn}
+use Rattle.fr_precision.specs.Among.{ComputesOrKeeps, ComputesOwn, DeafSpreadsGrow, KeepsRate, LieAcross, LostSpreadsGrow, OneLossCosts}
+use Rattle.fr_precision.specs.Lengths.{IsNextEven, WalksOn}
 use Rattle.fr_precision.proofs.EndLemmas.{ends_come_among_lem}
 use Rattle.fr_precision.proofs.LengthLemmas.{lengths_come_among_lem, near_length, range_walks}
+use Rattle.fr_precision.proofs.PlacementLaws.{steady_within}
+use Rattle.fr_precision.proofs.Signed.{signed_of}
+use Rattle.fr_precision.proofs.SteadyLemmas.{regularly}
 use Rattle.fr_precision.proofs.StepLemmas.{acts_in_cycle, among_rows, node_about, nodes_near, sender_near, senders_about, senders_near, turned, Double}
 
 pub widen : (a b : ℕ) (x : ℤ) → a ≤ b → IsWithin (pos a) x → IsWithin (pos b) x
@@ -32,12 +38,25 @@ widen a b x le near = record { low = omega (arith, ints, near.low); high = omega
 starts_sum : (s l o e q n : ℕ) (x : ℤ) → s + l + o + 2 * e + 3 * q ≤ n → IsWithin (pos s +ℤ pos l +ℤ pos o +ℤ pos (2 * e + 3 * q)) x → IsWithin (pos n) x
 starts_sum s l o e q n x le near = record { low = omega (arith, ints, near.low); high = omega (arith, ints, near.high) }
 
--- with one error less, and with none
-less_sum : (l e c j n : ℕ) (x : ℤ) → l + (2 * e + 2 * c + 2 * j) ≤ n → IsWithin (pos l +ℤ pos (e + c + j)) x → IsWithin (pos n) x
-less_sum l e c j n x le near = record { low = omega (arith, ints, near.low); high = omega (arith, ints, near.high) }
+-- with one error less, where one length has changed twice, and with none, where both have
+less_sum : (l e c j n : ℕ) (x now next : ℤ) → l + (2 * e + 2 * c + 2 * j) ≤ n → j ≤ e → IsWithin (pos l +ℤ pos (e + c + j)) (x -ℤ now) → IsWithin (pos (2 * j)) (next -ℤ now) → IsWithin (pos n) (x -ℤ next)
+less_sum l e c j n x now next le small near moved = record { low = omega (arith, ints, near.low, moved.high); high = omega (arith, ints, near.high, moved.low) }
 
-none_sum : (l m n : ℕ) (x : ℤ) → l + m ≤ n → IsWithin (pos l) x → IsWithin (pos n) x
-none_sum l m n x le near = record { low = omega (arith, ints, near.low); high = omega (arith, ints, near.high) }
+none_sum : (l e c j n : ℕ) (one other next other_next : ℤ) → l + (2 * e + 2 * c + 2 * j) ≤ n → j ≤ e → IsWithin (pos l) (one -ℤ other) → IsWithin (pos (2 * j)) (next -ℤ one) → IsWithin (pos (2 * j)) (other_next -ℤ other)
+    → IsWithin (pos n) (next -ℤ other_next)
+none_sum l e c j n one other next other_next le small near moved also_moved = record {
+  low = omega (arith, ints, near.low, moved.low, also_moved.high);
+  high = omega (arith, ints, near.high, moved.high, also_moved.low);
+}
+
+-- the change of a cycle is no more than the error of a length
+change_small : (n r o w f q : ℕ) → (n + r) * w ≤ f + q + (n + r + o + 1) * w
+change_small n r o w f q =
+    let more : (n + r) * w ≤ (n + r + o + 1) * w = mul-le-mul_right w (wide n r o) in
+    omega (arith, more)
+  where
+    wide : (n r o : ℕ) → n + r ≤ n + r + o + 1
+    wide n r o = omega arith
 
 lengths_sum : (l m n : ℕ) (x : ℤ) → l + m ≤ n → IsWithin (pos l +ℤ pos m) x → IsWithin (pos n) x
 lengths_sum l m n x le near = record { low = omega (arith, ints, near.low); high = omega (arith, ints, near.high) }
@@ -92,16 +111,16 @@ record HasOffsets (p : Values) (nodes : List Member) (last : ℤ) (node : Member
 offsets_own : (p : Values) (flutter : ℕ) (nodes : List Member) (last : ℤ) (node : Member) → ComputesOwn p flutter nodes last node → HasOffsets p nodes last node
 offsets_own p flutter nodes last node own = record { senders = own.offset_senders; some = own.some_offsets; among = own.offsets_among; acts = own.acts; round = own.by_offset }
 
-offsets_of : (p : Values) (flutter : ℕ) (nodes : List Member) (last : ℤ) (node : Member) → ComputesOrKeeps p flutter nodes last node → HasOffsets p nodes last node
-offsets_of p flutter nodes last node (inl own) = offsets_own p flutter nodes last node own
-offsets_of p flutter nodes last node (inr keeps) = record { senders = keeps.offset_senders; some = keeps.some_offsets; among = keeps.offsets_among; acts = keeps.acts; round = keeps.by_offset }
+offsets_of : (some_keep : Bool) (p : Values) (flutter : ℕ) (nodes : List Member) (last : ℤ) (node : Member) → ComputesOrKeeps some_keep p flutter nodes last node → HasOffsets p nodes last node
+offsets_of some_keep p flutter nodes last node (inl own) = offsets_own p flutter nodes last node own
+offsets_of some_keep p flutter nodes last node (inr keeps) = record { senders = keeps.offset_senders; some = keeps.some_offsets; among = keeps.offsets_among; acts = keeps.acts; round = keeps.by_offset }
 
-pub regular_or : (p : Values) (flutter : ℕ) (nodes : List Member) (last : ℤ) (node : Member) → ComputesOrKeeps p flutter nodes last node → IsRegular p node.even node.odd
-regular_or p flutter nodes last node (inl own) = own.regular
-regular_or p flutter nodes last node (inr keeps) = keeps.regular
+pub regular_or : (some_keep : Bool) (p : Values) (flutter : ℕ) (nodes : List Member) (last : ℤ) (node : Member) → ComputesOrKeeps some_keep p flutter nodes last node → IsRegular p node.even node.odd
+regular_or some_keep p flutter nodes last node (inl own) = own.regular
+regular_or some_keep p flutter nodes last node (inr keeps) = keeps.regular
 
 module _
-    (p : Values) (flutter : ℕ) (nodes : List Member) (starts lengths : ℕ) (beyond walk reach last : ℤ)
+    (some_keep : Bool) (p : Values) (flutter : ℕ) (nodes : List Member) (starts lengths : ℕ) (beyond walk reach last : ℤ)
     (is : IsSharpLimit p flutter beyond walk reach last) (acting : ActInReach p reach last nodes) (double : Double p starts lengths beyond nodes) where
   takes_own : (node : Member) → Contains nodes node → (own : HasOffsets p nodes last node) → TakesOffsets p own.senders reach (pos (odd_spread p lengths)) node.odd node.offsets node.offset_term
   takes_own node here own = takes_of p flutter nodes starts lengths beyond walk reach last is acting double node here own.senders own.among own.acts own.round
@@ -148,17 +167,35 @@ module _
       (λ x y among also_among. (two p flutter nodes starts lengths beyond walk reach last is acting double x y among also_among).by_even))
       own.by_rate also.by_rate after other_after
 
-  -- the next even cycle of a node that keeps its rate is as long as this one
-  kept_length : (node : Member) (even : NodeRow) → KeepsRate p nodes last node → IsNextEven p node.odd node.rate_term even → cycle_length_of p even ≡ cycle_length_of p node.even
+  -- the length of the next even cycle of a node that keeps its rate has changed twice
+  kept_length : (node : Member) (even : NodeRow) → KeepsRate some_keep p nodes last node → IsNextEven p node.odd node.rate_term even
+      → IsWithin (pos (2 * cycle_change p)) (cycle_length_of p even -ℤ cycle_length_of p node.even)
   kept_length node even keeps after =
-      let early : node.odd.length ≡ node.even.length = still (most_change p) node.odd.length node.even.length keeps.unchanged keeps.regular.steady in
-      let late : even.length ≡ node.odd.length = still (most_change p) even.length node.odd.length keeps.unchanged after.steady in
-      ap₂ (λ (rate length : ℤ). (p.micros +ℤ rate) *ℤ length) (after.rate ∙ keeps.kept ∙ keeps.regular.double.same_rate) (late ∙ early)
+      let s = signed_of p is.sane in
+      let n : ℤ = p.micros +ℤ node.even.rate in
+      let most : ℤ = p.micros +ℤ p.rate_limit in
+      let r = regularly p node.even node.odd (pos 0) is.sane keeps.regular nothing (before p.correction (is_grid_lem p is.sane).correction_from) in
+      let early = mulz_within n (node.odd.length -ℤ node.even.length) most p.change_bound r.whole_from r.whole_to r.change in
+      let late = mulz_within n (even.length -ℤ node.odd.length) most p.change_bound r.whole_from r.whole_to (steady_within p node.odd even is.sane after.steady) in
+      let same : cycle_length_of p even ≡ n *ℤ even.length =
+      ap (λ (rate : ℤ). (p.micros +ℤ rate) *ℤ even.length) (after.rate ∙ keeps.kept ∙ keeps.regular.double.same_rate) in
+      twice (cycle_change p) (most *ℤ p.change_bound) (cycle_length_of p node.even) (n *ℤ node.odd.length) (n *ℤ even.length) (cycle_length_of p even) (n *ℤ (node.odd.length -ℤ node.even.length))
+      (n *ℤ (even.length -ℤ node.odd.length)) s.j_is same (mulz-subz node.odd.length node.even.length n) (mulz-subz even.length node.odd.length n) early late
     where
-      still : (w : ℕ) (x y : ℤ) → w ≡ 0 → IsWithin (pos w) (x -ℤ y) → x ≡ y
-      still w x y none near = omega (arith, ints, none, near.low, near.high)
+      nothing : pos 0 ≤ℤ pos 0
+      nothing = omega (arith, ints)
 
-  range_kept : (next : ℤ) (one : Member) → Contains nodes one → KeepsRate p nodes last one → beyond ≤ℤ next → WalksOn p next one.odd one.rate_term
+      before : (c : ℤ) → pos 1 ≤ℤ c → pos 0 ≤ℤ c
+      before c le = omega (arith, ints)
+
+      twice : (j : ℕ) (jj now middle last next x y : ℤ) → pos j ≡ jj → next ≡ last → x ≡ middle -ℤ now → y ≡ last -ℤ middle → IsWithin jj x → IsWithin jj y → IsWithin (pos (2 * j)) (next -ℤ now)
+      twice j jj now middle last next x y a b c e one other = record { low = omega (arith, ints, one.low, other.low); high = omega (arith, ints, one.high, other.high) }
+
+  small : cycle_change p ≤ steady_error p flutter
+  small =
+      change_small (amount p name.pMicroPerCycle) (amount p name.pRateCorrectionOut) (amount p name.pOffsetCorrectionOut) (amount p name.xChangeBound) flutter (longest_micro p - 1)
+
+  range_kept : (next : ℤ) (one : Member) → Contains nodes one → KeepsRate some_keep p nodes last one → (beyond +ℤ pos (2 * cycle_change p)) ≤ℤ next → WalksOn p next one.odd one.rate_term
   range_kept next one here keeps further = record {
     uncut = keeps.within;
     limit =
@@ -167,12 +204,12 @@ module _
         subst Limited (sym (keeps.kept ∙ keeps.regular.double.same_rate)) keeps.regular.rate_within
         );
     range = λ even after.
-        let About : ℤ → Type 0 = λ long. IsAboutCycle p next long in
-        subst About (sym (kept_length one even keeps after)) (beside (pos (shortest_cycle p)) (pos (longest_cycle p)) beyond next (cycle_length_of p one.even) further (node_about p starts lengths beyond nodes double one here));
+        beside (pos (shortest_cycle p)) (pos (longest_cycle p)) beyond next (cycle_length_of p one.even) (cycle_length_of p even) (cycle_change p) further (node_about p starts lengths beyond nodes double one here)
+        (kept_length one even keeps after);
   }
     where
-      beside : (least most b n x : ℤ) → b ≤ℤ n → IsBetween (least -ℤ b) (most +ℤ b) x → IsBetween (least -ℤ n) (most +ℤ n) x
-      beside least most b n x le about = record { low = omega (arith, ints, le, about.low); high = omega (arith, ints, le, about.high) }
+      beside : (least most b n x y : ℤ) (j : ℕ) → (b +ℤ pos (2 * j)) ≤ℤ n → IsBetween (least -ℤ b) (most +ℤ b) x → IsWithin (pos (2 * j)) (y -ℤ x) → IsBetween (least -ℤ n) (most +ℤ n) y
+      beside least most b n x y j le about moved = record { low = omega (arith, ints, le, about.low, moved.low); high = omega (arith, ints, le, about.high, moved.high) }
 
   -- a node's even length lies near those of some senders
   lies_near : (node : Member) → Contains nodes node → (senders : List Sender) → All (IsAmong nodes) senders
@@ -181,44 +218,29 @@ module _
       All-along (IsAmong nodes) (λ (sender : Sender). IsWithin (pos lengths) (cycle_length_of p node.even -ℤ cycle_length_of p sender.even)) senders
       (λ sender is_among. turned (pos lengths) (cycle_length_of p sender.even) (cycle_length_of p node.even) (sender_near p starts lengths beyond nodes double sender node is_among here).by_even) among
 
-  own_and_kept : (one other : Member) → Contains nodes other → ComputesOwn p flutter nodes last one → KeepsRate p nodes last other → (even other_even : NodeRow)
-      → IsNextEven p one.odd one.rate_term even → IsNextEven p other.odd other.rate_term other_even
-      → IsWithin (pos lengths +ℤ pos (next_length_error p flutter)) (cycle_length_of p even -ℤ cycle_length_of p other_even)
-  own_and_kept one other there own keeps even other_even after other_after =
-      let Near : ℤ → Type 0 = λ long. IsWithin (pos lengths +ℤ pos (next_length_error p flutter)) (cycle_length_of p even -ℤ long) in
-      subst Near (sym (kept_length other other_even keeps other_after))
+  own_and_kept : (next_lengths : ℕ) (one other : Member) → Contains nodes other → lost_lengths p flutter lengths ≤ next_lengths → ComputesOwn p flutter nodes last one → KeepsRate some_keep p nodes last other
+      → (even other_even : NodeRow) → IsNextEven p one.odd one.rate_term even → IsNextEven p other.odd other.rate_term other_even → IsWithin (pos next_lengths) (cycle_length_of p even -ℤ cycle_length_of p other_even)
+  own_and_kept next_lengths one other there longer own keeps even other_even after other_after =
+      less_sum lengths (steady_error p flutter) (amount p name.pClusterDriftDamping * longest_micro p) (cycle_change p) next_lengths (cycle_length_of p even) (cycle_length_of p other.even) (cycle_length_of p other_even) longer small
       (
       near_length p flutter own.rate_senders (pos lengths) beyond walk (cycle_length_of p other.even) one.odd one.rates one.rate_term even is.sane is.walks own.some_rates
       (senders_about p starts lengths beyond nodes own.rate_senders double own.rates_among) (lies_near other there own.rate_senders own.rates_among) own.by_rate after
       )
+      (kept_length other other_even keeps other_after)
 
   lengths_by : (next_lengths : ℕ) (one other : Member) → Contains nodes one → Contains nodes other → lost_lengths p flutter lengths ≤ next_lengths
-      → ComputesOrKeeps p flutter nodes last one → ComputesOrKeeps p flutter nodes last other → (even other_even : NodeRow)
+      → ComputesOrKeeps some_keep p flutter nodes last one → ComputesOrKeeps some_keep p flutter nodes last other → (even other_even : NodeRow)
       → IsNextEven p one.odd one.rate_term even → IsNextEven p other.odd other.rate_term other_even → IsWithin (pos next_lengths) (cycle_length_of p even -ℤ cycle_length_of p other_even)
   lengths_by next_lengths one other here there longer (inl own) (inl also) even other_even after other_after =
       lengths_sum lengths (2 * steady_error p flutter + 2 * (amount p name.pClusterDriftDamping * longest_micro p) + 2 * cycle_change p) next_lengths (cycle_length_of p even -ℤ cycle_length_of p other_even) longer
       (lengths_own one other own also even other_even after other_after)
   lengths_by next_lengths one other here there longer (inl own) (inr keeps) even other_even after other_after =
-      less_sum lengths (steady_error p flutter) (amount p name.pClusterDriftDamping * longest_micro p) (cycle_change p) next_lengths (cycle_length_of p even -ℤ cycle_length_of p other_even) longer
-      (own_and_kept one other there own keeps even other_even after other_after)
+      own_and_kept next_lengths one other there longer own keeps even other_even after other_after
   lengths_by next_lengths one other here there longer (inr keeps) (inl also) even other_even after other_after =
-      turned (pos next_lengths) (cycle_length_of p other_even) (cycle_length_of p even)
-      (
-      less_sum lengths (steady_error p flutter) (amount p name.pClusterDriftDamping * longest_micro p) (cycle_change p) next_lengths (cycle_length_of p other_even -ℤ cycle_length_of p even) longer
-      (own_and_kept other one here also keeps other_even even other_after after)
-      )
+      turned (pos next_lengths) (cycle_length_of p other_even) (cycle_length_of p even) (own_and_kept next_lengths other one here longer also keeps other_even even other_after after)
   lengths_by next_lengths one other here there longer (inr keeps) (inr also) even other_even after other_after =
-      let Near : ℤ → ℤ → Type 0 = λ long short. IsWithin (pos next_lengths) (long -ℤ short) in
-      let First : ℤ → Type 0 = λ long. Near long (cycle_length_of p other_even) in
-      let Second : ℤ → Type 0 = λ short. Near (cycle_length_of p one.even) short in
-      subst First (sym (kept_length one even keeps after))
-      (
-      subst Second (sym (kept_length other other_even also other_after))
-      (
-      none_sum lengths (2 * steady_error p flutter + 2 * (amount p name.pClusterDriftDamping * longest_micro p) + 2 * cycle_change p) next_lengths (cycle_length_of p one.even -ℤ cycle_length_of p other.even) longer
-      (nodes_near p starts lengths beyond nodes double one other here there).by_even
-      )
-      )
+      none_sum lengths (steady_error p flutter) (amount p name.pClusterDriftDamping * longest_micro p) (cycle_change p) next_lengths (cycle_length_of p one.even) (cycle_length_of p other.even) (cycle_length_of p even)
+      (cycle_length_of p other_even) longer small (nodes_near p starts lengths beyond nodes double one other here there).by_even (kept_length one even keeps after) (kept_length other other_even also other_after)
 
 pub lost_spreads_grow : LostSpreadsGrow
 lost_spreads_grow p flutter nodes starts lengths next_starts next_lengths beyond walk next reach last one other is acting next_from to_next grows longer sharp computes here there =
@@ -226,35 +248,35 @@ lost_spreads_grow p flutter nodes starts lengths next_starts next_lengths beyond
     let own = offsets_own p flutter nodes last one (computes one here) in
     let also = offsets_own p flutter nodes last other (computes other there) in
     record {
-      uncut = uncut_by p flutter nodes starts lengths beyond walk reach last is acting double one here own;
-      range = range_own p flutter nodes starts lengths beyond walk reach last is acting double next one (computes one here) next_from to_next;
+      uncut = uncut_by false p flutter nodes starts lengths beyond walk reach last is acting double one here own;
+      range = range_own false p flutter nodes starts lengths beyond walk reach last is acting double next one (computes one here) next_from to_next;
       ends =
           starts_sum starts lengths (odd_spread p lengths) (arrival_error p) (longest_micro p) next_starts (corrected_end_of p one.odd -ℤ corrected_end_of p other.odd) grows
-          (ends_by p flutter nodes starts lengths beyond walk reach last is acting double one other here there own also);
+          (ends_by false p flutter nodes starts lengths beyond walk reach last is acting double one other here there own also);
       lengths =
           λ even other_even after other_after.
-          lengths_by p flutter nodes starts lengths beyond walk reach last is acting double next_lengths one other here there longer (inl (computes one here)) (inl (computes other there)) even other_even after other_after;
+          lengths_by false p flutter nodes starts lengths beyond walk reach last is acting double next_lengths one other here there longer (inl (computes one here)) (inl (computes other there)) even other_even after other_after;
     }
 
 pub deaf_spreads_grow : DeafSpreadsGrow
-deaf_spreads_grow p flutter nodes starts lengths next_starts next_lengths beyond walk next reach last one other is acting next_from to_next further grows longer sharp computes here there =
-    let double : Double p starts lengths beyond nodes = record { sane = is.sane; sharp = sharp; regular = λ node at. regular_or p flutter nodes last node (computes node at) } in
-    let own = offsets_of p flutter nodes last one (computes one here) in
-    let also = offsets_of p flutter nodes last other (computes other there) in
+deaf_spreads_grow some_keep p flutter nodes starts lengths next_starts next_lengths beyond walk next reach last one other is acting next_from to_next further grows longer sharp computes here there =
+    let double : Double p starts lengths beyond nodes = record { sane = is.sane; sharp = sharp; regular = λ node at. regular_or some_keep p flutter nodes last node (computes node at) } in
+    let own = offsets_of some_keep p flutter nodes last one (computes one here) in
+    let also = offsets_of some_keep p flutter nodes last other (computes other there) in
     record {
-      uncut = uncut_by p flutter nodes starts lengths beyond walk reach last is acting double one here own;
+      uncut = uncut_by some_keep p flutter nodes starts lengths beyond walk reach last is acting double one here own;
       range = range_by double (computes one here);
       ends =
           starts_sum starts lengths (odd_spread p lengths) (arrival_error p) (longest_micro p) next_starts (corrected_end_of p one.odd -ℤ corrected_end_of p other.odd) grows
-          (ends_by p flutter nodes starts lengths beyond walk reach last is acting double one other here there own also);
+          (ends_by some_keep p flutter nodes starts lengths beyond walk reach last is acting double one other here there own also);
       lengths =
           λ even other_even after other_after.
-          lengths_by p flutter nodes starts lengths beyond walk reach last is acting double next_lengths one other here there longer (computes one here) (computes other there) even other_even after other_after;
+          lengths_by some_keep p flutter nodes starts lengths beyond walk reach last is acting double next_lengths one other here there longer (computes one here) (computes other there) even other_even after other_after;
     }
   where
-    range_by : Double p starts lengths beyond nodes → ComputesOrKeeps p flutter nodes last one → WalksOn p next one.odd one.rate_term
-    range_by double (inl own) = range_own p flutter nodes starts lengths beyond walk reach last is acting double next one own next_from to_next
-    range_by double (inr keeps) = range_kept p flutter nodes starts lengths beyond walk reach last is acting double next one here keeps further
+    range_by : Double p starts lengths beyond nodes → ComputesOrKeeps some_keep p flutter nodes last one → WalksOn p next one.odd one.rate_term
+    range_by double (inl own) = range_own some_keep p flutter nodes starts lengths beyond walk reach last is acting double next one own next_from to_next
+    range_by double (inr keeps) = range_kept some_keep p flutter nodes starts lengths beyond walk reach last is acting double next one here keeps (further keeps.may)
 
 pub one_loss_costs : OneLossCosts
 one_loss_costs p flutter = (

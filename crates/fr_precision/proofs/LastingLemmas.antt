@@ -1,6 +1,6 @@
 -- Many double cycles, by the step.
-use Rattle.std.proofs.Common.{◌≡◌, ℕ, zero, suc, ◌+◌, ◌*◌, ◌-◌, ◌<◌, ◌≤◌, Bool, true, false, ℤ, pos, Option, Some, None, IfSome, List, map, All, inl, inr, refl, sym, subst, arith}
-use Rattle.std.specs.Prelude.{◌+ℤ◌, ◌*ℤ◌, ◌≤ℤ◌, ◌/◌, Contains, int_le, if◌then◌else◌}
+use Rattle.std.proofs.Common.{◌≡◌, ℕ, zero, suc, ◌+◌, ◌*◌, ◌-◌, ◌<◌, ◌≤◌, Bool, true, false, ℤ, pos, Option, Some, None, IfSome, List, map, All, inl, inr, sym, subst, arith}
+use Rattle.std.specs.Prelude.{◌+ℤ◌, ◌*ℤ◌, ◌≤ℤ◌, ◌/◌, Contains}
 use Rattle.std.proofs.lemmas.Int.{ints}
 use Rattle.std.proofs.lemmas.List.Elements.{All-contains_itself, All-map}
 use Rattle.std.proofs.Math.Nat.{le-max_left}
@@ -12,7 +12,7 @@ use Rattle.fr_cluster.specs.Values.{amount, Values}
 use Rattle.fr_cluster.specs.Sane.{IsSane}
 use Rattle.fr_cluster.specs.declared.names.ParamName.TheVariants as name
 use Rattle.fr_time.specs.Position.{floor_of}
-use Rattle.fr_bound.specs.Bounds.{longest_micro}
+use Rattle.fr_bound.specs.Bounds.{cycle_change, longest_micro}
 use Rattle.fr_bound.specs.Checks.{holds_of}
 use Rattle.fr_precision.specs.Offsets.{LimitSuffices}
 use Rattle.fr_precision.specs.Rows.{Sender}
@@ -80,15 +80,15 @@ next_active p nodes next_nodes next =
 module _ (beside : Bool) (p : Values) (flutter doubles : ℕ) (starts lengths : ℕ → ℕ) (senders : ℕ → List Sender) (nodes : ℕ → List Member) (reach last : ℤ)
     (are : AreSharpDoubles beside p flutter doubles starts lengths senders nodes last) (draws : (k : ℕ) → DrawsTo beside p flutter (starts k) (lengths k) (starts (suc k)) (lengths (suc k)))
     (suffices : LimitSuffices p reach) (early : last ≤ℤ p.correction)
-    (acting : (k : ℕ) → k < doubles → WalkLastsAfter p flutter k → BeginSharp p flutter starts lengths nodes k → ActInReach p reach last (nodes k)) where
-  come_of : (k : ℕ) → k < doubles → WalkLastsAfter p flutter k → BeginSharp p flutter starts lengths nodes k → (one other : Member) → Contains (nodes k) one → Contains (nodes k) other
+    (acting : (k : ℕ) → k < doubles → WalkLastsAfter p flutter k → BeginSharp p (walked_after p flutter) starts lengths nodes k → ActInReach p reach last (nodes k)) where
+  come_of : (k : ℕ) → k < doubles → WalkLastsAfter p flutter k → BeginSharp p (walked_after p flutter) starts lengths nodes k → (one other : Member) → Contains (nodes k) one → Contains (nodes k) other
       → ComeSharply p (starts (suc k)) (lengths (suc k)) (walked_after p flutter (suc k)) one other
   come_of k short before begin one other here there =
       let held = walk_is_held p flutter k are.sane are.second before in
       spreads_shrink_in_reach beside p flutter (senders k) (nodes k) (starts k) (lengths k) (starts (suc k)) (lengths (suc k)) (walked_after p flutter k) (rate_walk p flutter) (walked_after p flutter (suc k)) reach last one other
       (record { sane = are.sane; walks = held.0; suffices = suffices; early = early }) (acting k short before begin) held.1 held.2 (draws k) begin.sharp (are.heard k short before begin) here there
 
-  begins_after : AreSharp p (starts 0) (lengths 0) (pos 0) (map (λ (node : Member). node.even) (nodes 0)) → (k : ℕ) → k < doubles → WalkLastsUpTo p flutter k → BeginSharp p flutter starts lengths nodes k
+  begins_after : AreSharp p (starts 0) (lengths 0) (pos 0) (map (λ (node : Member). node.even) (nodes 0)) → (k : ℕ) → k < doubles → WalkLastsUpTo p flutter k → BeginSharp p (walked_after p flutter) starts lengths nodes k
   unfolding Active_in
   begins_after first zero short before =
       let At : ℤ → Type 0 = λ beyond. AreSharp p (starts 0) (lengths 0) beyond (map (λ (node : Member). node.even) (nodes 0)) in
@@ -107,7 +107,7 @@ module _ (beside : Bool) (p : Values) (flutter doubles : ℕ) (starts lengths : 
         active = next_active p (nodes k) (nodes (suc k)) next;
       }
 
-  pub doubles_draw : AreSharp p (starts 0) (lengths 0) (pos 0) (map (λ (node : Member). node.even) (nodes 0)) → (k : ℕ) → k < doubles → KeepsSharp p flutter starts lengths nodes k
+  pub doubles_draw : AreSharp p (starts 0) (lengths 0) (pos 0) (map (λ (node : Member). node.even) (nodes 0)) → (k : ℕ) → k < doubles → KeepsSharp p flutter (walked_after p flutter) starts lengths nodes k
   doubles_draw first k short =
       let begins = begins_after first k short in
       record { begins = begins; come = λ before. come_of k short before (begins (up_to p flutter k before)) }
@@ -158,7 +158,7 @@ sync_reach beside p flutter doubles sane checks = record {
 
 -- where all begin with pi and lambda, and are active in the first too, they are in sharp sync
 sync_of : (beside : Bool) (p : Values) (flutter : ℕ) (nodes : ℕ → List Member) → IsInSharpSync beside p flutter (pos 0) (map (λ (node : Member). node.even) (nodes 0)) (map (λ (node : Member). node.odd) (nodes 0))
-    → (k : ℕ) → BeginSharp p flutter (λ k. sharp_pi beside p flutter) (λ k. sharp_lambda beside p flutter) nodes k
+    → (k : ℕ) → BeginSharp p (walked_after p flutter) (λ k. sharp_pi beside p flutter) (λ k. sharp_lambda beside p flutter) nodes k
     → IsInSharpSync beside p flutter (walked_after p flutter k) (map (λ (node : Member). node.even) (nodes k)) (map (λ (node : Member). node.odd) (nodes k))
 sync_of beside p flutter nodes first zero begin = record { active_even = first.active_even; active_odd = first.active_odd; rows = begin.sharp }
 sync_of beside p flutter nodes first (suc k) begin = record { active_even = begin.active.0; active_odd = begin.active.1; rows = begin.sharp }
@@ -194,7 +194,7 @@ pub nothing : pos 0 ≤ℤ pos 0
 nothing = omega (arith, ints)
 
 spreads_keep : (beside : Bool) (p : Values) (flutter start rate reach doubles : ℕ) (senders : ℕ → List Sender) (nodes : ℕ → List Member) → BeginWithin beside p flutter start rate reach doubles senders nodes → (k : ℕ) → k < doubles
-    → KeepsSharp p flutter (starts_from beside p flutter start rate) (lengths_from beside p flutter start rate) nodes k
+    → KeepsSharp p flutter (walked_after p flutter) (starts_from beside p flutter start rate) (lengths_from beside p flutter start rate) nodes k
 spreads_keep beside p flutter start rate reach doubles senders nodes begin k short =
     let are = begin.doubles_are in
     let starts : ℕ → ℕ = starts_from beside p flutter start rate in
@@ -215,7 +215,7 @@ all_regular beside p flutter senders nodes last heard = All-along (ComputesSharp
 -- while the walk lasts, no macrotick of any two lies further apart than the spread says
 pub keeps_to_spreads : (beside : Bool) (p : Values) (flutter start rate doubles : ℕ) (senders : ℕ → List Sender) (nodes : ℕ → List Member)
     → AreSharpDoubles beside p flutter doubles (starts_from beside p flutter start rate) (lengths_from beside p flutter start rate) senders nodes (pos (last_action p)) → (k : ℕ) → k < doubles
-    → KeepsSharp p flutter (starts_from beside p flutter start rate) (lengths_from beside p flutter start rate) nodes k → KeepsToSpreads beside p flutter start rate nodes k
+    → KeepsSharp p flutter (walked_after p flutter) (starts_from beside p flutter start rate) (lengths_from beside p flutter start rate) nodes k → KeepsToSpreads beside p flutter start rate nodes k
 keeps_to_spreads beside p flutter start rate doubles senders nodes are k short keeps =
     let starts : ℕ → ℕ = starts_from beside p flutter start rate in
     let lengths : ℕ → ℕ = lengths_from beside p flutter start rate in
@@ -258,13 +258,13 @@ abbrev pub AllActive : List Member → Type 0
 AllActive nodes = All (λ (row : NodeRow). row.state ≡ Active) (map (λ (node : Member). node.even) nodes) × All (λ (row : NodeRow). row.state ≡ Active) (map (λ (node : Member). node.odd) nodes)
 
 -- as they are behind the first double cycle
-pub active_later : (p : Values) (flutter : ℕ) (starts lengths : ℕ → ℕ) (nodes : ℕ → List Member) (rest k : ℕ) → 1 ≤ rest → rest ≤ k → BeginSharp p flutter starts lengths nodes k → AllActive (nodes k)
+pub active_later : (p : Values) (flutter : ℕ) (starts lengths : ℕ → ℕ) (nodes : ℕ → List Member) (rest k : ℕ) → 1 ≤ rest → rest ≤ k → BeginSharp p (walked_after p flutter) starts lengths nodes k → AllActive (nodes k)
 active_later p flutter starts lengths nodes rest zero from le begin = absurd (omega (arith, from, le))
 active_later p flutter starts lengths nodes rest (suc k) from le begin = begin.active
 
 -- a spread at rest is that of sharp sync
 sync_at : (beside : Bool) (p : Values) (flutter start rate : ℕ) (nodes : ℕ → List Member) (k : ℕ) → AllActive (nodes k) → IsSharplySettled beside p flutter (sharp_spread_after beside p flutter start rate k)
-    → BeginSharp p flutter (starts_from beside p flutter start rate) (lengths_from beside p flutter start rate) nodes k
+    → BeginSharp p (walked_after p flutter) (starts_from beside p flutter start rate) (lengths_from beside p flutter start rate) nodes k
     → IsInSharpSync beside p flutter (walked_after p flutter k) (map (λ (node : Member). node.even) (nodes k)) (map (λ (node : Member). node.odd) (nodes k))
 sync_at beside p flutter start rate nodes k active settled begin =
     let evens = map (λ (node : Member). node.even) (nodes k) in
@@ -292,7 +292,7 @@ stay_at beside p flutter start rate k next one other settled later come precise 
     }
 
 pub stays_at_rest : (beside : Bool) (p : Values) (flutter start rate rest : ℕ) (nodes : ℕ → List Member) (k : ℕ)
-    → (BeginSharp p flutter (starts_from beside p flutter start rate) (lengths_from beside p flutter start rate) nodes k → AllActive (nodes k))
+    → (BeginSharp p (walked_after p flutter) (starts_from beside p flutter start rate) (lengths_from beside p flutter start rate) nodes k → AllActive (nodes k))
     → IsSharplySettled beside p flutter (sharp_spread_after beside p flutter start rate rest) → rest ≤ k → KeepsToSpreads beside p flutter start rate nodes k → StaysInSharpSync beside p flutter nodes k
 stays_at_rest beside p flutter start rate rest nodes k active settled le kept =
     let now = settled_after beside p flutter start rate rest k settled le in
@@ -315,44 +315,29 @@ sharp_sync_is_reached beside p flutter start rate reach doubles rest senders nod
 
 -- ---- by what is heard
 
--- lengths lie no less far beyond their range one double cycle later
-walked_on : (p : Values) (flutter k : ℕ) → (walked_after p flutter k +ℤ rate_walk p flutter) ≤ℤ walked_after p flutter (suc k) → walked_after p flutter k ≤ℤ walked_after p flutter (suc k)
-walked_on p flutter k held = by (int_le (rate_walk p flutter) (pos 0)) refl
-  where
-    nothing : (a : ℤ) → a ≤ℤ a
-    nothing a = omega (arith, ints)
-
-    grows : (a w b : ℤ) → int_le w (pos 0) ≡ false → (a +ℤ w) ≤ℤ b → a ≤ℤ b
-    grows a w b is le = grind (arith, ints)
-
-    by : (b : Bool) → int_le (rate_walk p flutter) (pos 0) ≡ b → walked_after p flutter k ≤ℤ walked_after p flutter (suc k)
-    by true is =
-        let At : Bool → Type 0 = λ b. (if b then pos 0 else pos k *ℤ rate_walk p flutter) ≤ℤ (if b then pos 0 else pos (suc k) *ℤ rate_walk p flutter) in
-        subst At (sym is) (nothing (pos 0))
-    by false is = grows (walked_after p flutter k) (rate_walk p flutter) (walked_after p flutter (suc k)) is held
-
 own_regular : (p : Values) (flutter : ℕ) (nodes : List Member) (last : ℤ) → ((node : Member) → Contains nodes node → ComputesOwn p flutter nodes last node) → All (λ (node : Member). IsRegular p node.even node.odd) nodes
 own_regular p flutter nodes last computes =
     All-along (Contains nodes) (λ (node : Member). IsRegular p node.even node.odd) nodes (λ node here. (computes node here).regular) (All-contains_itself nodes)
 
-regular_by : (what : Heard) (p : Values) (flutter : ℕ) (senders : List Sender) (nodes : List Member) (last : ℤ) → HeardSo what p flutter senders nodes last → All (λ (node : Member). IsRegular p node.even node.odd) nodes
-regular_by Clean p flutter senders nodes last heard = all_regular false p flutter senders nodes last heard
-regular_by Meeting p flutter senders nodes last heard = own_regular p flutter nodes last heard.0
-regular_by Poor p flutter senders nodes last heard =
-    All-along (Contains nodes) (λ (node : Member). IsRegular p node.even node.odd) nodes (λ node here. regular_or p flutter nodes last node (heard node here)) (All-contains_itself nodes)
+regular_by : (what : Heard) (some_keep : Bool) (p : Values) (flutter : ℕ) (senders : List Sender) (nodes : List Member) (last : ℤ) → HeardSo what some_keep p flutter senders nodes last → All (λ (node : Member). IsRegular p node.even node.odd) nodes
+regular_by Clean some_keep p flutter senders nodes last heard = all_regular false p flutter senders nodes last heard
+regular_by Meeting some_keep p flutter senders nodes last heard = own_regular p flutter nodes last heard.0
+regular_by Poor some_keep p flutter senders nodes last heard =
+    All-along (Contains nodes) (λ (node : Member). IsRegular p node.even node.odd) nodes (λ node here. regular_or some_keep p flutter nodes last node (heard node here)) (All-contains_itself nodes)
 
 module _
-    (p : Values) (flutter : ℕ) (senders : List Sender) (nodes : List Member) (starts lengths next_starts next_lengths : ℕ) (beyond walk next reach last : ℤ)
-    (is : IsSharpReach p flutter starts lengths beyond walk reach last) (next_from : pos 0 ≤ℤ next) (to_next : (beyond +ℤ walk) ≤ℤ next) (further : beyond ≤ℤ next)
+    (some_keep : Bool) (p : Values) (flutter : ℕ) (senders : List Sender) (nodes : List Member) (starts lengths next_starts next_lengths : ℕ) (beyond walk next reach last : ℤ)
+    (is : IsSharpReach p flutter starts lengths beyond walk reach last) (next_from : pos 0 ≤ℤ next) (to_next : (beyond +ℤ walk) ≤ℤ next)
+    (further : some_keep ≡ true → (beyond +ℤ pos (2 * cycle_change p)) ≤ℤ next)
     (sharp : AreSharp p starts lengths beyond (map (λ (node : Member). node.even) nodes)) where
   limit : IsSharpLimit p flutter beyond walk reach last
   limit = record { sane = is.sane; walks = is.walks; suffices = is.suffices; early = is.early }
 
-  acting_by : (what : Heard) → HeardSo what p flutter senders nodes last → ActInReach p reach last nodes
+  acting_by : (what : Heard) → HeardSo what some_keep p flutter senders nodes last → ActInReach p reach last nodes
   acting_by what heard is_odd x y action at also from to =
-      actions_lie_in_reach p flutter starts lengths beyond walk reach last action is_odd nodes x y is sharp (regular_by what p flutter senders nodes last heard) at also from to
+      actions_lie_in_reach p flutter starts lengths beyond walk reach last action is_odd nodes x y is sharp (regular_by what some_keep p flutter senders nodes last heard) at also from to
 
-  come_so : (what : Heard) (one other : Member) → GoesTo what p flutter starts lengths next_starts next_lengths → HeardSo what p flutter senders nodes last
+  come_so : (what : Heard) (one other : Member) → GoesTo what p flutter starts lengths next_starts next_lengths → HeardSo what some_keep p flutter senders nodes last
       → Contains nodes one → Contains nodes other → ComeSharply p next_starts next_lengths next one other
   come_so Clean one other goes heard here there =
       spreads_shrink_in_reach false p flutter senders nodes starts lengths next_starts next_lengths beyond walk next reach last one other limit (acting_by Clean heard) next_from to_next goes sharp heard here there
@@ -366,47 +351,45 @@ module _
         (own_regular p flutter nodes last heard.0) here there common
   ]
   come_so Poor one other goes heard here there =
-      deaf_spreads_grow p flutter nodes starts lengths next_starts next_lengths beyond walk next reach last one other limit (acting_by Poor heard) next_from to_next further goes.0 goes.1 sharp heard here there
+      deaf_spreads_grow some_keep p flutter nodes starts lengths next_starts next_lengths beyond walk next reach last one other limit (acting_by Poor heard) next_from to_next further goes.0 goes.1 sharp heard here there
 
-module _ (p : Values) (flutter doubles : ℕ) (what : ℕ → Heard) (starts lengths : ℕ → ℕ) (senders : ℕ → List Sender) (nodes : ℕ → List Member) (reach last : ℤ)
-    (are : AreLossyDoubles p flutter doubles what starts lengths senders nodes last) (go : GoInReach p flutter doubles what starts lengths reach last) where
-  lossy_come : (k : ℕ) → k < doubles → WalkLastsAfter p flutter k → BeginSharp p flutter starts lengths nodes k → (one other : Member) → Contains (nodes k) one → Contains (nodes k) other
-      → ComeSharply p (starts (suc k)) (lengths (suc k)) (walked_after p flutter (suc k)) one other
+module _ (p : Values) (flutter doubles : ℕ) (what : ℕ → Heard) (keeps : ℕ → Bool) (beyond : ℕ → ℤ) (starts lengths : ℕ → ℕ) (senders : ℕ → List Sender) (nodes : ℕ → List Member) (reach last : ℤ)
+    (are : AreLossyDoubles p flutter doubles what keeps beyond starts lengths senders nodes last) (go : GoInReach p flutter doubles what keeps beyond starts lengths reach last) where
+  lossy_come : (k : ℕ) → k < doubles → WalkLastsAfter p flutter k → BeginSharp p beyond starts lengths nodes k → (one other : Member) → Contains (nodes k) one → Contains (nodes k) other
+      → ComeSharply p (starts (suc k)) (lengths (suc k)) (beyond (suc k)) one other
   lossy_come k short before begin one other here there =
-      let held = walk_is_held p flutter k are.sane are.second before in
-      come_so p flutter (senders k) (nodes k) (starts k) (lengths k) (starts (suc k)) (lengths (suc k)) (walked_after p flutter k) (rate_walk p flutter) (walked_after p flutter (suc k)) reach last
-      (record { sane = are.sane; walks = held.0; suffices = go.suffices; early = go.early; fits = go.fits k short }) held.1 held.2 (walked_on p flutter k held.2) begin.sharp (what k) one other (go.goes k) (are.heard k short before begin) here there
+      come_so (keeps k) p flutter (senders k) (nodes k) (starts k) (lengths k) (starts (suc k)) (lengths (suc k)) (beyond k) (rate_walk p flutter) (beyond (suc k)) reach last
+      (record { sane = are.sane; walks = go.walks k short before; suffices = go.suffices; early = go.early; fits = go.fits k short }) (go.from_range k short before) (go.takes_walk k short before) (go.takes_changes k short before)
+      begin.sharp (what k) one other (go.goes k) (are.heard k short before begin) here there
 
-  lossy_begins : AreSharp p (starts 0) (lengths 0) (pos 0) (map (λ (node : Member). node.even) (nodes 0)) → (k : ℕ) → k < doubles → WalkLastsUpTo p flutter k → BeginSharp p flutter starts lengths nodes k
+  lossy_begins : AreSharp p (starts 0) (lengths 0) (beyond 0) (map (λ (node : Member). node.even) (nodes 0)) → (k : ℕ) → k < doubles → WalkLastsUpTo p flutter k → BeginSharp p beyond starts lengths nodes k
   unfolding Active_in
-  lossy_begins first zero short before =
-      let At : ℤ → Type 0 = λ beyond. AreSharp p (starts 0) (lengths 0) beyond (map (λ (node : Member). node.even) (nodes 0)) in
-      record { sharp = subst At (sym (walked_none p flutter)) first; active = tt }
+  lossy_begins first zero short before = record { sharp = first; active = tt }
   lossy_begins first (suc k) short before =
       let now = sooner k doubles short in
       let still = earlier p flutter k before in
       let begin = lossy_begins first k now (up_to p flutter k still) in
       let come = lossy_come k now still begin in
-      let next = are.follows k short still begin (uncut_of p (starts (suc k)) (lengths (suc k)) (walked_after p flutter (suc k)) (nodes k) come) in
-      let At : List NodeRow → Type 0 = λ rows. AreSharp p (starts (suc k)) (lengths (suc k)) (walked_after p flutter (suc k)) rows in
+      let next = are.follows k short still begin (uncut_of p (starts (suc k)) (lengths (suc k)) (beyond (suc k)) (nodes k) come) in
+      let At : List NodeRow → Type 0 = λ rows. AreSharp p (starts (suc k)) (lengths (suc k)) (beyond (suc k)) rows in
       record {
         sharp =
             subst At (sym next.evens)
-            (next_is_near p (nodes k) (starts (suc k)) (lengths (suc k)) (walked_after p flutter (suc k)) next.next_even next.next_odd come next.followed);
+            (next_is_near p (nodes k) (starts (suc k)) (lengths (suc k)) (beyond (suc k)) next.next_even next.next_odd come next.followed);
         active = next_active p (nodes k) (nodes (suc k)) next;
       }
 
 pub lossy_doubles_keep : LossyDoublesKeep
-lossy_doubles_keep p flutter doubles what starts lengths senders nodes reach last are go first k short =
-    let begins = lossy_begins p flutter doubles what starts lengths senders nodes reach last are go first k short in
+lossy_doubles_keep p flutter doubles what keeps beyond starts lengths senders nodes reach last are go first k short =
+    let begins = lossy_begins p flutter doubles what keeps beyond starts lengths senders nodes reach last are go first k short in
     record {
       begins = begins;
-      come = λ before. lossy_come p flutter doubles what starts lengths senders nodes reach last are go k short before (begins (up_to p flutter k before));
+      come = λ before. lossy_come p flutter doubles what keeps beyond starts lengths senders nodes reach last are go k short before (begins (up_to p flutter k before));
     }
 
 pub lossy_doubles_stay_apart : LossyDoublesStayApart
-lossy_doubles_stay_apart p flutter doubles what starts lengths senders nodes reach last are go first k apart one other macrotick is_odd short before fits ends_fit here there from to =
-    let keeps = lossy_doubles_keep p flutter doubles what starts lengths senders nodes reach last are go first k short in
-    let begin = keeps.begins (up_to p flutter k before) in
-    macroticks_stay_sharp p (starts k) (lengths k) (starts (suc k)) (lengths (suc k)) (walked_after p flutter k) (walked_after p flutter (suc k)) (nodes k) one other apart macrotick is_odd are.sane begin.sharp
-    (regular_by (what k) p flutter (senders k) (nodes k) last (are.heard k short before begin)) here there (keeps.come before one other here there) fits ends_fit from to
+lossy_doubles_stay_apart p flutter doubles what keeps beyond starts lengths senders nodes reach last are go first k apart one other macrotick is_odd short before fits ends_fit here there from to =
+    let kept = lossy_doubles_keep p flutter doubles what keeps beyond starts lengths senders nodes reach last are go first k short in
+    let begin = kept.begins (up_to p flutter k before) in
+    macroticks_stay_sharp p (starts k) (lengths k) (starts (suc k)) (lengths (suc k)) (beyond k) (beyond (suc k)) (nodes k) one other apart macrotick is_odd are.sane begin.sharp
+    (regular_by (what k) (keeps k) p flutter (senders k) (nodes k) last (are.heard k short before begin)) here there (kept.come before one other here there) fits ends_fit from to

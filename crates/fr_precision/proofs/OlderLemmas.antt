@@ -70,7 +70,7 @@ module _ (beside : Bool) (p : Values) (flutter doubles : ℕ) (senders : ℕ →
   fits : (k : ℕ) → FitsOlder p (sharp_spread_after beside p flutter (pi_of p) (lambda_of p) (suc k))
   fits k = older_way_fits beside p flutter k sane b.little
 
-  regular : (k : ℕ) → k < doubles → BeginSharp p flutter (starts_from beside p flutter (pi_of p) (lambda_of p)) (lengths_from beside p flutter (pi_of p) (lambda_of p)) nodes k
+  regular : (k : ℕ) → k < doubles → BeginSharp p (walked_after p flutter) (starts_from beside p flutter (pi_of p) (lambda_of p)) (lengths_from beside p flutter (pi_of p) (lambda_of p)) nodes k
       → (node : Member) → Contains (nodes k) node → IsRegular p node.even node.odd
   regular k short begin node here =
       All-contains (λ (node : Member). IsRegular p node.even node.odd) (nodes k) node
@@ -82,7 +82,7 @@ module _ (beside : Bool) (p : Values) (flutter doubles : ℕ) (senders : ℕ →
       nodes_near p (pos (pi_of p)) (pos (lambda_of p)) (nodes 0) one other
       (sync_is_spread p (map (λ (node : Member). node.even) (nodes 0)) (map (λ (node : Member). node.odd) (nodes 0)) b.sync) here there
 
-  acting : (k : ℕ) → k < doubles → WalkLastsAfter p flutter k → BeginSharp p flutter (starts_from beside p flutter (pi_of p) (lambda_of p)) (lengths_from beside p flutter (pi_of p) (lambda_of p)) nodes k
+  acting : (k : ℕ) → k < doubles → WalkLastsAfter p flutter k → BeginSharp p (walked_after p flutter) (starts_from beside p flutter (pi_of p) (lambda_of p)) (lengths_from beside p flutter (pi_of p) (lambda_of p)) nodes k
       → ActInReach p (pos (precision_of p)) (pos (last_action p)) (nodes k)
   acting zero short before begin is_odd one other action here there from to =
       actions_stay_near p (pos (pi_of p)) (pos (lambda_of p)) (pos (precision_of p)) action is_odd one.even one.odd other.even other.odd sane
@@ -104,7 +104,7 @@ module _ (beside : Bool) (p : Values) (flutter doubles : ℕ) (senders : ℕ →
       })
       begin.sharp (b.doubles_are.heard (suc k) short before begin) is_odd one other action here there from to
 
-  keeps : (k : ℕ) → k < doubles → KeepsSharp p flutter (starts_from beside p flutter (pi_of p) (lambda_of p)) (lengths_from beside p flutter (pi_of p) (lambda_of p)) nodes k
+  keeps : (k : ℕ) → k < doubles → KeepsSharp p flutter (walked_after p flutter) (starts_from beside p flutter (pi_of p) (lambda_of p)) (lengths_from beside p flutter (pi_of p) (lambda_of p)) nodes k
   keeps k short =
       let starts : ℕ → ℕ = starts_from beside p flutter (pi_of p) (lambda_of p) in
       let lengths : ℕ → ℕ = lengths_from beside p flutter (pi_of p) (lambda_of p) in

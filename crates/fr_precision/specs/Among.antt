@@ -1,5 +1,5 @@
 -- What two receivers make of the values of senders of whom each has heard its own: whatever was lost on the way.
-use Rattle.std.specs.Prelude.{◌≡◌, ◌⊎◌, ◌+◌, ◌*◌, ◌≤◌, ◌<◌, ℕ, zero, suc, max, nat_abs, Bool, ℤ, pos, ◌+ℤ◌, ◌-ℤ◌, ◌*ℤ◌, ◌≤ℤ◌, true, false, List, ◌++◌, length, map, All, Contains}
+use Rattle.std.specs.Prelude.{◌≡◌, ◌⊎◌, ◌+◌, ◌*◌, ◌≤◌, ◌<◌, ℕ, zero, suc, max, Bool, ℤ, pos, ◌+ℤ◌, ◌-ℤ◌, ◌*ℤ◌, ◌≤ℤ◌, true, false, List, ◌++◌, length, map, All, Contains}
 use Rattle.fr_base.specs.declared.node_row.NodeRow.{NodeRow}
 use Rattle.fr_base.specs.Within.{IsBetween, IsWithin}
 use Rattle.fr_cluster.specs.Values.{Values, amount}
@@ -11,12 +11,11 @@ use Rattle.fr_bound.specs.Bounds.{arrival_error, cycle_change, longest_micro}
 use Rattle.fr_bound.specs.Sync.{cycle_length_of}
 use Rattle.fr_precision.specs.Rows.{corrected_end_of, Sender}
 use Rattle.fr_time.specs.Position.{floor_of}
-use Rattle.fr_bound.specs.Checks.{holds_of}
 use Rattle.fr_precision.specs.Instants.{gap_of, row_in}
 use Rattle.fr_precision.specs.Offsets.{IsOffsetRound, IsSending, LimitSuffices, NearAll}
 use Rattle.fr_precision.specs.Placement.{IsRegular}
 use Rattle.fr_precision.specs.Step.{IsAmong, Member}
-use Rattle.fr_bound.specs.SharpBounds.{odd_spread, precision_by, sharp_lambda, sharp_pi, sharp_precision, steady_error}
+use Rattle.fr_bound.specs.SharpBounds.{odd_spread, precision_by, rate_walk, sharp_lambda, sharp_pi, sharp_precision, steady_error}
 use Rattle.fr_bound.specs.SharpSpreads.{lost_lengths, lost_starts, next_lost_spread, sharp_spread}
 use Rattle.fr_bound.specs.Judged.{heard_spread}
 use Rattle.fr_bound.specs.declared.judging.Heard.{Heard}
@@ -81,25 +80,21 @@ pub record ComputesOwn (p : Values) (flutter : ℕ) (nodes : List Member) (last 
   pub by_offset : IsOffsetRound p offset_senders node.odd node.offsets node.offset_term
   pub by_rate : IsSteadyRound p flutter rate_senders node.odd node.rates node.rate_term
 
--- how far a microtick may change from one cycle to the next, in ticks
-abbrev pub most_change : Values → ℕ
-most_change p = nat_abs p.change_bound
-
--- or it has no rate value and keeps the rate that it has, as by a term within its limit, while oscillators do not change. Where it has no
--- offset value either its end is not moved, as its own value 0 says: it is then the one that sends
-pub record KeepsRate (p : Values) (nodes : List Member) (last : ℤ) (node : Member) : Type 0 where
+-- or, in a double cycle in which some may, it has no rate value and keeps the rate that it has, as by a term within its limit. Where it
+-- has no offset value either its end is not moved, as its own value 0 says: it is then the one that sends
+pub record KeepsRate (some_keep : Bool) (p : Values) (nodes : List Member) (last : ℤ) (node : Member) : Type 0 where
   pub regular : IsRegular p node.even node.odd
   pub offset_senders : List Sender
   pub some_offsets : 1 ≤ length offset_senders
   pub offsets_among : All (IsAmong nodes) offset_senders
   pub acts : All (λ sender. IsBetween (pos 0) last sender.action) offset_senders
   pub by_offset : IsOffsetRound p offset_senders node.odd node.offsets node.offset_term
-  pub unchanged : most_change p ≡ 0
+  pub may : some_keep ≡ true
   pub kept : node.rate_term.value ≡ node.odd.rate
   pub within : node.rate_term.outcome ≡ Within
 
-abbrev pub ComputesOrKeeps : Values → ℕ → List Member → ℤ → Member → Type 0
-ComputesOrKeeps p flutter nodes last node = ComputesOwn p flutter nodes last node ⊎ KeepsRate p nodes last node
+abbrev pub ComputesOrKeeps : Bool → Values → ℕ → List Member → ℤ → Member → Type 0
+ComputesOrKeeps some_keep p flutter nodes last node = ComputesOwn p flutter nodes last node ⊎ KeepsRate some_keep p nodes last node
 
 -- any two nodes come so near, whatever each of them has heard
 abbrev pub LostSpreadsGrow : Type 0
@@ -111,14 +106,15 @@ LostSpreadsGrow =
     → ((node : Member) → Contains nodes node → ComputesOwn p flutter nodes last node)
     → Contains nodes one → Contains nodes other → ComeSharply p next_starts next_lengths next one other
 
--- so do any two of which some hear nothing
+-- so do any two of which some keep their rates; those lie further beyond their range by two changes of a cycle
 abbrev pub DeafSpreadsGrow : Type 0
 DeafSpreadsGrow =
-    (p : Values) (flutter : ℕ) (nodes : List Member) (starts lengths next_starts next_lengths : ℕ) (beyond walk next reach last : ℤ) (one other : Member)
-    → IsSharpLimit p flutter beyond walk reach last → ActInReach p reach last nodes → pos 0 ≤ℤ next → (beyond +ℤ walk) ≤ℤ next → beyond ≤ℤ next
+    (some_keep : Bool) (p : Values) (flutter : ℕ) (nodes : List Member) (starts lengths next_starts next_lengths : ℕ) (beyond walk next reach last : ℤ) (one other : Member)
+    → IsSharpLimit p flutter beyond walk reach last → ActInReach p reach last nodes → pos 0 ≤ℤ next → (beyond +ℤ walk) ≤ℤ next
+    → (some_keep ≡ true → (beyond +ℤ pos (2 * cycle_change p)) ≤ℤ next)
     → lost_starts p starts lengths ≤ next_starts → lost_lengths p flutter lengths ≤ next_lengths
     → AreSharp p starts lengths beyond (map (λ node. node.even) nodes)
-    → ((node : Member) → Contains nodes node → ComputesOrKeeps p flutter nodes last node)
+    → ((node : Member) → Contains nodes node → ComputesOrKeeps some_keep p flutter nodes last node)
     → Contains nodes one → Contains nodes other → ComeSharply p next_starts next_lengths next one other
 
 -- what one such double cycle costs from sharp sync without arbitrary nodes: behind it macroticks lie no further apart than the sharper
@@ -166,13 +162,14 @@ MeetingSpreadsDraw =
 
 -- ---- many double cycles, by what is heard in each
 
--- what is heard in one: all of all, without arbitrary nodes; of any two nodes enough in common; or what there is
-abbrev pub HeardSo : Heard → Values → ℕ → List Sender → List Member → ℤ → Type 0
-HeardSo heard.Clean p flutter senders nodes last = IsSharpDouble false p flutter senders nodes last
-HeardSo heard.Meeting p flutter senders nodes last =
+-- what is heard in one: all of all, without arbitrary nodes; of any two nodes enough in common; or what there is, where some may keep their
+-- rates
+abbrev pub HeardSo : Heard → Bool → Values → ℕ → List Sender → List Member → ℤ → Type 0
+HeardSo heard.Clean some_keep p flutter senders nodes last = IsSharpDouble false p flutter senders nodes last
+HeardSo heard.Meeting some_keep p flutter senders nodes last =
     ((node : Member) → Contains nodes node → ComputesOwn p flutter nodes last node)
     × ((one other : Member) → Contains nodes one → Contains nodes other → (one ≡ other) ⊎ HearInCommon p flutter nodes last one other)
-HeardSo heard.Poor p flutter senders nodes last = (node : Member) → Contains nodes node → ComputesOrKeeps p flutter nodes last node
+HeardSo heard.Poor some_keep p flutter senders nodes last = (node : Member) → Contains nodes node → ComputesOrKeeps some_keep p flutter nodes last node
 
 -- how the numbers go on
 abbrev pub GoesTo : Heard → Values → ℕ → ℕ → ℕ → ℕ → ℕ → Type 0
@@ -181,19 +178,24 @@ GoesTo heard.Meeting p flutter starts lengths next_starts next_lengths = DrawsTo
 GoesTo heard.Poor p flutter starts lengths next_starts next_lengths =
     (lost_starts p starts lengths ≤ next_starts) × (lost_lengths p flutter lengths ≤ next_lengths)
 
--- so many double cycles of some nodes, of each of which is said what is heard in it
-pub record AreLossyDoubles (p : Values) (flutter doubles : ℕ) (what : ℕ → Heard) (starts lengths : ℕ → ℕ) (senders : ℕ → List Sender) (nodes : ℕ → List Member) (last : ℤ) : Type 0 where
+-- so many double cycles of some nodes, of each of which is said what is heard in it, and whether some keep their rates
+pub record AreLossyDoubles (p : Values) (flutter doubles : ℕ) (what : ℕ → Heard) (keeps : ℕ → Bool) (beyond : ℕ → ℤ) (starts lengths : ℕ → ℕ) (senders : ℕ → List Sender) (nodes : ℕ → List Member) (last : ℤ) : Type 0 where
   pub sane : IsSane p
-  pub second : holds_of 2 p ≡ true
   pub heard :
-      (k : ℕ) → k < doubles → WalkLastsAfter p flutter k → BeginSharp p flutter starts lengths nodes k
-      → HeardSo (what k) p flutter (senders k) (nodes k) last
+      (k : ℕ) → k < doubles → WalkLastsAfter p flutter k → BeginSharp p beyond starts lengths nodes k
+      → HeardSo (what k) (keeps k) p flutter (senders k) (nodes k) last
   pub follows :
-      (k : ℕ) → suc k < doubles → WalkLastsAfter p flutter k → BeginSharp p flutter starts lengths nodes k → AllUncut (nodes k)
+      (k : ℕ) → suc k < doubles → WalkLastsAfter p flutter k → BeginSharp p beyond starts lengths nodes k → AllUncut (nodes k)
       → IsNextDouble p (nodes k) (nodes (suc k))
 
--- the numbers of them, and a reach that takes them in
-pub record GoInReach (p : Values) (flutter doubles : ℕ) (what : ℕ → Heard) (starts lengths : ℕ → ℕ) (reach last : ℤ) : Type 0 where
+-- the numbers of them, and a reach that takes them in; what lies beyond the range takes in the walk, as long as that lasts, and two changes
+-- of a cycle where some keep their rates
+pub record GoInReach (p : Values) (flutter doubles : ℕ) (what : ℕ → Heard) (keeps : ℕ → Bool) (beyond : ℕ → ℤ) (starts lengths : ℕ → ℕ) (reach last : ℤ) : Type 0 where
+  pub walks : (k : ℕ) → k < doubles → WalkLastsAfter p flutter k → CanWalk p flutter (beyond k) (rate_walk p flutter)
+  pub from_range : (k : ℕ) → k < doubles → WalkLastsAfter p flutter k → pos 0 ≤ℤ beyond (suc k)
+  pub takes_walk : (k : ℕ) → k < doubles → WalkLastsAfter p flutter k → (beyond k +ℤ rate_walk p flutter) ≤ℤ beyond (suc k)
+  pub takes_changes :
+      (k : ℕ) → k < doubles → WalkLastsAfter p flutter k → keeps k ≡ true → (beyond k +ℤ pos (2 * cycle_change p)) ≤ℤ beyond (suc k)
   pub goes : (k : ℕ) → GoesTo (what k) p flutter (starts k) (lengths k) (starts (suc k)) (lengths (suc k))
   pub suffices : LimitSuffices p reach
   pub early : last ≤ℤ p.correction
@@ -204,19 +206,21 @@ pub record GoInReach (p : Values) (flutter doubles : ℕ) (what : ℕ → Heard)
 -- nodes that begin so near keep to these numbers, whatever is lost where
 abbrev pub LossyDoublesKeep : Type 0
 LossyDoublesKeep =
-    (p : Values) (flutter doubles : ℕ) (what : ℕ → Heard) (starts lengths : ℕ → ℕ) (senders : ℕ → List Sender) (nodes : ℕ → List Member)
-    (reach last : ℤ)
-    → AreLossyDoubles p flutter doubles what starts lengths senders nodes last → GoInReach p flutter doubles what starts lengths reach last
-    → AreSharp p (starts 0) (lengths 0) (pos 0) (map (λ node. node.even) (nodes 0))
-    → (k : ℕ) → k < doubles → KeepsSharp p flutter starts lengths nodes k
+    (p : Values) (flutter doubles : ℕ) (what : ℕ → Heard) (keeps : ℕ → Bool) (beyond : ℕ → ℤ) (starts lengths : ℕ → ℕ)
+    (senders : ℕ → List Sender) (nodes : ℕ → List Member) (reach last : ℤ)
+    → AreLossyDoubles p flutter doubles what keeps beyond starts lengths senders nodes last
+    → GoInReach p flutter doubles what keeps beyond starts lengths reach last
+    → AreSharp p (starts 0) (lengths 0) (beyond 0) (map (λ node. node.even) (nodes 0))
+    → (k : ℕ) → k < doubles → KeepsSharp p flutter beyond starts lengths nodes k
 
 -- and no macroticks lie further apart than the numbers of both ends say
 abbrev pub LossyDoublesStayApart : Type 0
 LossyDoublesStayApart =
-    (p : Values) (flutter doubles : ℕ) (what : ℕ → Heard) (starts lengths : ℕ → ℕ) (senders : ℕ → List Sender) (nodes : ℕ → List Member)
-    (reach last : ℤ)
-    → AreLossyDoubles p flutter doubles what starts lengths senders nodes last → GoInReach p flutter doubles what starts lengths reach last
-    → AreSharp p (starts 0) (lengths 0) (pos 0) (map (λ node. node.even) (nodes 0))
+    (p : Values) (flutter doubles : ℕ) (what : ℕ → Heard) (keeps : ℕ → Bool) (beyond : ℕ → ℤ) (starts lengths : ℕ → ℕ)
+    (senders : ℕ → List Sender) (nodes : ℕ → List Member) (reach last : ℤ)
+    → AreLossyDoubles p flutter doubles what keeps beyond starts lengths senders nodes last
+    → GoInReach p flutter doubles what keeps beyond starts lengths reach last
+    → AreSharp p (starts 0) (lengths 0) (beyond 0) (map (λ node. node.even) (nodes 0))
     → (k apart : ℕ) (one other : Member) (macrotick : ℤ) (is_odd : Bool) → k < doubles → WalkLastsAfter p flutter k
     → precision_by p (starts k) (lengths k) ≤ apart → starts (suc k) + longest_micro p ≤ apart
     → Contains (nodes k) one → Contains (nodes k) other → pos 0 ≤ℤ macrotick → macrotick ≤ℤ p.macros

@@ -1,5 +1,5 @@
 -- The sharper laws of rates: what rate correction makes of the lengths of the next even cycles.
-use Rattle.std.specs.Prelude.{ℕ, suc, ◌≡◌, ◌+◌, ◌*◌, ◌<◌, ◌≤◌, int_le, if◌then◌else◌, IfSome, Bool, true, false, ℤ, pos, ◌+ℤ◌, ◌-ℤ◌, ◌*ℤ◌, ◌≤ℤ◌, List, length, All}
+use Rattle.std.specs.Prelude.{ℕ, zero, suc, ◌≡◌, ◌+◌, ◌-◌, ◌*◌, ◌<◌, ◌≤◌, int_le, nat_abs, if◌then◌else◌, IfSome, Bool, true, false, ℤ, pos, ◌+ℤ◌, ◌-ℤ◌, ◌*ℤ◌, ◌≤ℤ◌, List, length, All}
 use Rattle.fr_base.specs.declared.node_row.NodeRow.{NodeRow}
 use Rattle.fr_base.specs.declared.Outcome.TheVariants.{Within}
 use Rattle.fr_base.specs.Within.{IsBetween, IsWithin}
@@ -66,6 +66,53 @@ WalkIsHeld =
     → CanWalk p flutter (walked_after p flutter passed) (rate_walk p flutter)
     × (pos 0 ≤ℤ walked_after p flutter (suc passed))
     × ((walked_after p flutter passed +ℤ rate_walk p flutter) ≤ℤ walked_after p flutter (suc passed))
+
+-- ---- where a node keeps its rate
+
+-- the walk of a double cycle where it is above 0, and by how much lengths come back in one where it is not
+abbrev pub walk_on : Values → ℕ → ℕ
+walk_on p flutter = if int_le (rate_walk p flutter) (pos 0) then 0 else nat_abs (rate_walk p flutter)
+
+abbrev pub walk_back : Values → ℕ → ℕ
+walk_back p flutter = if int_le (rate_walk p flutter) (pos 0) then nat_abs (rate_walk p flutter) else 0
+
+-- in a double cycle in which some node has no rate value and keeps its rate, oscillators alone take its length further: by two changes of
+-- a cycle, where that is more than the walk. By so much more than by the walk may lengths lie beyond their range after so many double
+-- cycles, in some of which a node keeps its rate; in the others they come back where the walk is below 0
+unfoldable pub strayed_after : Values → ℕ → (ℕ → Bool) → ℕ → ℕ
+strayed_after p flutter keeps zero = 0
+strayed_after p flutter keeps (suc k) =
+    if keeps k then strayed_after p flutter keeps k + (2 * cycle_change p - walk_on p flutter)
+    else strayed_after p flutter keeps k - walk_back p flutter
+
+-- and so far in all
+abbrev pub walked_through : Values → ℕ → (ℕ → Bool) → ℕ → ℤ
+walked_through p flutter keeps passed = walked_after p flutter passed +ℤ pos (strayed_after p flutter keeps passed)
+
+-- while the walk lasts, and where the rate limit suffices for what lies beyond in the next double cycle, that takes in the walk, and two
+-- changes of a cycle where a node keeps its rate
+abbrev pub WalkIsHeldThrough : Type 0
+WalkIsHeldThrough =
+    (p : Values) (flutter : ℕ) (keeps : ℕ → Bool) (passed : ℕ)
+    → IsSane p → RateSuffices p (walked_through p flutter keeps (suc passed))
+    → CanWalk p flutter (walked_through p flutter keeps passed) (rate_walk p flutter)
+    × (pos 0 ≤ℤ walked_through p flutter keeps (suc passed))
+    × ((walked_through p flutter keeps passed +ℤ rate_walk p flutter) ≤ℤ walked_through p flutter keeps (suc passed))
+    × (keeps passed ≡ true → (walked_through p flutter keeps passed +ℤ pos (2 * cycle_change p)) ≤ℤ walked_through p flutter keeps (suc passed))
+
+-- from a later double cycle on they stray no further than from an earlier one on
+abbrev pub LaterStraysLess : Type 0
+LaterStraysLess =
+    (p : Values) (flutter : ℕ) (keeps later : ℕ → Bool) (double passed : ℕ)
+    → ((m : ℕ) → later m ≡ keeps (double + m)) → strayed_after p flutter later passed ≤ strayed_after p flutter keeps (double + passed)
+
+-- and not at all where no node keeps its rate, or oscillators do not change
+abbrev pub NoneStrays : Type 0
+NoneStrays =
+    (p : Values) (flutter : ℕ) (keeps : ℕ → Bool) (passed : ℕ)
+    → ((k : ℕ) → k < passed → keeps k ≡ true → cycle_change p ≡ 0) → strayed_after p flutter keeps passed ≡ 0
+
+-- ---- receivers
 
 -- the lengths walk by no more, and come back into the range where the walk is below 0
 abbrev pub RangeWalks : Type 0

@@ -49,9 +49,9 @@ AreActiveAfter (suc k) nodes =
     All (λ row. row.state ≡ Active) (map (λ node. node.even) nodes) × All (λ row. row.state ≡ Active) (map (λ node. node.odd) nodes)
 
 -- what is known of a double cycle before its frames: starts and even lengths lie so near, the latter no further beyond their
--- range than by the walk, and the nodes are active where another double cycle came before
-pub record BeginSharp (p : Values) (flutter : ℕ) (starts lengths : ℕ → ℕ) (nodes : ℕ → List Member) (k : ℕ) : Type 0 where
-  pub sharp : AreSharp p (starts k) (lengths k) (walked_after p flutter k) (map (λ node. node.even) (nodes k))
+-- range than so, and the nodes are active where another double cycle came before
+pub record BeginSharp (p : Values) (beyond : ℕ → ℤ) (starts lengths : ℕ → ℕ) (nodes : ℕ → List Member) (k : ℕ) : Type 0 where
+  pub sharp : AreSharp p (starts k) (lengths k) (beyond k) (map (λ node. node.even) (nodes k))
   pub active : AreActiveAfter k (nodes k)
 
 -- so many double cycles of some nodes and their senders, with numbers for starts and even lengths: in each that begins so near,
@@ -60,10 +60,10 @@ pub record AreSharpDoubles (beside : Bool) (p : Values) (flutter doubles : ℕ) 
   pub sane : IsSane p
   pub second : holds_of 2 p ≡ true
   pub heard :
-      (k : ℕ) → k < doubles → WalkLastsAfter p flutter k → BeginSharp p flutter starts lengths nodes k
+      (k : ℕ) → k < doubles → WalkLastsAfter p flutter k → BeginSharp p (walked_after p flutter) starts lengths nodes k
       → IsSharpDouble beside p flutter (senders k) (nodes k) last
   pub follows :
-      (k : ℕ) → suc k < doubles → WalkLastsAfter p flutter k → BeginSharp p flutter starts lengths nodes k → AllUncut (nodes k)
+      (k : ℕ) → suc k < doubles → WalkLastsAfter p flutter k → BeginSharp p (walked_after p flutter) starts lengths nodes k → AllUncut (nodes k)
       → IsNextDouble p (nodes k) (nodes (suc k))
 
 -- such numbers draw as the step does, and a reach takes them in
@@ -77,11 +77,11 @@ pub record DrawInReach (beside : Bool) (p : Values) (flutter doubles : ℕ) (sta
 
 -- what holds in one of them: it begins so near, behind the last in which the walk lasts too; and while it lasts, any two come
 -- together
-pub record KeepsSharp (p : Values) (flutter : ℕ) (starts lengths : ℕ → ℕ) (nodes : ℕ → List Member) (k : ℕ) : Type 0 where
-  pub begins : WalkLastsUpTo p flutter k → BeginSharp p flutter starts lengths nodes k
+pub record KeepsSharp (p : Values) (flutter : ℕ) (beyond : ℕ → ℤ) (starts lengths : ℕ → ℕ) (nodes : ℕ → List Member) (k : ℕ) : Type 0 where
+  pub begins : WalkLastsUpTo p flutter k → BeginSharp p beyond starts lengths nodes k
   pub come :
       WalkLastsAfter p flutter k → (one other : Member) → Contains (nodes k) one → Contains (nodes k) other
-      → ComeSharply p (starts (suc k)) (lengths (suc k)) (walked_after p flutter (suc k)) one other
+      → ComeSharply p (starts (suc k)) (lengths (suc k)) (beyond (suc k)) one other
 
 -- nodes that begin so near, with lengths in their range, draw together
 abbrev pub SharpDoublesDraw : Type 0
@@ -91,7 +91,7 @@ SharpDoublesDraw =
     → AreSharpDoubles beside p flutter doubles starts lengths senders nodes last
     → DrawInReach beside p flutter doubles starts lengths reach last
     → AreSharp p (starts 0) (lengths 0) (pos 0) (map (λ node. node.even) (nodes 0))
-    → (k : ℕ) → k < doubles → KeepsSharp p flutter starts lengths nodes k
+    → (k : ℕ) → k < doubles → KeepsSharp p flutter (walked_after p flutter) starts lengths nodes k
 
 -- a double cycle is in sharp sync, behind the last in which the walk lasts too; and while it lasts, any two nodes stay so,
 -- with no macrotick further apart than the sharper precision
@@ -133,7 +133,7 @@ pub record BeginWithin (beside : Bool) (p : Values) (flutter start rate reach do
 -- then they keep to the spreads by double cycle, and while the walk lasts, no macrotick of any two lies further apart than the
 -- spread says
 pub record KeepsToSpreads (beside : Bool) (p : Values) (flutter start rate : ℕ) (nodes : ℕ → List Member) (k : ℕ) : Type 0 where
-  pub keeps : KeepsSharp p flutter (starts_from beside p flutter start rate) (lengths_from beside p flutter start rate) nodes k
+  pub keeps : KeepsSharp p flutter (walked_after p flutter) (starts_from beside p flutter start rate) (lengths_from beside p flutter start rate) nodes k
   pub precise :
       WalkLastsAfter p flutter k → (one other : Member) (macrotick : ℤ) (is_odd : Bool) → Contains (nodes k) one
       → Contains (nodes k) other → pos 0 ≤ℤ macrotick → macrotick ≤ℤ p.macros

@@ -8,6 +8,7 @@ pub mod Numbers
 pub mod Settling
 pub mod Computed
 pub mod AmongNumbers
+pub mod StrayLemmas
 pub mod LossOrder
 pub mod HeardNumbers
 pub mod WayLemmas

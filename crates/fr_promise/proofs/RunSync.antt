@@ -113,11 +113,11 @@ module _ (beside : Bool) (x : Setting) (from flutter : ℕ) (h : Cycles) (w : Is
     shorter k short = omega (arith, short)
 
     -- those of a later one are active as it begins
-    pub active_by : (k : ℕ) → BeginSharp x.params flutter starts lengths nodes k → BeginsActive h (double + k)
-    active_by = active_of x from flutter h run double starts lengths active
+    pub active_by : (k : ℕ) → BeginSharp x.params (walked_after x.params flutter) starts lengths nodes k → BeginsActive h (double + k)
+    active_by = active_of x from flutter h run double (walked_after x.params flutter) starts lengths active
 
-    module _ (acting : (k : ℕ) → double + k < x.doubles → WalkLastsAfter x.params flutter k → BeginSharp x.params flutter starts lengths nodes k → ActInReach x.params reach (pos (last_action x.params)) (nodes k)) where
-      heard_at : (k : ℕ) → double + k < x.doubles → WalkLastsAfter x.params flutter k → BeginSharp x.params flutter starts lengths nodes k
+    module _ (acting : (k : ℕ) → double + k < x.doubles → WalkLastsAfter x.params flutter k → BeginSharp x.params (walked_after x.params flutter) starts lengths nodes k → ActInReach x.params reach (pos (last_action x.params)) (nodes k)) where
+      heard_at : (k : ℕ) → double + k < x.doubles → WalkLastsAfter x.params flutter k → BeginSharp x.params (walked_after x.params flutter) starts lengths nodes k
           → IsSharpDouble beside x.params flutter (senders k) (nodes k) (pos (last_action x.params))
       heard_at k short before begin =
           heard_with (double + k) (walked_after x.params flutter k) reach (omega (arith, late)) short limit room (walked_suffices x.params flutter k w.covered.timed.sane second before) (active_by k begin) begin.sharp.about
@@ -134,7 +134,7 @@ module _ (beside : Bool) (x : Setting) (from flutter : ℕ) (h : Cycles) (w : Is
   -- ---- where a reach takes in the numbers
 
   pub acting_by : (double : ℕ) (starts lengths : ℕ → ℕ) (reach k : ℕ) → from ≤ double → holds_of 2 x.params ≡ true → LimitSuffices x.params (pos reach) → near_by x.params (starts k) (lengths k) ≤ reach → double + k < x.doubles
-      → WalkLastsAfter x.params flutter k → BeginSharp x.params flutter starts lengths (λ k. members_at x h (double + k)) k
+      → WalkLastsAfter x.params flutter k → BeginSharp x.params (walked_after x.params flutter) starts lengths (λ k. members_at x h (double + k)) k
       → ActInReach x.params (pos reach) (pos (last_action x.params)) (members_at x h (double + k))
   acting_by = acting_of x from flutter h run
 

@@ -215,24 +215,24 @@ module _ (x : Setting) (from flutter : ℕ) (h : Cycles) (w : IsLawfulStatedRunF
       subst First (sym same) (subst Second (sym next) own)
 
   -- those of a later one are active as it begins
-  pub active_of : (double : ℕ) (starts lengths : ℕ → ℕ) → BeginsActive h double → (k : ℕ) → BeginSharp x.params flutter starts lengths (λ k. members_at x h (double + k)) k → BeginsActive h (double + k)
-  active_of double starts lengths active zero begin earlier even odd d =
+  pub active_of : (double : ℕ) (beyond : ℕ → ℤ) (starts lengths : ℕ → ℕ) → BeginsActive h double → (k : ℕ) → BeginSharp x.params beyond starts lengths (λ k. members_at x h (double + k)) k → BeginsActive h (double + k)
+  active_of double beyond starts lengths active zero begin earlier even odd d =
       let At : ℕ → Type 0 = λ m. IsDoubleOf h m earlier even odd in
       let same : double + 0 ≡ double = omega arith in
       active earlier even odd (subst At same d)
-  active_of double starts lengths active (suc k) begin earlier even odd d =
+  active_of double beyond starts lengths active (suc k) begin earlier even odd d =
       let Are : List NodeRow → Type 0 = λ rows. All (λ (row : NodeRow). row.state ≡ Active) rows in
       (subst Are (evens_of (double + suc k) earlier even odd d) begin.active.0, subst Are (odds_of (double + suc k) earlier even odd d) begin.active.1)
 
   -- and the next one follows
-  pub follows_of : ((double : ℕ) → EachHasRow x h double) → (double : ℕ) (starts lengths : ℕ → ℕ) → from ≤ double → BeginsActive h double → (k : ℕ) → suc k < x.doubles - double → BeginSharp x.params flutter starts lengths (λ k. members_at x h (double + k)) k
+  pub follows_of : ((double : ℕ) → EachHasRow x h double) → (double : ℕ) (starts lengths : ℕ → ℕ) → from ≤ double → BeginsActive h double → (k : ℕ) → suc k < x.doubles - double → BeginSharp x.params (walked_after x.params flutter) starts lengths (λ k. members_at x h (double + k)) k
       → AllUncut (members_at x h (double + k)) → IsNextDouble x.params (members_at x h (double + k)) (members_at x h (double + suc k))
   follows_of each double starts lengths late active k short begin uncut =
       let one : suc (double + k) ≡ double + suc k = omega arith in
       let later : suc (double + k) < x.doubles = omega (arith, short) in
       let f = found_of (suc (double + k)) later in
       let At : ℕ → Type 0 = λ m. IsNextDouble x.params (members_at x h (double + k)) (members_at x h m) in
-      subst At one (next_of (double + k) (omega (arith, late)) (each (double + k)) (active_of double starts lengths active k begin) uncut f.earlier f.even f.odd f.is)
+      subst At one (next_of (double + k) (omega (arith, late)) (each (double + k)) (active_of double (walked_after x.params flutter) starts lengths active k begin) uncut f.earlier f.even f.odd f.is)
 
   -- ---- where a reach takes in the numbers
 
@@ -254,7 +254,7 @@ module _ (x : Setting) (from flutter : ℕ) (h : Cycles) (w : IsLawfulStatedRunF
       (regular one here) (regular other there) (nodes_near p starts lengths beyond (members_at x h double) (record { sane = sane; sharp = sharp; regular = regular }) one other here there) low high
 
   pub acting_of : (double : ℕ) (starts lengths : ℕ → ℕ) (reach k : ℕ) → from ≤ double → holds_of 2 x.params ≡ true → LimitSuffices x.params (pos reach) → near_by x.params (starts k) (lengths k) ≤ reach → double + k < x.doubles
-      → WalkLastsAfter x.params flutter k → BeginSharp x.params flutter starts lengths (λ k. members_at x h (double + k)) k
+      → WalkLastsAfter x.params flutter k → BeginSharp x.params (walked_after x.params flutter) starts lengths (λ k. members_at x h (double + k)) k
       → ActInReach x.params (pos reach) (pos (last_action x.params)) (members_at x h (double + k))
   acting_of double starts lengths reach k late second limit fits short before begin =
       let sane : IsSane x.params = w.covered.sane in

@@ -1,3 +1,4 @@
+ghost use Rattle.fr_precision.specs.Lengths.{LaterStraysLess, NoneStrays, WalkIsHeldThrough};
 ghost use Rattle.fr_precision.specs.Among.{CleanAgain, DeafSpreadsGrow, EndsComeAmong, EverySecondCosts, HeardAgain, LaterSpreadsAreLess, LengthsComeAmong, LostIsBy, LostSpreadGoes, LossyDoublesKeep, LossyDoublesStayApart, LostSpreadsGrow, MeetingSpreadsDraw, MeetingStays, OneLossCosts, SpreadsAreBelowLost, SpreadsGo};
 
 /// The laws of losses: whichever senders two nodes have heard, their next lengths and their next starts, in ticks,
@@ -8,7 +9,8 @@ pub fn nodes_come_among()
 {}
 
 /// The law of a double cycle in which anything may be lost: its nodes come so near, in ticks; and what that costs from
-/// sharp sync, without arbitrary nodes. Nodes that keep their rates, while oscillators do not change, come no less near.
+/// sharp sync, without arbitrary nodes. Nodes that keep their rates come no less near, and lie beyond their range by no more
+/// than two changes of a cycle.
 pub fn losses_cost()
     ensures step { LostSpreadsGrow }
     ensures deaf { DeafSpreadsGrow }
@@ -26,6 +28,15 @@ pub fn meeting_lists_draw()
 pub fn losses_last()
     ensures keep { LossyDoublesKeep }
     ensures apart { LossyDoublesStayApart }
+{}
+
+/// The law of nodes that keep their rates in some double cycles: by how much more than by the walk lengths may lie beyond
+/// their range, in ticks, takes in what oscillators change, as long as the rate limit suffices for it. It is no greater
+/// from a later double cycle on, and 0 where no node keeps its rate or oscillators do not change.
+pub fn strays_are_held()
+    ensures held { WalkIsHeldThrough }
+    ensures later { LaterStraysLess }
+    ensures none { NoneStrays }
 {}
 
 /// The law of the numbers by what is heard, in ticks: they go on as the step does, from a later double cycle on they are no

@@ -20,6 +20,7 @@ mod way;
 
 pub use among::{
     heard_numbers, losses_cost, losses_last, lost_numbers, meeting_lists_draw, nodes_come_among,
+    strays_are_held,
 };
 pub use following::followers_hear_steadily;
 pub use grouping::{sharp_groups_are_kept, steady_groups_are_kept};

@@ -14,12 +14,12 @@ use Rattle.fr_bound.specs.declared.judging.Heard.TheVariants as heard
 use Rattle.fr_bound.specs.SharpBounds.{most_flutter}
 use Rattle.fr_sharp.specs.LossSteps.{LossDouble}
 use Rattle.fr_sharp.specs.Bearing.{KeepsThrough}
-use Rattle.fr_sharp.specs.LossRuns.{is_through_losses, losses_of, AreLosses}
+use Rattle.fr_sharp.specs.LossRuns.{is_borne, is_through_losses, losses_of, AreLosses}
 use Rattle.fr_sharp.specs.LossStatement.{run_apart, run_spread, whole_in, IsCoveredThroughLosses}
 use Rattle.fr_runs.specs.SharpHistories.{IsInSharpSyncAt}
 use Rattle.fr_precision.specs.SharpRun.{WalkLastsAfter}
 use Rattle.fr_sharp.specs.SharpStatement.{has_arbitrary}
-use Rattle.fr_sharp.specs.Traffic.{all_bear_from, heard_in, none_lacks, traffic_in}
+use Rattle.fr_sharp.specs.Traffic.{heard_in, none_lacks, traffic_in}
 use Rattle.fr_series.specs.Basis.{basis_of}
 use Rattle.fr_series.specs.declared.basis.Basis.{Basis}
 use Rattle.fr_series.specs.declared.kept.Kept.{Kept}
@@ -104,7 +104,7 @@ lost_text basis =
 -- missing but where a node has no value of its kind, and every correct node is active
 pub record TellsLosses (p : Values) (d : DriftView) (s : ScriptView) (from : ℕ) (h : Cycles) : Type 0 where
   pub lost :
-      AreLosses (has_arbitrary p s) p from (flutter_from p d s from) (whole_in p s) (heard_in (traffic_in p s)) (all_bear_from p (traffic_in p s) from)
+      AreLosses (has_arbitrary p s) p from (flutter_from p d s from) (whole_in p s) (heard_in (traffic_in p s)) (is_borne p s from (flutter_from p d s from))
       (doubles_of d) (losses_of p d s from (flutter_from p d s from))
   pub through :
       is_through_losses p s (flutter_from p d s from) (gap_from p d s from) (losses_of p d s from (flutter_from p d s from)) ≡ true

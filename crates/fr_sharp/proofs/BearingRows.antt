@@ -1,9 +1,8 @@
 -- The nodes with rows of a double cycle that each correct node bears: those that hear nothing keep their rates and their ends.
 use Rattle.std.proofs.Common.{◌≡◌, ℕ, zero, suc, ◌≤◌, ◌&&◌, ◌||◌, Bool, true, false, not, ℤ, pos, Option, Some, None, List, [], ◌∷◌, All, length, map, refl, ap, sym, ◌∙◌, subst, inl, inr, arith, lit≤, if◌then◌else◌}
-use Rattle.std.specs.Prelude.{Contains, int_lt, nat_eq, nat_lt, neg_ℤ, ◌+ℤ◌, ◌≤ℤ◌}
+use Rattle.std.specs.Prelude.{Contains, int_lt, neg_ℤ, ◌+ℤ◌, ◌≤ℤ◌}
 use Rattle.std.specs.List.{cons_option, filter_map, range_with_len}
 use Rattle.std.proofs.lemmas.Bool.{and_parts}
-use Rattle.std.proofs.lemmas.Bool.Decides.{nat_tests}
 use Rattle.std.proofs.lemmas.Int.{ints}
 use Rattle.std.proofs.lemmas.List.Sorted.{IsPermutation-refl}
 use Rattle.fr_base.specs.declared.Outcome.{Outcome}
@@ -11,8 +10,7 @@ use Rattle.fr_base.specs.declared.Outcome.TheVariants.{Within, Exceeded}
 use Rattle.fr_base.specs.Within.{IsBetween}
 use Rattle.fr_cluster.specs.Sane.{IsSane}
 use Rattle.fr_cluster.specs.Setting.{Setting}
-use Rattle.fr_cluster.specs.Values.{Values, amount}
-use Rattle.fr_cluster.specs.declared.names.ParamName.TheVariants as name
+use Rattle.fr_cluster.specs.Values.{Values}
 use Rattle.fr_cluster.specs.declared.nodes.NodeSpec.{NodeSpec}
 use Rattle.fr_midpoint.specs.Midpoint.{midpoint_by_ranks, IsMidpoint}
 use Rattle.fr_midpoint.proofs.There.{midpoint_is_there_lem}
@@ -21,7 +19,7 @@ use Rattle.fr_correct.specs.declared.term.Term.{Term}
 use Rattle.fr_correct.specs.Terms.{damped, missing_term, offset_term_of, rate_term_of, term_of, IsOffsetTerm, IsRateTerm}
 use Rattle.fr_precision.specs.Offsets.{IsOffsetRound}
 use Rattle.fr_precision.specs.Lengths.{IsSteadyRound}
-use Rattle.fr_precision.specs.Among.{most_change, ComputesOrKeeps, ComputesOwn, KeepsRate}
+use Rattle.fr_precision.specs.Among.{ComputesOrKeeps, ComputesOwn, KeepsRate}
 use Rattle.fr_precision.specs.Round.{offsets_of, rates_of, Hearer, Round}
 use Rattle.fr_precision.specs.Rows.{Sender}
 use Rattle.fr_precision.specs.SharpRound.{as_member}
@@ -44,7 +42,8 @@ use Rattle.fr_runs.proofs.RowsSupplied.{odd_active, pairs_steady, row_regular, r
 use Rattle.fr_promise.proofs.RunDoubles.{all_have, AllHave}
 use Rattle.fr_sharp.specs.Bearing.{borne, borne_outcome, borne_term, borne_values, RowsBear}
 use Rattle.fr_sharp.specs.Losses.{heard_of, IsTrustedOf}
-use Rattle.fr_sharp.specs.Traffic.{bears, is_deaf, is_trusted, lacking_for, lacks_values, may_lack, traffic_of, trusts_or_lacks}
+use Rattle.fr_sharp.specs.Traffic.{bears, is_deaf, is_trusted, lacks_values, may_lack, none_lacks, some_keep, traffic_of, trusts_or_lacks}
+use Rattle.fr_sharp.proofs.BearingKinds.{none_is_deaf_of}
 use Rattle.fr_sharp.proofs.HeardCounts.{all_pass}
 use Rattle.fr_sharp.proofs.HeardInPart.{all_heard, heard_some, offset_round, rate_round, IsPlacedInPart}
 use Rattle.fr_sharp.proofs.HeardValues.{no_value, trusted_of, value_by}
@@ -261,9 +260,9 @@ module _ (x : Setting) (flutter : ℕ) (h : Cycles) (even odd : Cycle) (double :
             subst Term_is (sym (kept_rate n.odd.rate p.damping p.rate_limit (rates_of n) (rate_term_of n.odd.rate p.damping p.rate_limit (rates_of n)) some own.is_term)) own;
       }
 
-  keeps_rate : (node : NodeSpec) → Contains (row_nodes x h) node → HasOffsets node → is_deaf true (traffic_of x) double node ≡ true → most_change x.params ≡ 0
-      → KeepsRate x.params (map borne (row_members x h even odd)) (pos (last_action x.params)) (borne (as_member x.params (row_hearer x even odd node.id)))
-  keeps_rate node among has deaf unchanged =
+  keeps_rate : (node : NodeSpec) → Contains (row_nodes x h) node → HasOffsets node → is_deaf true (traffic_of x) double node ≡ true
+      → KeepsRate (some_keep (traffic_of x) double) x.params (map borne (row_members x h even odd)) (pos (last_action x.params)) (borne (as_member x.params (row_hearer x even odd node.id)))
+  keeps_rate node among has deaf =
       let p : Values = x.params in
       let n = row_hearer x even odd node.id in
       let none : rates_of n ≡ [] = no_values true node among deaf in
@@ -275,10 +274,14 @@ module _ (x : Setting) (flutter : ℕ) (h : Cycles) (even odd : Cycle) (double :
         offsets_among = has.among;
         acts = has.acts;
         by_offset = has.round_is;
-        unchanged = unchanged;
+        may = keeps_some (none_lacks (traffic_of x) double) (λ none. none_is_deaf_of x double node none (is_correct_row x h node among)) deaf;
         kept = ap (λ (t : Term). t.value) is;
         within = ap (λ (t : Term). borne_outcome t.outcome) is;
       }
+    where
+      keeps_some : (none : Bool) → (none ≡ true → (is_deaf false (traffic_of x) double node ≡ false) × (is_deaf true (traffic_of x) double node ≡ false)) → is_deaf true (traffic_of x) double node ≡ true → not none ≡ true
+      keeps_some false hears deaf = refl
+      keeps_some true hears deaf = let other = (hears refl).1 in absurd (cc)
 
   pub bears_at : (node : NodeSpec) → Contains (row_nodes x h) node → bears x.params (traffic_of x) double node ≡ true
       → (trusts_or_lacks false (traffic_of x) double node ≡ true) × (trusts_or_lacks true (traffic_of x) double node ≡ true)
@@ -296,26 +299,12 @@ module _ (x : Setting) (flutter : ℕ) (h : Cycles) (even odd : Cycle) (double :
       right true b fails is = absurd (cc)
 
   bear_at : (node : NodeSpec) → Contains (row_nodes x h) node → bears x.params (traffic_of x) double node ≡ true
-      → ComputesOrKeeps x.params flutter (map borne (row_members x h even odd)) (pos (last_action x.params)) (borne (as_member x.params (row_hearer x even odd node.id)))
+      → ComputesOrKeeps (some_keep (traffic_of x) double) x.params flutter (map borne (row_members x h even odd)) (pos (last_action x.params)) (borne (as_member x.params (row_hearer x even odd node.id)))
   bear_at node among is = by (is_deaf true (traffic_of x) double node) refl
     where
-      still : (a b c : Bool) (w : ℕ) → b ≡ true → (not (a || b) || (nat_eq w 0 && c)) ≡ true → w ≡ 0
-      still true true c w deaf is = grind (arith, nat_tests)
-      still false true c w deaf is = grind (arith, nat_tests)
-      still a false c w deaf is = absurd (cc)
-
       by : (deaf : Bool) → is_deaf true (traffic_of x) double node ≡ deaf
-          → ComputesOrKeeps x.params flutter (map borne (row_members x h even odd)) (pos (last_action x.params)) (borne (as_member x.params (row_hearer x even odd node.id)))
-      by true deaf =
-          let parts = bears_at node among is in
-          inr
-          (
-          keeps_rate node among (has_offsets node among parts.0) deaf
-          (
-          still (is_deaf false (traffic_of x) double node) (is_deaf true (traffic_of x) double node)
-          (nat_lt (lacking_for (traffic_of x) node double) (amount x.params name.gMaxWithoutClockCorrectionPassive)) (most_change x.params) deaf parts.2
-          )
-          )
+          → ComputesOrKeeps (some_keep (traffic_of x) double) x.params flutter (map borne (row_members x h even odd)) (pos (last_action x.params)) (borne (as_member x.params (row_hearer x even odd node.id)))
+      by true deaf = inr (keeps_rate node among (has_offsets node among (bears_at node among is).0) deaf)
       by false hears =
           let parts = bears_at node among is in
           inl (computes_rate node among (has_offsets node among parts.0) (is_trusted_there true node among parts.1 hears))
@@ -328,7 +317,7 @@ rows_bear x from flutter h earlier even odd double reach node none_joins w late 
     let member = map_contains (as_member p) (row_hearers x earlier even odd) borne_one.0 borne_one.1 in
     let own = map_contains at (row_nodes x earlier) member.0 member.1 in
     let spec : NodeSpec = own.0 in
-    let Is : Member → Type 0 = λ one. ComputesOrKeeps p flutter (map borne (row_members x earlier even odd)) (pos (last_action p)) one in
+    let Is : Member → Type 0 = λ one. ComputesOrKeeps (some_keep (traffic_of x) double) p flutter (map borne (row_members x earlier even odd)) (pos (last_action p)) one in
     let Of : Member → Type 0 = λ one. Is (borne one) in
     let By : Hearer → Type 0 = λ n. Of (as_member p n) in
     let correct = correct_node x spec (is_correct_row x earlier spec own.1) in

@@ -1,8 +1,9 @@
 -- The run that files decide where frames are lost: it is as the law of losses asks for, so it keeps to the numbers by what is heard.
-use Rattle.std.proofs.Common.{◌≡◌, ℕ, zero, suc, ◌+◌, ◌-◌, ◌<◌, ◌≤◌, Bool, true, false, not, ◌==◌, ◌&&◌, ◌||◌, refl, ap, sym, ◌∙◌, subst, arith}
-use Rattle.std.specs.Prelude.{nat_eq, nat_le, if◌then◌else◌}
+use Rattle.std.proofs.Common.{◌≡◌, ℕ, zero, suc, ◌+◌, ◌-◌, ◌<◌, ◌≤◌, ℤ, pos, Option, Some, None, IfSome, Bool, true, false, not, ◌==◌, ◌&&◌, ◌||◌, refl, ap, sym, ◌∙◌, subst, arith}
+use Rattle.std.specs.Prelude.{◌+ℤ◌, ◌≤ℤ◌, nat_eq, nat_le, if◌then◌else◌}
 use Rattle.std.proofs.lemmas.Bool.{and_parts}
 use Rattle.std.proofs.lemmas.Bool.Decides.{nat_tests}
+use Rattle.std.proofs.lemmas.Int.{ints}
 use Rattle.fr_cluster.specs.Values.{Values}
 use Rattle.fr_cluster.specs.declared.nodes.NodeSpec.{NodeSpec}
 use Rattle.fr_drift.specs.Questions.{doubles_of}
@@ -16,9 +17,15 @@ use Rattle.fr_coverage.specs.Decided.{setting_of}
 use Rattle.fr_coverage.specs.Flutter.{flutter_from}
 use Rattle.fr_coverage.specs.Links.{is_sync}
 use Rattle.fr_precision.specs.Among.{spread_through_losses, LaterSpreadsAreLess}
+use Rattle.fr_bound.specs.Checks.{left_of, right_of}
+use Rattle.fr_bound.specs.SharpBounds.{walk_lasts}
+use Rattle.fr_bound.specs.SharpChecks.{RateSuffices}
+use Rattle.fr_precision.specs.Lengths.{strayed_after, walked_after, walked_through}
+use Rattle.fr_precision.specs.SharpRun.{WalkLastsAfter, WalkLastsUpTo}
+use Rattle.fr_promise.proofs.StrayLemmas.{later_strays_less}
 use Rattle.fr_sharp.specs.Losses.{HistoriesKeepThroughLosses}
-use Rattle.fr_sharp.specs.LossStatement.{spread_since, whole_in, without_losses, CoveredFilesAreAwake, CoveredFilesKeepThroughLosses, FilesKeepThroughLosses, LossyFilesGiveRuns}
-use Rattle.fr_sharp.specs.Traffic.{all_bear, all_linked, arbitrary_count, heard_in, lists_meet, none_lacks, traffic_in, Traffic}
+use Rattle.fr_sharp.specs.LossStatement.{run_strayed, spread_since, whole_in, without_losses, CoveredFilesAreAwake, CoveredFilesKeepThroughLosses, FilesKeepThroughLosses, LossyFilesGiveRuns}
+use Rattle.fr_sharp.specs.Traffic.{all_bear, all_linked, arbitrary_count, heard_in, lists_meet, none_lacks, some_keep, traffic_in, Traffic}
 use Rattle.fr_bound.specs.SharpSpreads.{sharply_near_in}
 use Rattle.fr_sharp.specs.SharpStatement.{has_arbitrary}
 use Rattle.fr_runs.specs.SteadyRuns.{IsTimedFrom}
@@ -56,6 +63,14 @@ lossy_files_give_runs p d s from flutter reach h sane covered run =
           let t : Traffic = traffic_in p s in
           (and_parts (all_bear p t double) (not (double == from) || none_lacks t double) (covered.borne double late less)).0;
     }
+
+-- the walk lasts up to the double cycle behind one that it lasts after
+one_later : (p : Values) (flutter k : ℕ) → WalkLastsAfter p flutter k → WalkLastsUpTo p flutter (suc k)
+one_later p flutter k before = by (walk_lasts p flutter) before
+  where
+    by : (o : Option ℕ) → IfSome o (λ lasts. k < lasts) → IfSome o (λ lasts. suc k ≤ lasts)
+    by None before = tt
+    by (Some lasts) before = omega (arith, before)
 
 -- in the first double cycle that it is asked of none lacks values
 pub covered_files_are_awake : CoveredFilesAreAwake
@@ -132,7 +147,7 @@ later_since later beside p from flutter what double k late none =
 module _ (keep : HistoriesKeepThroughLosses) (later : LaterSpreadsAreLess) where
   pub covered_files_keep_through_losses : CoveredFilesKeepThroughLosses
   covered_files_keep_through_losses p d s from flutter reach h double sane covered run late sync awake passed within before =
-      keep (has_arbitrary p s) (setting_of p d s) from flutter h double reach (lossy_files_give_runs p d s from flutter reach h sane covered run) late covered.checks near sync awake passed
+      keep (has_arbitrary p s) (setting_of p d s) from flutter h double reach (lossy_files_give_runs p d s from flutter reach h sane covered run) late covered.checks near strays sync awake passed
       within before
     where
       what : ℕ → Heard
@@ -146,6 +161,20 @@ module _ (keep : HistoriesKeepThroughLosses) (later : LaterSpreadsAreLess) where
           let grows = near_grows p now.starts now.lengths all.starts all.lengths sane below.0 below.1 in
           let le = covered.near (double + k) (omega (arith, late)) short in
           omega (arith, grows, le)
+
+      strays : (k : ℕ) → double + k < doubles_of d → WalkLastsAfter p flutter k → RateSuffices p (walked_through p flutter (λ m. some_keep (traffic_in p s) (double + m)) (suc k))
+      strays k short lasts =
+          let keeps : ℕ → Bool = λ m. some_keep (traffic_in p s) (from + m) in
+          let gap : ℕ = double - from in
+          let same = λ (m : ℕ). let at : double + m ≡ from + (gap + m) = omega (arith, late) in ap (some_keep (traffic_in p s)) at in
+          let less = later_strays_less p flutter keeps (λ m. some_keep (traffic_in p s) (double + m)) gap (suc k) same in
+          let end : gap + suc k ≡ suc (double + k) - from = omega (arith, late) in
+          let Less : ℕ → Type 0 = λ n. strayed_after p flutter (λ m. some_keep (traffic_in p s) (double + m)) (suc k) ≤ strayed_after p flutter keeps n in
+          let fits = covered.limit (double + k) (suc k) (omega (arith, late)) short (omega (arith, late)) (one_later p flutter k lasts) in
+          smaller (right_of 2 p) (left_of 2 p) (walked_after p flutter (suc k)) (strayed_after p flutter (λ m. some_keep (traffic_in p s) (double + m)) (suc k)) (run_strayed p s from flutter (suc (double + k))) (subst Less end less) fits
+        where
+          smaller : (a b : ℕ) (x : ℤ) (m n : ℕ) → m ≤ n → (pos a +ℤ (x +ℤ pos n)) ≤ℤ pos b → (pos a +ℤ (x +ℤ pos m)) ≤ℤ pos b
+          smaller a b x m n le fits = omega (arith, ints, le, fits)
 
   pub files_keep_through_losses_lem : FilesKeepThroughLosses
   files_keep_through_losses_lem p d s drift script from flutter reach h double sane drift_file script_file covered run late sync awake passed within before =

@@ -23,6 +23,7 @@ pub mod HeldRuns
 pub mod FromFiles
 pub mod FromLossyFiles
 pub mod LossBurstLaws
+pub mod StrayFits
 pub mod LossTold
 pub mod JoinedFromFiles
 pub mod JudgedLaws

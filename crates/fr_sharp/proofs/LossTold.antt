@@ -27,9 +27,9 @@ use Rattle.fr_bound.specs.declared.judging.Heard.TheVariants as heard
 use Rattle.fr_precision.specs.Among.{apart_through_losses, spread_through_losses, LaterSpreadsAreLess}
 use Rattle.fr_sharp.specs.LossCosts.{limits_hold}
 use Rattle.fr_sharp.specs.Losses.{HistoriesKeepThroughLosses}
-use Rattle.fr_sharp.specs.LossRuns.{all_reach, is_link_at_most, is_through_losses, losses_by, losses_of, lost_before, next_losses, reaches, reaches_each, through_checks, through_nodes, AreLosses, IsLastLost, LossesAreTold, RunsKeepTheirBounds}
+use Rattle.fr_sharp.specs.LossRuns.{all_reach, is_borne, is_link_at_most, is_through_losses, losses_by, losses_of, lost_before, next_losses, reaches, reaches_each, stray_fits, through_checks, through_nodes, AreLosses, IsLastLost, LossesAreTold, RunsKeepTheirBounds}
 use Rattle.fr_sharp.specs.LossSteps.{heard_apart}
-use Rattle.fr_sharp.specs.LossStatement.{apart_since, whole_in, without_losses, IsCoveredThroughLosses}
+use Rattle.fr_sharp.specs.LossStatement.{apart_since, run_strayed, whole_in, without_losses, IsCoveredThroughLosses}
 use Rattle.fr_bound.specs.SharpChecks.{sharp_holds_of, SharpChecksHold}
 use Rattle.fr_bound.specs.SharpSpreads.{sharply_near_in}
 use Rattle.fr_sharp.specs.SharpStatement.{has_arbitrary}
@@ -38,6 +38,7 @@ use Rattle.fr_sharp.specs.declared.losses_of_runs.RunLosses.{RunLosses}
 use Rattle.fr_sharp.proofs.FromLossyFiles.{covered_files_keep_through_losses, later_since, none_is_clean}
 use Rattle.fr_sharp.proofs.LossBurstLaws.{apart_below, keeps_wider}
 use Rattle.fr_sharp.proofs.HeardCounts.{all_pass}
+use Rattle.fr_sharp.proofs.StrayFits.{stray_fits_is_told}
 
 -- ---- the figures of the first so many double cycles
 
@@ -260,7 +261,7 @@ module _ (beside : Bool) (p : Values) (from flutter : ℕ) (whole : ℕ → Bool
 
 pub losses_are_told_lem : LossesAreTold
 losses_are_told_lem p d s from flutter some =
-    are_losses (has_arbitrary p s) p from flutter (whole_in p s) (heard_in (traffic_in p s)) (all_bear_from p (traffic_in p s) from) (doubles_of d) some
+    are_losses (has_arbitrary p s) p from flutter (whole_in p s) (heard_in (traffic_in p s)) (is_borne p s from flutter) (doubles_of d) some
 
 -- ---- the run without what it loses
 
@@ -493,8 +494,13 @@ module _ (p : Values) (d : DriftView) (s : ScriptView) (from flutter : ℕ) (fin
   abbrev losses : RunLosses
   losses = losses_of p d s from flutter
 
-  told : AreLosses (has_arbitrary p s) p from flutter (whole_in p s) (heard_in (traffic_in p s)) (all_bear_from p (traffic_in p s) from) (doubles_of d) losses
+  told : AreLosses (has_arbitrary p s) p from flutter (whole_in p s) (heard_in (traffic_in p s)) (is_borne p s from flutter) (doubles_of d) losses
   told = losses_are_told_lem p d s from flutter some
+
+  -- what it is to be borne, and the second check
+  parts : (double : ℕ) → is_borne p s from flutter double ≡ true
+      → (all_bear_from p (traffic_in p s) from double ≡ true) × (stray_fits p flutter (suc double - from) (run_strayed p s from flutter (suc double)) ≡ true)
+  parts double is = and_parts (all_bear_from p (traffic_in p s) from double) (stray_fits p flutter (suc double - from) (run_strayed p s from flutter (suc double))) is
 
   pub through_is_covered : flutter_from p d s from ≤ flutter → is_through_losses p s flutter (gap_from p d s from) losses ≡ true → IsCoveredThroughLosses p d s from flutter losses.reach
   through_is_covered flutters is =
@@ -508,12 +514,17 @@ module _ (p : Values) (d : DriftView) (s : ScriptView) (from flutter : ℕ) (fin
         none_joins = not-true (some_join p s) fourth.0;
         none = bare p d s from finds fifth.0 fifth.1;
         flutters = flutters;
-        borne = told.always_trusted first.0;
+        borne = λ double late less. (parts double (told.always_trusted first.0 double late less)).0;
+        limit = λ double passed late less few lasts.
+            (stray_fits_is_told p flutter (suc double - from) (run_strayed p s from flutter (suc double)) ((checks_hold p flutter losses.reach second.0) 2 (omega arith) (omega arith))).0 (parts double (told.always_trusted first.0 double late less)).1 passed few lasts;
       }
 
   pub covered_is_through : IsCoveredThroughLosses p d s from flutter losses.reach → is_through_losses p s flutter (gap_from p d s from) losses ≡ true
   covered_is_through covered =
-      both_true losses.trusted (through_checks p flutter losses.reach && through_nodes p s (gap_from p d s from)) (told.all_are_trusted covered.borne)
+      both_true losses.trusted (through_checks p flutter losses.reach && through_nodes p s (gap_from p d s from))
+      (told.all_are_trusted (λ double late less.
+      both_true (all_bear_from p (traffic_in p s) from double) (stray_fits p flutter (suc double - from) (run_strayed p s from flutter (suc double))) (covered.borne double late less)
+      ((stray_fits_is_told p flutter (suc double - from) (run_strayed p s from flutter (suc double)) (covered.checks 2 (omega arith) (omega arith))).1 (λ passed few lasts. covered.limit double passed late less few lasts))))
       (both_true (through_checks p flutter losses.reach) (through_nodes p s (gap_from p d s from)) (hold_checks p flutter losses.reach covered.checks)
       (both_true (not (some_join p s)) (is_link_at_most (gap_from p d s from) && all_reach p.nodes s None) (not_false (some_join p s) covered.none_joins)
       (both_true (is_link_at_most (gap_from p d s from)) (all_reach p.nodes s None) (at_most_link p d s from finds covered.none (gap_from p d s from) refl) (all_share p d s from some covered.none))))

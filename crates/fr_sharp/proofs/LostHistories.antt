@@ -1,6 +1,6 @@
 -- A lawful history in which frames are lost keeps to the numbers by what was heard.
-use Rattle.std.proofs.Common.{◌≡◌, ◌⊎◌, ℕ, zero, suc, ◌+◌, ◌-◌, ◌*◌, ◌<◌, ◌≤◌, ◌&&◌, ◌||◌, Bool, true, false, not, ℤ, pos, List, [], ◌∷◌, ◌++◌, All, length, map, inl, inr, refl, ap, ap₂, sym, ◌∙◌, subst, lit≤, arith, if◌then◌else◌}
-use Rattle.std.specs.Prelude.{Contains, max, nat_eq, nat_lt}
+use Rattle.std.proofs.Common.{◌≡◌, ◌⊎◌, ℕ, zero, suc, ◌+◌, ◌-◌, ◌*◌, ◌<◌, ◌≤◌, ◌||◌, Bool, true, false, not, ℤ, pos, List, [], ◌∷◌, ◌++◌, All, length, map, inl, inr, refl, ap, ap₂, sym, ◌∙◌, subst, lit≤, arith, if◌then◌else◌}
+use Rattle.std.specs.Prelude.{◌+ℤ◌, ◌≤ℤ◌, Contains, max, nat_lt}
 use Rattle.std.proofs.lemmas.Bool.{cases_eq}
 use Rattle.std.proofs.lemmas.Bool.Decides.{nat_tests}
 use Rattle.std.proofs.lemmas.List.{length-append}
@@ -25,7 +25,7 @@ use Rattle.fr_measure.specs.Values.{offset_at, rate_at}
 use Rattle.fr_midpoint.specs.Receivers.{Hears}
 use Rattle.fr_poc.specs.Control.{Status, step_of}
 use Rattle.fr_poc.specs.Limits.{limits_of}
-use Rattle.fr_bound.specs.Bounds.{longest_micro}
+use Rattle.fr_bound.specs.Bounds.{cycle_change, longest_micro}
 use Rattle.fr_bound.specs.Checks.{holds_of}
 use Rattle.fr_precision.specs.Offsets.{IsDeviation, LimitSuffices}
 use Rattle.fr_precision.specs.Reception.{LeavesRoom}
@@ -54,23 +54,23 @@ use Rattle.fr_runs.proofs.RowsSupplied.{LawfulRows}
 use Rattle.fr_runs.proofs.Whole.{prior_of}
 use Rattle.fr_bound.specs.declared.judging.Heard.{Heard}
 use Rattle.fr_bound.specs.declared.judging.Heard.TheVariants.{Clean, Meeting, Poor}
-use Rattle.fr_precision.specs.Among.{apart_through_losses, lost_spread, most_change, spread_through_losses, AreLossyDoubles, ComputesOrKeeps, ComputesOwn, GoInReach, HearInCommon, HeardSo, LossyDoublesKeep, LossyDoublesStayApart, SpreadsGo}
+use Rattle.fr_precision.specs.Among.{apart_through_losses, lost_spread, spread_through_losses, AreLossyDoubles, ComputesOrKeeps, ComputesOwn, GoInReach, HearInCommon, HeardSo, LossyDoublesKeep, LossyDoublesStayApart, SpreadsGo}
 use Rattle.fr_sharp.specs.Bearing.{borne, borne_outcome, KeepsThrough}
 use Rattle.fr_runs.specs.SharpHistories.{IsLawfulStatedRunFrom}
-use Rattle.fr_precision.specs.Lengths.{walked_after}
+use Rattle.fr_precision.specs.Lengths.{walked_through, CanWalk}
 use Rattle.fr_sharp.specs.Losses.{HistoriesKeepThroughLosses, IsLossyRunFrom, SharpAfterTwoWhole}
-use Rattle.fr_bound.specs.SharpBounds.{last_action, odd_spread, precision_by, sharp_lambda, sharp_pi, sharp_precision}
-use Rattle.fr_bound.specs.SharpChecks.{SharpChecksHold}
+use Rattle.fr_bound.specs.SharpBounds.{last_action, odd_spread, precision_by, rate_walk, sharp_lambda, sharp_pi, sharp_precision}
+use Rattle.fr_bound.specs.SharpChecks.{RateSuffices, SharpChecksHold}
 use Rattle.fr_runs.specs.SharpHistories.{members_at, senders_at, BeginsActive, IsInSharpSyncAt}
 use Rattle.fr_precision.specs.SharpRun.{AllUncut, AreActiveAfter, BeginSharp, IsNextDouble, KeepsSharp, WalkLastsAfter}
 use Rattle.fr_bound.specs.SharpSpreads.{sharply_near_in}
 use Rattle.fr_precision.specs.SharpStep.{ActInReach, AreSharp, ComputesSharply, IsInSharpSync, IsSharpDouble}
 use Rattle.fr_runs.specs.SteadyRuns.{row_members, AreRowsInReach}
-use Rattle.fr_sharp.specs.Traffic.{all_trusted, bears, heard_in, is_deaf, lacking_for, lacks_values, lists_meet, may_lack, none_lacks, traffic_of, trusts_or_lacks}
+use Rattle.fr_sharp.specs.Traffic.{all_trusted, bears, heard_in, is_deaf, lacking_for, lacks_values, lists_meet, may_lack, none_lacks, some_keep, traffic_of, trusts_or_lacks}
 use Rattle.fr_promise.proofs.AmongNumbers.{heard_again}
 use Rattle.fr_precision.proofs.BoundLemmas.{key_slots_act_early, sharp_checks_suffice_lem}
 use Rattle.fr_precision.proofs.LastingLemmas.{earlier as earlier_walk, near_fits, up_to}
-use Rattle.fr_precision.proofs.RateRange.{walked_suffices}
+use Rattle.fr_promise.proofs.StrayLemmas.{in_range, none_strayed, walk_is_held_through}
 use Rattle.fr_sharp.proofs.BearingKinds.{meeting_trusts}
 use Rattle.fr_sharp.proofs.BearingRows.{bears_at, is_trusted_there, kept_member, kept_offset, kept_rate, no_values, rows_bear}
 use Rattle.fr_sharp.proofs.BearingStatus.{calm_outcome, limits_in_order, stands_on, stands_within, StandsBy}
@@ -81,7 +81,7 @@ use Rattle.fr_sharp.proofs.HeardKinds.{clean_is, meeting_is}
 use Rattle.fr_sharp.proofs.RowsInPart.{rows_compute_own}
 use Rattle.fr_promise.proofs.RunDoubles.{all_among, all_have, evens_are, followed_at, member_among, members_found, next_row, next_rows_are, none_early, none_late, odds_are, AllHave, IsCalm}
 use Rattle.fr_promise.proofs.RunSync.{none_cuts}
-use Rattle.fr_promise.proofs.TimedRuns.{acting_of, active_in_sync, active_of, found_of, heard_of, lawful_run, members_in_sync, part, rates_of_double, rows_of, spread_in}
+use Rattle.fr_promise.proofs.TimedRuns.{acting_with, active_in_sync, active_of, found_of, heard_of, lawful_run, members_in_sync, part, rates_of_double, rows_of, spread_in}
 
 -- the rows of nodes are the same as they are borne
 evens_same : (ns : List Member) → map (λ (node : Member). node.even) (map borne ns) ≡ map (λ (node : Member). node.even) ns
@@ -145,9 +145,16 @@ borne_follows p node even odd is = record {
 module _ (keep : LossyDoublesKeep) (stay : LossyDoublesStayApart) (goes : SpreadsGo) (beside : Bool) (x : Setting) (from flutter : ℕ) (h : Cycles) (double reach : ℕ) (w : IsLossyRunFrom beside x from flutter h) (late : from ≤ double)
     (checks : SharpChecksHold flutter reach x.params)
     (fits : (k : ℕ) → double + k < x.doubles → sharply_near_in x.params (spread_through_losses beside x.params flutter (λ m. heard_in (traffic_of x) (double + m)) k) ≤ reach)
+    (strays : (k : ℕ) → double + k < x.doubles → WalkLastsAfter x.params flutter k → RateSuffices x.params (walked_through x.params flutter (λ m. some_keep (traffic_of x) (double + m)) (suc k)))
     (sync : IsInSharpSyncAt beside x.params flutter (pos 0) h double) (awake : none_lacks (traffic_of x) double ≡ true) (short : double < x.doubles) where
   abbrev on : ℕ → Heard
   on k = heard_in (traffic_of x) (double + k)
+
+  abbrev keeps_in : ℕ → Bool
+  keeps_in k = some_keep (traffic_of x) (double + k)
+
+  abbrev beyond : ℕ → ℤ
+  beyond = walked_through x.params flutter (λ m. some_keep (traffic_of x) (double + m))
 
   abbrev starts : ℕ → ℕ
   starts k = (spread_through_losses beside x.params flutter (λ m. heard_in (traffic_of x) (double + m)) k).starts
@@ -182,25 +189,34 @@ module _ (keep : LossyDoublesKeep) (stay : LossyDoublesStayApart) (goes : Spread
   room : LeavesRoom x.params (pos reach)
   room = (sharp_checks_suffice_lem x.params flutter reach sane checks).1
 
+  -- the rate limit suffices for what lies beyond the range, and for one double cycle more
+  suffices : (k : ℕ) → double + k < x.doubles → WalkLastsAfter x.params flutter k → RateSuffices x.params (beyond k)
+  suffices zero within before = subst (RateSuffices x.params) (sym (none_strayed x.params flutter (λ m. some_keep (traffic_of x) (double + m)))) (in_range x.params second)
+  suffices (suc k) within before = strays k (omega (arith, within)) (earlier_walk x.params flutter k (up_to x.params flutter (suc k) before))
+
+  can_walk : (k : ℕ) → double + k < x.doubles → WalkLastsAfter x.params flutter k → CanWalk x.params flutter (beyond k) (rate_walk x.params flutter)
+  can_walk k within before = (walk_is_held_through x.params flutter keeps_in k sane (strays k within before)).0
+
   own_sync : IsInSharpSync beside x.params flutter (pos 0) (map (λ (node : Member). node.even) (members_at x h double)) (map (λ (node : Member). node.odd) (members_at x h double))
   own_sync = members_in_sync x from flutter h run beside double (pos 0) short sync
 
   active : BeginsActive h double
   active = active_in_sync x from flutter h run beside double (pos 0) own_sync
 
-  plain_begin : (k : ℕ) → BeginSharp x.params flutter starts lengths nodes k → BeginSharp x.params flutter starts lengths plain k
+  plain_begin : (k : ℕ) → BeginSharp x.params beyond starts lengths nodes k → BeginSharp x.params beyond starts lengths plain k
   plain_begin k begin =
-      let Are : List NodeRow → Type 0 = λ rows. AreSharp x.params (starts k) (lengths k) (walked_after x.params flutter k) rows in
+      let Are : List NodeRow → Type 0 = λ rows. AreSharp x.params (starts k) (lengths k) (beyond k) rows in
       record { sharp = subst Are (evens_same (plain k)) begin.sharp; active = plain_active k (plain k) begin.active }
 
-  active_at : (k : ℕ) → BeginSharp x.params flutter starts lengths nodes k → BeginsActive h (double + k)
-  active_at k begin = active_of x from flutter h run double starts lengths active k (plain_begin k begin)
+  active_at : (k : ℕ) → BeginSharp x.params beyond starts lengths nodes k → BeginsActive h (double + k)
+  active_at k begin = active_of x from flutter h run double beyond starts lengths active k (plain_begin k begin)
 
-  acting : (k : ℕ) → double + k < x.doubles → WalkLastsAfter x.params flutter k → BeginSharp x.params flutter starts lengths nodes k → ActInReach x.params (pos reach) last (plain k)
-  acting k within before begin = acting_of x from flutter h run double starts lengths reach k late second limit (fits k within) within before (plain_begin k begin)
+  acting : (k : ℕ) → double + k < x.doubles → WalkLastsAfter x.params flutter k → BeginSharp x.params beyond starts lengths nodes k → ActInReach x.params (pos reach) last (plain k)
+  acting k within before begin =
+      acting_with x from flutter h run (double + k) (starts k) (lengths k) (beyond k) reach (omega (arith, late)) within (can_walk k within before) (suffices k within before) limit (fits k within) (plain_begin k begin).sharp
 
   -- the rows of a later double cycle, in reach of each other
-  rows_in_reach : (k : ℕ) (within : double + k < x.doubles) → WalkLastsAfter x.params flutter k → BeginSharp x.params flutter starts lengths nodes k → (earlier : Cycles) (even odd : Cycle)
+  rows_in_reach : (k : ℕ) (within : double + k < x.doubles) → WalkLastsAfter x.params flutter k → BeginSharp x.params beyond starts lengths nodes k → (earlier : Cycles) (even odd : Cycle)
       → IsDoubleOf h (double + k) earlier even odd → AreRowsInReach x earlier even odd (pos reach)
   rows_in_reach k within before begin earlier even odd d =
       let both = active_at k begin earlier even odd d in
@@ -209,14 +225,14 @@ module _ (keep : LossyDoublesKeep) (stay : LossyDoublesStayApart) (goes : Spread
         active_even = both.0;
         active_odd = both.1;
         rates =
-            rates_of_double x from flutter h run (double + k) (walked_after x.params flutter k) (omega (arith, late)) (walked_suffices x.params flutter k sane second before) (plain_begin k begin).sharp.about earlier even odd d;
+            rates_of_double x from flutter h run (double + k) (beyond k) (omega (arith, late)) (suffices k within before) (plain_begin k begin).sharp.about earlier even odd d;
         limit = limit;
         room = room;
         acts = subst Acts (members_found x h (double + k) earlier even odd d) (acting k within before begin);
       }
 
   -- where each trusts its lists
-  own_at : (k : ℕ) → all_trusted (traffic_of x) (double + k) ≡ true → double + k < x.doubles → WalkLastsAfter x.params flutter k → BeginSharp x.params flutter starts lengths nodes k → (node : Member) → Contains (plain k) node
+  own_at : (k : ℕ) → all_trusted (traffic_of x) (double + k) ≡ true → double + k < x.doubles → WalkLastsAfter x.params flutter k → BeginSharp x.params beyond starts lengths nodes k → (node : Member) → Contains (plain k) node
       → ComputesOwn x.params flutter (plain k) last node
   own_at k trusted within before begin node here =
       let p : Values = x.params in
@@ -231,7 +247,7 @@ module _ (keep : LossyDoublesKeep) (stay : LossyDoublesStayApart) (goes : Spread
       )
 
   meet_at : (k : ℕ) → all_trusted (traffic_of x) (double + k) ≡ true → lists_meet false (traffic_of x) (double + k) ≡ true → lists_meet true (traffic_of x) (double + k) ≡ true → double + k < x.doubles
-      → WalkLastsAfter x.params flutter k → BeginSharp x.params flutter starts lengths nodes k → (one other : Member) → Contains (plain k) one → Contains (plain k) other
+      → WalkLastsAfter x.params flutter k → BeginSharp x.params beyond starts lengths nodes k → (one other : Member) → Contains (plain k) one → Contains (plain k) other
       → (one ≡ other) ⊎ HearInCommon x.params flutter (plain k) last one other
   meet_at k trusted offsets rates within before begin one other here there =
       let p : Values = x.params in
@@ -245,27 +261,27 @@ module _ (keep : LossyDoublesKeep) (stay : LossyDoublesStayApart) (goes : Spread
       (rows_in_reach k within before begin f.earlier f.even f.odd f.is) (subst (Has one) same here) (subst (Has other) same there)
       )
 
-  bear_at : (k : ℕ) → double + k < x.doubles → WalkLastsAfter x.params flutter k → BeginSharp x.params flutter starts lengths nodes k → (node : Member) → Contains (nodes k) node
-      → ComputesOrKeeps x.params flutter (nodes k) last node
+  bear_at : (k : ℕ) → double + k < x.doubles → WalkLastsAfter x.params flutter k → BeginSharp x.params beyond starts lengths nodes k → (node : Member) → Contains (nodes k) node
+      → ComputesOrKeeps (some_keep (traffic_of x) (double + k)) x.params flutter (nodes k) last node
   bear_at k within before begin node here =
       let p : Values = x.params in
       let f = found_of x from flutter h run (double + k) within in
       let same = members_found x h (double + k) f.earlier f.even f.odd f.is in
       let Has : List Member → Type 0 = λ some. Contains (map borne some) node in
-      let Own : List Member → Type 0 = λ some. ComputesOrKeeps p flutter (map borne some) last node in
+      let Own : List Member → Type 0 = λ some. ComputesOrKeeps (some_keep (traffic_of x) (double + k)) p flutter (map borne some) last node in
       subst Own (sym same)
       (
       rows_bear x from flutter h f.earlier f.even f.odd (double + k) (pos reach) node w.run.none_joins (part x from flutter h run) (omega (arith, late)) f.is (w.borne (double + k) (omega (arith, late)) within)
       (rows_in_reach k within before begin f.earlier f.even f.odd f.is) (subst Has same here)
       )
 
-  heard_by : (k : ℕ) (what : Heard) → on k ≡ what → double + k < x.doubles → WalkLastsAfter x.params flutter k → BeginSharp x.params flutter starts lengths nodes k
-      → HeardSo what x.params flutter (senders k) (nodes k) last
+  heard_by : (k : ℕ) (what : Heard) → on k ≡ what → double + k < x.doubles → WalkLastsAfter x.params flutter k → BeginSharp x.params beyond starts lengths nodes k
+      → HeardSo what (keeps_in k) x.params flutter (senders k) (nodes k) last
   heard_by k Clean is within before begin =
       let clean = clean_is x (double + k) is in
       let own =
-      heard_of x from flutter h run false (double + k) (walked_after x.params flutter k) (pos reach) (omega (arith, late)) clean.1 within clean.0 limit room
-      (walked_suffices x.params flutter k sane second before) (active_at k begin) (plain_begin k begin).sharp.about (acting k within before begin) in
+      heard_of x from flutter h run false (double + k) (beyond k) (pos reach) (omega (arith, late)) clean.1 within clean.0 limit room
+      (suffices k within before) (active_at k begin) (plain_begin k begin).sharp.about (acting k within before begin) in
       let Sharp : List Member → Type 0 = λ some. IsSharpDouble false x.params flutter (senders k) some last in
       subst Sharp (sym (same_members (plain k) (kept_clean x.params flutter (senders k) (plain k) last own))) own
   heard_by k Meeting is within before begin =
@@ -273,14 +289,14 @@ module _ (keep : LossyDoublesKeep) (stay : LossyDoublesStayApart) (goes : Spread
       let trusted = meeting_trusts x.params (traffic_of x) (double + k) (w.borne (double + k) (omega (arith, late)) within) meet.0 meet.1 in
       let own = own_at k trusted within before begin in
       let same = same_members (plain k) (λ node here. kept_own x.params flutter (plain k) last node (own node here)) in
-      let So : List Member → Type 0 = λ some. HeardSo Meeting x.params flutter (senders k) some last in
+      let So : List Member → Type 0 = λ some. HeardSo Meeting (keeps_in k) x.params flutter (senders k) some last in
       subst So (sym same) (own, λ one other here there. meet_at k trusted meet.0 meet.1 within before begin one other here there)
   heard_by k Poor is within before begin = λ node here. bear_at k within before begin node here
 
   -- ---- how a double cycle ends
 
   -- none of its terms is outside its limit, as nodes are borne
-  module _ (k : ℕ) (within : double + k < x.doubles) (before : WalkLastsAfter x.params flutter k) (begin : BeginSharp x.params flutter starts lengths nodes k) (uncut : AllUncut (nodes k))
+  module _ (k : ℕ) (within : double + k < x.doubles) (before : WalkLastsAfter x.params flutter k) (begin : BeginSharp x.params beyond starts lengths nodes k) (uncut : AllUncut (nodes k))
       (earlier : Cycles) (even odd : Cycle) (d : IsDoubleOf h (double + k) earlier even odd) where
     rows : LawfulRows x flutter earlier even odd (double + k)
     rows = rows_of x from flutter h run (double + k) (omega (arith, late)) earlier even odd d
@@ -410,17 +426,18 @@ module _ (keep : LossyDoublesKeep) (stay : LossyDoublesStayApart) (goes : Spread
   within_run : (k : ℕ) → k < x.doubles - double → double + k < x.doubles
   within_run k less = omega (arith, less)
 
-  first : AreSharp x.params (starts 0) (lengths 0) (pos 0) (map (λ (node : Member). node.even) (nodes 0))
+  first : AreSharp x.params (starts 0) (lengths 0) (beyond 0) (map (λ (node : Member). node.even) (nodes 0))
   unfolding spread_through_losses
   first =
       let same : double ≡ double + 0 = omega arith in
       let At : ℕ → Type 0 = λ m. AreSharp x.params (sharp_pi beside x.params flutter) (sharp_lambda beside x.params flutter) (pos 0) (map (λ (node : Member). node.even) (map borne (members_at x h m))) in
       let Are : List NodeRow → Type 0 = λ rows. AreSharp x.params (sharp_pi beside x.params flutter) (sharp_lambda beside x.params flutter) (pos 0) rows in
-      subst At same (subst Are (sym (evens_same (members_at x h double))) own_sync.rows)
+      let From : ℤ → Type 0 = λ far. AreSharp x.params (sharp_pi beside x.params flutter) (sharp_lambda beside x.params flutter) far (map (λ (node : Member). node.even) (map borne (members_at x h (double + 0)))) in
+      subst From (sym (none_strayed x.params flutter (λ m. some_keep (traffic_of x) (double + m)))) (subst At same (subst Are (sym (evens_same (members_at x h double))) own_sync.rows))
 
   -- ---- the next double cycle, where each stands behind one
 
-  next_by : (k : ℕ) → double + k < x.doubles → WalkLastsAfter x.params flutter k → BeginSharp x.params flutter starts lengths nodes k → AllUncut (nodes k) → Stands k
+  next_by : (k : ℕ) → double + k < x.doubles → WalkLastsAfter x.params flutter k → BeginSharp x.params beyond starts lengths nodes k → AllUncut (nodes k) → Stands k
       → (earlier : Cycles) (even odd : Cycle) → IsDoubleOf h (suc (double + k)) earlier even odd → IsNextDouble x.params (nodes k) (map borne (members_at x h (suc (double + k))))
   unfolding Stands
   next_by k within before begin uncut stands [] even odd d = let counted : 0 ≡ 2 * suc (double + k) = d.counted in absurd (omega (arith, counted))
@@ -458,7 +475,7 @@ module _ (keep : LossyDoublesKeep) (stay : LossyDoublesStayApart) (goes : Spread
       let Second : List Member → Type 0 = λ some. IsNextDouble p (map borne members) (map borne some) in
       subst First (sym (members_found x h (double + k) earlier e o was)) (subst Second (sym (members_found x h (suc (double + k)) (o ∷ e ∷ earlier) even odd d)) own)
 
-  follows_stood : (k : ℕ) → double + suc k < x.doubles → WalkLastsAfter x.params flutter k → BeginSharp x.params flutter starts lengths nodes k → AllUncut (nodes k) → Stands k
+  follows_stood : (k : ℕ) → double + suc k < x.doubles → WalkLastsAfter x.params flutter k → BeginSharp x.params beyond starts lengths nodes k → AllUncut (nodes k) → Stands k
       → IsNextDouble x.params (nodes k) (nodes (suc k))
   follows_stood k short before begin uncut stands =
       let one : suc (double + k) ≡ double + suc k = omega arith in
@@ -476,11 +493,10 @@ module _ (keep : LossyDoublesKeep) (stay : LossyDoublesStayApart) (goes : Spread
     within_of : (k : ℕ) → k < suc n → double + k < x.doubles
     within_of k less = omega (arith, less, within)
 
-    are : AreLossyDoubles x.params flutter (suc n) on starts lengths senders nodes last
+    are : AreLossyDoubles x.params flutter (suc n) on keeps_in beyond starts lengths senders nodes last
     unfolding Until
     are = record {
       sane = sane;
-      second = second;
       heard = λ k less before begin. heard_by k (on k) refl (within_of k less) before begin;
       follows = λ k less before begin uncut.
           let here = sooner_than k n less in
@@ -490,22 +506,31 @@ module _ (keep : LossyDoublesKeep) (stay : LossyDoublesStayApart) (goes : Spread
         sooner_than : (k n : ℕ) → suc k < suc n → (k < n) × (k < suc n)
         sooner_than k n less = (omega (arith, less), omega (arith, less))
 
-    go : GoInReach x.params flutter (suc n) on starts lengths (pos reach) last
+    held : (k : ℕ) → k < suc n → WalkLastsAfter x.params flutter k
+        → CanWalk x.params flutter (beyond k) (rate_walk x.params flutter) × (pos 0 ≤ℤ beyond (suc k)) × ((beyond k +ℤ rate_walk x.params flutter) ≤ℤ beyond (suc k))
+        × (keeps_in k ≡ true → (beyond k +ℤ pos (2 * cycle_change x.params)) ≤ℤ beyond (suc k))
+    held k less before = walk_is_held_through x.params flutter keeps_in k sane (strays k (within_of k less) before)
+
+    go : GoInReach x.params flutter (suc n) on keeps_in beyond starts lengths (pos reach) last
     go = record {
+      walks = λ k less before. (held k less before).0;
+      from_range = λ k less before. (held k less before).1;
+      takes_walk = λ k less before. (held k less before).2;
+      takes_changes = λ k less before. (held k less before).3;
       goes = λ k. goes beside x.params flutter on k;
       suffices = limit;
       early = (key_slots_act_early x.params sane).1;
       fits = λ k less. near_fits x.params (starts k) (lengths k) reach sane (fits k (within_of k less));
     }
 
-    keeps : KeepsSharp x.params flutter starts lengths nodes n
-    keeps = keep x.params flutter (suc n) on starts lengths senders nodes (pos reach) last are go first n (omega arith)
+    keeps : KeepsSharp x.params flutter beyond starts lengths nodes n
+    keeps = keep x.params flutter (suc n) on keeps_in beyond starts lengths senders nodes (pos reach) last are go first n (omega arith)
 
-    begins : WalkLastsAfter x.params flutter n → BeginSharp x.params flutter starts lengths nodes n
+    begins : WalkLastsAfter x.params flutter n → BeginSharp x.params beyond starts lengths nodes n
     begins before = keeps.begins (up_to x.params flutter n before)
 
     uncut_of : WalkLastsAfter x.params flutter n → AllUncut (nodes n)
-    uncut_of before = none_cuts x.params (starts (suc n)) (lengths (suc n)) (walked_after x.params flutter (suc n)) (nodes n) (keeps.come before)
+    uncut_of before = none_cuts x.params (starts (suc n)) (lengths (suc n)) (beyond (suc n)) (nodes n) (keeps.come before)
 
   awake_at : (node : NodeSpec) → Contains (correct_nodes x) node → lacks_values (traffic_of x) double node ≡ false
   awake_at node there =
@@ -536,10 +561,9 @@ module _ (keep : LossyDoublesKeep) (stay : LossyDoublesStayApart) (goes : Spread
           let also : lacks_values (traffic_of x) (suc (double + m)) node ≡ true = ap (λ (n : ℕ). lacks_values (traffic_of x) n node) (sym number) ∙ lacks in
           ap (lacking_for (traffic_of x) node) number ∙ ap (λ (b : Bool). if b then suc (lacking_for (traffic_of x) node (double + m)) else 0) also
 
-      passes : (a b c : Bool) → a ≡ true → (not a || (b && c)) ≡ true → c ≡ true
-      passes true true c lacks is = is
-      passes true false c lacks is = absurd (cc)
-      passes false b c lacks is = absurd (cc)
+      passes : (a b : Bool) → a ≡ true → (not a || b) ≡ true → b ≡ true
+      passes true b lacks is = is
+      passes false b lacks is = absurd (cc)
 
       fewer : (n limit missed : ℕ) → n ≡ suc missed → nat_lt n limit ≡ true → suc missed < limit
       fewer n limit missed same is = grind (arith, nat_tests)
@@ -561,7 +585,7 @@ module _ (keep : LossyDoublesKeep) (stay : LossyDoublesStayApart) (goes : Spread
           let begin = begins (suc m) until within before in
           let uncut = uncut_of (suc m) until within before in
           let bears = bears_it (suc m) within before begin uncut (o ∷ e ∷ earlier) even odd d node among in
-          let may = passes (lacks_values t (double + suc m) node) (nat_eq (most_change p) 0) (nat_lt (lacking_for t node (double + suc m)) (amount p name.gMaxWithoutClockCorrectionPassive)) lacks bears.2 in
+          let may = passes (lacks_values t (double + suc m) node) (nat_lt (lacking_for t node (double + suc m)) (amount p name.gMaxWithoutClockCorrectionPassive)) lacks bears.2 in
           let less = fewer (lacking_for t node (double + suc m)) (amount p name.gMaxWithoutClockCorrectionPassive) missed (lacking lacks) may in
           let By : ℕ → Type 0 = λ n. StandsBy (status_in p (told_of (odd ∷ even ∷ o ∷ e ∷ earlier)) node.id) n in
           subst By (sym (lacking lacks)) (misses_one (suc m) within before begin uncut (o ∷ e ∷ earlier) even odd d node among missed stood.1 less)
@@ -599,7 +623,7 @@ module _ (keep : LossyDoublesKeep) (stay : LossyDoublesStayApart) (goes : Spread
         skew =
             spread_in x from flutter h run (double + passed) apart (omega (arith, late)) f.earlier f.even f.odd f.is
             (λ one_node other macrotick is_odd here there low high.
-            stay p flutter (suc passed) on starts lengths senders nodes (pos reach) last (are passed until within) (go passed until within) first passed apart (borne one_node) (borne other) macrotick is_odd (omega arith) before one.0 one.1
+            stay p flutter (suc passed) on keeps_in beyond starts lengths senders nodes (pos reach) last (are passed until within) (go passed until within) first passed apart (borne one_node) (borne other) macrotick is_odd (omega arith) before one.0 one.1
             (contains_map borne (plain passed) one_node here) (contains_map borne (plain passed) other there) low high);
         ends = λ earlier even odd d.
             let both = active_at passed begin earlier even odd d in
@@ -627,8 +651,8 @@ module _ (keep : LossyDoublesKeep) (stay : LossyDoublesStayApart) (goes : Spread
       most a b = (grind arith, grind arith)
 
 pub histories_keep_through_losses_lem : LossyDoublesKeep → LossyDoublesStayApart → SpreadsGo → HistoriesKeepThroughLosses
-histories_keep_through_losses_lem keep stay goes beside x from flutter h double reach w late checks fits sync awake passed within before =
-    keeps_through keep stay goes beside x from flutter h double reach w late checks fits sync awake (omega (arith, within)) passed within before
+histories_keep_through_losses_lem keep stay goes beside x from flutter h double reach w late checks fits strays sync awake passed within before =
+    keeps_through keep stay goes beside x from flutter h double reach w late checks fits strays sync awake (omega (arith, within)) passed within before
 
 -- ---- back in sharp sync
 

@@ -84,7 +84,7 @@ module _ (beside : Bool) (x : Setting) (flutter : ℕ) (h : Cycles) (w : IsStead
       )
 
   apart_at : (passed apart : ℕ) → double + passed < x.doubles
-      → (BeginSharp x.params flutter (starts_from beside x.params flutter start rate) (lengths_from beside x.params flutter start rate) nodes passed → BeginsActive h (double + passed))
+      → (BeginSharp x.params (walked_after x.params flutter) (starts_from beside x.params flutter start rate) (lengths_from beside x.params flutter start rate) nodes passed → BeginsActive h (double + passed))
       → KeepsToSpreads beside x.params flutter start rate nodes passed → WalkLastsAfter x.params flutter passed
       → ((one other : Member) (macrotick : ℤ) (is_odd : Bool) → Contains (nodes passed) one → Contains (nodes passed) other → pos 0 ≤ℤ macrotick → macrotick ≤ℤ x.params.macros
       → IsWithin (pos apart) (gap_of x.params is_odd macrotick (row_in is_odd one.even one.odd) (row_in is_odd other.even other.odd)))
@@ -98,7 +98,7 @@ module _ (beside : Bool) (x : Setting) (flutter : ℕ) (h : Cycles) (w : IsStead
       precise
 
   spreads_at : (passed : ℕ) → double + passed < x.doubles
-      → (BeginSharp x.params flutter (starts_from beside x.params flutter start rate) (lengths_from beside x.params flutter start rate) nodes passed → BeginsActive h (double + passed))
+      → (BeginSharp x.params (walked_after x.params flutter) (starts_from beside x.params flutter start rate) (lengths_from beside x.params flutter start rate) nodes passed → BeginsActive h (double + passed))
       → KeepsToSpreads beside x.params flutter start rate nodes passed → KeepsToSpreadsAt beside x flutter start rate h double passed
   spreads_at passed within active kept = record {
     begins = λ before even is.
@@ -149,7 +149,7 @@ module _ (beside : Bool) (x : Setting) (flutter start rate reach : ℕ) (h : Cyc
   }
 
   active_at : (k : ℕ)
-      → BeginSharp x.params flutter (starts_from beside x.params flutter start rate) (lengths_from beside x.params flutter start rate) (λ k. members_at x h (double + k)) k → BeginsActive h (double + k)
+      → BeginSharp x.params (walked_after x.params flutter) (starts_from beside x.params flutter start rate) (lengths_from beside x.params flutter start rate) (λ k. members_at x h (double + k)) k → BeginsActive h (double + k)
   active_at k begins =
       active_by beside x 0 flutter h b.run double (none_before double) second (starts_from beside x.params flutter start rate) (lengths_from beside x.params flutter start rate) (pos reach) suffice.0 suffice.1 active k begins
 
@@ -236,7 +236,7 @@ module _ (beside : Bool) (x : Setting) (flutter : ℕ) (h : Cycles) (double : �
   older_room : LeavesRoom x.params (pos (precision_of x.params))
   older_room = room_checks_suffice x.params o.covered.sane (o.covered.checks 4 (lit≤ tt) (lit≤ tt)) (o.covered.checks 5 (lit≤ tt) (lit≤ tt))
 
-  older_acting : (k : ℕ) → double + k < x.doubles → WalkLastsAfter x.params flutter k → BeginSharp x.params flutter starts lengths members k
+  older_acting : (k : ℕ) → double + k < x.doubles → WalkLastsAfter x.params flutter k → BeginSharp x.params (walked_after x.params flutter) starts lengths members k
       → ActInReach x.params (pos (precision_of x.params)) (pos (last_action x.params)) (members k)
   older_acting zero short before begins is_odd one other action here there from to =
       let sane : IsSane x.params = o.covered.sane in

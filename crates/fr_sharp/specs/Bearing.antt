@@ -20,7 +20,7 @@ use Rattle.fr_runs.specs.Numbers.{offset_term_told, rate_term_told}
 use Rattle.fr_runs.specs.Rounds.{IsDoubleOf}
 use Rattle.fr_runs.specs.SteadyRuns.{row_members, AreRowsInReach, IsTimedPartFrom}
 use Rattle.fr_runs.specs.SharpHistories.{KeepsApart}
-use Rattle.fr_sharp.specs.Traffic.{all_bear, is_deaf, none_lacks, traffic_of}
+use Rattle.fr_sharp.specs.Traffic.{all_bear, is_deaf, none_lacks, some_keep, traffic_of}
 
 -- a term that is missing, as one within its limit; and a node without offset values, as one with its own value alone
 abbrev pub borne_outcome : Outcome → Outcome
@@ -53,7 +53,7 @@ RowsBear =
     → some_joins x ≡ false → IsTimedPartFrom x from flutter h → from ≤ double → IsDoubleOf h double earlier even odd
     → all_bear x.params (traffic_of x) double ≡ true
     → AreRowsInReach x earlier even odd reach → Contains (map borne (row_members x earlier even odd)) node
-    → ComputesOrKeeps x.params flutter (map borne (row_members x earlier even odd)) (pos (last_action x.params)) node
+    → ComputesOrKeeps (some_keep (traffic_of x) double) x.params flutter (map borne (row_members x earlier even odd)) (pos (last_action x.params)) node
 
 -- how a double cycle ends through losses: the terms of each correct node lie within their limits, or are missing where it has no value
 -- of that kind; no row tells a cut; and each is active behind it

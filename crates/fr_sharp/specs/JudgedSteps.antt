@@ -1,6 +1,6 @@
 -- What holds in a double cycle that is judged, by what is known of it: its own numbers, which need not be those of sharp sync. Nothing
 -- is asked of other double cycles.
-use Rattle.std.specs.Prelude.{◌≡◌, ◌<◌, ◌≤◌, ◌*◌, ◌-ℤ◌, ℕ, suc, ℤ, pos, Bool, false, true, List, length, Contains}
+use Rattle.std.specs.Prelude.{◌<◌, ◌≤◌, ◌-ℤ◌, ℕ, suc, ℤ, pos, Bool, false, true, List, Contains}
 use Rattle.fr_base.specs.Within.{IsWithin}
 use Rattle.fr_cluster.specs.Setting.{Setting}
 use Rattle.fr_cluster.specs.Values.{Values}
@@ -15,7 +15,6 @@ use Rattle.fr_precision.specs.Round.{Hearer, Round}
 use Rattle.fr_precision.specs.Rows.{Sender}
 use Rattle.fr_precision.specs.Step.{Member}
 use Rattle.fr_history.specs.Cycles.{Cycle, Cycles}
-use Rattle.fr_history.specs.Lawful.{IsLawful}
 use Rattle.fr_runs.specs.Gathered.{round_at}
 use Rattle.fr_runs.specs.Rounds.{IsDoubleOf}
 use Rattle.fr_precision.specs.Among.{ComputesOwn}
@@ -24,7 +23,7 @@ use Rattle.fr_sharp.specs.SettlingHistories.{AreStatedNear}
 use Rattle.fr_runs.specs.SharpHistories.{members_at, senders_at, EachHasRow, IsInSharpSyncAt, IsKnownAt, IsLawfulStatedRunFrom, IsStatedRun, IsStatedRunFrom, KeepsApart}
 use Rattle.fr_precision.specs.SharpRound.{IsRoundInReach}
 use Rattle.fr_precision.specs.SharpStep.{IsSharpDouble}
-use Rattle.fr_runs.specs.SteadyRuns.{row_hearers, AreRowsInReach, IsTimedFrom, IsWhole, MayHaveArbitrary, NoneIsDeaf}
+use Rattle.fr_runs.specs.SteadyRuns.{row_hearers, AreRowsInReach, IsWhole, MayHaveArbitrary, NoneIsDeaf}
 
 -- what is heard in a double cycle of a run: of any two nodes one channel carries the frames of both cycles, without arbitrary sync
 -- nodes or beside them; or, without them, no node is left without any value

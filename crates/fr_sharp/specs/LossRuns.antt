@@ -1,7 +1,8 @@
 -- What a run loses, by its files: in how many double cycles, how far macroticks may then lie apart in each, whether each correct node
 -- bears each, and whether the run is covered through losses.
-use Rattle.std.specs.Prelude.{◌≡◌, ◌↔◌, ◌+◌, ◌-◌, ◌<◌, ◌≤◌, ℕ, zero, suc, pos, max, nat_lt, Bool, true, false, not, ◌&&◌, ◌||◌, if◌then◌else◌, List, Option, Some, None}
+use Rattle.std.specs.Prelude.{◌≡◌, ◌↔◌, ◌+◌, ◌-◌, ◌*◌, ◌<◌, ◌≤◌, ◌+ℤ◌, ℕ, zero, suc, pos, max, min, nat_le, nat_lt, Bool, true, false, not, ◌&&◌, ◌||◌, if◌then◌else◌, List, Option, Some, None}
 use Rattle.std.specs.List.{list_all}
+use Rattle.std.specs.Option.{option_map_or}
 use Rattle.fr_base.specs.declared.channel.Channel.{Channel}
 use Rattle.fr_base.specs.declared.channel.Channel.TheVariants as channel
 use Rattle.fr_cluster.specs.Sane.{IsSane}
@@ -22,11 +23,14 @@ use Rattle.fr_bound.specs.declared.judging.Heard.{Heard}
 use Rattle.fr_precision.specs.Among.{apart_through_losses, spread_through_losses}
 use Rattle.fr_sharp.specs.Bearing.{KeepsThrough}
 use Rattle.fr_sharp.specs.LossCosts.{limits_hold}
-use Rattle.fr_sharp.specs.LossStatement.{apart_since, run_apart, spread_since, whole_in, IsCoveredThroughLosses}
+use Rattle.fr_sharp.specs.LossStatement.{apart_since, run_apart, run_strayed, spread_since, whole_in, IsCoveredThroughLosses}
 use Rattle.fr_sharp.specs.Traffic.{all_bear_from, heard_in, none_lacks, traffic_in}
-use Rattle.fr_bound.specs.SharpChecks.{sharp_holds_of}
+use Rattle.fr_bound.specs.Checks.{holds_of}
+use Rattle.fr_bound.specs.SharpBounds.{rate_room, walk_lasts}
+use Rattle.fr_bound.specs.SharpChecks.{sharp_holds_of, RateSuffices}
 use Rattle.fr_runs.specs.SharpHistories.{IsInSharpSyncAt}
-use Rattle.fr_precision.specs.SharpRun.{WalkLastsAfter}
+use Rattle.fr_precision.specs.Lengths.{walk_on, walked_after}
+use Rattle.fr_precision.specs.SharpRun.{WalkLastsAfter, WalkLastsUpTo}
 use Rattle.fr_bound.specs.SharpSpreads.{sharply_near_in}
 use Rattle.fr_sharp.specs.SharpStatement.{has_arbitrary}
 use Rattle.fr_sharp.specs.declared.losses_of_runs.RunLosses.{RunLosses}
@@ -48,6 +52,28 @@ reaches_each nodes s when a = list_all (λ b. not (is_link s a b) || reaches s a
 abbrev pub all_reach : List NodeSpec → ScriptView → Option ℕ → Bool
 all_reach nodes s when = list_all (reaches_each nodes s when) nodes
 
+-- ---- whether the rate limit suffices where nodes keep their rates
+
+-- how far lengths walk in so many double cycles, or in as many as the walk lasts, in ticks
+abbrev pub walked_at_most : Values → ℕ → ℕ → ℕ
+walked_at_most p flutter passed = option_map_or (λ lasts. min lasts passed * walk_on p flutter) (walk_lasts p flutter) 0
+
+-- under the second check it suffices for that and for how far they stray
+abbrev pub stray_fits : Values → ℕ → ℕ → ℕ → Bool
+stray_fits p flutter passed strayed = nat_le (walked_at_most p flutter passed + strayed) (rate_room p)
+
+abbrev pub StrayFitsIsTold : Type 0
+StrayFitsIsTold =
+    (p : Values) (flutter most strayed : ℕ)
+    → holds_of 2 p ≡ true
+    → (stray_fits p flutter most strayed ≡ true)
+    ↔ ((passed : ℕ) → passed ≤ most → WalkLastsUpTo p flutter passed → RateSuffices p (walked_after p flutter passed +ℤ pos strayed))
+
+-- each correct node bears a double cycle, and behind it the rate limit suffices
+abbrev pub is_borne : Values → ScriptView → ℕ → ℕ → ℕ → Bool
+is_borne p s from flutter double =
+    all_bear_from p (traffic_in p s) from double && stray_fits p flutter (suc double - from) (run_strayed p s from flutter (suc double))
+
 -- ---- what a run loses
 
 -- how many of the first so many double cycles lose frames
@@ -63,7 +89,7 @@ IsLastLost whole from doubles (Some last) =
 
 -- of the double cycles from one on, so many in all: in how many, one or more, and the last of these; the greatest of the numbers by what
 -- was heard since that one, and the first double cycle with it; a reach that takes in how far action points may lie apart; and whether
--- each correct node trusts its lists
+-- each double cycle is borne
 pub record AreLosses (beside : Bool) (p : Values) (from flutter : ℕ) (whole : ℕ → Bool) (what : ℕ → Heard) (trusted : ℕ → Bool) (doubles : ℕ) (losses : RunLosses) : Type 0 where
   pub count : losses.doubles ≡ lost_before (λ m. whole (from + m)) (doubles - from)
   pub last : IsLastLost whole from doubles losses.last
@@ -104,7 +130,7 @@ losses_by beside p from flutter whole what trusted (suc k) =
 -- what the run of some parameters, a drift and a script loses from a double cycle on, where its delays flutter by so many ticks
 abbrev pub losses_of : Values → DriftView → ScriptView → ℕ → ℕ → RunLosses
 losses_of p d s from flutter =
-    losses_by (has_arbitrary p s) p from flutter (whole_in p s) (heard_in (traffic_in p s)) (all_bear_from p (traffic_in p s) from) (doubles_of d - from)
+    losses_by (has_arbitrary p s) p from flutter (whole_in p s) (heard_in (traffic_in p s)) (is_borne p s from flutter) (doubles_of d - from)
 
 -- ---- whether it is covered through losses
 
@@ -136,7 +162,7 @@ abbrev pub LossesAreTold : Type 0
 LossesAreTold =
     (p : Values) (d : DriftView) (s : ScriptView) (from flutter : ℕ)
     → from < doubles_of d
-    → AreLosses (has_arbitrary p s) p from flutter (whole_in p s) (heard_in (traffic_in p s)) (all_bear_from p (traffic_in p s) from) (doubles_of d)
+    → AreLosses (has_arbitrary p s) p from flutter (whole_in p s) (heard_in (traffic_in p s)) (is_borne p s from flutter) (doubles_of d)
     (losses_of p d s from flutter)
 
 -- what is said to be covered through losses is, with the reach of what it loses

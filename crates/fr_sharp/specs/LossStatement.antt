@@ -1,7 +1,7 @@
 -- What is promised of a run in which frames are lost, by its files. The words of it, from the top: `IsLawful` (what a run is),
 -- `IsCoveredThroughLosses` (what is asked of the files), `apart_through_losses` (by what is heard, `heard_in`), `IsInSharpSyncAt`, `walk_lasts`,
 -- `KeepsThrough`.
-use Rattle.std.specs.Prelude.{◌≡◌, ◌+◌, ◌-◌, ◌<◌, ◌≤◌, ℕ, pos, Bool, true, false, not, ◌||◌, List, []}
+use Rattle.std.specs.Prelude.{◌≡◌, ◌+◌, ◌-◌, ◌<◌, ◌≤◌, ◌+ℤ◌, ℕ, suc, pos, Bool, true, false, not, ◌||◌, List, []}
 use Rattle.std.specs.List.{list_all}
 use Rattle.fr_cluster.specs.Sane.{IsSane}
 use Rattle.fr_cluster.specs.Values.{Values}
@@ -22,10 +22,13 @@ use Rattle.fr_bound.specs.declared.settling.Spread.{Spread}
 use Rattle.fr_precision.specs.Among.{apart_through_losses, spread_through_losses}
 use Rattle.fr_sharp.specs.Losses.{IsLossyRunFrom}
 use Rattle.fr_sharp.specs.Bearing.{KeepsThrough}
-use Rattle.fr_sharp.specs.Traffic.{all_bear_from, heard_in, none_lacks, traffic_in}
-use Rattle.fr_bound.specs.SharpChecks.{SharpChecksHold}
+use Rattle.fr_sharp.specs.Traffic.{all_bear_from, heard_in, none_lacks, some_keep, traffic_in}
+use Rattle.fr_bound.specs.Bounds.{cycle_change}
+use Rattle.fr_bound.specs.Checks.{holds_of}
+use Rattle.fr_bound.specs.SharpChecks.{RateSuffices, SharpChecksHold}
 use Rattle.fr_runs.specs.SharpHistories.{IsInSharpSyncAt}
-use Rattle.fr_precision.specs.SharpRun.{WalkLastsAfter}
+use Rattle.fr_precision.specs.Lengths.{strayed_after, walked_after}
+use Rattle.fr_precision.specs.SharpRun.{WalkLastsAfter, WalkLastsUpTo}
 use Rattle.fr_bound.specs.SharpSpreads.{sharply_near_in}
 use Rattle.fr_sharp.specs.SharpStatement.{has_arbitrary}
 
@@ -52,10 +55,16 @@ run_spread p s from flutter double = spread_since (has_arbitrary p s) p from flu
 abbrev pub run_apart : Values → ScriptView → ℕ → ℕ → ℕ → ℕ
 run_apart p s from flutter double = apart_since (has_arbitrary p s) p from flutter (heard_in (traffic_in p s)) double
 
+-- by how much more than by the walk lengths may lie beyond their range in a double cycle of it, in ticks, where nodes that lack values kept
+-- their rates since an earlier one
+abbrev pub run_strayed : Values → ScriptView → ℕ → ℕ → ℕ → ℕ
+run_strayed p s from flutter double = strayed_after p flutter (λ m. some_keep (traffic_in p s) (from + m)) (double - from)
+
 -- of the sharper checks those from 2 to 5 hold with a reach, in ticks, that takes in how far action points may lie apart in each double
 -- cycle from one on, by what was heard since; no correct node joins; from that double cycle on the run would have no gap if nothing
--- were lost, and its delays flutter by no more than so many ticks; and each correct node bears each of these double cycles: it has values,
--- and discards as many as there may be of arbitrary nodes, or lacks some as `bears` says, in the first of them none
+-- were lost, and its delays flutter by no more than so many ticks; each correct node bears each of these double cycles: it has values, and
+-- discards as many as there may be of arbitrary nodes, or lacks some as `bears` says, in the first of them none; and while the walk lasts,
+-- the rate limit suffices for how far lengths walk and stray
 pub record IsCoveredThroughLosses (p : Values) (d : DriftView) (s : ScriptView) (from flutter reach : ℕ) : Type 0 where
   pub checks : SharpChecksHold flutter reach p
   pub near : (double : ℕ) → from ≤ double → double < doubles_of d → sharply_near_in p (run_spread p s from flutter double) ≤ reach
@@ -63,6 +72,17 @@ pub record IsCoveredThroughLosses (p : Values) (d : DriftView) (s : ScriptView) 
   pub none : HasNoGapFrom p d (without_losses s) from
   pub flutters : flutter_from p d s from ≤ flutter
   pub borne : (double : ℕ) → from ≤ double → double < doubles_of d → all_bear_from p (traffic_in p s) from double ≡ true
+  pub limit :
+      (double passed : ℕ) → from ≤ double → double < doubles_of d → passed ≤ suc double - from → WalkLastsUpTo p flutter passed
+      → RateSuffices p (walked_after p flutter passed +ℤ pos (run_strayed p s from flutter (suc double)))
+
+-- the last follows where no node lacks values, or oscillators do not change
+abbrev pub LimitFollows : Type 0
+LimitFollows =
+    (p : Values) (s : ScriptView) (from flutter double passed : ℕ)
+    → holds_of 2 p ≡ true
+    → ((k : ℕ) → from ≤ k → k ≤ double → none_lacks (traffic_in p s) k ≡ false → cycle_change p ≡ 0)
+    → WalkLastsUpTo p flutter passed → RateSuffices p (walked_after p flutter passed +ℤ pos (run_strayed p s from flutter (suc double)))
 
 -- such files give a run as the law of losses asks for
 abbrev pub LossyFilesGiveRuns : Type 0

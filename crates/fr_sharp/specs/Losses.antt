@@ -17,10 +17,11 @@ use Rattle.fr_midpoint.specs.Midpoint.{discarded}
 use Rattle.fr_measure.specs.Values.{offset_at, rate_at}
 use Rattle.fr_precision.specs.Among.{apart_through_losses, lost_spread, spread_through_losses, ComputesOwn, HearInCommon}
 use Rattle.fr_sharp.specs.Bearing.{KeepsThrough}
-use Rattle.fr_sharp.specs.Traffic.{all_bear, all_trusted, heard_in, lists_meet, none_lacks, traffic_of}
+use Rattle.fr_sharp.specs.Traffic.{all_bear, all_trusted, heard_in, lists_meet, none_lacks, some_keep, traffic_of}
+use Rattle.fr_precision.specs.Lengths.{walked_through}
 use Rattle.fr_precision.specs.Hearing.{AreSteadyPairs, IsHeardInPart}
 use Rattle.fr_bound.specs.SharpBounds.{last_action, precision_by, sharp_precision}
-use Rattle.fr_bound.specs.SharpChecks.{SharpChecksHold}
+use Rattle.fr_bound.specs.SharpChecks.{RateSuffices, SharpChecksHold}
 use Rattle.fr_runs.specs.SharpHistories.{IsInSharpSyncAt, IsStatedRunFrom}
 use Rattle.fr_precision.specs.SharpRound.{as_member}
 use Rattle.fr_precision.specs.SharpRun.{WalkLastsAfter}
@@ -107,15 +108,17 @@ lost_apart p flutter whole passed =
     max (precision_by p (lost_spread p flutter whole passed).starts (lost_spread p flutter whole passed).lengths)
     ((lost_spread p flutter whole (suc passed)).starts + longest_micro p)
 
--- from a double cycle in sharp sync on in which no node lacks values, with lengths in their range, and under the checks but the first
--- with a reach for all that follows: whatever is lost, no macroticks lie further apart than that, no term is cut, none is missing but
--- where a node has no value of its kind, and each node is active
+-- from a double cycle in sharp sync on in which no node lacks values, with lengths in their range, under the checks but the first with a
+-- reach for all that follows, and with a rate limit that suffices for how far lengths walk and stray: whatever is lost, no macroticks lie
+-- further apart than that, no term is cut, none is missing but where a node has no value of its kind, and each node is active
 abbrev pub HistoriesKeepThroughLosses : Type 0
 HistoriesKeepThroughLosses =
     (beside : Bool) (x : Setting) (from flutter : ℕ) (h : Cycles) (double reach : ℕ)
     → IsLossyRunFrom beside x from flutter h → from ≤ double → SharpChecksHold flutter reach x.params
     → ((k : ℕ) → double + k < x.doubles
     → sharply_near_in x.params (spread_through_losses beside x.params flutter (λ m. heard_in (traffic_of x) (double + m)) k) ≤ reach)
+    → ((k : ℕ) → double + k < x.doubles → WalkLastsAfter x.params flutter k
+    → RateSuffices x.params (walked_through x.params flutter (λ m. some_keep (traffic_of x) (double + m)) (suc k)))
     → IsInSharpSyncAt beside x.params flutter (pos 0) h double → none_lacks (traffic_of x) double ≡ true
     → (passed : ℕ) → double + passed < x.doubles → WalkLastsAfter x.params flutter passed
     → KeepsThrough x h (double + passed) (apart_through_losses beside x.params flutter (λ m. heard_in (traffic_of x) (double + m)) passed)

@@ -16,7 +16,6 @@ use Rattle.fr_coverage.specs.Links.{is_regular, is_sync, shares}
 use Rattle.fr_script.specs.Events.{event_of}
 use Rattle.fr_script.specs.View.{ScriptView, is_arbitrary}
 use Rattle.fr_sharp.specs.declared.traffic.Costs.{Costs}
-use Rattle.fr_precision.specs.Among.{most_change}
 use Rattle.fr_runs.specs.SteadyRuns.{is_silent}
 
 -- the nodes of a cluster, which of them are arbitrary, and by cycle, sender, receiver and channel what becomes of frames
@@ -125,14 +124,13 @@ unfoldable pub lacking_for : Traffic → NodeSpec → ℕ → ℕ
 lacking_for t b zero = if lacks_values t 0 b then 1 else 0
 lacking_for t b (suc k) = if lacks_values t (suc k) b then suc (lacking_for t b k) else 0
 
--- of each kind it trusts its list or surely has none; and it lacks values while oscillators do not change alone, and in fewer double
--- cycles in a row than operation control asks for to make it passive
+-- of each kind it trusts its list or surely has none; and it lacks values in fewer double cycles in a row than operation control asks for to
+-- make it passive
 abbrev pub trusts_or_lacks : Bool → Traffic → ℕ → NodeSpec → Bool
 trusts_or_lacks rate t double b = is_deaf rate t double b || is_trusted rate t double b
 
 abbrev pub may_lack : Values → Traffic → ℕ → NodeSpec → Bool
-may_lack p t double b =
-    nat_eq (most_change p) 0 && nat_lt (lacking_for t b double) (amount p name.gMaxWithoutClockCorrectionPassive)
+may_lack p t double b = nat_lt (lacking_for t b double) (amount p name.gMaxWithoutClockCorrectionPassive)
 
 abbrev pub bears : Values → Traffic → ℕ → NodeSpec → Bool
 bears p t double b =
@@ -145,6 +143,10 @@ all_bear p t double = list_all (bears p t double) t.nodes
 
 abbrev pub none_lacks : Traffic → ℕ → Bool
 none_lacks t double = list_all (λ b. t.is_arbitrary b.id || not (lacks_values t double b)) t.nodes
+
+-- or some does, and keeps its rate
+abbrev pub some_keep : Traffic → ℕ → Bool
+some_keep t double = not (none_lacks t double)
 
 -- asked from a double cycle on: in that one none lacks values
 abbrev pub all_bear_from : Values → Traffic → ℕ → ℕ → Bool

@@ -6,15 +6,14 @@ ghost use Rattle.fr_script.specs.View.{is_arbitrary};
 ghost use Rattle.fr_coverage.specs.Links.{is_sync};
 ghost use Rattle.fr_sharp.specs.Traffic.{all_bear, all_bear_from, arbitrary_count, bears, comes, is_deaf, lacking_for, lacks_values, may_lack, may_reach, may_say, none_lacks, traffic_in, traffic_with, trusts_or_lacks};
 
-use crate::held::oscillators_stay;
 use crate::traffic::{Asked, arbitrary_count, comes_even, comes_odd, has_value, is_trusted};
 use fr_base::Channel;
 use fr_cluster::{NodeList, NodeSpec, ParamName, Params};
 use fr_script::Script;
 
 /// Whether each correct node bears a double cycle, 0 to 100,000: it has an offset value and a rate value, and discards at
-/// each end as many of each as there may be of arbitrary nodes, or lacks some where oscillators do not change and not for so
-/// many in a row that it would be passive; in the double cycle from which it is asked none lacks any.
+/// each end as many of each as there may be of arbitrary nodes, or lacks some, not for so many in a row that it would be
+/// passive; in the double cycle from which it is asked none lacks any.
 pub fn all_bear_from(params: &Params, script: &Script, from: u32, double: u32) -> bool
     requires { double ≤ 100_000 }
     ensures { result ≡ all_bear_from params.now (traffic_in params.now script.now) from double }
@@ -93,7 +92,7 @@ fn trusts_or_lacks(
 }
 
 // Whether in a double cycle no correct node lacks values.
-fn none_lacks(params: &Params, script: &Script, double: u32) -> bool
+pub(crate) fn none_lacks(params: &Params, script: &Script, double: u32) -> bool
     requires { double ≤ 100_000 }
     ensures { result ≡ none_lacks (traffic_in params.now script.now) double }
 {
@@ -118,13 +117,13 @@ fn none_lacks_in(nodes: &NodeList, script: &Script, double: u32) -> bool
     true
 }
 
-// Where oscillators do not change, and not in so many double cycles in a row.
+// Not in so many double cycles in a row.
 fn may_lack(params: &Params, script: &Script, double: u32, node: &NodeSpec) -> bool
     requires { double ≤ 100_000 }
     ensures { result ≡ may_lack params.now (traffic_in params.now script.now) double node.now }
 {
     let most = params.natural(ParamName::gMaxWithoutClockCorrectionPassive);
-    oscillators_stay(params) && !lacks_for(&params.nodes, script, double, node, most)
+    !lacks_for(&params.nodes, script, double, node, most)
 }
 
 // Whether a node has lacked values in so many double cycles in a row, up to one.

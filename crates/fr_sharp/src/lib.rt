@@ -21,6 +21,7 @@ mod loss_steps;
 mod losses_of_runs;
 mod lossy_files;
 mod sharp_covered;
+mod strays;
 mod through;
 mod traffic;
 
@@ -48,5 +49,6 @@ pub use loss_steps::LossSpread;
 pub use losses_of_runs::{RunLosses, losses_are_told, run_losses};
 pub use lossy_files::{files_keep_through_losses, lossy_files_give_runs};
 pub use sharp_covered::first_sharp_gap;
+pub use strays::strays_are_told;
 pub use through::is_through;
 pub use traffic::{Costs, heard_in};

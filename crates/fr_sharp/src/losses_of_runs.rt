@@ -1,14 +1,15 @@
-ghost use Rattle.std.specs.Prelude.{◌≡◌, ◌≤◌, ◌<◌, ◌+◌, nat_lt, None, Some, if◌then◌else◌};
-ghost use Rattle.fr_sharp.specs.LossRuns.{losses_of, next_losses, no_losses, LossesAreTold, RunsKeepTheirBounds, ThroughLossesIsTold};
-ghost use Rattle.fr_sharp.specs.LossStatement.{whole_in};
+ghost use Rattle.std.specs.Prelude.{◌≡◌, ◌≤◌, ◌<◌, ◌+◌, suc, nat_lt, None, Some, if◌then◌else◌};
+ghost use Rattle.fr_sharp.specs.LossRuns.{is_borne, losses_of, next_losses, no_losses, LossesAreTold, RunsKeepTheirBounds, ThroughLossesIsTold};
+ghost use Rattle.fr_sharp.specs.LossStatement.{run_strayed, whole_in};
 ghost use Rattle.fr_sharp.specs.LossSteps.{most_lost};
 ghost use Rattle.fr_bound.specs.SharpBounds.{most_flutter};
 
 use crate::arbitrary::has_arbitrary;
-use crate::bearing::all_bear_from;
+use crate::bearing::{all_bear_from, none_lacks};
 use crate::heard::all_reach;
 use crate::losing::histories_keep_through_losses;
 use crate::loss_steps::LossSpread;
+use crate::strays::{stray_fits, strayed_on};
 use crate::traffic::heard_in;
 use fr_cluster::Params;
 use fr_coverage::found_gap_from_is_first;
@@ -31,7 +32,7 @@ pub struct RunLosses {
     /// How far instants of the same action point may lie apart, in ticks.
     pub reach: u128,
     /// Whether each correct node bears each double cycle: it has values, and discards as many as there may be of arbitrary
-    /// nodes, or lacks some as it may.
+    /// nodes, or lacks some as it may; and the rate limit suffices for how far lengths then lie beyond their range.
     pub trusted: bool,
 }
 
@@ -50,17 +51,44 @@ pub fn run_losses(
 {
     let mut spread = LossSpread::first(params, has_arbitrary(params, script), flutter);
     let mut losses = RunLosses::none(from);
+    let mut strayed = 0;
     let count = drift.doubles().saturating_sub(from);
     for passed in 0..count {
         let double = from + passed;
         let whole = is_whole(params, script, double);
-        let trusted = all_bear_from(params, script, from, double);
+        strayed = strayed_on(
+            params,
+            flutter,
+            !none_lacks(params, script, double),
+            strayed,
+        );
+        let trusted = is_borne(params, script, flutter, from, double, strayed);
         let what = heard_in(params, script, double, whole);
         let apart = spread.apart(params, flutter, what);
         losses = losses.followed(double, whole, trusted, apart, spread.near(params));
         spread.step(params, flutter, what);
     }
     losses
+}
+
+// Whether each correct node bears a double cycle, and the rate limit suffices behind it for how far lengths then stray.
+fn is_borne(
+    params: &Params,
+    script: &Script,
+    flutter: u64,
+    from: u32,
+    double: u32,
+    strayed: u128,
+) -> bool
+    requires flutter { flutter ≤ most_flutter }
+    requires behind { from ≤ double }
+    requires double { double ≤ 100_000 }
+    requires few { strayed ≤ 3_000_000_000_000_000 }
+    requires strayed { strayed ≡ run_strayed params.now script.now from flutter (suc double) }
+    ensures { result ≡ is_borne params.now script.now from flutter double }
+{
+    all_bear_from(params, script, from, double)
+        && stray_fits(params, flutter, double + 1 - from, strayed)
 }
 
 fn is_whole(params: &Params, script: &Script, double: u32) -> bool

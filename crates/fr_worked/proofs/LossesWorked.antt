@@ -22,6 +22,7 @@ use Rattle.fr_runs.specs.SharpHistories.{IsInSharpSyncAt, KeepsApart}
 use Rattle.fr_precision.specs.SharpRun.{WalkLastsAfter}
 use Rattle.fr_bound.specs.SharpSpreads.{sharply_near_in}
 use Rattle.fr_sharp.specs.SharpStatement.{has_arbitrary}
+use Rattle.fr_sharp.proofs.StrayFits.{limit_follows}
 use Rattle.fr_sharp.specs.Traffic.{all_bear_from, costs_of, heard_in, lacking_for, none_lacks, traffic_in}
 use Rattle.fr_worked.specs.WorkedFiles.{fluttering_drift}
 use Rattle.fr_worked.specs.WorkedLosses.{losing_script, LosingFilesAreCovered, LosingFilesKeep}
@@ -115,6 +116,7 @@ covered = record {
   none = λ g gap behind. (found-of-run steady_cluster fluttering_drift (without_losses losing_script) is_sane).0 no_gap g gap;
   flutters = omega (arith, flutter_is);
   borne = trusted;
+  limit = λ double passed late less few lasts. limit_follows steady_cluster losing_script 0 250 double passed refl (λ k behind within lacks. refl) lasts;
 }
 
 pub losing_files_are_covered : LosingFilesAreCovered

@@ -23,6 +23,7 @@ use Rattle.fr_runs.specs.SharpHistories.{IsInSharpSyncAt, KeepsApart}
 use Rattle.fr_precision.specs.SharpRun.{WalkLastsAfter}
 use Rattle.fr_bound.specs.SharpSpreads.{sharply_near_in}
 use Rattle.fr_sharp.specs.SharpStatement.{has_arbitrary}
+use Rattle.fr_sharp.proofs.StrayFits.{limit_follows}
 use Rattle.fr_sharp.specs.Traffic.{all_bear_from, costs_of, heard_in, lacking_for, none_lacks, traffic_in}
 use Rattle.fr_worked.specs.WorkedFiles.{fluttering_drift, marking_script}
 use Rattle.fr_worked.specs.WorkedLosses.{missing_script, BesideFilesAreCovered, BesideFilesKeep, MissingFilesAreCovered, MissingFilesKeep}
@@ -98,6 +99,7 @@ missing_covered = record {
   none = λ g gap behind. (found-of-run steady_cluster fluttering_drift (without_losses missing_script) is_sane).0 no_gap g gap;
   flutters = omega (arith, flutter_is);
   borne = missing_trusted;
+  limit = λ double passed late less few lasts. limit_follows steady_cluster missing_script 0 250 double passed refl (λ k behind within lacks. refl) lasts;
 }
 
 pub missing_files_are_covered : MissingFilesAreCovered
@@ -203,6 +205,7 @@ beside_covered =
       none = sharply.none;
       flutters = sharply.flutters;
       borne = beside_trusted;
+      limit = λ double passed late less few lasts. limit_follows steady_cluster (marking_script true) 0 250 double passed refl (λ k behind within lacks. refl) lasts;
     }
 
 pub beside_files_are_covered : BesideFilesAreCovered

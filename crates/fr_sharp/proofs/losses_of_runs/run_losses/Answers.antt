@@ -1,19 +1,21 @@
-use Rattle.std.proofs.Common.{◌≡◌, ◌∙◌, ℕ, ◌+◌, ◌-◌, Bool, ap, arith}
+use Rattle.std.proofs.Common.{◌≡◌, ◌∙◌, ℕ, suc, ◌+◌, ◌-◌, Bool, not, refl, ap, arith}
 use Rattle.fr_cluster.specs.Values.{Values}
 use Rattle.fr_drift.specs.Questions.{doubles_of}
 use Rattle.fr_script.specs.View.{ScriptView}
-use Rattle.fr_sharp.specs.LossRuns.{losses_by}
+use Rattle.fr_precision.specs.Lengths.{strayed_after}
+use Rattle.fr_sharp.specs.LossRuns.{is_borne, losses_by}
 use Rattle.fr_sharp.specs.LossStatement.{whole_in}
 use Rattle.fr_sharp.specs.LossSteps.{most_lost}
 use Rattle.fr_precision.specs.Among.{spread_through_losses}
 use Rattle.fr_sharp.specs.SharpStatement.{has_arbitrary}
-use Rattle.fr_sharp.specs.Traffic.{all_bear_from, heard_in, traffic_in}
+use Rattle.fr_sharp.specs.Traffic.{heard_in, some_keep, traffic_in}
 use Rattle.fr_sharp.specs.declared.losses_of_runs.RunLosses.{RunLosses}
 use Rattle.fr_sharp.proofs.LossTold.{losses_on, no_more_than_one, spread_on, widest}
+use Rattle.fr_sharp.proofs.StrayFits.{stray_on}
 use Rattle.fr_sharp.proofs.losses_of_runs.run_losses.Goals as goal
 
 pub loop-passed-init : goal.loop-passed-init
-unfolding losses_by
+unfolding losses_by strayed_after
 loop-passed-init c =
     let none : c.none-losses.result.doubles ≡ 0 = ap (λ (l : RunLosses). l.doubles) c.none-losses.ensures in
     let near : c.none-losses.result.reach ≡ 0 = ap (λ (l : RunLosses). l.reach) c.none-losses.ensures in
@@ -23,6 +25,8 @@ loop-passed-init c =
           ∙ ap (λ (b : Bool). spread_through_losses b c.args.params.now c.args.flutter (λ m. heard_in (traffic_in c.args.params.now c.args.script.now) (c.args.from + m)) 0) c.has_arbitrary.ensures;
       passed = c.first-spread.ensures.passed;
       losses = c.none-losses.ensures;
+      strayed = refl;
+      little = omega arith;
       few = omega (arith, none);
       most = omega (arith, near);
     }
@@ -46,9 +50,12 @@ loop-passed-preserved c =
       passed = omega (arith, c.step.ensures.passed, was.passed);
       losses =
           c.followed-losses.ensures
-          ∙ losses_on beside p from t (whole_in p s) (heard_in (traffic_in p s)) (all_bear_from p (traffic_in p s) from) n whole c.all_bear_from-trusted.result c.heard_in-what.result c.apart-apart.result c.near.result
-          c.loop-passed.spread.spread c.loop-passed.losses c.is_whole-whole.ensures c.all_bear_from-trusted.ensures c.heard_in-what.ensures was.spread c.apart-apart.ensures.value
+          ∙ losses_on beside p from t (whole_in p s) (heard_in (traffic_in p s)) (is_borne p s from t) n whole c.is_borne-trusted.result c.heard_in-what.result c.apart-apart.result c.near.result
+          c.loop-passed.spread.spread c.loop-passed.losses c.is_whole-whole.ensures c.is_borne-trusted.ensures c.heard_in-what.ensures was.spread c.apart-apart.ensures.value
           c.near.ensures.value was.losses;
+      strayed =
+          stray_on p t (λ m. some_keep (traffic_in p s) (from + m)) n (not c.none_lacks.result) c.loop-passed.strayed c.strayed_on-strayed.result (ap not c.none_lacks.ensures) was.strayed c.strayed_on-strayed.ensures.value;
+      little = (let more = c.strayed_on-strayed.ensures.most in let before = was.little in omega (arith, more, before));
       few = omega (arith, count, few);
       most = omega (arith, far, most);
     }
@@ -61,4 +68,15 @@ returns-clause-value c =
     let count = c.saturating_sub-count.ensures in
     let end : c.loop-passed.passed ≡ doubles_of c.args.drift.now - c.args.from = omega (arith, value, count, c.loop-passed.auto.passed-end, c.loop-passed-test.false) in
     c.loop-passed.invariant.losses
-    ∙ ap (λ (n : ℕ). losses_by (has_arbitrary p s) p c.args.from c.args.flutter (whole_in p s) (heard_in (traffic_in p s)) (all_bear_from p (traffic_in p s) c.args.from) n) end
+    ∙ ap (λ (n : ℕ). losses_by (has_arbitrary p s) p c.args.from c.args.flutter (whole_in p s) (heard_in (traffic_in p s)) (is_borne p s c.args.from c.args.flutter) n) end
+
+pub is_borne-trusted-requires-clause-strayed : goal.is_borne-trusted-requires-clause-strayed
+is_borne-trusted-requires-clause-strayed c =
+    let p : Values = c.args.params.now in
+    let s : ScriptView = c.args.script.now in
+    let n = c.loop-passed.passed in
+    let from = c.args.from in
+    let keeps : ℕ → Bool = λ m. some_keep (traffic_in p s) (from + m) in
+    let end : n + 1 ≡ suc (from + n) - from = omega arith in
+    stray_on p c.args.flutter keeps n (not c.none_lacks.result) c.loop-passed.strayed c.strayed_on-strayed.result (ap not c.none_lacks.ensures) c.loop-passed.invariant.strayed c.strayed_on-strayed.ensures.value
+    ∙ ap (strayed_after p c.args.flutter keeps) end

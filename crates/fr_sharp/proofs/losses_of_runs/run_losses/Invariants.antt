@@ -1,10 +1,11 @@
-use Rattle.std.proofs.Common.{◌≡◌, ◌+◌, ◌≤◌}
+use Rattle.std.proofs.Common.{◌≡◌, ◌+◌, ◌*◌, ◌≤◌}
 use Rattle.fr_precision.specs.Among.{spread_through_losses}
-use Rattle.fr_sharp.specs.LossRuns.{losses_by}
+use Rattle.fr_precision.specs.Lengths.{strayed_after}
+use Rattle.fr_sharp.specs.LossRuns.{is_borne, losses_by}
 use Rattle.fr_sharp.specs.LossStatement.{whole_in}
 use Rattle.fr_sharp.specs.LossSteps.{most_lost}
 use Rattle.fr_sharp.specs.SharpStatement.{has_arbitrary}
-use Rattle.fr_sharp.specs.Traffic.{all_bear_from, heard_in, traffic_in}
+use Rattle.fr_sharp.specs.Traffic.{heard_in, some_keep, traffic_in}
 use Rattle.fr_sharp.proofs.losses_of_runs.run_losses.Given as goal
 
 -- the spread of this double cycle by what was heard before it, and what was lost there
@@ -17,7 +18,9 @@ invariant-loop-passed l = record {
   losses :
       l.losses
       ≡ losses_by (has_arbitrary l.params l.script) l.params l.from l.flutter (whole_in l.params l.script) (heard_in (traffic_in l.params l.script))
-      (all_bear_from l.params (traffic_in l.params l.script) l.from) l.passed;
+      (is_borne l.params l.script l.from l.flutter) l.passed;
+  strayed : l.strayed ≡ strayed_after l.params l.flutter (λ m. some_keep (traffic_in l.params l.script) (l.from + m)) l.passed;
+  little : l.strayed ≤ l.passed * 2_000_000_000;
   few : l.losses.doubles ≤ l.passed;
   most : l.losses.reach ≤ most_lost;
 }
