@@ -6,6 +6,7 @@ pub mod Passing
 pub mod Gaps
 pub mod OneGap
 pub mod Answering
+pub mod Otherwise
 pub mod Items
 pub mod Lawful
 pub mod Standing
