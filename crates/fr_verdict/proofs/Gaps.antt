@@ -19,7 +19,9 @@ use Rattle.fr_history.proofs.Synced.{record_at-lt}
 use Rattle.fr_trace.specs.Trace.{TraceView, is_named, row_at}
 use Rattle.fr_verdict.specs.FirstGap.{FoundGapIsFirst, NoGapFoundIsCovered, change_by, first_gap_of, is_asked, length_by, traced_change_gap, traced_changes_gap, traced_count_gap, traced_length_gap, traced_lengths_gap, traced_link_gap, traced_links_gap, traced_pairs_gap}
 use Rattle.fr_verdict.specs.Gaps.{IsTraceGap, IsTracedChangeGap, IsTracedCheckGap, IsTracedCountGap, IsTracedLengthGap, IsTracedLinkGap, has_rows, is_heard, is_lasting, is_pair}
+use Rattle.fr_verdict.specs.OtherGaps.{first_other_gap_of, IsOtherGap, OtherGapIsFound}
 use Rattle.fr_verdict.specs.Sync.{IsFirstSynced, first_synced_of, is_early}
+use Rattle.fr_verdict.proofs.Stepping.{first_gap-parts}
 use Rattle.fr_verdict.proofs.Syncing.{behind_early, early_not}
 
 abbrev pub Ascend : List NodeSpec → Type 0
@@ -267,17 +269,26 @@ pub from_count : (p : Values) (t : TraceView) (g : Gap) → FromCount p t g → 
 from_count p t g (inl r) = let kind = ap kind_of r.told in omega arith
 from_count p t g (inr r) = let kind = from_length p t g r in omega arith
 
-pub gaps_least : (p : Values) (t : TraceView) → Ascend p.nodes → IsLeast (IsTraceGap p t) (first_gap_of p t)
-unfolding first_gap_of
-gaps_least p t ascend =
-    least-or (IsTracedCheckGap p) (FromCount p t) _ _ (checks_least p)
-    (least-or (IsTracedCountGap p t) (FromLength p t) _ _ (count_least p t)
+pub other_gaps_least : (p : Values) (t : TraceView) → Ascend p.nodes → IsLeast (IsOtherGap p t) (first_other_gap_of p t)
+unfolding first_other_gap_of
+other_gaps_least p t ascend =
+    least-or (IsTracedCountGap p t) (FromLength p t) _ _ (count_least p t)
     (least-or (IsTracedLengthGap p t) (FromChange p t) _ _ (lengths_least p t ascend)
     (least-or (IsTracedChangeGap p t) (IsTracedLinkGap p t) _ _ (changes_least p t ascend) (links_least p t ascend)
     (λ g h w x before. kinds_apart g h (let a = ap kind_of w.told in let b = ap kind_of x.told in omega arith) before))
     (λ g h w x before. kinds_apart g h (let a = ap kind_of w.told in let b = from_change p t h x in omega arith) before))
-    (λ g h w x before. kinds_apart g h (let a = ap kind_of w.told in let b = from_length p t h x in omega arith) before))
-    (λ g h w x before. kinds_apart g h (let a = ap kind_of w.told in let b = from_count p t h x in omega arith) before)
+    (λ g h w x before. kinds_apart g h (let a = ap kind_of w.told in let b = from_length p t h x in omega arith) before)
+
+pub gaps_least : (p : Values) (t : TraceView) → Ascend p.nodes → IsLeast (IsTraceGap p t) (first_gap_of p t)
+gaps_least p t ascend =
+    subst (IsLeast (IsTraceGap p t)) (sym (first_gap-parts p t))
+    (least-or (IsTracedCheckGap p) (IsOtherGap p t) (checks_gap p) (first_other_gap_of p t) (checks_least p) (other_gaps_least p t ascend)
+    (λ g h w x before. kinds_apart g h (let a = ap kind_of w.told in let b = from_count p t h x in omega arith) before))
+
+pub other_gap_is_found : OtherGapIsFound
+other_gap_is_found p t sane =
+    let l : IsLeast (IsOtherGap p t) (first_other_gap_of p t) = other_gaps_least p t sane.lists.nodes_ascend in
+    (λ g e. record { is_gap = l.some g e; first = λ h w before. l.least g h e w before }, λ e g w. l.none e g w)
 
 pub found_gap_is_first : FoundGapIsFirst
 found_gap_is_first p t g sane e =

@@ -6,6 +6,7 @@ pub mod Passing
 pub mod Gaps
 pub mod OneGap
 pub mod Answering
+pub mod Otherwise
 pub mod Items
 pub mod Lawful
 pub mod Standing
@@ -33,6 +34,7 @@ pub mod FileRanges
 pub mod TraceRows
 pub mod TraceAlike
 pub mod AlikeFound
+pub mod AlikeCycles
 pub mod TraceStep
 pub mod TraceSpreads
 pub mod TraceSync

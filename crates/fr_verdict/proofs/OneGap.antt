@@ -14,6 +14,7 @@ use Rattle.fr_coverage.proofs.Least.{IsLeast}
 use Rattle.fr_trace.specs.Trace.{TraceView}
 use Rattle.fr_verdict.specs.FirstGap.{FirstGapIsFound, first_gap_of}
 use Rattle.fr_verdict.specs.Gaps.{IsFirstTraceGap, IsTraceGap, IsTracedChangeGap, IsTracedCheckGap, IsTracedLengthGap, IsTracedLinkGap}
+use Rattle.fr_verdict.specs.OtherGaps.{IsFirstOtherGap}
 use Rattle.fr_verdict.proofs.Gaps.{FromChange, FromCount, FromLength, from_change, from_count, from_length, gaps_least}
 
 one_check : (p : Values) (g h : Gap) → place_of_gap g ≡ place_of_gap h → IsTracedCheckGap p g → IsTracedCheckGap p h → g ≡ h
@@ -66,6 +67,14 @@ one_first_gap p t g h a b = tied (slice_cmp nat_cmp (place_of_gap g) (place_of_g
     tied : (o : Ordering) → slice_cmp nat_cmp (place_of_gap g) (place_of_gap h) ≡ o → g ≡ h
     tied Less e = absurd (b.first g a.is_gap e)
     tied Equal e = one_gap p t g h (exact_bytes (place_of_gap g) (place_of_gap h) e) a.is_gap b.is_gap
+    tied Greater e = absurd (a.first h b.is_gap (nat_list_cmp_total.antisymm (place_of_gap h) (place_of_gap g) ∙ ap ordering_reverse e))
+
+pub one_first_other_gap : (p : Values) (t : TraceView) (g h : Gap) → IsFirstOtherGap p t g → IsFirstOtherGap p t h → g ≡ h
+one_first_other_gap p t g h a b = tied (slice_cmp nat_cmp (place_of_gap g) (place_of_gap h)) refl
+  where
+    tied : (o : Ordering) → slice_cmp nat_cmp (place_of_gap g) (place_of_gap h) ≡ o → g ≡ h
+    tied Less e = absurd (b.first g a.is_gap e)
+    tied Equal e = among_counts p t g h (exact_bytes (place_of_gap g) (place_of_gap h) e) a.is_gap b.is_gap
     tied Greater e = absurd (a.first h b.is_gap (nat_list_cmp_total.antisymm (place_of_gap h) (place_of_gap g) ∙ ap ordering_reverse e))
 
 pub first_gap_is_found : FirstGapIsFound

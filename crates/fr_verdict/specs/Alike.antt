@@ -41,12 +41,18 @@ said_rate evens odds receiver slot =
     (change_of (dev_in evens receiver slot channel.B) (dev_in odds receiver slot channel.B))
 
 -- where the offset value lies, in ticks: so many microticks behind the end of the receiver's odd row
+abbrev pub offset_place_in : List Dev → ℕ → Values → NodeRow → Option ℤ
+offset_place_in odds slot p row = option_map (measured_place (end_of p row) row.length) (said_offset odds row.node slot)
+
 abbrev pub offset_place : Record → ℕ → Values → NodeRow → Option ℤ
-offset_place odd slot p row = option_map (measured_place (end_of p row) row.length) (said_offset odd.devs row.node slot)
+offset_place odd slot p row = offset_place_in odd.devs slot p row
 
 -- where the rate value lies: so many microticks above the length of that row
+abbrev pub rate_place_in : List Dev → List Dev → ℕ → Values → NodeRow → Option ℤ
+rate_place_in evens odds slot p row = option_map (placed_length p row) (said_rate evens odds row.node slot)
+
 abbrev pub rate_place : Record → Record → ℕ → Values → NodeRow → Option ℤ
-rate_place even odd slot p row = option_map (placed_length p row) (said_rate even.devs odd.devs row.node slot)
+rate_place even odd slot p row = rate_place_in even.devs odd.devs slot p row
 
 -- ---- alike
 
@@ -98,10 +104,13 @@ are_both_near bound (Some one) (Some other) = int_le (one -ℤ other) (pos bound
 abbrev pub is_near_all : ℕ → (NodeRow → Option ℤ) → List NodeRow → NodeRow → Bool
 is_near_all bound place rows one = list_all (λ other. are_both_near bound (place one) (place other)) rows
 
+abbrev pub is_said_alike_in : Values → List Dev → List Dev → ℕ → List NodeRow → Bool
+is_said_alike_in p evens odds slot rows =
+    list_all (is_near_all (alike_offsets p) (offset_place_in odds slot p) rows) rows
+    && list_all (is_near_all (alike_rates p) (rate_place_in evens odds slot p) rows) rows
+
 abbrev pub is_said_alike : Values → Record → Record → ℕ → Bool
-is_said_alike p even odd slot =
-    list_all (is_near_all (alike_offsets p) (offset_place odd slot p) odd.rows) odd.rows
-    && list_all (is_near_all (alike_rates p) (rate_place even odd slot p) odd.rows) odd.rows
+is_said_alike p even odd slot = is_said_alike_in p even.devs odd.devs slot odd.rows
 
 -- whether a node is alike, if it is a sync node that the trace names
 abbrev pub is_node_alike : Values → TraceView → Record → Record → NodeSpec → Bool

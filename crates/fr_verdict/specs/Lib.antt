@@ -8,6 +8,7 @@ pub mod Heard
 -- the same as functions
 pub mod Search
 pub mod FirstGap
+pub mod OtherGaps
 -- worked rows
 pub mod Worked
 -- what only functions inside and above cite

@@ -40,3 +40,11 @@ AreTimed cycles = All (λ cycle. All IsTimed cycle.rows.items) cycles
 -- the deviations of all cycles are in their order
 abbrev pub AreOrdered : List TracedCycle → Type 0
 AreOrdered cycles = All (λ cycle. AreAscendingDevs cycle.devs.items) cycles
+
+-- a cycle whose rows lie in their ranges and whose deviations are in their order
+pub record IsHeardCycle (cycle : TracedCycle) : Type 0 where
+  pub timed : All IsTimed cycle.rows.items
+  pub ordered : AreAscendingDevs cycle.devs.items
+
+abbrev pub AreHeardCycles : List TracedCycle → Type 0
+AreHeardCycles cycles = All IsHeardCycle cycles

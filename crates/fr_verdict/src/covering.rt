@@ -9,6 +9,7 @@ ghost use Rattle.fr_history.specs.History.{row_of};
 ghost use Rattle.fr_trace.specs.Cycles.{history_by};
 ghost use Rattle.fr_trace.specs.Trace.{is_named, row_at, traced_join_in};
 ghost use Rattle.fr_verdict.specs.FirstGap.{change_by, first_gap_of, length_by, traced_change_gap, traced_changes_gap, traced_count_gap, traced_length_gap, traced_lengths_gap, traced_link_gap, traced_links_gap, traced_pairs_gap, traced_weighed};
+ghost use Rattle.fr_verdict.specs.OtherGaps.{first_other_gap_of};
 ghost use Rattle.fr_verdict.specs.Gaps.{has_dev, has_rows, is_heard, is_heard_on, is_lasting, is_pair};
 ghost use Rattle.fr_verdict.specs.Sync.{first_synced_of, is_early};
 ghost use Rattle.fr_verdict.specs.Counted.{count_in, is_counted_in_trace, is_of_kind};
@@ -27,14 +28,22 @@ use fr_trace::{Trace, TracedCycle, TracedJoin};
 /// The first gap of a trace with this first double cycle in sync, in the order of gaps: one of the first five checks
 /// that fails, too few correct sync nodes that do not join, a length, a change, a link; None exactly where the trace is
 /// covered.
-#[tactic(auto, unfolding(crate::specs::FirstGap::first_gap_of))]
 pub fn first_gap(params: &Params, trace: &Trace, synced: Option<u32>) -> Option<Gap>
     requires { synced ≡ first_synced_of params.now trace.now }
     ensures { result ≡ first_gap_of params.now trace.now }
 {
-    if let Some(gap) = failing_check(params) {
-        return Some(gap);
+    match failing_check(params) {
+        Some(gap) => Some(gap),
+        None => first_other_gap(params, trace, synced),
     }
+}
+
+/// The first of these gaps that is no failed check.
+#[tactic(auto, unfolding(crate::specs::OtherGaps::first_other_gap_of))]
+pub fn first_other_gap(params: &Params, trace: &Trace, synced: Option<u32>) -> Option<Gap>
+    requires { synced ≡ first_synced_of params.now trace.now }
+    ensures { result ≡ first_other_gap_of params.now trace.now }
+{
     if let Some(gap) = wrong_count(params, trace) {
         return Some(gap);
     }

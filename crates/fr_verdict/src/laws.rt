@@ -2,6 +2,7 @@ ghost use Rattle.fr_verdict.specs.Answer.{OneAnswer, SomeAnswer};
 ghost use Rattle.fr_verdict.specs.Breach.{OneFirstBreach};
 ghost use Rattle.fr_verdict.specs.FirstGap.{FirstGapIsFound, FoundGapIsFirst, NoGapFoundIsCovered};
 ghost use Rattle.fr_verdict.specs.Heard.{HeardSuffices};
+ghost use Rattle.fr_verdict.specs.OtherGaps.{OneOtherwise, OtherGapIsFound, SomeOtherwise};
 ghost use Rattle.fr_verdict.specs.Precision.{CheckedTracesKeepPrecision, LawfulTracesRun};
 ghost use Rattle.fr_verdict.specs.Search.{FirstBreachIsFound, FoundBreachIsFirst, NoneFoundIsLawful, PassesInParts};
 ghost use Rattle.fr_verdict.specs.Worked.{ItemsAreNumbered, RowsAreBroken, DevsAreBroken, TermsAreBroken, WorkedIsLawful, GapsAreFound, JoinedIsLawful, NodesAreApart};
@@ -34,6 +35,15 @@ pub fn found_gap_is_first()
     ensures found { FoundGapIsFirst }
     ensures first { FirstGapIsFound }
     ensures none { NoGapFoundIsCovered }
+{}
+
+/// A law: the gap other than a failed check that is found is the first, and where none is found there is none. Of what
+/// comes first in a trace, a breach or such a gap, there is one at most, and none exactly where the trace is lawful
+/// without such a gap.
+pub fn other_gaps_are_found()
+    ensures found { OtherGapIsFound }
+    ensures one { OneOtherwise }
+    ensures some { SomeOtherwise }
 {}
 
 /// A law: a trace has one answer.

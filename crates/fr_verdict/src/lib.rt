@@ -3,6 +3,7 @@
 //! which a recorded trace keeps the sharper precision.
 #![tactic(auto)]
 
+mod alike;
 mod covering;
 mod found;
 mod laws;
@@ -12,11 +13,12 @@ mod searching;
 mod traces;
 mod unlawful;
 
-pub use covering::{dev_in, first_gap, timed_cycles};
+pub use alike::{first_unlike, recorded_flutter};
+pub use covering::{dev_in, first_gap, first_other_gap, timed_cycles};
 pub use found::{is_named, row_of};
 pub use laws::{
     a_passing_trace_keeps_its_precision, found_breach_is_first, found_gap_is_first,
-    hearing_suffices, one_answer, worked_trace,
+    hearing_suffices, one_answer, other_gaps_are_found, worked_trace,
 };
 pub use ordered::devs_of;
 pub use run_laws::{

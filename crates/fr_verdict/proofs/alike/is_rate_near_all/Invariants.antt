@@ -1,0 +1,7 @@
+use Rattle.std.proofs.Common.{◌≡◌, take}
+use Rattle.fr_verdict.specs.Alike.{alike_rates, is_near_all, rate_place_in}
+use Rattle.fr_verdict.proofs.alike.is_rate_near_all.Given as goal
+
+-- each so far
+abbrev pub invariant-loop-other : goal.invariant-loop-other
+invariant-loop-other l = l.all ≡ is_near_all (alike_rates l.params) (rate_place_in l.evens l.odds l.slot l.params) (take l.other-index l.rows) l.one

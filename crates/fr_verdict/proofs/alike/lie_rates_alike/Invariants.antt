@@ -1,0 +1,8 @@
+use Rattle.std.proofs.Common.{◌≡◌, take}
+use Rattle.std.specs.List.{list_all}
+use Rattle.fr_verdict.specs.Alike.{alike_rates, is_near_all, rate_place_in}
+use Rattle.fr_verdict.proofs.alike.lie_rates_alike.Given as goal
+
+-- each so far
+abbrev pub invariant-loop-one : goal.invariant-loop-one
+invariant-loop-one l = l.all ≡ list_all (is_near_all (alike_rates l.params) (rate_place_in l.evens l.odds l.slot l.params) l.rows) (take l.one-index l.rows)
