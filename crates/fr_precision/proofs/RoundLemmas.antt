@@ -58,7 +58,7 @@ pub all_given : {X : Type 0} (who : ℕ → Option X) (P : X → Type 0) (is : L
 all_given who P [] each = All-nil P
 all_given who P (i ∷ is) each = given who P i (filter_map who is) (who i) refl (each i) (all_given who P is each)
 
-all_senders : (r : Round) (P : Sender → Type 0) → ((index : ℕ) (sender : Sender) → IsFrom r index sender → P sender) → All P (senders_of r)
+pub all_senders : (r : Round) (P : Sender → Type 0) → ((index : ℕ) (sender : Sender) → IsFrom r index sender → P sender) → All P (senders_of r)
 all_senders r P each = all_given (sender_at r) P (range_with_len 0 15) (λ index sender some. each index sender (sender_is r index sender some))
 
 no_less : (n : ℕ) → pos 0 ≤ℤ pos n

@@ -3,22 +3,23 @@ use Rattle.std.proofs.Common.{◌≡◌, ◌⊎◌, ◌≤◌, ℕ, ◌*◌, Boo
 use Rattle.std.specs.Prelude.{◌≤ℤ◌, Contains}
 use Rattle.std.proofs.lemmas.Int.{ints}
 use Rattle.fr_base.specs.declared.node_row.NodeRow.{NodeRow}
-use Rattle.fr_base.specs.Within.{IsWithin}
+use Rattle.fr_base.specs.Within.{IsBetween, IsWithin}
 use Rattle.fr_cluster.specs.Setting.{Setting, correct_nodes}
 use Rattle.fr_cluster.specs.declared.join.Join.{Join}
 use Rattle.fr_cluster.specs.declared.nodes.NodeSpec.{NodeSpec}
 use Rattle.fr_cluster.proofs.Elements.{filtered}
 use Rattle.fr_precision.specs.Instants.{gap_of, row_in}
 use Rattle.fr_precision.specs.Reception.{LeavesRoom}
-use Rattle.fr_precision.specs.Round.{Hearer}
-use Rattle.fr_precision.specs.Step.{Member}
+use Rattle.fr_precision.specs.Round.{senders_of, Hearer}
+use Rattle.fr_precision.specs.Rows.{Sender}
+use Rattle.fr_precision.specs.Step.{IsAmong, Member}
 use Rattle.fr_history.specs.Cycles.{Cycle, Cycles}
 use Rattle.fr_history.specs.History.{row_for}
 use Rattle.fr_history.specs.Standing.{following_nodes, follows, follows_by, row_nodes}
 use Rattle.fr_runs.specs.Gathered.{follower_hearer, followers_since, hearers_of, round_at, row_hearer}
 use Rattle.fr_runs.specs.Hearers.{group_of, member_from, IsOneOf}
-use Rattle.fr_runs.proofs.Going.{is_since}
-use Rattle.fr_precision.proofs.RoundLemmas.{contains_map, map_contains}
+use Rattle.fr_runs.proofs.Going.{is_row_node, is_since}
+use Rattle.fr_precision.proofs.RoundLemmas.{acts_early, all_senders, contains_map, map_contains, sender_among}
 use Rattle.fr_runs.proofs.Standing.{how_follows, is_follower}
 use Rattle.fr_runs.proofs.Lawful.{lawful_cycles_run}
 use Rattle.fr_runs.proofs.Whole.{double_runs, fresh_at, none_follows}
@@ -27,10 +28,10 @@ use Rattle.fr_bound.specs.SharpBounds.{last_action, near_by, sharp_lambda, sharp
 use Rattle.fr_promise.specs.SharpFollowing.{AreFollowersInReach}
 use Rattle.fr_promise.specs.SharpGroup.{IsSteadyRoundFollowed, TakesInGroup}
 use Rattle.fr_promise.specs.SharpJoining.{all_heard, sharp_group_spread, sharp_reach, sharp_second_apart, GroupSpread}
-use Rattle.fr_promise.specs.SharpJoined.{FollowedDoublesAreKept, IsFollowedDouble, IsSteadyJoinedFrom, JoinedDoublesAreKept, JoinedIsInSharpSync, UnfollowedIsFollowed, UnfollowedIsJoined}
+use Rattle.fr_promise.specs.SharpJoined.{FollowedDoublesAreKept, FollowedDoublesHear, IsFollowedDouble, IsSteadyJoinedFrom, JoinedDoublesAreKept, JoinedIsInSharpSync, UnfollowedIsFollowed, UnfollowedIsJoined}
 use Rattle.fr_precision.specs.SharpRound.{as_member, IsSteadilySupplied}
 use Rattle.fr_precision.specs.SharpStep.{AreSharp}
-use Rattle.fr_runs.specs.SteadyRuns.{row_members, AreRowsInReach, IsTimedPartFrom, IsWhole, MayHaveArbitrary}
+use Rattle.fr_runs.specs.SteadyRuns.{row_hearers, row_members, AreRowsInReach, IsTimedPartFrom, IsWhole, MayHaveArbitrary}
 use Rattle.fr_promise.proofs.FollowersSupplied.{follower_regular, supplied_at as follower_supplied}
 use Rattle.fr_promise.proofs.JoinBounds.{followers_come_nearer_lem, sharp_group_spread_goes, sharp_join_checks_suffice_lem}
 use Rattle.fr_runs.proofs.RowsSupplied.{double_within, members_regular, rates_in_limit, round_in_reach, row_regular, supplied_at as row_supplied, timed_rows_from, LawfulRows}
@@ -159,15 +160,39 @@ module _
             among = r.among;
           }
 
-pub followed_doubles_are_kept : FollowedDoublesAreKept
-followed_doubles_are_kept beside x from flutter h double earlier even odd now to apart reach beyond walk next part late d may links walks next_from next_to room takes goes fits ends g =
-    let p = x.params in
+pub followed_doubles_hear : FollowedDoublesHear
+followed_doubles_hear beside x from flutter h double earlier even odd now reach beyond walk part late d may links walks room takes g =
     let s = timed_rows_from x from flutter h part double late earlier even odd d in
-    let followed =
+    hears_all beside x.params flutter _ (group_of x.params (hearers_of x earlier even odd double))
+    (
     steady_rounds_are_followed beside (round_at x earlier even odd) flutter now beyond walk (hearers_of x earlier even odd double) reach
-    (round_followed x flutter now earlier even odd double beyond s g reach room takes beside may links walk walks) in
-    steady_groups_are_kept (all_heard beside) p flutter now to apart beyond walk next _ (group_of p (hearers_of x earlier even odd double)) reach followed.0
-    (hears_all beside p flutter _ (group_of p (hearers_of x earlier even odd double)) followed.1) goes fits ends next_from next_to
+    (round_followed x flutter now earlier even odd double beyond s g reach room takes beside may links walk walks)
+    ).1
+
+pub followed_doubles_are_kept : FollowedDoublesAreKept
+followed_doubles_are_kept what x from flutter h double earlier even odd now to apart reach beyond walk next part late d walks next_from next_to takes hears goes fits ends g =
+    let p = x.params in
+    let r = round_at x earlier even odd in
+    let s = timed_rows_from x from flutter h part double late earlier even odd d in
+    let sane = s.covered.sane in
+    let at : NodeSpec → Hearer = λ n. row_hearer x even odd n.id in
+    let rows = row_hearers x earlier even odd in
+    steady_groups_are_kept what p flutter now to apart beyond walk next (senders_of r) (group_of p (hearers_of x earlier even odd double)) reach
+    (
+    record {
+      sane = sane;
+      walks = walks;
+      takes = takes;
+      among =
+          all_senders r (IsAmong (row_members x earlier even odd))
+          (
+          sender_among r rows
+          (λ node slot sender. (at node, contains_map at (row_nodes x earlier) node (is_row_node x earlier node sender.there sender.rows), refl, refl))
+          );
+      acts = all_senders r (λ (sender : Sender). IsBetween (pos 0) (pos (last_action p)) sender.action) (acts_early r sane);
+      placed = g.placed;
+    }
+    ) hears goes fits ends next_from next_to
 
 pub joined_doubles_are_kept : JoinedDoublesAreKept
 joined_doubles_are_kept beside x from flutter h double earlier even odd beyond walk next w late d n g =
@@ -175,15 +200,19 @@ joined_doubles_are_kept beside x from flutter h double earlier even odd beyond w
     let sharp = sharp_group_spread beside p flutter in
     let suffice = sharp_join_checks_suffice_lem beside p flutter w.covered.timed.sane w.checks in
     let nearer = followers_come_nearer_lem beside p flutter w.covered.timed.sane in
-    followed_doubles_are_kept beside x from flutter h double earlier even odd sharp sharp (sharp_precision beside p flutter) (pos (sharp_reach beside p flutter)) beyond walk next (joined_part beside x from flutter h w) late d
-    w.arbitrary (w.covered.links double late (double_within h double x.doubles earlier even odd d (joined_part beside x from flutter h w).within)) n.walks n.from n.to suffice.1
-    (
+    let reach = pos (sharp_reach beside p flutter) in
+    let part = joined_part beside x from flutter h w in
+    let takes : TakesInGroup p sharp (group_of p (hearers_of x earlier even odd double)) reach =
     record {
       limit = suffice.0;
       fits = no_more (sharp_near beside p flutter) (sharp_reach beside p flutter) nearer.3;
       fits_seconds = λ node here. no_more (near_by p (sharp_second_apart beside p flutter) (sharp_lambda beside p flutter)) (sharp_reach beside p flutter) nearer.2;
       fits_firsts = λ node here. no_more (sharp_reach beside p flutter) (sharp_reach beside p flutter) (le_itself (sharp_reach beside p flutter));
-    }
+    } in
+    followed_doubles_are_kept (all_heard beside) x from flutter h double earlier even odd sharp sharp (sharp_precision beside p flutter) reach beyond walk next part late d n.walks n.from n.to takes
+    (
+    followed_doubles_hear beside x from flutter h double earlier even odd sharp reach beyond walk part late d w.arbitrary (w.covered.links double late (double_within h double x.doubles earlier even odd d part.within))
+    n.walks suffice.1 takes g
     ) (sharp_group_spread_goes beside p flutter) (le_itself (sharp_precision beside p flutter)) (ends_fit beside p flutter) g
 
 -- ---- where it begins

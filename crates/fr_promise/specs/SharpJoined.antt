@@ -6,6 +6,7 @@ use Rattle.fr_base.specs.declared.state.State.TheVariants.{Active}
 use Rattle.fr_cluster.specs.Setting.{Setting, correct_nodes}
 use Rattle.fr_cluster.specs.declared.join.Join.{Join}
 use Rattle.fr_cluster.specs.declared.nodes.NodeSpec.{NodeSpec}
+use Rattle.fr_bound.specs.declared.judging.Heard.{Heard}
 use Rattle.fr_bound.specs.Bounds.{longest_micro}
 use Rattle.fr_bound.specs.SharpBounds.{precision_by}
 use Rattle.fr_precision.specs.Reception.{LeavesRoom}
@@ -23,7 +24,7 @@ use Rattle.fr_runs.specs.Rounds.{IsDoubleOf}
 use Rattle.fr_precision.specs.Lengths.{CanWalk}
 use Rattle.fr_bound.specs.SharpChecks.{RateSuffices}
 use Rattle.fr_promise.specs.SharpFollowing.{AreRowsAbout}
-use Rattle.fr_promise.specs.SharpGroup.{IsSharpGroupKept, IsSteadyGroupKept, IsSteadyPlacing, TakesInGroup}
+use Rattle.fr_promise.specs.SharpGroup.{GroupHears, IsSharpGroupKept, IsSteadyGroupKept, IsSteadyPlacing, TakesInGroup}
 use Rattle.fr_promise.specs.SharpJoining.{all_heard, sharp_group_spread, sharp_reach, GroupGoesTo, GroupSpread, SharpJoinChecksHold}
 use Rattle.fr_promise.specs.SharpListening.{RateTakesIn}
 use Rattle.fr_precision.specs.SharpStep.{AreSharp, IsInSharpSync}
@@ -70,19 +71,34 @@ abbrev pub IsFollowedKept : Setting → ℕ → GroupSpread → ℕ → ℤ → 
 IsFollowedKept x flutter to apart reach beyond next h even odd double =
     IsSteadyGroupKept x.params flutter to apart beyond next (senders_of (round_at x h even odd)) (group_of x.params (hearers_of x h even odd double)) reach
 
--- where all is heard in it, that is what the step says, with a reach that takes all in and for which slots leave room
+-- so much is heard in it
+abbrev pub IsFollowedHearing : Heard → Setting → ℕ → Cycles → Cycle → Cycle → ℕ → Type 0
+IsFollowedHearing what x flutter h even odd double =
+    GroupHears what x.params flutter (senders_of (round_at x h even odd)) (group_of x.params (hearers_of x h even odd double))
+
+-- with a reach that takes all in and for which slots leave room all is heard where of any two nodes one channel carries the frames
+-- of both cycles
+abbrev pub FollowedDoublesHear : Type 0
+FollowedDoublesHear =
+    (beside : Bool) (x : Setting) (from flutter : ℕ) (h : Cycles) (double : ℕ) (earlier : Cycles) (even odd : Cycle) (s : GroupSpread) (reach beyond walk : ℤ)
+    → IsTimedPartFrom x from flutter h → from ≤ double → IsDoubleOf h double earlier even odd → MayHaveArbitrary beside x → IsWhole x double
+    → CanWalk x.params flutter beyond walk
+    → LeavesRoom x.params reach → TakesInGroup x.params s (group_of x.params (hearers_of x earlier even odd double)) reach
+    → IsFollowedDouble x s beyond earlier even odd double → IsFollowedHearing (all_heard beside) x flutter earlier even odd double
+
+-- its group comes to what the step says by what is heard
 abbrev pub FollowedDoublesAreKept : Type 0
 FollowedDoublesAreKept =
-    (beside : Bool) (x : Setting) (from flutter : ℕ) (h : Cycles) (double : ℕ) (earlier : Cycles) (even odd : Cycle)
+    (what : Heard) (x : Setting) (from flutter : ℕ) (h : Cycles) (double : ℕ) (earlier : Cycles) (even odd : Cycle)
     (s to : GroupSpread) (apart : ℕ) (reach beyond walk next : ℤ)
     → IsTimedPartFrom x from flutter h → from ≤ double → IsDoubleOf h double earlier even odd
-    → MayHaveArbitrary beside x → IsWhole x double → CanWalk x.params flutter beyond walk → pos 0 ≤ℤ next → (beyond +ℤ walk) ≤ℤ next
-    → LeavesRoom x.params reach → TakesInGroup x.params s (group_of x.params (hearers_of x earlier even odd double)) reach
-    → GroupGoesTo (all_heard beside) x.params flutter s to
+    → CanWalk x.params flutter beyond walk → pos 0 ≤ℤ next → (beyond +ℤ walk) ≤ℤ next
+    → TakesInGroup x.params s (group_of x.params (hearers_of x earlier even odd double)) reach
+    → IsFollowedHearing what x flutter earlier even odd double → GroupGoesTo what x.params flutter s to
     → precision_by x.params s.rows.starts s.rows.lengths ≤ apart → to.rows.starts + longest_micro x.params ≤ apart
     → IsFollowedDouble x s beyond earlier even odd double → IsFollowedKept x flutter to apart reach beyond next earlier even odd double
 
--- where its group comes to so much, whatever is heard, the next double cycle is such a one, whoever joined
+-- and where it comes to so much the next double cycle is such a one, whoever joined
 abbrev pub FollowedDoublesGoOn : Type 0
 FollowedDoublesGoOn =
     (x : Setting) (from flutter : ℕ) (h : Cycles) (double : ℕ) (earlier : Cycles) (even odd even2 odd2 : Cycle)

@@ -1,11 +1,12 @@
-ghost use Rattle.fr_promise.specs.SharpJoined.{FollowedDoublesAreKept, FollowedDoublesGoOn, JoinedDoublesAreKept, JoinedDoublesGoOn, JoinedFollowersJoin, JoinedIsInSharpSync, JoinedListenersBegin, SteadyFollowersJoin, UnfollowedIsFollowed, UnfollowedIsJoined};
+ghost use Rattle.fr_promise.specs.SharpJoined.{FollowedDoublesAreKept, FollowedDoublesGoOn, FollowedDoublesHear, JoinedDoublesAreKept, JoinedDoublesGoOn, JoinedFollowersJoin, JoinedIsInSharpSync, JoinedListenersBegin, SteadyFollowersJoin, UnfollowedIsFollowed, UnfollowedIsJoined};
 
-/// The law of a double cycle of a lawful run that nodes join, where delays flutter little, from any numbers: where all is heard
-/// in it, it comes to where the step says, in ticks. Where it comes to so much, whatever is heard, the next double cycle is
-/// one with these numbers, whoever joined, as long as the rate limit suffices for the walk and for first rates; and
-/// whoever follows has a row behind its second double cycle.
+/// The law of a double cycle of a lawful run that nodes join, where delays flutter little, from any numbers: it comes to what
+/// the step says by what is heard in it, in ticks, and all is heard where no frame is lost. Where it comes to so much, the
+/// next double cycle is one with these numbers, whoever joined, as long as the rate limit suffices for the walk and for
+/// first rates; and whoever follows has a row behind its second double cycle.
 pub fn followed_doubles_go_on()
     ensures begins { UnfollowedIsFollowed }
+    ensures hear { FollowedDoublesHear }
     ensures kept { FollowedDoublesAreKept }
     ensures next { FollowedDoublesGoOn }
     ensures join { SteadyFollowersJoin }
