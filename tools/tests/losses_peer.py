@@ -14,8 +14,9 @@ from flexlab.program.forms import FORMS
 DAMAGED = next(word for word, fields in FORMS["script"].kinds.items() if any(field.name == "BIT" for field in fields))
 MILLION = 1_000_000
 # What frames are lost in a double cycle with losses: of each frame on a channel the share, or all of them; of one node at one other;
-# of a few nodes at each other one; or channel A's in the even cycle and channel B's in the odd one.
-KINDS = {"bursts": 1, "twentieths": 0.05, "halves": 0.5, "all": 1, "one": 0, "few": 0, "crossed": 0}
+# of a few nodes at each other one; or channel A's in the even cycle and channel B's in the odd one. Or all of them, while oscillators change
+# and some nodes without a key slot hear nobody.
+KINDS = {"bursts": 1, "twentieths": 0.05, "halves": 0.5, "all": 1, "one": 0, "few": 0, "crossed": 0, "deaf": 1}
 # What is heard in a double cycle decides how its numbers go on.
 CLEAN, MEETING, POOR = "clean", "meeting", "poor"
 
@@ -48,9 +49,21 @@ class Numbers:
         self.action = (last_slot - 1) * v["gdStaticSlot"] + v["gdActionPointOffset"]
         walk = flutter + self.change + later - 1 + (self.longest if damping == 0 else -(damping - 1) * self.shortest)
         room = v["pRateCorrectionOut"] * self.shortest - 2 * v["pMicroPerCycle"] * bound
+        self.walk, self.room = walk, room
         self.lasts = 0 if room < 0 else None if walk <= 0 else room // walk
         # Not a tick changes, lengths walk by 1 to 2/3 of a microtick less 1, and with almost one beyond and a walk more are in the limit.
         self.is_held = not change and walk > 0 and 3 * walk < 2 * self.shortest and self.shortest - 1 + walk <= room
+
+    def follows(self, deaf):
+        """Whether the rate limit suffices for how far lengths may lie beyond their range behind each double cycle, by whether some node is
+        deaf in it: the walk, for as many as it lasts; and two changes of a cycle in the place of the walk where one is, which the walk
+        takes back later where it is below 0."""
+        on, strayed = max(0, self.walk), 0
+        for passed, keeps in enumerate(deaf, 1):
+            strayed = strayed + max(0, 2 * self.change - on) if keeps else max(0, strayed + min(0, self.walk))
+            if min(passed, self.lasts or 0) * on + strayed > self.room:
+                return False
+        return True
 
     def behind(self, heard, starts, lengths):
         """Starts and lengths of the next double cycle."""
@@ -137,8 +150,8 @@ class Traffic:
         return {two for two in self.receivers for cycles in lists_of(double) if self.is_deaf(cycles, two)}
 
     def bears(self, since):
-        """Whether each correct node trusts its lists in each double cycle from one on, or is deaf: not in that one, not while oscillators
-        may change, and in fewer double cycles in a row than make it passive."""
+        """Whether each correct node trusts its lists in each double cycle from one on, or is deaf: not in that one, and in fewer double
+        cycles in a row than make it passive."""
         lacking = {}
         for double in range(self.doubles):
             lacking = {node: lacking.get(node, 0) + 1 for node in self.lacking(double)}
@@ -146,7 +159,7 @@ class Traffic:
                 continue
             most = max(lacking.values(), default=0)
             if not self.heard(double).is_trusted or most and (
-                    double == since or self.values[CHANGE] or most >= self.values["gMaxWithoutClockCorrectionPassive"]):
+                    double == since or most >= self.values["gMaxWithoutClockCorrectionPassive"]):
                 return False
         return True
 
@@ -174,7 +187,7 @@ class Run(Traffic):
     def __init__(self, draw, kind, most_doubles=12, liars=None):
         self.draw, self.kind = draw, kind
         compensation, error = draw.choice([(7, 5), (7, 5), (4, 2), (3, 1)])
-        bound, change = draw.choice([(100, 0), (100, 1), (300, 0), (50, 0)])
+        bound, change = draw.choice([(100, 0), (100, 1), (300, 0), (50, 0)]) if kind != "deaf" else (100, draw.choice([1, 1, 2, 3]))
         # Macroticks of 1.375 us, of 5, or of 25: the fewer a cycle has, the sooner its skew is found.
         macros, slots, slot, action, more = draw.choice([(3636, 91, 24, 4, 3), *2 * [(1000, 60, 12, 2, 3)], *5 * [(200, 30, 4, 1, 1)]])
         action += draw.choice([0, 0, 1, more])
@@ -183,15 +196,18 @@ class Run(Traffic):
             "gdNIT": macros - slots * slot, "gOffsetCorrectionStart": macros - macros // 36, CHANGE: change,
             "pOffsetCorrectionOut": draw.choice([127, 127, 200, 300]), "pClusterDriftDamping": draw.choice([0, 1, 2, 2, 2, 4]),
             "pDelayCompensation": compensation, "xRateBound": bound, "xDelayError": error * MILLION}
+        if kind == "deaf":
+            # A rate limit that suffices for little more than the range, or for much.
+            self.values["pRateCorrectionOut"] = draw.choice([41, 41, 42, 45, 601])
         if liars is None:
             # Where all frames of a sender are lost, nobody trusts what is left beside an arbitrary node.
-            liars = draw.choice([0, 0, 0, 0, 0, 0, 1, 2] if KINDS[kind] > 0.1 else [0, 0, 1, 1, 1, 2])
+            liars = 0 if kind == "deaf" else draw.choice([0, 0, 0, 0, 0, 0, 1, 2] if KINDS[kind] > 0.1 else [0, 0, 1, 1, 1, 2])
         self.doubles, count = draw.randrange(6, most_doubles + 1), draw.randrange(*((2, 9), (2, 9), (5, 11))[liars]) + liars
         channels = draw.choice(["A", "AB", "AB", "mixed"]) if kind != "crossed" else draw.choice(["AB", "AB", "AB", "mixed"])
         slots = sorted(draw.sample(range(1, 20), count))
         # Of each node its key slot and its channels; all share channel A.
         nodes = {node: (slots[node - 1] if node <= count else None, draw.choice(["A", "AB"]) if channels == "mixed" else channels)
-                 for node in range(1, count + 1 + (draw.random() < 0.3))}
+                 for node in range(1, count + 1 + (draw.choice([1, 1, 2]) if kind == "deaf" else draw.random() < 0.3))}
         super().__init__(nodes, draw.sample(range(1, count + 1), liars))
         self.links = [link for one in self.senders for link in self.links_of(one)]
         # Of each double cycle how far a delay differs in it, at most.
@@ -245,7 +261,7 @@ class Run(Traffic):
         for double in self.with_losses():
             self.lost |= set(self.lost_in(double))
         rows = sorted(self.lost)
-        share = draw.choice([0, 0.1, 0.1, 0.5])
+        share = draw.choice([0, 0.1, 0.1, 0.5]) if self.kind != "deaf" else 0
         self.damaged = {at for at in rows if draw.random() < share}
         self.script = "".join(f"arbitrary,{node},,,,,\n" for node in sorted(self.arbitrary))
         self.script += "".join(
@@ -385,7 +401,8 @@ def hold(run, series, trace, is_exact=False):
     since = first or 0
     numbers, later = run.numbers(since), heard[since:]
     apart, reach = numbers.by([one.what for one in later])
-    is_covered = run.outweighs() and run.bears(since) and numbers.hold(reach)
+    deaf = [bool(run.lacking(double)) for double in range(since, run.doubles)]
+    is_covered = run.outweighs() and run.bears(since) and numbers.follows(deaf) and numbers.hold(reach)
     lost = [double for double, one in enumerate(later, since) if one.word != "all"]
     told = series.lines["lost"]
     assert int(series.lines["flutter"][0]) == numbers.flutter, (series.lines["flutter"], numbers.flutter)

@@ -7,10 +7,11 @@ import unittest
 
 import losses_peer
 from bench import FLEXRAY, SERIES, Bench, needs_series
-from clocks_peer import PRODUCTION
+from clocks_peer import CHANGE, PRODUCTION
 
 RUNS = int(os.environ.get("FLEXRAY_LOSS_RUNS", "14"))
 DRIFT = "doubles,2,,,,\n"
+CHANGING = {CHANGE: 1, "pRateCorrectionOut": 41, "pOffsetCorrectionOut": 300, "gdActionPointOffset": 9}
 EACH = range(1, 9)
 
 
@@ -56,6 +57,19 @@ class Bordering(unittest.TestCase):
                 self.assertEqual(what, wanted)
 
 
+    def test_how_long_a_node_may_be_deaf(self):
+        """A microtick changes by a tick in each cycle. The limit has 995,900 ticks beyond the range; a deaf double cycle takes 400,082 of them,
+        and each other one gives 599,518 back. Without damping all walk further than by changes, and nothing comes back."""
+        numbers = losses_peer.Numbers({**PRODUCTION, **CHANGING}, 8, 0)
+        self.assertEqual((numbers.room, 2 * numbers.change, numbers.walk), (995_900, 400_082, -599_518))
+        for deaf, wanted in (("dd", True), ("ddd", False), ("dd.d", True), ("dd.dd", False), ("dd..dd", True), ("d.d.d.d.d.d", True)):
+            with self.subTest(deaf=deaf):
+                self.assertEqual(numbers.follows([one == "d" for one in deaf]), wanted)
+        walking = losses_peer.Numbers({**PRODUCTION, **CHANGING, "pClusterDriftDamping": 0}, 8, 0)
+        self.assertGreater(walking.walk, 2 * walking.change)
+        self.assertTrue(walking.follows([True] * 100))
+
+
 @needs_series
 class Losses(Bench):
     def series(self, *texts):
@@ -99,6 +113,18 @@ class Losses(Bench):
             with self.subTest(count=count, liar=liar, missed=missed):
                 told = self.series(params + nodes, DRIFT, script)
                 self.assertEqual([row["heard"] for row in told.cycles], ["all", "all", wanted, wanted])
+
+    def test_a_deaf_node_at_the_border(self):
+        """Node 9 hears nobody in double cycles of a run whose oscillators change: of as many in a row as the rate limit follows the run is
+        covered through losses, of one more it is not."""
+        params = "".join(f"param,{name},{value},,\n" for name, value in {**PRODUCTION, **CHANGING}.items())
+        params += "".join(f"node,{node},{node},A,1\n" for node in EACH) + "node,9,,A,0\n"
+        for deaf, is_covered in (((3, 4), True), ((3, 4, 5), False), ((3, 4, 6), True), ((3, 4, 6, 7), False)):
+            script = "".join(f"lose,{2 * double + odd},{one},9,A,,\n" for double in deaf for odd in (0, 1) for one in EACH)
+            with self.subTest(deaf=deaf):
+                told = self.series(params, "doubles,12,,,,\n", script)
+                self.assertEqual(told.lines["lost"][0], str(len(deaf)))
+                self.assertEqual(told.lines["lost"][2] != "-", is_covered)
 
     def test_what_does_not_fit_is_found(self):
         """A skew above a number, and a frame that is lost and not reckoned so."""

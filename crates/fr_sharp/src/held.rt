@@ -48,7 +48,7 @@ fn walk_is_held(params: &Params, flutter: u64) -> bool
 }
 
 // Whether microticks are as long in each cycle as in the one before.
-pub(crate) fn oscillators_stay(params: &Params) -> bool
+fn oscillators_stay(params: &Params) -> bool
     ensures { result ≡ oscillators_stay params.now }
 {
     params.change_bound == 0
