@@ -11,7 +11,7 @@ ghost use Rattle.fr_check.specs.CheckAnswer.{IsUnlawfulSaid, check_command};
 use crate::check;
 use crate::files::CheckFiles;
 use crate::printing::print;
-use crate::unlawful_line::unlawful_line;
+use crate::unlawful_lines::unlawful_line;
 use fr_base::{Shelf, Sink};
 use fr_cluster::Params;
 use fr_params::ParamsFile;

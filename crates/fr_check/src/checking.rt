@@ -7,9 +7,11 @@ ghost use Rattle.fr_trace.specs.Fits.{TraceFits};
 ghost use Rattle.fr_trace.specs.Items.{first_number};
 ghost use Rattle.fr_trace.specs.Lasting.{IsTrace};
 ghost use Rattle.fr_verdict.specs.Answer.{IsJudgement};
+ghost use Rattle.fr_verdict.specs.OtherGaps.{IsOtherwiseCovered, IsRefusedOtherwise};
 ghost use Rattle.fr_verdict.specs.Precision.{KeepsItsPrecision};
 ghost use Rattle.fr_verdict.specs.Search.{first_breach_of};
 ghost use Rattle.fr_verdict.specs.Sound.{AreSound, IsSound};
+ghost use Rattle.fr_verdict.specs.Sync.{first_synced_of};
 ghost use Rattle.fr_check.specs.Followed.{followed_by};
 
 use crate::apart::{double_behind, may_follow};
@@ -21,7 +23,7 @@ use fr_cluster::Params;
 use fr_skew::Gauge;
 use fr_time::grid_of;
 use fr_trace::{Trace, TracedCycle};
-use fr_verdict::{Unlawful, Verdict, first_gap};
+use fr_verdict::{Unlawful, Verdict, first_gap, first_other_gap};
 
 /// Whether a trace of a cluster is that of a lawful run that the precision theorem covers.
 ///
@@ -53,6 +55,38 @@ fn judged(params: &Params, trace: &Trace, gauge: &Gauge) -> Result<Verdict, Unla
     match first_gap(params, trace, gauge.synced()) {
         Some(gap) => Err(Unlawful::Uncovered(gap)),
         None => Ok(verdict(gauge)),
+    }
+}
+
+/// From which double cycle on a trace is in sync that is lawful and has no gap other than failed checks.
+///
+/// Ok exactly where no record breaks a law and no gap is there but of the checks: then the first double cycle in sync in
+/// which no node that joins may follow, or that there is none. Else the first record that breaks a law, or the first gap
+/// other than a failed check. It takes no memory.
+pub fn check_otherwise(params: &Params, trace: &Trace) -> Result<Option<u32>, Unlawful>
+    requires fits { TraceFits params.now trace.now }
+    ensures covered { IfOk result (λ synced. IsOtherwiseCovered params.now trace.now) }
+    ensures synced { IfOk result (λ synced. synced ≡ first_synced_of params.now trace.now) }
+    ensures refused { IfErr result (λ why. IsRefusedOtherwise params.now trace.now why) }
+{
+    match gauged(params, trace) {
+        Ok(gauge) => judged_otherwise(params, trace, &gauge),
+        Err(breach) => Err(breach),
+    }
+}
+
+fn judged_otherwise(params: &Params, trace: &Trace, gauge: &Gauge) -> Result<Option<u32>, Unlawful>
+    requires none { first_breach_of params.now trace.now ≡ None }
+    requires holds { GaugeHolds params.now gauge.now (followed_by trace.now trace.now.history) }
+    ensures covered { IfOk result (λ synced. IsOtherwiseCovered params.now trace.now) }
+    ensures synced { IfOk result (λ synced. synced ≡ first_synced_of params.now trace.now) }
+    ensures refused { IfErr result (λ why. IsRefusedOtherwise params.now trace.now why) }
+{
+    standing(params, trace);
+    let synced = gauge.synced();
+    match first_other_gap(params, trace, synced) {
+        Some(gap) => Err(Unlawful::Uncovered(gap)),
+        None => Ok(synced),
     }
 }
 
@@ -162,8 +196,8 @@ fn first_number(trace: &Trace) -> u64
     2 + u64::from(trace.arbitrary()) + trace.joins().len() as u64
 }
 
-// The cycles of a trace that fits its cluster.
-fn sound_cycles<'a>(params: &Params, trace: &'a Trace) -> &'a [TracedCycle]
+/// The cycles of a trace that fits its cluster, the earliest first.
+pub fn sound_cycles<'a>(params: &Params, trace: &'a Trace) -> &'a [TracedCycle]
     requires { TraceFits params.now trace.now }
     ensures history { history_by result.now ≡ trace.now.history }
     ensures sound { AreSound params.now result.now }

@@ -15,10 +15,11 @@ mod past;
 mod printing;
 mod rows;
 mod terms;
-mod unlawful_line;
+mod unlawful_lines;
 mod walk;
 
 pub use answering::answer_check;
-pub use checking::check;
+pub use checking::{check, check_otherwise, sound_cycles};
 pub use command_laws::files_decide_the_verdict;
 pub use files::CheckFiles;
+pub use unlawful_lines::unlawful_line;

@@ -93,7 +93,9 @@ fn last_of(place: &Option<Fluttering>) -> Option<u32>
     }
 }
 
-fn sharp_scale(params: &Params, beside: bool, flutter: u64) -> Scale
+/// The sharper numbers of a cluster, beside arbitrary sync nodes or without, where delays flutter by no more than so many
+/// ticks, 0 to 1,000,000,000.
+pub fn sharp_scale(params: &Params, beside: bool, flutter: u64) -> Scale
     requires { flutter ≤ most_flutter }
     ensures value { result ≡ sharp_scale_of beside params.now flutter }
     ensures proper { IsScale result }

@@ -23,7 +23,7 @@ mod top;
 mod writing;
 
 pub use basis::Basis;
-pub use course::Course;
+pub use course::{Course, sharp_scale};
 pub use figure_laws::the_peak_of_a_cycle_is_told;
 pub use figures::Figures;
 pub use fr_text::Status;

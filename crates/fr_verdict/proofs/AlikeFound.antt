@@ -19,7 +19,7 @@ use Rattle.fr_verdict.specs.Alike.{alike_offsets, alike_rates, are_all_alike, ar
 
 -- ---- numbers and lists
 
-below_all : (f : ℕ → Option ℕ) (n k : ℕ) → first_below f n ≡ None → k < n → f k ≡ None
+pub below_all : (f : ℕ → Option ℕ) (n k : ℕ) → first_below f n ≡ None → k < n → f k ≡ None
 unfolding first_below
 below_all f zero k none lt = absurd (omega (arith, lt))
 below_all f (suc n) k none lt = elim (last k n lt) [
@@ -38,13 +38,23 @@ below_all f (suc n) k none lt = elim (last k n lt) [
     second None b is = is
     second (Some x) b is = absurd (cc is)
 
-below_some : (f : ℕ → Option ℕ) (n x : ℕ) → first_below f n ≡ Some x → (k : ℕ) × (k < n) × (f k ≡ Some x)
+-- what is found first is found at a place, and before it nothing is
+pub record FoundFirst (f : ℕ → Option ℕ) (n x : ℕ) : Type 0 where
+  pub place : ℕ
+  pub within : place < n
+  pub found : f place ≡ Some x
+  pub earlier : (j : ℕ) → j < place → f j ≡ None
+
+pub below_some : (f : ℕ → Option ℕ) (n x : ℕ) → first_below f n ≡ Some x → FoundFirst f n x
 unfolding first_below
 below_some f zero x is = absurd (cc is)
-below_some f (suc n) x is = by_last (first_below f n) refl (λ e. let k = below_some f n x e in (k.0, omega (arith, k.1), k.2)) is
+below_some f (suc n) x is = by_last (first_below f n) refl (λ e. later (below_some f n x e)) is
   where
-    by_last : (a : Option ℕ) → first_below f n ≡ a → (first_below f n ≡ Some x → (k : ℕ) × (k < suc n) × (f k ≡ Some x)) → option_or a (f n) ≡ Some x → (k : ℕ) × (k < suc n) × (f k ≡ Some x)
-    by_last None e earlier is = (n, omega arith, is)
+    later : FoundFirst f n x → FoundFirst f (suc n) x
+    later k = let lt = k.within in record { place = k.place; within = omega (arith, lt); found = k.found; earlier = k.earlier }
+
+    by_last : (a : Option ℕ) → first_below f n ≡ a → (first_below f n ≡ Some x → FoundFirst f (suc n) x) → option_or a (f n) ≡ Some x → FoundFirst f (suc n) x
+    by_last None e earlier is = record { place = n; within = omega arith; found = is; earlier = λ j lt. below_all f n j e lt }
     by_last (Some y) e earlier is = earlier (e ∙ is)
 
 all_at : {A : Type 0} (test : A → Bool) (xs : List A) (x : A) → list_all test xs ≡ true → Contains xs x → test x ≡ true
@@ -158,13 +168,15 @@ module _ (p : Values) (t : TraceView) where
       by_tests false true late is = absurd (cc is)
       by_tests false false late is = (cc is, at_least m double late, refl)
 
-  found_is : (double k : ℕ) → first_unlike p t double ≡ Some k → (double ≤ k) × (k < t.doubles) × (AreAllAlike p t k → ⊥)
+  found_is : (double k : ℕ) → first_unlike p t double ≡ Some k
+      → (double ≤ k) × (k < t.doubles) × (AreAllAlike p t k → ⊥) × ((earlier : ℕ) → double ≤ earlier → earlier < k → AreAllAlike p t earlier)
   found_is double k is =
       let m = below_some (unlike_at p t double) t.doubles k is in
-      let at = unlike_some double k m.0 m.2 in (
+      let at = unlike_some double k m.place m.found in (
         subst (λ (n : ℕ). double ≤ n) at.0 at.1,
-        subst (λ (n : ℕ). n < t.doubles) at.0 m.1,
-        λ all. let no : true ≡ false = sym (alike_all k all) ∙ ap (are_all_alike p t) (sym at.0) ∙ at.2 in cc no,
+        subst (λ (n : ℕ). n < t.doubles) at.0 m.within,
+        (λ all. let no : true ≡ false = sym (alike_all k all) ∙ ap (are_all_alike p t) (sym at.0) ∙ at.2 in cc no),
+        λ earlier from lt. all_alike earlier (unlike_none double earlier from (m.earlier earlier (subst (λ (n : ℕ). earlier < n) (sym at.0) lt))),
       )
 
 pub first_unlike_is_found : FirstUnlikeIsFound

@@ -131,12 +131,13 @@ unlike_at p t double k = if nat_lt k double || are_all_alike p t k then None els
 abbrev pub first_unlike : Values → TraceView → ℕ → Option ℕ
 first_unlike p t double = first_below (unlike_at p t double) t.doubles
 
--- where there is none, each is alike in each from there on; and where there is one, not in it
+-- where there is none, each is alike in each from there on; and where there is one, not in it, and in each before it
 abbrev pub FirstUnlikeIsFound : Type 0
 FirstUnlikeIsFound =
     (p : Values) (t : TraceView) (double : ℕ)
     → (first_unlike p t double ≡ None → (k : ℕ) → double ≤ k → k < t.doubles → AreAllAlike p t k)
-    × ((k : ℕ) → first_unlike p t double ≡ Some k → (double ≤ k) × (k < t.doubles) × (AreAllAlike p t k → ⊥))
+    × ((k : ℕ) → first_unlike p t double ≡ Some k
+    → (double ≤ k) × (k < t.doubles) × (AreAllAlike p t k → ⊥) × ((earlier : ℕ) → double ≤ earlier → earlier < k → AreAllAlike p t earlier))
 
 -- ---- laws
 

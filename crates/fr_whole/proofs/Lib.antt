@@ -10,3 +10,5 @@ pub mod LoneLeader
 pub mod LedRuns
 pub mod PowerOnTexts
 pub mod WorkedLed
+pub mod TracedDoubles
+pub mod SharpChecks

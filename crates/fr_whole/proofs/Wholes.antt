@@ -1,4 +1,4 @@
--- The whole program answers as the core does, or as a log, a report by the sharper bounds or a power-on is told, or a page.
+-- The whole program answers as the core does, or as a log, a report or a check by the sharper bounds or a power-on is told, or a page.
 use Rattle.std.proofs.Common.{◌≡◌, ℕ, List, inl, refl, subst, sym}
 use Rattle.fr_program.proofs.Endings.{loads}
 use Rattle.fr_program.specs.Around.{Around, Ending}
@@ -13,15 +13,17 @@ use Rattle.fr_answer.specs.Statuses.{HasOneStatusEach}
 use Rattle.fr_whole.specs.ObserveAnswer.{observe_command, observe_files}
 use Rattle.fr_whole.specs.Pages.{AsksPage, IsNoPage, page_command, page_text}
 use Rattle.fr_whole.specs.PowerOnAnswer.{power_on_command, power_on_files}
+use Rattle.fr_whole.specs.SharpCheckAnswer.{sharp_check_command, sharp_check_files}
 use Rattle.fr_whole.specs.SharpReportAnswer.{IsSharpReportText, sharp_report_command}
-use Rattle.fr_whole.specs.Whole.{AsksPowerOn, AsksWhole, HasOneStatusOfAll, IsNoLog, IsNoSharpReport, WholeAsked, core, flexray_program, observe, observe_words, page, power_on, sharp_report, sharp_report_words, whole_command}
+use Rattle.fr_whole.specs.Whole.{AsksPowerOn, AsksWhole, HasOneStatusOfAll, IsNoLog, IsNoSharpCheck, IsNoSharpReport, WholeAsked, core, flexray_program, observe, observe_words, page, power_on, sharp_check, sharp_check_words, sharp_report, sharp_report_words, whole_command}
 use Rattle.fr_whole.specs.declared.pages.Page.{Page}
-use Rattle.fr_whole.proofs.Words.{only_log, only_page, only_power_on, only_sharp_report}
+use Rattle.fr_whole.proofs.Words.{only_log, only_page, only_power_on, only_sharp_check, only_sharp_report}
 
 -- the words ask for nothing but what the core has
 pub record IsOfCore (words : List (List ℕ)) : Type 0 where
   pub no_log : IsNoLog words
   pub no_report : IsNoSharpReport words
+  pub no_check : IsNoSharpCheck words
   pub no_power_on : (params : List ℕ) (flutter : ℕ) → AsksPowerOn words params flutter → ⊥
   pub no_page : IsNoPage words
 
@@ -31,6 +33,7 @@ pub none_of_core : (words : List (List ℕ)) → IsOfCore words → IsNoRequest 
 none_of_core words of none (core asked) asks = none asked asks
 none_of_core words of none (observe params log) asks = of.no_log params log asks
 none_of_core words of none (sharp_report names) asks = of.no_report names asks
+none_of_core words of none (sharp_check params trace) asks = of.no_check params trace asks
 none_of_core words of none (power_on params flutter) asks = of.no_power_on params flutter asks
 none_of_core words of none (page asked) asks = of.no_page asked asks
 
@@ -39,6 +42,7 @@ core_ends : (words : List (List ℕ)) (around : Around) (ending : Ending) → Is
 core_ends words around ending of ends (core asked) asks = ends.ends asked asks
 core_ends words around ending of ends (observe params log) asks = absurd (of.no_log params log asks)
 core_ends words around ending of ends (sharp_report names) asks = absurd (of.no_report names asks)
+core_ends words around ending of ends (sharp_check params trace) asks = absurd (of.no_check params trace asks)
 core_ends words around ending of ends (power_on params flutter) asks = absurd (of.no_power_on params flutter asks)
 core_ends words around ending of ends (page asked) asks = absurd (of.no_page asked asks)
 
@@ -47,6 +51,7 @@ core_loads : (words : List (List ℕ)) (around : Around) (ending : Ending) → I
 core_loads words around ending of ends (core asked) asks = ends.loads asked asks
 core_loads words around ending of ends (observe params log) asks = absurd (of.no_log params log asks)
 core_loads words around ending of ends (sharp_report names) asks = absurd (of.no_report names asks)
+core_loads words around ending of ends (sharp_check params trace) asks = absurd (of.no_check params trace asks)
 core_loads words around ending of ends (power_on params flutter) asks = absurd (of.no_power_on params flutter asks)
 core_loads words around ending of ends (page asked) asks = absurd (of.no_page asked asks)
 
@@ -80,6 +85,12 @@ pub by_sharp_report : (words : List (List ℕ)) (names : RunNames) (around : Aro
 by_sharp_report words names around ending is ends =
     by_own words (sharp_report names) around ending is (only_sharp_report words names is) ends (loads (sharp_report_command names) around ending ends (λ none. absurd (cc none)))
 
+-- words that ask for a check by the sharper bounds
+pub by_sharp_check : (words : List (List ℕ)) (params trace : List ℕ) (around : Around) (ending : Ending) → words ≡ sharp_check_words params trace → CommandEnds (sharp_check_command params trace) around ending
+    → WordsEnd flexray_program words around ending
+by_sharp_check words params trace around ending is ends =
+    by_own words (sharp_check params trace) around ending is (only_sharp_check words params trace is) ends (loads (sharp_check_command params trace) around ending ends (λ none. absurd (cc none)))
+
 -- words that ask for how long from power-on
 pub by_power_on : (words : List (List ℕ)) (params : List ℕ) (flutter : ℕ) (around : Around) (ending : Ending) → AsksPowerOn words params flutter → CommandEnds (power_on_command params flutter) around ending
     → WordsEnd flexray_program words around ending
@@ -97,9 +108,11 @@ by_page words asked around ending is stays ends =
 page_status : (asked : Page) → DefinesOneStatus (page_command asked).files 0
 page_status asked = record { one = one_status (page_command asked).files (λ written said is never. never); some = some_status (page_command asked).files 0 (refl, inl (page_text asked, refl)) }
 
-pub one_status_of_all : HasOneStatusEach → DefinesOneStatus observe_files 2 → DefinesOneStatus (run_files IsSharpReportText) 3 → ((flutter : ℕ) → DefinesOneStatus (power_on_files flutter) 1) → HasOneStatusOfAll
-one_status_of_all each observed reported powered words (core asked) asks = each words asked asks
-one_status_of_all each observed reported powered words (observe params log) asks = observed
-one_status_of_all each observed reported powered words (sharp_report names) asks = reported
-one_status_of_all each observed reported powered words (power_on params flutter) asks = powered flutter
-one_status_of_all each observed reported powered words (page asked) asks = page_status asked
+pub one_status_of_all : HasOneStatusEach → DefinesOneStatus observe_files 2 → DefinesOneStatus (run_files IsSharpReportText) 3 → DefinesOneStatus sharp_check_files 2 → ((flutter : ℕ) → DefinesOneStatus (power_on_files flutter) 1)
+    → HasOneStatusOfAll
+one_status_of_all each observed reported checked powered words (core asked) asks = each words asked asks
+one_status_of_all each observed reported checked powered words (observe params log) asks = observed
+one_status_of_all each observed reported checked powered words (sharp_report names) asks = reported
+one_status_of_all each observed reported checked powered words (sharp_check params trace) asks = checked
+one_status_of_all each observed reported checked powered words (power_on params flutter) asks = powered flutter
+one_status_of_all each observed reported checked powered words (page asked) asks = page_status asked

@@ -8,4 +8,8 @@ pub mod PowerOnAnswer
 pub mod SharpGaps
 pub mod SharpReport
 pub mod SharpReportAnswer
+pub mod TracedFigures
+pub mod TracedMeaning
+pub mod SharpCheckText
+pub mod SharpCheckAnswer
 pub mod WorkedPowerOn

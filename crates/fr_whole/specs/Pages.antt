@@ -30,6 +30,7 @@ help_lines =
     ++ codes "                                     what the sharper bounds say of a run, and behind it the report\n"
     ++ codes "  flexray trace PARAMS DRIFT SCRIPT  what each node did and measured, cycle by cycle\n"
     ++ codes "  flexray check PARAMS TRACE         whether a recorded trace is lawful and covered, or why not\n"
+    ++ codes "  flexray check PARAMS TRACE sharp   what the sharper bounds promise of a recorded trace\n"
     ++ codes "  flexray observe PARAMS LOG         what the stamps of a bus analyzer tell for certain of a cluster's clocks\n"
     ++ codes "  flexray make SEED DOUBLES          the report of a cluster of eight nodes that is made from a seed\n"
     ++ codes "  flexray cold PARAMS POWER          who leads the startup of a cluster, and from when on\n"

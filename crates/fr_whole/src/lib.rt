@@ -10,12 +10,16 @@ mod power_on;
 mod power_on_laws;
 mod report_lines;
 mod request;
+mod sharp_check;
+mod sharp_check_laws;
+mod sharp_check_lines;
 mod sharp_gaps;
 mod sharp_gathering;
 mod sharp_report;
 mod sharp_report_laws;
 mod status_laws;
 mod top;
+mod traced_figures;
 
 pub use fr_text::Status;
 pub use observe::{ObserveFiles, answer_observe, files_decide_what_is_told};
@@ -25,12 +29,15 @@ pub use power_on::answer_power_on;
 pub use power_on_laws::{
     a_power_on_is_told, a_run_that_is_led, file_decides_the_power_on, power_on_comes_into_sync,
 };
+pub use sharp_check::answer_sharp_check;
+pub use sharp_check_laws::{a_sharp_check_is_told, files_decide_the_sharp_check};
 pub use sharp_gaps::SharpGaps;
 pub use sharp_gathering::write_sharp_report;
 pub use sharp_report::{answer_sharp_report, answer_sharp_run, files_decide_what_is_told_sharply};
 pub use sharp_report_laws::{a_sharp_report_is_lawful, files_decide_the_sharp_report};
 pub use status_laws::{
-    a_power_on_has_one_status, a_sharp_report_has_one_status, an_observation_has_one_status,
+    a_power_on_has_one_status, a_sharp_check_has_one_status, a_sharp_report_has_one_status, an_observation_has_one_status,
     each_word_has_one_status,
 };
 pub use top::flexray;
+pub use traced_figures::{TracedFigures, TracedKind};

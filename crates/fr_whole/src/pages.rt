@@ -42,6 +42,7 @@ const HELP: &[u8] = b"usage: flexray COMMAND WORDS
                                      what the sharper bounds say of a run, and behind it the report
   flexray trace PARAMS DRIFT SCRIPT  what each node did and measured, cycle by cycle
   flexray check PARAMS TRACE         whether a recorded trace is lawful and covered, or why not
+  flexray check PARAMS TRACE sharp   what the sharper bounds promise of a recorded trace
   flexray observe PARAMS LOG         what the stamps of a bus analyzer tell for certain of a cluster's clocks
   flexray make SEED DOUBLES          the report of a cluster of eight nodes that is made from a seed
   flexray cold PARAMS POWER          who leads the startup of a cluster, and from when on

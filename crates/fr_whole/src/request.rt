@@ -1,9 +1,10 @@
 ghost use Rattle.std.specs.Prelude.{◌≤◌, ◌∷◌, [], codes, IfSome};
 ghost use Rattle.fr_answer.specs.Request.{most_stated_flutter};
 ghost use Rattle.fr_program.specs.Program.{texts};
-ghost use Rattle.fr_whole.specs.Whole.{IsLogRequest, IsPowerOnRequest, IsSharpReportRequest};
+ghost use Rattle.fr_whole.specs.Whole.{IsLogRequest, IsPowerOnRequest, IsSharpCheckRequest, IsSharpReportRequest};
 
 use crate::observe::ObserveFiles;
+use fr_check::CheckFiles;
 use fr_report::RunFiles;
 use fr_text::natural;
 
@@ -85,6 +86,45 @@ fn sharp_report_by_word<'a>(
             drift,
             script,
         }),
+        _ => None,
+    }
+}
+
+/// The files of the words `check PARAMS TRACE sharp`, and none of other words. It takes no memory.
+#[tactic(auto, using(crate::proofs::Words::not_so_few, crate::proofs::Words::not_so_many))]
+pub fn sharp_check_request(words: &[String]) -> Option<CheckFiles<'_>>
+    ensures { IsSharpCheckRequest (texts words.now) result }
+{
+    match words {
+        [command, params, trace, last] => sharp_check_request_of(
+            command.as_str(),
+            params.as_str(),
+            trace.as_str(),
+            last.as_str(),
+        ),
+        _ => None,
+    }
+}
+
+fn sharp_check_request_of<'a>(
+    command: &str,
+    params: &'a str,
+    trace: &'a str,
+    last: &str,
+) -> Option<CheckFiles<'a>>
+    ensures { IsSharpCheckRequest (command.now ∷ params.now ∷ trace.now ∷ last.now ∷ []) result }
+{
+    match command {
+        "check" => sharp_check_by_word(params, trace, last),
+        _ => None,
+    }
+}
+
+fn sharp_check_by_word<'a>(params: &'a str, trace: &'a str, last: &str) -> Option<CheckFiles<'a>>
+    ensures { IsSharpCheckRequest (codes "check" ∷ params.now ∷ trace.now ∷ last.now ∷ []) result }
+{
+    match last {
+        "sharp" => Some(CheckFiles { params, trace }),
         _ => None,
     }
 }

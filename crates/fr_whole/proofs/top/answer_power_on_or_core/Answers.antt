@@ -26,7 +26,7 @@ returns-in-Some-clause-undone g c =
 pub returns-in-None-clause-ends : goal.returns-in-None-clause-ends
 returns-in-None-clause-ends g c =
     let around : Around = around_of (g.S.Shelf.state c.args.shelf.now) (g.S.Shelf.state c.answer_core.new.shelf) (g.O.Sink.state c.args.out.now) (g.O.Sink.state c.answer_core.new.out) in
-    by_core (texts c.args.words.now) around c.answer_core.result (record { no_log = c.requires.no_log; no_report = c.requires.no_report; no_power_on = c.in-None.ensures.asks; no_page = c.requires.no_page }) c.answer_core.ensures.ends
+    by_core (texts c.args.words.now) around c.answer_core.result (record { no_log = c.requires.no_log; no_report = c.requires.no_report; no_check = c.requires.no_check; no_power_on = c.in-None.ensures.asks; no_page = c.requires.no_page }) c.answer_core.ensures.ends
 
 pub returns-in-None-clause-usage : goal.returns-in-None-clause-usage
-returns-in-None-clause-usage g c = λ e. none_of_core (texts c.args.words.now) (record { no_log = c.requires.no_log; no_report = c.requires.no_report; no_power_on = c.in-None.ensures.asks; no_page = c.requires.no_page }) (c.answer_core.ensures.usage e)
+returns-in-None-clause-usage g c = λ e. none_of_core (texts c.args.words.now) (record { no_log = c.requires.no_log; no_report = c.requires.no_report; no_check = c.requires.no_check; no_power_on = c.in-None.ensures.asks; no_page = c.requires.no_page }) (c.answer_core.ensures.usage e)

@@ -3,7 +3,7 @@ use Rattle.std.proofs.lemmas.Int.{to_z-of_z}
 use Rattle.std.specs.Prelude.{codes}
 use Rattle.std.specs.Fmt.{signed_decimal}
 use Rattle.fr_text.specs.Pieces.{line, spelling}
-use Rattle.fr_check.proofs.unlawful_line.deviation_line.Goals as goal
+use Rattle.fr_check.proofs.unlawful_lines.deviation_line.Goals as goal
 
 pub returns : goal.returns
 returns c =

@@ -9,8 +9,8 @@ use fr_text::Piece::{Natural, Signed, Word};
 use fr_text::{Line, Piece, line_of};
 use fr_verdict::Unlawful;
 
-// The line of the first record that breaks a law of a trace, or of its first gap.
-pub(crate) fn unlawful_line(why: &Unlawful) -> Line
+/// The line of the first record that breaks a law of a trace, or of its first gap.
+pub fn unlawful_line(why: &Unlawful) -> Line
     ensures { result ≡ line (unlawful_text why.now) }
 {
     match *why {
