@@ -1,8 +1,9 @@
 -- A run that nodes join: from a double cycle in sharp sync in which none follows each one is, while first rates last.
 use Rattle.std.proofs.Common.{◌≡◌, ℕ, zero, suc, ◌+◌, ◌*◌, ◌<◌, ◌≤◌, Bool, true, false, if◌then◌else◌, ℤ, pos, Option, Some, All, [], ◌∷◌, refl, ap, sym, ◌∙◌, subst, inl, arith}
-use Rattle.std.specs.Prelude.{◌+ℤ◌, ◌*ℤ◌, ◌≤ℤ◌, Contains, IfSome, int_le, is_some}
+use Rattle.std.specs.Prelude.{◌+ℤ◌, ◌*ℤ◌, ◌≤ℤ◌, Contains, IfSome, int_le, is_some, max}
 use Rattle.std.specs.Option.{option_map, option_map_or}
 use Rattle.std.proofs.lemmas.Int.{ints}
+use Rattle.std.proofs.Math.Nat.{le-max_left, le-max_right}
 use Rattle.fr_base.specs.Within.{IsWithin}
 use Rattle.fr_base.specs.declared.state.Outcome.TheVariants.{Within}
 use Rattle.fr_base.specs.declared.state.State.TheVariants.{Active}
@@ -44,22 +45,23 @@ use Rattle.fr_runs.proofs.Spread.{macrotick_within, spread_within}
 use Rattle.fr_runs.proofs.Standing.{has_stays, is_none, told_has}
 use Rattle.fr_runs.proofs.Whole.{prior_of}
 use Rattle.fr_precision.specs.Lengths.{walked_after}
-use Rattle.fr_bound.specs.SharpBounds.{rate_walk, sharp_precision}
+use Rattle.fr_bound.specs.Bounds.{longest_micro}
+use Rattle.fr_bound.specs.SharpBounds.{precision_by, rate_walk, sharp_precision}
 use Rattle.fr_bound.specs.SharpChecks.{RateSuffices}
 use Rattle.fr_promise.specs.SharpGroup.{IsSharpGroupKept}
 use Rattle.fr_runs.specs.SharpHistories.{IsInSharpSyncAt}
-use Rattle.fr_promise.specs.SharpJoining.{sharp_reach}
+use Rattle.fr_promise.specs.SharpJoining.{all_heard, sharp_group_spread, sharp_reach}
 use Rattle.fr_precision.specs.SharpStep.{IsInSharpSync}
 use Rattle.fr_precision.specs.SharpRun.{WalkLastsAfter}
 use Rattle.fr_promise.specs.SharpListening.{RateTakesIn}
-use Rattle.fr_promise.specs.SharpJoined.{IsJoinedDouble, IsSteadyJoinedFrom, WalksJoined}
+use Rattle.fr_promise.specs.SharpJoined.{IsFollowedDouble, IsJoinedDouble, IsSteadyJoinedFrom, WalksJoined}
 use Rattle.fr_promise.specs.SharpTested.{IsUnfollowedSharpSyncAt}
-use Rattle.fr_promise.specs.JoinedHistories.{FirstRatesLast, FirstRatesLastOn, JoinedHistoriesKeepSharpSync, KeepsJoined, NoneIsCut}
+use Rattle.fr_promise.specs.JoinedHistories.{FirstRatesLast, FirstRatesLastOn, FollowedRunsGoOn, JoinedHistoriesKeepSharpSync, KeepsJoined, NoneIsCut}
 use Rattle.fr_precision.proofs.BoundLemmas.{first_check_stops_walk, walk_is_held, walked_none}
 use Rattle.fr_precision.proofs.OlderLemmas.{does_not_walk}
-use Rattle.fr_promise.proofs.JoinBounds.{sharp_join_checks_suffice_lem}
-use Rattle.fr_promise.proofs.JoinedDoubles.{joined_doubles_are_kept, joined_is_in_sharp_sync, joined_part, unfollowed_is_joined}
-use Rattle.fr_promise.proofs.JoinedNext.{joined_doubles_go_on}
+use Rattle.fr_promise.proofs.JoinBounds.{sharp_group_spread_goes, sharp_join_checks_suffice_lem}
+use Rattle.fr_promise.proofs.JoinedDoubles.{followed_doubles_are_kept, joined_doubles_are_kept, joined_is_in_sharp_sync, joined_part, sharp_hears, sharp_takes, unfollowed_is_joined}
+use Rattle.fr_promise.proofs.JoinedNext.{followed_doubles_go_on}
 use Rattle.fr_promise.proofs.JoinedUncut.{even_uncut, odd_uncut, terms_within}
 use Rattle.fr_runs.proofs.RowsSupplied.{timed_rows_from, LawfulRows}
 use Rattle.fr_promise.proofs.RunDoubles.{rows_lie}
@@ -104,6 +106,46 @@ first_rates_last_on beside p flutter reach passed sane first checks =
     let Takes : ℤ → Type 0 = λ z. RateTakesIn p flutter z in
     (subst Lasts (sym (does_not_walk p flutter still)) tt, subst Takes (sym (still_zero (rate_walk p flutter) (pos passed *ℤ rate_walk p flutter) still)) (sharp_join_checks_suffice_lem beside p flutter sane checks).2)
 
+-- ---- from one double cycle on, by what is heard in each
+
+pub followed_runs_go_on : FollowedRunsGoOn
+followed_runs_go_on x from flutter h double what spreads reach late run first passed lasting earlier even odd d = at passed (double + passed) earlier even odd refl lasting d
+  where
+    at : (n k : ℕ) (earlier : Cycles) (even odd : Cycle) → k ≡ double + n → ((m : ℕ) → m < n → FirstRatesLast x.params flutter m) → IsDoubleOf h k earlier even odd
+        → IsFollowedDouble x (spreads n) (walked_after x.params flutter n) earlier even odd k
+    at zero k earlier even odd is lasting d =
+        let same : k ≡ double = omega (arith, is) in
+        let Of : ℕ → Type 0 = λ j. IsDoubleOf h j earlier even odd in
+        let At : ℕ → Type 0 = λ j. IsFollowedDouble x (spreads 0) (walked_after x.params flutter 0) earlier even odd j in
+        subst At (sym same) (first earlier even odd (subst Of same d))
+    at (suc n) k [] even odd is lasting d =
+        let counted : 0 ≡ 2 * k = d.counted in
+        absurd (omega (arith, counted, is))
+    at (suc n) k (o ∷ []) even odd is lasting d =
+        let counted : 1 ≡ 2 * k = d.counted in
+        absurd (omega (arith, counted))
+    at (suc n) k (o ∷ e ∷ earlier) even odd is lasting d =
+        let next : k ≡ suc (double + n) = omega (arith, is) in
+        let Of : ℕ → Type 0 = λ j. IsDoubleOf h j (o ∷ e ∷ earlier) even odd in
+        let At : ℕ → Type 0 = λ j. IsFollowedDouble x (spreads (suc n)) (walked_after x.params flutter (suc n)) (o ∷ e ∷ earlier) even odd j in
+        let there : IsDoubleOf h (suc (double + n)) (o ∷ e ∷ earlier) even odd = subst Of next d in
+        let here = prior_of h (double + n) earlier e o even odd there in
+        let behind : from ≤ double + n = omega (arith, late) in
+        let last = lasting n (omega arith) in
+        let g = at n (double + n) earlier e o refl (λ j less. lasting j (omega (arith, less))) here in
+        let held = walk_is_held x.params flutter n run.part.covered.sane run.second last.0 in
+        let apart : ℕ = max (precision_by x.params (spreads n).rows.starts (spreads n).rows.lengths) ((spreads (suc n)).rows.starts + longest_micro x.params) in
+        let kept =
+        followed_doubles_are_kept (what n) x from flutter h (double + n) earlier e o (spreads n) (spreads (suc n)) apart reach (walked_after x.params flutter n) (rate_walk x.params flutter) (walked_after x.params flutter (suc n))
+        run.part behind here held.0 held.1 held.2 (run.takes n earlier e o here) (run.hears n earlier e o here last g) (run.goes n)
+        (le-max_left (precision_by x.params (spreads n).rows.starts (spreads n).rows.lengths) ((spreads (suc n)).rows.starts + longest_micro x.params))
+        (le-max_right (precision_by x.params (spreads n).rows.starts (spreads n).rows.lengths) ((spreads (suc n)).rows.starts + longest_micro x.params)) g in
+        subst At (sym next)
+        (
+        followed_doubles_go_on x from flutter h (double + n) earlier e o even odd (spreads n) (spreads (suc n)) apart reach (walked_after x.params flutter n) (walked_after x.params flutter (suc n)) run.part run.referenced behind there
+        last.1 (next_suffices x.params flutter n run.part.covered.sane run.second last.0) g kept
+        )
+
 -- ---- a history
 
 module _ (beside : Bool) (x : Setting) (from flutter : ℕ) (h : Cycles) (w : IsSteadyJoinedFrom beside x from flutter h) where
@@ -142,32 +184,26 @@ module _ (beside : Bool) (x : Setting) (from flutter : ℕ) (h : Cycles) (w : Is
         zero_suffices : (a b : ℕ) → a ≤ b → (pos a +ℤ pos 0) ≤ℤ pos b
         zero_suffices a b le = omega (arith, ints, le)
 
-    joined_from : (n k : ℕ) (earlier : Cycles) (even odd : Cycle) → k ≡ n + double → k < x.doubles → ((m : ℕ) → m < n → FirstRatesLast x.params flutter m) → IsDoubleOf h k earlier even odd
-        → IsJoinedDouble beside x flutter (walked_after x.params flutter n) earlier even odd k
-    joined_from zero k earlier even odd is within lasting d =
-        let same : k ≡ double = omega (arith, is) in
-        let Of : ℕ → Type 0 = λ j. IsDoubleOf h j earlier even odd in
-        let At : ℕ → Type 0 = λ j. IsJoinedDouble beside x flutter (walked_after x.params flutter 0) earlier even odd j in
-        subst At (sym same) (first earlier even odd (subst Of same d))
-    joined_from (suc n) k [] even odd is within lasting d =
-        let counted : 0 ≡ 2 * k = d.counted in
-        absurd (omega (arith, counted, is))
-    joined_from (suc n) k (o ∷ []) even odd is within lasting d =
-        let counted : 1 ≡ 2 * k = d.counted in
-        absurd (omega (arith, counted))
-    joined_from (suc n) k (o ∷ e ∷ earlier) even odd is within lasting d =
-        let m : ℕ = n + double in
-        let next : k ≡ suc m = omega (arith, is) in
-        let Of : ℕ → Type 0 = λ j. IsDoubleOf h j (o ∷ e ∷ earlier) even odd in
-        let At : ℕ → Type 0 = λ j. IsJoinedDouble beside x flutter (walked_after x.params flutter (suc n)) (o ∷ e ∷ earlier) even odd j in
-        let there : IsDoubleOf h (suc m) (o ∷ e ∷ earlier) even odd = subst Of next d in
-        let last = lasting n (omega arith) in
-        let before = joined_from n m earlier e o refl (omega (arith, is, within)) (λ j less. lasting j (omega (arith, less))) (prior_of h m earlier e o even odd there) in
-        subst At (sym next)
+    joined_from : (passed : ℕ) → ((m : ℕ) → m < passed → FirstRatesLast x.params flutter m) → (earlier : Cycles) (even odd : Cycle) → IsDoubleOf h (double + passed) earlier even odd
+        → IsJoinedDouble beside x flutter (walked_after x.params flutter passed) earlier even odd (double + passed)
+    joined_from =
+        let p = x.params in
+        followed_runs_go_on x from flutter h double (λ k. all_heard beside) (λ k. sharp_group_spread beside p flutter) (pos (sharp_reach beside p flutter)) late
         (
-        joined_doubles_go_on beside x from flutter h m earlier e o even odd (walked_after x.params flutter n) (rate_walk x.params flutter) (walked_after x.params flutter (suc n)) w (omega (arith, late)) there (numbers n last)
-        (next_suffices x.params flutter n w.covered.timed.sane second last.0) before
-        )
+        record {
+          part = joined_part beside x from flutter h w;
+          referenced = w.referenced;
+          second = second;
+          goes = λ k. sharp_group_spread_goes beside p flutter;
+          takes = λ k earlier even odd d. sharp_takes beside x from flutter h (group_of p (hearers_of x earlier even odd (double + k))) w;
+          hears =
+              λ k earlier even odd d last g.
+              sharp_hears beside x from flutter h (double + k) earlier even odd (walked_after p flutter k) (rate_walk p flutter) w (later k) d (walk_is_held p flutter k w.covered.timed.sane second last.0).0 g;
+        }
+        ) first
+      where
+        later : (k : ℕ) → from ≤ double + k
+        later k = omega (arith, late)
 
   -- ---- what one of them comes to
 
@@ -279,9 +315,7 @@ module _ (beside : Bool) (x : Setting) (from flutter : ℕ) (h : Cycles) (w : Is
 
 pub joined_histories_keep_sharp_sync : JoinedHistoriesKeepSharpSync
 joined_histories_keep_sharp_sync beside x from flutter h double w late begin passed within lasting =
-    let turned : double + passed ≡ passed + double = omega arith in
-    let joined = λ (earlier : Cycles) (even odd : Cycle) (d : IsDoubleOf h (double + passed) earlier even odd).
-    joined_from beside x from flutter h w double late begin passed (double + passed) earlier even odd turned within lasting d in
+    let joined = joined_from beside x from flutter h w double late begin passed lasting in
     record {
       synced = synced_at beside x from flutter h w (double + passed) (walked_after x.params flutter passed) (omega (arith, late)) within joined;
       joined = joined;
