@@ -27,7 +27,7 @@ use Rattle.fr_bound.specs.SharpChecks.{sharp_holds_of}
 use Rattle.fr_runs.specs.SharpHistories.{IsInSharpSyncAt}
 use Rattle.fr_runs.specs.SteadyRuns.{IsTimedPartFrom}
 use Rattle.fr_promise.specs.SharpGroup.{TakesInGroup}
-use Rattle.fr_promise.specs.SharpJoined.{IsFollowedDouble, IsFollowedHearing, IsJoinedDouble, IsSteadyJoinedFrom}
+use Rattle.fr_promise.specs.SharpJoined.{IsFollowedDouble, IsFollowedHearing, IsFollowedKept, IsJoinedDouble, IsSteadyJoinedFrom}
 use Rattle.fr_promise.specs.SharpJoining.{counted_error, sharp_join_holds_of, GroupGoesTo, GroupSpread, SharpJoinChecksHold}
 use Rattle.fr_promise.specs.SharpListening.{RateTakesIn}
 use Rattle.fr_precision.specs.SharpRun.{WalkLastsAfter}
@@ -109,6 +109,17 @@ pub record KeepsJoined (x : Setting) (h : Cycles) (double apart : ℕ) : Type 0 
       (macrotick : ℕ) (is_odd : Bool) → macrotick < amount x.params name.gMacroPerCycle
       → skew_at x.params (told_of h) (cycle_in is_odd double) macrotick ≤ℤ pos apart
   pub ends : (earlier : Cycles) (even odd : Cycle) → IsDoubleOf h double earlier even odd → NoneIsCut x earlier even odd
+
+-- a double cycle whose group comes to so much does
+abbrev pub FollowedDoublesKeep : Type 0
+FollowedDoublesKeep =
+    (x : Setting) (from flutter : ℕ) (h : Cycles) (double : ℕ) (s to : GroupSpread) (apart : ℕ) (reach beyond next : ℤ)
+    → IsTimedPartFrom x from flutter h → length h ≡ 2 * x.doubles → from ≤ double → double < x.doubles
+    → (
+    (earlier : Cycles) (even odd : Cycle) → IsDoubleOf h double earlier even odd
+    → IsFollowedDouble x s beyond earlier even odd double × IsFollowedKept x flutter to apart reach beyond next earlier even odd double
+    )
+    → KeepsJoined x h double apart
 
 -- the same by the cycle: from a double cycle on no corresponding macroticks of nodes with rows lie further apart than this, in
 -- ticks; each of these nodes is active in each cycle, and each correct node behind the last one; and no row tells a cut, of a node
