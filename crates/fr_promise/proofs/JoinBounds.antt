@@ -1,5 +1,5 @@
 -- The sharper bounds and checks of nodes that join.
-use Rattle.std.proofs.Common.{◌≡◌, ℕ, zero, suc, ◌+◌, ◌-◌, ◌*◌, ◌/◌, ◌≤◌, ◌<◌, Bool, true, false, pos, refl, arith}
+use Rattle.std.proofs.Common.{◌≡◌, ℕ, zero, suc, ◌+◌, ◌-◌, ◌*◌, ◌/◌, ◌≤◌, ◌<◌, Bool, true, false, pos, refl, ap, arith}
 use Rattle.std.specs.Prelude.{◌+ℤ◌, ◌≤ℤ◌, nat_le, nat_lt}
 use Rattle.std.proofs.lemmas.Bool.Decides.{nat_tests}
 use Rattle.std.proofs.lemmas.Int.{ints}
@@ -12,9 +12,10 @@ use Rattle.fr_bound.specs.Checks.{back_need_of, front_need_of, left_of, right_of
 use Rattle.fr_precision.proofs.Figures.{nat_le-true}
 use Rattle.fr_bound.specs.SharpBounds.{last_action, near_by, odd_spread, precision_by, sharp_lambda, sharp_near, sharp_pi, steady_error, wide_change}
 use Rattle.fr_bound.specs.SharpChecks.{SharpChecksHold}
+use Rattle.fr_bound.specs.declared.judging.Heard.{Heard}
 use Rattle.fr_bound.specs.Judged.{heard_spread}
-use Rattle.fr_precision.specs.Among.{GoesTo}
-use Rattle.fr_promise.specs.SharpJoining.{all_heard, counted_error, first_apart_by, first_lengths_by, second_apart_by, sharp_first_apart, sharp_first_lengths, sharp_join_right_of, sharp_reach, sharp_second_apart, FollowersComeNearer, NextGroupSpreadGoes, OlderJoinChecksSuffice, SharpGroupSpreadGoes, SharpJoinChecksHold, SharpJoinChecksSuffice}
+use Rattle.fr_precision.specs.Among.{spread_through_losses, GoesTo}
+use Rattle.fr_promise.specs.SharpJoining.{all_heard, counted_error, first_apart_by, first_lengths_by, group_spread_through, second_apart_by, sharp_first_apart, sharp_first_lengths, sharp_join_right_of, sharp_reach, sharp_second_apart, FollowersComeNearer, GroupSpreadsGo, NextGroupSpreadGoes, OlderJoinChecksSuffice, SharpGroupSpreadGoes, SharpJoinChecksHold, SharpJoinChecksSuffice}
 use Rattle.fr_precision.proofs.BoundLemmas.{near_is_below, sharp_checks_suffice_lem, sharp_is_below, wide_le}
 use Rattle.fr_promise.proofs.HeardNumbers.{goes_by}
 use Rattle.fr_precision.proofs.StepLemmas.{sharp_sync_draws}
@@ -109,6 +110,23 @@ sharp_group_spread_goes beside p flutter = record {
   first_starts = itself (sharp_first_apart beside p flutter);
   first_lengths = itself (sharp_first_lengths beside p flutter);
 }
+
+stays_wide : (beside : Bool) (p : Values) (flutter : ℕ) (what : ℕ → Heard) (k : ℕ) → (group_spread_through beside p flutter what k).rows.lengths ≤ (group_spread_through beside p flutter what k).firsts.lengths
+unfolding group_spread_through
+stays_wide beside p flutter what zero = lengths_nearer beside p flutter
+stays_wide beside p flutter what (suc k) = (next_group_spread_goes (what k) p flutter (group_spread_through beside p flutter what k) (stays_wide beside p flutter what k)).1
+
+rows_through : (beside : Bool) (p : Values) (flutter : ℕ) (what : ℕ → Heard) (k : ℕ) → (group_spread_through beside p flutter what k).rows ≡ spread_through_losses beside p flutter what k
+unfolding group_spread_through spread_through_losses
+rows_through beside p flutter what zero = refl
+rows_through beside p flutter what (suc k) = ap (heard_spread (what k) p flutter) (rows_through beside p flutter what k)
+
+pub group_spreads_go : GroupSpreadsGo
+unfolding group_spread_through
+group_spreads_go beside p flutter what k = (
+  (next_group_spread_goes (what k) p flutter (group_spread_through beside p flutter what k) (stays_wide beside p flutter what k)).0,
+  rows_through beside p flutter what k,
+)
 
 -- ---- the checks
 

@@ -17,7 +17,9 @@ use Rattle.fr_history.specs.Cycles.{Cycle, Cycles}
 use Rattle.fr_history.specs.History.{row_for}
 use Rattle.fr_history.specs.Standing.{following_nodes, follows, follows_by, row_nodes}
 use Rattle.fr_runs.specs.Gathered.{follower_hearer, followers_since, hearers_of, round_at, row_hearer}
+use Rattle.fr_runs.specs.Group.{Group}
 use Rattle.fr_runs.specs.Hearers.{group_of, member_from, IsOneOf}
+use Rattle.fr_runs.specs.Rounds.{IsDoubleOf}
 use Rattle.fr_runs.proofs.Going.{is_row_node, is_since}
 use Rattle.fr_precision.proofs.RoundLemmas.{acts_early, all_senders, contains_map, map_contains, sender_among}
 use Rattle.fr_runs.proofs.Standing.{how_follows, is_follower}
@@ -28,7 +30,7 @@ use Rattle.fr_bound.specs.SharpBounds.{last_action, near_by, sharp_lambda, sharp
 use Rattle.fr_promise.specs.SharpFollowing.{AreFollowersInReach}
 use Rattle.fr_promise.specs.SharpGroup.{IsSteadyRoundFollowed, TakesInGroup}
 use Rattle.fr_promise.specs.SharpJoining.{all_heard, sharp_group_spread, sharp_reach, sharp_second_apart, GroupSpread}
-use Rattle.fr_promise.specs.SharpJoined.{FollowedDoublesAreKept, FollowedDoublesHear, IsFollowedDouble, IsSteadyJoinedFrom, JoinedDoublesAreKept, JoinedIsInSharpSync, UnfollowedIsFollowed, UnfollowedIsJoined}
+use Rattle.fr_promise.specs.SharpJoined.{FollowedDoublesAreKept, FollowedDoublesHear, IsFollowedDouble, IsFollowedHearing, IsJoinedDouble, IsSteadyJoinedFrom, JoinedDoublesAreKept, JoinedIsInSharpSync, UnfollowedIsFollowed, UnfollowedIsJoined}
 use Rattle.fr_precision.specs.SharpRound.{as_member, IsSteadilySupplied}
 use Rattle.fr_precision.specs.SharpStep.{AreSharp}
 use Rattle.fr_runs.specs.SteadyRuns.{row_hearers, row_members, AreRowsInReach, IsTimedPartFrom, IsWhole, MayHaveArbitrary}
@@ -194,26 +196,37 @@ followed_doubles_are_kept what x from flutter h double earlier even odd now to a
     }
     ) hears goes fits ends next_from next_to
 
+-- with the bounds of sharp sync
+pub sharp_takes : (beside : Bool) (x : Setting) (from flutter : ℕ) (h : Cycles) (g : Group) → IsSteadyJoinedFrom beside x from flutter h
+    → TakesInGroup x.params (sharp_group_spread beside x.params flutter) g (pos (sharp_reach beside x.params flutter))
+sharp_takes beside x from flutter h g w =
+    let p = x.params in
+    let nearer = followers_come_nearer_lem beside p flutter w.covered.timed.sane in
+    record {
+      limit = (sharp_join_checks_suffice_lem beside p flutter w.covered.timed.sane w.checks).0;
+      fits = no_more (sharp_near beside p flutter) (sharp_reach beside p flutter) nearer.3;
+      fits_seconds = λ node here. no_more (near_by p (sharp_second_apart beside p flutter) (sharp_lambda beside p flutter)) (sharp_reach beside p flutter) nearer.2;
+      fits_firsts = λ node here. no_more (sharp_reach beside p flutter) (sharp_reach beside p flutter) (le_itself (sharp_reach beside p flutter));
+    }
+
+pub sharp_hears : (beside : Bool) (x : Setting) (from flutter : ℕ) (h : Cycles) (double : ℕ) (earlier : Cycles) (even odd : Cycle) (beyond walk : ℤ) → IsSteadyJoinedFrom beside x from flutter h
+    → from ≤ double → IsDoubleOf h double earlier even odd → CanWalk x.params flutter beyond walk → IsJoinedDouble beside x flutter beyond earlier even odd double
+    → IsFollowedHearing (all_heard beside) x flutter earlier even odd double
+sharp_hears beside x from flutter h double earlier even odd beyond walk w late d walks g =
+    let p = x.params in
+    let part = joined_part beside x from flutter h w in
+    followed_doubles_hear beside x from flutter h double earlier even odd (sharp_group_spread beside p flutter) (pos (sharp_reach beside p flutter)) beyond walk part late d w.arbitrary
+    (w.covered.links double late (double_within h double x.doubles earlier even odd d part.within)) walks (sharp_join_checks_suffice_lem beside p flutter w.covered.timed.sane w.checks).1
+    (sharp_takes beside x from flutter h (group_of p (hearers_of x earlier even odd double)) w) g
+
 pub joined_doubles_are_kept : JoinedDoublesAreKept
 joined_doubles_are_kept beside x from flutter h double earlier even odd beyond walk next w late d n g =
     let p = x.params in
     let sharp = sharp_group_spread beside p flutter in
-    let suffice = sharp_join_checks_suffice_lem beside p flutter w.covered.timed.sane w.checks in
-    let nearer = followers_come_nearer_lem beside p flutter w.covered.timed.sane in
-    let reach = pos (sharp_reach beside p flutter) in
-    let part = joined_part beside x from flutter h w in
-    let takes : TakesInGroup p sharp (group_of p (hearers_of x earlier even odd double)) reach =
-    record {
-      limit = suffice.0;
-      fits = no_more (sharp_near beside p flutter) (sharp_reach beside p flutter) nearer.3;
-      fits_seconds = λ node here. no_more (near_by p (sharp_second_apart beside p flutter) (sharp_lambda beside p flutter)) (sharp_reach beside p flutter) nearer.2;
-      fits_firsts = λ node here. no_more (sharp_reach beside p flutter) (sharp_reach beside p flutter) (le_itself (sharp_reach beside p flutter));
-    } in
-    followed_doubles_are_kept (all_heard beside) x from flutter h double earlier even odd sharp sharp (sharp_precision beside p flutter) reach beyond walk next part late d n.walks n.from n.to takes
-    (
-    followed_doubles_hear beside x from flutter h double earlier even odd sharp reach beyond walk part late d w.arbitrary (w.covered.links double late (double_within h double x.doubles earlier even odd d part.within))
-    n.walks suffice.1 takes g
-    ) (sharp_group_spread_goes beside p flutter) (le_itself (sharp_precision beside p flutter)) (ends_fit beside p flutter) g
+    followed_doubles_are_kept (all_heard beside) x from flutter h double earlier even odd sharp sharp (sharp_precision beside p flutter) (pos (sharp_reach beside p flutter)) beyond walk next (joined_part beside x from flutter h w)
+    late d n.walks n.from n.to (sharp_takes beside x from flutter h (group_of p (hearers_of x earlier even odd double)) w)
+    (sharp_hears beside x from flutter h double earlier even odd beyond walk w late d n.walks g)
+    (sharp_group_spread_goes beside p flutter) (le_itself (sharp_precision beside p flutter)) (ends_fit beside p flutter) g
 
 -- ---- where it begins
 

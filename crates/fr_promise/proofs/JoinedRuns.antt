@@ -1,8 +1,9 @@
 -- A run that nodes join: from a double cycle in sharp sync in which none follows each one is, while first rates last.
 use Rattle.std.proofs.Common.{◌≡◌, ℕ, zero, suc, ◌+◌, ◌*◌, ◌<◌, ◌≤◌, Bool, true, false, if◌then◌else◌, ℤ, pos, Option, Some, All, [], ◌∷◌, refl, ap, sym, ◌∙◌, subst, inl, arith}
-use Rattle.std.specs.Prelude.{◌+ℤ◌, ◌*ℤ◌, ◌≤ℤ◌, Contains, IfSome, int_le, is_some}
+use Rattle.std.specs.Prelude.{◌+ℤ◌, ◌*ℤ◌, ◌≤ℤ◌, Contains, IfSome, int_le, is_some, max}
 use Rattle.std.specs.Option.{option_map, option_map_or}
 use Rattle.std.proofs.lemmas.Int.{ints}
+use Rattle.std.proofs.Math.Nat.{le-max_left, le-max_right}
 use Rattle.fr_base.specs.Within.{IsWithin}
 use Rattle.fr_base.specs.declared.state.Outcome.TheVariants.{Within}
 use Rattle.fr_base.specs.declared.state.State.TheVariants.{Active}
@@ -18,7 +19,7 @@ use Rattle.fr_midpoint.proofs.Products.{addz-mulz}
 use Rattle.fr_correct.specs.declared.term.Term.{Term}
 use Rattle.fr_bound.specs.Checks.{holds_of, left_of, right_of}
 use Rattle.fr_precision.specs.Instants.{gap_of}
-use Rattle.fr_precision.specs.Round.{senders_of, Hearer}
+use Rattle.fr_precision.specs.Round.{Hearer}
 use Rattle.fr_precision.proofs.Figures.{nat_le-true}
 use Rattle.fr_skew.specs.Spreads.{spread_at}
 use Rattle.fr_history.specs.Cycles.{Cycle, Cycles, cycle_at, told_of}
@@ -28,7 +29,7 @@ use Rattle.fr_history.specs.Rows.{offset_after}
 use Rattle.fr_history.specs.Skew.{skew_at}
 use Rattle.fr_history.specs.Standing.{has_row, row_nodes}
 use Rattle.fr_history.specs.Terms.{offset_term_in, status_in}
-use Rattle.fr_runs.specs.Gathered.{hearers_of, round_at, row_hearer}
+use Rattle.fr_runs.specs.Gathered.{hearers_of, row_hearer}
 use Rattle.fr_runs.specs.Hearers.{group_of, member_from, IsOneOf}
 use Rattle.fr_runs.specs.Links.{cycle_in}
 use Rattle.fr_runs.specs.Rounds.{IsDoubleOf}
@@ -44,22 +45,23 @@ use Rattle.fr_runs.proofs.Spread.{macrotick_within, spread_within}
 use Rattle.fr_runs.proofs.Standing.{has_stays, is_none, told_has}
 use Rattle.fr_runs.proofs.Whole.{prior_of}
 use Rattle.fr_precision.specs.Lengths.{walked_after}
-use Rattle.fr_bound.specs.SharpBounds.{rate_walk, sharp_precision}
+use Rattle.fr_bound.specs.Bounds.{longest_micro}
+use Rattle.fr_bound.specs.SharpBounds.{precision_by, rate_walk, sharp_precision}
 use Rattle.fr_bound.specs.SharpChecks.{RateSuffices}
-use Rattle.fr_promise.specs.SharpGroup.{IsSharpGroupKept}
 use Rattle.fr_runs.specs.SharpHistories.{IsInSharpSyncAt}
-use Rattle.fr_promise.specs.SharpJoining.{sharp_reach}
+use Rattle.fr_runs.specs.SteadyRuns.{IsTimedPartFrom}
+use Rattle.fr_promise.specs.SharpJoining.{all_heard, sharp_group_spread, sharp_reach, GroupSpread}
 use Rattle.fr_precision.specs.SharpStep.{IsInSharpSync}
 use Rattle.fr_precision.specs.SharpRun.{WalkLastsAfter}
 use Rattle.fr_promise.specs.SharpListening.{RateTakesIn}
-use Rattle.fr_promise.specs.SharpJoined.{IsJoinedDouble, IsSteadyJoinedFrom, WalksJoined}
+use Rattle.fr_promise.specs.SharpJoined.{IsFollowedDouble, IsFollowedKept, IsJoinedDouble, IsSteadyJoinedFrom, WalksJoined}
 use Rattle.fr_promise.specs.SharpTested.{IsUnfollowedSharpSyncAt}
-use Rattle.fr_promise.specs.JoinedHistories.{FirstRatesLast, FirstRatesLastOn, JoinedHistoriesKeepSharpSync, KeepsJoined, NoneIsCut}
+use Rattle.fr_promise.specs.JoinedHistories.{FirstRatesLast, FirstRatesLastOn, FollowedDoublesKeep, FollowedRunsGoOn, JoinedHistoriesKeepSharpSync, KeepsJoined, NoneIsCut}
 use Rattle.fr_precision.proofs.BoundLemmas.{first_check_stops_walk, walk_is_held, walked_none}
 use Rattle.fr_precision.proofs.OlderLemmas.{does_not_walk}
-use Rattle.fr_promise.proofs.JoinBounds.{sharp_join_checks_suffice_lem}
-use Rattle.fr_promise.proofs.JoinedDoubles.{joined_doubles_are_kept, joined_is_in_sharp_sync, joined_part, unfollowed_is_joined}
-use Rattle.fr_promise.proofs.JoinedNext.{joined_doubles_go_on}
+use Rattle.fr_promise.proofs.JoinBounds.{sharp_group_spread_goes, sharp_join_checks_suffice_lem}
+use Rattle.fr_promise.proofs.JoinedDoubles.{followed_doubles_are_kept, joined_doubles_are_kept, joined_is_in_sharp_sync, joined_part, sharp_hears, sharp_takes, unfollowed_is_joined}
+use Rattle.fr_promise.proofs.JoinedNext.{followed_doubles_go_on}
 use Rattle.fr_promise.proofs.JoinedUncut.{even_uncut, odd_uncut, terms_within}
 use Rattle.fr_runs.proofs.RowsSupplied.{timed_rows_from, LawfulRows}
 use Rattle.fr_promise.proofs.RunDoubles.{rows_lie}
@@ -104,6 +106,133 @@ first_rates_last_on beside p flutter reach passed sane first checks =
     let Takes : ℤ → Type 0 = λ z. RateTakesIn p flutter z in
     (subst Lasts (sym (does_not_walk p flutter still)) tt, subst Takes (sym (still_zero (rate_walk p flutter) (pos passed *ℤ rate_walk p flutter) still)) (sharp_join_checks_suffice_lem beside p flutter sane checks).2)
 
+-- ---- from one double cycle on, by what is heard in each
+
+pub followed_runs_go_on : FollowedRunsGoOn
+followed_runs_go_on x from flutter h double what spreads reach late run first passed lasting earlier even odd d = at passed (double + passed) earlier even odd refl lasting d
+  where
+    at : (n k : ℕ) (earlier : Cycles) (even odd : Cycle) → k ≡ double + n → ((m : ℕ) → m < n → FirstRatesLast x.params flutter m) → IsDoubleOf h k earlier even odd
+        → IsFollowedDouble x (spreads n) (walked_after x.params flutter n) earlier even odd k
+    at zero k earlier even odd is lasting d =
+        let same : k ≡ double = omega (arith, is) in
+        let Of : ℕ → Type 0 = λ j. IsDoubleOf h j earlier even odd in
+        let At : ℕ → Type 0 = λ j. IsFollowedDouble x (spreads 0) (walked_after x.params flutter 0) earlier even odd j in
+        subst At (sym same) (first earlier even odd (subst Of same d))
+    at (suc n) k [] even odd is lasting d =
+        let counted : 0 ≡ 2 * k = d.counted in
+        absurd (omega (arith, counted, is))
+    at (suc n) k (o ∷ []) even odd is lasting d =
+        let counted : 1 ≡ 2 * k = d.counted in
+        absurd (omega (arith, counted))
+    at (suc n) k (o ∷ e ∷ earlier) even odd is lasting d =
+        let next : k ≡ suc (double + n) = omega (arith, is) in
+        let Of : ℕ → Type 0 = λ j. IsDoubleOf h j (o ∷ e ∷ earlier) even odd in
+        let At : ℕ → Type 0 = λ j. IsFollowedDouble x (spreads (suc n)) (walked_after x.params flutter (suc n)) (o ∷ e ∷ earlier) even odd j in
+        let there : IsDoubleOf h (suc (double + n)) (o ∷ e ∷ earlier) even odd = subst Of next d in
+        let here = prior_of h (double + n) earlier e o even odd there in
+        let behind : from ≤ double + n = omega (arith, late) in
+        let last = lasting n (omega arith) in
+        let g = at n (double + n) earlier e o refl (λ j less. lasting j (omega (arith, less))) here in
+        let held = walk_is_held x.params flutter n run.part.covered.sane run.second last.0 in
+        let apart : ℕ = max (precision_by x.params (spreads n).rows.starts (spreads n).rows.lengths) ((spreads (suc n)).rows.starts + longest_micro x.params) in
+        let kept =
+        followed_doubles_are_kept (what n) x from flutter h (double + n) earlier e o (spreads n) (spreads (suc n)) apart reach (walked_after x.params flutter n) (rate_walk x.params flutter) (walked_after x.params flutter (suc n))
+        run.part behind here held.0 held.1 held.2 (run.takes n earlier e o here) (run.hears n earlier e o here last g) (run.goes n)
+        (le-max_left (precision_by x.params (spreads n).rows.starts (spreads n).rows.lengths) ((spreads (suc n)).rows.starts + longest_micro x.params))
+        (le-max_right (precision_by x.params (spreads n).rows.starts (spreads n).rows.lengths) ((spreads (suc n)).rows.starts + longest_micro x.params)) g in
+        subst At (sym next)
+        (
+        followed_doubles_go_on x from flutter h (double + n) earlier e o even odd (spreads n) (spreads (suc n)) apart reach (walked_after x.params flutter n) (walked_after x.params flutter (suc n)) run.part run.referenced behind there
+        last.1 (next_suffices x.params flutter n run.part.covered.sane run.second last.0) g kept
+        )
+
+-- ---- what a double cycle comes to
+
+module _
+    (x : Setting) (from flutter : ℕ) (h : Cycles) (part : IsTimedPartFrom x from flutter h) (k : ℕ) (behind : from ≤ k) (now to : GroupSpread) (apart : ℕ) (reach beyond next : ℤ)
+    (earlier : Cycles) (even odd : Cycle) (d : IsDoubleOf h k earlier even odd) (g : IsFollowedDouble x now beyond earlier even odd k)
+    (kept : IsFollowedKept x flutter to apart reach beyond next earlier even odd k) where
+  lawful : LawfulRows x flutter earlier even odd k
+  lawful = timed_rows_from x from flutter h part k behind earlier even odd d
+
+  offset_within : (m : Hearer) → IsOneOf (hearers_of x earlier even odd k) m → (member_from x.params m).offset_term.outcome ≡ Within
+  offset_within m one = kept.uncut (member_from x.params m) (is_of x earlier even odd k m one)
+
+  rate_within : (m : Hearer) → IsOneOf (hearers_of x earlier even odd k) m → (member_from x.params m).rate_term.outcome ≡ Within
+  rate_within m one = (kept.range (member_from x.params m) (is_of x earlier even odd k m one)).uncut
+
+  row_active : (node : NodeSpec) → Contains (row_nodes x earlier) node → (status_in x.params (told_of (odd ∷ even ∷ earlier)) node.id).state ≡ Active
+  row_active node among =
+      let p = x.params in
+      let s = lawful in
+      let at : NodeSpec → Hearer = λ m. row_hearer x even odd m.id in
+      let early = row_runs_by (row_laws x earlier) (offset_after p (told_of earlier) even.told) (row_nodes x earlier) even.told.rows node s.two.even_rows among in
+      let late = row_runs_by (row_laws x (even ∷ earlier)) (offset_after p (told_of (even ∷ earlier)) odd.told) (row_nodes x earlier) odd.told.rows node s.two.odd_rows among in
+      let active = each_row (row_nodes x earlier) even.told.rows (λ row. row.state ≡ Active) node s.two.even_rows.nodes among g.active_even in
+      let one : IsOneOf (hearers_of x earlier even odd k) (at node) = inl (inl (contains_map at (row_nodes x earlier) node among)) in
+      active_after x earlier even odd k node.id (row_for odd.told.rows node.id) s.counted late.has.is (sym early.state ∙ active)
+      (ap (λ m. (offset_term_in p (told_of (even ∷ earlier)) odd.told.devs m).outcome) late.has.number ∙ offset_within (at node) one)
+      (ap (λ (t : Term). t.outcome) (row_term_is x earlier even odd node.id late.has.number) ∙ rate_within (at node) one)
+
+  -- of a node without a row no term was told, so it stands as it begins
+  all_active : (node : NodeSpec) → Contains (correct_nodes x) node → (status_in x.params (told_of (odd ∷ even ∷ earlier)) node.id).state ≡ Active
+  all_active node there = by_kind (has_row x earlier node.id) refl
+    where
+      by_kind : (b : Bool) → has_row x earlier node.id ≡ b → (status_in x.params (told_of (odd ∷ even ∷ earlier)) node.id).state ≡ Active
+      by_kind true has = row_active node (kept_filtered (λ (n : NodeSpec). has_row x earlier n.id) (correct_nodes x) node there has)
+      by_kind false has =
+          let s = lawful in
+          let untold : is_some (row_of odd.told.rows node.id) ≡ false =
+          told_has x (even ∷ earlier) odd node s.odd_runs there ∙ has_stays x earlier even k node s.counted s.even_runs there ∙ has in
+          let none = is_none (row_of odd.told.rows node.id) untold in
+          begun_active x (odd ∷ even ∷ earlier) node.id (outcomes_none x earlier even odd k node.id s.counted none ∙ g.fresh node there has)
+
+  none_is_cut : NoneIsCut x earlier even odd
+  none_is_cut = record {
+    within = terms_within x flutter earlier even odd k lawful g.active_odd offset_within rate_within;
+    uncut_even = even_uncut x flutter earlier even odd k lawful g.active_odd offset_within rate_within;
+    uncut_odd = odd_uncut x flutter earlier even odd k lawful g.active_odd offset_within rate_within;
+    active = all_active;
+  }
+
+  skew_in : (macrotick : ℕ) (is_odd : Bool) → macrotick < amount x.params name.gMacroPerCycle
+      → skew_at x.params (told_of h) (cycle_in is_odd k) macrotick ≤ℤ pos apart
+  skew_in macrotick is_odd less =
+      let p = x.params in
+      let s = lawful in
+      let lie =
+      rows_lie x flutter earlier even odd k s (pos apart) macrotick
+      (λ is_odd one other here there. kept.precise one other (pos macrotick) is_odd here there (no_less macrotick) (macrotick_within p macrotick s.covered.sane less)) in
+      by is_odd lie.0 lie.1
+    where
+      Most : ℕ → Option Record → Type 0
+      Most cycle o = option_map_or (λ r. spread_at (grid_for x.params) cycle r.rows macrotick) o (pos 0) ≤ℤ pos apart
+
+      by : (is_odd : Bool)
+          → All (λ one. All (λ other. IsWithin (pos apart) (gap_of x.params false (pos macrotick) one other)) even.told.rows) even.told.rows
+          → All (λ one. All (λ other. IsWithin (pos apart) (gap_of x.params true (pos macrotick) one other)) odd.told.rows) odd.told.rows
+          → skew_at x.params (told_of h) (cycle_in is_odd k) macrotick ≤ℤ pos apart
+      by false early late =
+          let told : record_at (told_of h) (2 * k) ≡ Some even.told = told_at h (2 * k) ∙ ap (option_map (λ (c : Cycle). c.told)) (even_is h k earlier even odd d) in
+          subst (Most (2 * k)) (sym told)
+          (spread_within x.params (2 * k) (pos apart) even.told.rows macrotick false (even_length (2 * k) k refl) (no_less apart) early)
+      by true early late =
+          let told : record_at (told_of h) (suc (2 * k)) ≡ Some odd.told = told_at h (suc (2 * k)) ∙ ap (option_map (λ (c : Cycle). c.told)) (odd_is h k earlier even odd d) in
+          subst (Most (suc (2 * k))) (sym told)
+          (spread_within x.params (suc (2 * k)) (pos apart) odd.told.rows macrotick true (odd_length (2 * k) k refl) (no_less apart) late)
+
+pub followed_doubles_keep : FollowedDoublesKeep
+followed_doubles_keep x from flutter h double now to apart reach beyond next part whole late within each =
+    let f = double_at h double (omega (arith, whole, within)) in
+    let at = each f.earlier f.even f.odd f.is in
+    record {
+      skew = skew_in x from flutter h part double late now to apart reach beyond next f.earlier f.even f.odd f.is at.0 at.1;
+      ends =
+          λ earlier even odd d.
+          let of = each earlier even odd d in
+          none_is_cut x from flutter h part double late now to apart reach beyond next earlier even odd d of.0 of.1;
+    }
+
 -- ---- a history
 
 module _ (beside : Bool) (x : Setting) (from flutter : ℕ) (h : Cycles) (w : IsSteadyJoinedFrom beside x from flutter h) where
@@ -142,32 +271,26 @@ module _ (beside : Bool) (x : Setting) (from flutter : ℕ) (h : Cycles) (w : Is
         zero_suffices : (a b : ℕ) → a ≤ b → (pos a +ℤ pos 0) ≤ℤ pos b
         zero_suffices a b le = omega (arith, ints, le)
 
-    joined_from : (n k : ℕ) (earlier : Cycles) (even odd : Cycle) → k ≡ n + double → k < x.doubles → ((m : ℕ) → m < n → FirstRatesLast x.params flutter m) → IsDoubleOf h k earlier even odd
-        → IsJoinedDouble beside x flutter (walked_after x.params flutter n) earlier even odd k
-    joined_from zero k earlier even odd is within lasting d =
-        let same : k ≡ double = omega (arith, is) in
-        let Of : ℕ → Type 0 = λ j. IsDoubleOf h j earlier even odd in
-        let At : ℕ → Type 0 = λ j. IsJoinedDouble beside x flutter (walked_after x.params flutter 0) earlier even odd j in
-        subst At (sym same) (first earlier even odd (subst Of same d))
-    joined_from (suc n) k [] even odd is within lasting d =
-        let counted : 0 ≡ 2 * k = d.counted in
-        absurd (omega (arith, counted, is))
-    joined_from (suc n) k (o ∷ []) even odd is within lasting d =
-        let counted : 1 ≡ 2 * k = d.counted in
-        absurd (omega (arith, counted))
-    joined_from (suc n) k (o ∷ e ∷ earlier) even odd is within lasting d =
-        let m : ℕ = n + double in
-        let next : k ≡ suc m = omega (arith, is) in
-        let Of : ℕ → Type 0 = λ j. IsDoubleOf h j (o ∷ e ∷ earlier) even odd in
-        let At : ℕ → Type 0 = λ j. IsJoinedDouble beside x flutter (walked_after x.params flutter (suc n)) (o ∷ e ∷ earlier) even odd j in
-        let there : IsDoubleOf h (suc m) (o ∷ e ∷ earlier) even odd = subst Of next d in
-        let last = lasting n (omega arith) in
-        let before = joined_from n m earlier e o refl (omega (arith, is, within)) (λ j less. lasting j (omega (arith, less))) (prior_of h m earlier e o even odd there) in
-        subst At (sym next)
+    joined_from : (passed : ℕ) → ((m : ℕ) → m < passed → FirstRatesLast x.params flutter m) → (earlier : Cycles) (even odd : Cycle) → IsDoubleOf h (double + passed) earlier even odd
+        → IsJoinedDouble beside x flutter (walked_after x.params flutter passed) earlier even odd (double + passed)
+    joined_from =
+        let p = x.params in
+        followed_runs_go_on x from flutter h double (λ k. all_heard beside) (λ k. sharp_group_spread beside p flutter) (pos (sharp_reach beside p flutter)) late
         (
-        joined_doubles_go_on beside x from flutter h m earlier e o even odd (walked_after x.params flutter n) (rate_walk x.params flutter) (walked_after x.params flutter (suc n)) w (omega (arith, late)) there (numbers n last)
-        (next_suffices x.params flutter n w.covered.timed.sane second last.0) before
-        )
+        record {
+          part = joined_part beside x from flutter h w;
+          referenced = w.referenced;
+          second = second;
+          goes = λ k. sharp_group_spread_goes beside p flutter;
+          takes = λ k earlier even odd d. sharp_takes beside x from flutter h (group_of p (hearers_of x earlier even odd (double + k))) w;
+          hears =
+              λ k earlier even odd d last g.
+              sharp_hears beside x from flutter h (double + k) earlier even odd (walked_after p flutter k) (rate_walk p flutter) w (later k) d (walk_is_held p flutter k w.covered.timed.sane second last.0).0 g;
+        }
+        ) first
+      where
+        later : (k : ℕ) → from ≤ double + k
+        later k = omega (arith, late)
 
   -- ---- what one of them comes to
 
@@ -187,101 +310,21 @@ module _ (beside : Bool) (x : Setting) (from flutter : ℕ) (h : Cycles) (w : Is
         in_sync = joined_is_in_sharp_sync beside x from flutter h k f.earlier f.even f.odd beyond w behind f.is (joined f.earlier f.even f.odd f.is);
       }
 
-  module _
-      (k : ℕ) (behind : from ≤ k) (beyond walk next : ℤ) (earlier : Cycles) (even odd : Cycle) (d : IsDoubleOf h k earlier even odd) (n : WalksJoined beside x flutter beyond walk next)
-      (g : IsJoinedDouble beside x flutter beyond earlier even odd k) where
-    lawful : LawfulRows x flutter earlier even odd k
-    lawful = timed_rows_from x from flutter h (joined_part beside x from flutter h w) k behind earlier even odd d
-
-    kept :
-        IsSharpGroupKept beside x.params flutter beyond next (senders_of (round_at x earlier even odd)) (group_of x.params (hearers_of x earlier even odd k))
-        (pos (sharp_reach beside x.params flutter))
-    kept = joined_doubles_are_kept beside x from flutter h k earlier even odd beyond walk next w behind d n g
-
-    offset_within : (m : Hearer) → IsOneOf (hearers_of x earlier even odd k) m → (member_from x.params m).offset_term.outcome ≡ Within
-    offset_within m one = kept.uncut (member_from x.params m) (is_of x earlier even odd k m one)
-
-    rate_within : (m : Hearer) → IsOneOf (hearers_of x earlier even odd k) m → (member_from x.params m).rate_term.outcome ≡ Within
-    rate_within m one = (kept.range (member_from x.params m) (is_of x earlier even odd k m one)).uncut
-
-    row_active : (node : NodeSpec) → Contains (row_nodes x earlier) node → (status_in x.params (told_of (odd ∷ even ∷ earlier)) node.id).state ≡ Active
-    row_active node among =
-        let p = x.params in
-        let s = lawful in
-        let at : NodeSpec → Hearer = λ m. row_hearer x even odd m.id in
-        let early = row_runs_by (row_laws x earlier) (offset_after p (told_of earlier) even.told) (row_nodes x earlier) even.told.rows node s.two.even_rows among in
-        let late = row_runs_by (row_laws x (even ∷ earlier)) (offset_after p (told_of (even ∷ earlier)) odd.told) (row_nodes x earlier) odd.told.rows node s.two.odd_rows among in
-        let active = each_row (row_nodes x earlier) even.told.rows (λ row. row.state ≡ Active) node s.two.even_rows.nodes among g.active_even in
-        let one : IsOneOf (hearers_of x earlier even odd k) (at node) = inl (inl (contains_map at (row_nodes x earlier) node among)) in
-        active_after x earlier even odd k node.id (row_for odd.told.rows node.id) s.counted late.has.is (sym early.state ∙ active)
-        (ap (λ m. (offset_term_in p (told_of (even ∷ earlier)) odd.told.devs m).outcome) late.has.number ∙ offset_within (at node) one)
-        (ap (λ (t : Term). t.outcome) (row_term_is x earlier even odd node.id late.has.number) ∙ rate_within (at node) one)
-
-    -- of a node without a row no term was told, so it stands as it begins
-    all_active : (node : NodeSpec) → Contains (correct_nodes x) node → (status_in x.params (told_of (odd ∷ even ∷ earlier)) node.id).state ≡ Active
-    all_active node there = by_kind (has_row x earlier node.id) refl
-      where
-        by_kind : (b : Bool) → has_row x earlier node.id ≡ b → (status_in x.params (told_of (odd ∷ even ∷ earlier)) node.id).state ≡ Active
-        by_kind true has = row_active node (kept_filtered (λ (n : NodeSpec). has_row x earlier n.id) (correct_nodes x) node there has)
-        by_kind false has =
-            let s = lawful in
-            let untold : is_some (row_of odd.told.rows node.id) ≡ false =
-            told_has x (even ∷ earlier) odd node s.odd_runs there ∙ has_stays x earlier even k node s.counted s.even_runs there ∙ has in
-            let none = is_none (row_of odd.told.rows node.id) untold in
-            begun_active x (odd ∷ even ∷ earlier) node.id (outcomes_none x earlier even odd k node.id s.counted none ∙ g.fresh node there has)
-
-    none_is_cut : NoneIsCut x earlier even odd
-    none_is_cut = record {
-      within = terms_within x flutter earlier even odd k lawful g.active_odd offset_within rate_within;
-      uncut_even = even_uncut x flutter earlier even odd k lawful g.active_odd offset_within rate_within;
-      uncut_odd = odd_uncut x flutter earlier even odd k lawful g.active_odd offset_within rate_within;
-      active = all_active;
-    }
-
-    skew_in : (macrotick : ℕ) (is_odd : Bool) → macrotick < amount x.params name.gMacroPerCycle
-        → skew_at x.params (told_of h) (cycle_in is_odd k) macrotick ≤ℤ pos (sharp_precision beside x.params flutter)
-    skew_in macrotick is_odd less =
-        let p = x.params in
-        let s = lawful in
-        let lie =
-        rows_lie x flutter earlier even odd k s (pos (sharp_precision beside x.params flutter)) macrotick
-        (λ is_odd one other here there. kept.precise one other (pos macrotick) is_odd here there (no_less macrotick) (macrotick_within p macrotick s.covered.sane less)) in
-        by is_odd lie.0 lie.1
-      where
-        Most : ℕ → Option Record → Type 0
-        Most cycle o = option_map_or (λ r. spread_at (grid_for x.params) cycle r.rows macrotick) o (pos 0) ≤ℤ pos (sharp_precision beside x.params flutter)
-
-        by : (is_odd : Bool)
-            → All (λ one. All (λ other. IsWithin (pos (sharp_precision beside x.params flutter)) (gap_of x.params false (pos macrotick) one other)) even.told.rows) even.told.rows
-            → All (λ one. All (λ other. IsWithin (pos (sharp_precision beside x.params flutter)) (gap_of x.params true (pos macrotick) one other)) odd.told.rows) odd.told.rows
-            → skew_at x.params (told_of h) (cycle_in is_odd k) macrotick ≤ℤ pos (sharp_precision beside x.params flutter)
-        by false early late =
-            let told : record_at (told_of h) (2 * k) ≡ Some even.told = told_at h (2 * k) ∙ ap (option_map (λ (c : Cycle). c.told)) (even_is h k earlier even odd d) in
-            subst (Most (2 * k)) (sym told)
-            (spread_within x.params (2 * k) (pos (sharp_precision beside x.params flutter)) even.told.rows macrotick false (even_length (2 * k) k refl) (no_less (sharp_precision beside x.params flutter)) early)
-        by true early late =
-            let told : record_at (told_of h) (suc (2 * k)) ≡ Some odd.told = told_at h (suc (2 * k)) ∙ ap (option_map (λ (c : Cycle). c.told)) (odd_is h k earlier even odd d) in
-            subst (Most (suc (2 * k))) (sym told)
-            (spread_within x.params (suc (2 * k)) (pos (sharp_precision beside x.params flutter)) odd.told.rows macrotick true (odd_length (2 * k) k refl) (no_less (sharp_precision beside x.params flutter)) late)
-
   keeps_at : (k passed : ℕ) → from ≤ k → k < x.doubles → FirstRatesLast x.params flutter passed
       → ((earlier : Cycles) (even odd : Cycle) → IsDoubleOf h k earlier even odd → IsJoinedDouble beside x flutter (walked_after x.params flutter passed) earlier even odd k)
       → KeepsJoined x h k (sharp_precision beside x.params flutter)
   keeps_at k passed behind within last joined =
-      let f = found_at k within in
-      let beyond = walked_after x.params flutter passed in
-      let walk = rate_walk x.params flutter in
-      let next = walked_after x.params flutter (suc passed) in
-      record {
-        skew = skew_in k behind beyond walk next f.earlier f.even f.odd f.is (numbers passed last) (joined f.earlier f.even f.odd f.is);
-        ends = λ earlier even odd d. none_is_cut k behind beyond walk next earlier even odd d (numbers passed last) (joined earlier even odd d);
-      }
+      let p = x.params in
+      let sharp = sharp_group_spread beside p flutter in
+      let beyond = walked_after p flutter passed in
+      let next = walked_after p flutter (suc passed) in
+      followed_doubles_keep x from flutter h k sharp sharp (sharp_precision beside p flutter) (pos (sharp_reach beside p flutter)) beyond next (joined_part beside x from flutter h w) w.whole behind within
+      (λ earlier even odd d.
+      (joined earlier even odd d, joined_doubles_are_kept beside x from flutter h k earlier even odd beyond (rate_walk p flutter) next w behind d (numbers passed last) (joined earlier even odd d)))
 
 pub joined_histories_keep_sharp_sync : JoinedHistoriesKeepSharpSync
 joined_histories_keep_sharp_sync beside x from flutter h double w late begin passed within lasting =
-    let turned : double + passed ≡ passed + double = omega arith in
-    let joined = λ (earlier : Cycles) (even odd : Cycle) (d : IsDoubleOf h (double + passed) earlier even odd).
-    joined_from beside x from flutter h w double late begin passed (double + passed) earlier even odd turned within lasting d in
+    let joined = joined_from beside x from flutter h w double late begin passed lasting in
     record {
       synced = synced_at beside x from flutter h w (double + passed) (walked_after x.params flutter passed) (omega (arith, late)) within joined;
       joined = joined;

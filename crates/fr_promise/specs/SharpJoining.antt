@@ -17,7 +17,7 @@ use Rattle.fr_bound.specs.SharpBounds.{near_by, odd_spread, sharp_lambda, sharp_
 use Rattle.fr_bound.specs.SharpChecks.{RateSuffices, SharpChecksHold}
 use Rattle.fr_bound.specs.Judged.{heard_spread}
 use Rattle.fr_bound.specs.SharpSpreads.{sharp_spread}
-use Rattle.fr_precision.specs.Among.{GoesTo}
+use Rattle.fr_precision.specs.Among.{spread_through_losses, GoesTo}
 
 -- how far the length that a listener counts between two frames of its reference, in its own even microticks, may lie from
 -- that of the reference's even cycle: flutter, a change, and a microtick that it rounds by
@@ -116,6 +116,19 @@ abbrev pub SharpGroupSpreadGoes : Type 0
 SharpGroupSpreadGoes =
     (beside : Bool) (p : Values) (flutter : ℕ)
     → GroupGoesTo (all_heard beside) p flutter (sharp_group_spread beside p flutter) (sharp_group_spread beside p flutter)
+
+-- from sharp sync on they go so by what is heard in each double cycle, for ever; those of the nodes with rows are then the ones of a
+-- run that no node joins
+unfoldable pub group_spread_through : Bool → Values → ℕ → (ℕ → Heard) → ℕ → GroupSpread
+group_spread_through beside p flutter what zero = sharp_group_spread beside p flutter
+group_spread_through beside p flutter what (suc k) =
+    next_group_spread (what k) p flutter (group_spread_through beside p flutter what k)
+
+abbrev pub GroupSpreadsGo : Type 0
+GroupSpreadsGo =
+    (beside : Bool) (p : Values) (flutter : ℕ) (what : ℕ → Heard) (k : ℕ)
+    → GroupGoesTo (what k) p flutter (group_spread_through beside p flutter what k) (group_spread_through beside p flutter what (suc k))
+    × ((group_spread_through beside p flutter what k).rows ≡ spread_through_losses beside p flutter what k)
 
 -- a node that follows comes nearer: no second number is above the first, and the reach takes in its second double cycle and
 -- that of nodes in sharp sync

@@ -1,4 +1,4 @@
-ghost use Rattle.fr_promise.specs.SharpJoining.{FollowersComeNearer, NextGroupSpreadGoes, OlderJoinChecksSuffice, SharpGroupSpreadGoes, SharpJoinChecksSuffice};
+ghost use Rattle.fr_promise.specs.SharpJoining.{FollowersComeNearer, GroupSpreadsGo, NextGroupSpreadGoes, OlderJoinChecksSuffice, SharpGroupSpreadGoes, SharpJoinChecksSuffice};
 
 /// A law: the bounds of a node that follows come nearer, in ticks. Its second lengths may lie no further from the others'
 /// than its first ones, and its second start no further than its first one; and the sharper reach takes in how far action
@@ -9,9 +9,11 @@ pub fn followers_come_nearer()
 {}
 
 /// A law: the bounds of a cluster that nodes join go to those of the next double cycle, in ticks, whatever is heard, for as
-/// many double cycles as one likes; and those of sharp sync stay where all is heard.
+/// many double cycles as one likes; from sharp sync on those of the nodes with rows are the ones of a run that no node
+/// joins. Those of sharp sync stay where all is heard.
 pub fn group_spreads_go()
     ensures next { NextGroupSpreadGoes }
+    ensures through { GroupSpreadsGo }
     ensures sharp { SharpGroupSpreadGoes }
 {}
 
