@@ -7,5 +7,6 @@ mod Followed
 mod Gathering
 mod Judging
 mod Kept
+mod AlikeCycles
 mod Quotients
 pub mod Decided

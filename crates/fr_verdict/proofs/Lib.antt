@@ -34,7 +34,6 @@ pub mod FileRanges
 pub mod TraceRows
 pub mod TraceAlike
 pub mod AlikeFound
-pub mod AlikeCycles
 pub mod TraceStep
 pub mod TraceSpreads
 pub mod TraceSync

@@ -3,7 +3,6 @@
 //! which a recorded trace keeps the sharper precision.
 #![tactic(auto)]
 
-mod alike;
 mod covering;
 mod found;
 mod laws;
@@ -13,7 +12,6 @@ mod searching;
 mod traces;
 mod unlawful;
 
-pub use alike::{first_unlike, recorded_flutter};
 pub use covering::{dev_in, first_gap, first_other_gap, timed_cycles};
 pub use found::{is_named, row_of};
 pub use laws::{

@@ -47,7 +47,7 @@ use Rattle.fr_verdict.specs.declared.unlawful.Unlawful.{Unlawful}
 use Rattle.fr_whole.proofs.TracedDoubles.{sharp_at-place}
 use Rattle.fr_whole.specs.SharpCheckAnswer.{joined_text, sharp_check_files, IsJoinSaid, IsRefusalSaid, IsSharpCheckSaid, IsSharpCheckText}
 use Rattle.fr_whole.specs.SharpCheckText.{sharp_check_text}
-use Rattle.fr_whole.specs.TracedFigures.{are_sharp_by, figures_of_kind, first_recorded_sharp, is_beside, is_sharp_at, kind_among, kind_from, kind_of_trace, sharp_at, traced_figures_of, unlike_since}
+use Rattle.fr_whole.specs.TracedFigures.{are_sharp_by, figures_of_kind, first_recorded_sharp, is_kind_beside, is_sharp_at, kind_among, kind_from, kind_of_trace, sharp_at, traced_figures_of, unlike_since}
 use Rattle.fr_whole.specs.TracedMeaning.{traced_lasts, AreTracedFigures, CountsAsBeside, IsFirstRecordedSharp, IsFirstUnlike, IsRecordedSharpFound, IsSharpBehindSync, IsTracedKind, IsUnlikeFound, IsUnlikeTold, KeepsTracedSharply}
 use Rattle.fr_whole.specs.declared.traced_figures.TracedKind.{TracedKind}
 use Rattle.fr_whole.specs.declared.traced_figures.TracedKind.TheVariants.{Alone, Alike, Beside}
@@ -156,7 +156,7 @@ module _ (unlike_is : FirstUnlikeIsFound) (p : Values) (t : TraceView) (trace : 
 
   figures_are : IsSane p → (kind : TracedKind) → IsTracedKind p t kind → AreTracedFigures p t (figures_of_kind kind p t)
   figures_are sane kind is =
-      let beside : Bool = is_beside kind in
+      let beside : Bool = is_kind_beside kind in
       let first : Option ℕ = first_recorded_sharp beside p t in
       record {
         kind = is;
@@ -172,7 +172,7 @@ module _ (unlike_is : FirstUnlikeIsFound) (p : Values) (t : TraceView) (trace : 
           some_of : (n : ℤ) → pos 10 ≤ℤ n → 0 < nat_abs n
           some_of n from = grind (arith, ints)
 
-      within : (double : ℕ) → IsFirstRecordedSharp (is_beside kind) p t double → 2 * double < length t.history
+      within : (double : ℕ) → IsFirstRecordedSharp (is_kind_beside kind) p t double → 2 * double < length t.history
       within double first =
           let lt = record_at-lt t.history (odd_cycle double) first.is.sharp.odd first.is.sharp.has_odd in
           omega (arith, lt)
@@ -260,16 +260,16 @@ module _ (laws : Laws) (p : Values) (t : TraceView) (sane : IsSane p) (trace : I
         on = λ one checks. laws.alike_precise p t double steady one checks is.sharp;
       }
 
-  kept_of : (kind : TracedKind) → IsTracedKind p t kind → (double : ℕ) → IsFirstRecordedSharp (is_beside kind) p t double → IsKept (is_beside kind) p t double
+  kept_of : (kind : TracedKind) → IsTracedKind p t kind → (double : ℕ) → IsFirstRecordedSharp (is_kind_beside kind) p t double → IsKept (is_kind_beside kind) p t double
   kept_of Alone is double first = kept_by_itself false (none_named p t is) double first.is
   kept_of Alike is double first =
       let same = one_first false p t is.double double is.first first in
       kept_alike double first.is (subst (AreSaidFrom false p t) same is.alike)
   kept_of Beside is double first = kept_by_itself true tt double first.is
 
-  text_told : (kind : TracedKind) → kind_of_trace p t ≡ kind → IsTracedKind p t kind → (double : ℕ) → first_recorded_sharp (is_beside kind) p t ≡ Some double → KeepsTracedSharply (is_beside kind) p t double
+  text_told : (kind : TracedKind) → kind_of_trace p t ≡ kind → IsTracedKind p t kind → (double : ℕ) → first_recorded_sharp (is_kind_beside kind) p t ≡ Some double → KeepsTracedSharply (is_kind_beside kind) p t double
   text_told kind same is double found =
-      kept_sharply laws.stop (is_beside kind) p t double sane (kept_of kind is double (first_sharp_found (is_beside kind) p t trace (Some double) found))
+      kept_sharply laws.stop (is_kind_beside kind) p t double sane (kept_of kind is double (first_sharp_found (is_kind_beside kind) p t trace (Some double) found))
 
   pub sharp_check_told : IsSharpCheckText p t (sharp_check_text p t)
   sharp_check_told =

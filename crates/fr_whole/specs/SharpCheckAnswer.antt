@@ -14,7 +14,7 @@ use Rattle.fr_trace.specs.declared.trace.TracedJoin.{TracedJoin}
 use Rattle.fr_verdict.specs.OtherGaps.{IsOtherwiseCovered, IsRefusedOtherwise}
 use Rattle.fr_verdict.specs.declared.unlawful.Unlawful.{Unlawful}
 use Rattle.fr_whole.specs.SharpCheckText.{sharp_check_text}
-use Rattle.fr_whole.specs.TracedFigures.{first_recorded_sharp, is_beside, kind_of_trace, traced_figures_of}
+use Rattle.fr_whole.specs.TracedFigures.{first_recorded_sharp, is_kind_beside, kind_of_trace, traced_figures_of}
 use Rattle.fr_whole.specs.TracedMeaning.{AreTracedFigures, KeepsTracedSharply}
 
 -- a trace that no node joins is lawful and has no gap but of the older checks, and this is the text of its figures, which mean what they
@@ -25,8 +25,8 @@ pub record IsSharpCheckText (p : Values) (t : TraceView) (text : List ℕ) : Typ
   pub shown : text ≡ sharp_check_text p t
   pub figures : AreTracedFigures p t (traced_figures_of p t)
   pub keeps :
-      (double : ℕ) → first_recorded_sharp (is_beside (kind_of_trace p t)) p t ≡ Some double
-      → KeepsTracedSharply (is_beside (kind_of_trace p t)) p t double
+      (double : ℕ) → first_recorded_sharp (is_kind_beside (kind_of_trace p t)) p t ≡ Some double
+      → KeepsTracedSharply (is_kind_beside (kind_of_trace p t)) p t double
 
 -- the first record that breaks a law, or else the first gap but of the older checks
 pub record IsRefusalSaid (p : Values) (t : TraceView) (said : List ℕ) : Type 0 where

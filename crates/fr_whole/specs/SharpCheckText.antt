@@ -11,7 +11,7 @@ use Rattle.fr_text.specs.Lines.{shown}
 use Rattle.fr_text.specs.Pieces.{line}
 use Rattle.fr_trace.specs.Trace.{TraceView}
 use Rattle.fr_verdict.specs.SharpTraces.{recorded_flutter}
-use Rattle.fr_whole.specs.TracedFigures.{is_beside, traced_figures_of}
+use Rattle.fr_whole.specs.TracedFigures.{is_kind_beside, traced_figures_of}
 use Rattle.fr_whole.specs.TracedMeaning.{traced_lasts}
 use Rattle.fr_whole.specs.declared.traced_figures.TracedFigures.{TracedFigures}
 use Rattle.fr_whole.specs.declared.traced_figures.TracedKind.{TracedKind}
@@ -59,11 +59,11 @@ unfoldable pub sharp_check_lines : Values → TracedFigures → List ℕ
 sharp_check_lines p figures =
     line (codes "flutter " ++ decimal (recorded_flutter p))
     ++ line (traced_kind_text figures.kind)
-    ++ line (codes "precision " ++ decimal (sharp_precision (is_beside figures.kind) p (recorded_flutter p)))
-    ++ sharp_check_line (codes "") (is_beside figures.kind) (recorded_flutter p) 1 p
-    ++ sharp_check_line (codes "") (is_beside figures.kind) (recorded_flutter p) 2 p
-    ++ sharp_check_line (codes "") (is_beside figures.kind) (recorded_flutter p) 3 p
-    ++ line (traced_sync_text figures.sharp.synced (traced_lasts (is_beside figures.kind) p))
+    ++ line (codes "precision " ++ decimal (sharp_precision (is_kind_beside figures.kind) p (recorded_flutter p)))
+    ++ sharp_check_line (codes "") (is_kind_beside figures.kind) (recorded_flutter p) 1 p
+    ++ sharp_check_line (codes "") (is_kind_beside figures.kind) (recorded_flutter p) 2 p
+    ++ sharp_check_line (codes "") (is_kind_beside figures.kind) (recorded_flutter p) 3 p
+    ++ line (traced_sync_text figures.sharp.synced (traced_lasts (is_kind_beside figures.kind) p))
     ++ shown (option_map unlike_shown figures.unlike)
     ++ shown (option_map greatest_skew_shown figures.sharp.greatest)
     ++ line (traced_within_text figures.sharp.synced figures.sharp.above)

@@ -19,10 +19,10 @@ use Rattle.fr_whole.specs.declared.traced_figures.TracedKind.{TracedKind}
 use Rattle.fr_whole.specs.declared.traced_figures.TracedKind.TheVariants.{Alone, Alike, Beside}
 
 -- whether the numbers of a kind are those beside arbitrary sync nodes
-abbrev pub is_beside : TracedKind → Bool
-is_beside Alone = false
-is_beside Alike = false
-is_beside Beside = true
+abbrev pub is_kind_beside : TracedKind → Bool
+is_kind_beside Alone = false
+is_kind_beside Alike = false
+is_kind_beside Beside = true
 
 -- ---- sharp sync
 
@@ -79,8 +79,8 @@ unlike_since Beside p t synced = option_and_then (first_unlike p t) synced
 abbrev pub figures_of_kind : TracedKind → Values → TraceView → TracedFigures
 figures_of_kind kind p t = record {
   kind = kind;
-  unlike = unlike_since kind p t (first_recorded_sharp (is_beside kind) p t);
-  sharp = recorded_figures (is_beside kind) p t;
+  unlike = unlike_since kind p t (first_recorded_sharp (is_kind_beside kind) p t);
+  sharp = recorded_figures (is_kind_beside kind) p t;
 }
 
 abbrev pub traced_figures_of : Values → TraceView → TracedFigures

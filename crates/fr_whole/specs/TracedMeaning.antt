@@ -8,7 +8,7 @@ use Rattle.fr_trace.specs.Trace.{TraceView}
 use Rattle.fr_verdict.specs.Alike.{AreAllAlike, AreSaidFrom}
 use Rattle.fr_verdict.specs.SharpTraces.{recorded_flutter, IsRecordedInSharpSync, KeepsSharpClocks, RecordsKeepApart, StaysRecordedInSharpSync, TracedChecksHold}
 use Rattle.fr_verdict.specs.Sync.{IsFirstSynced}
-use Rattle.fr_whole.specs.TracedFigures.{is_beside}
+use Rattle.fr_whole.specs.TracedFigures.{is_kind_beside}
 use Rattle.fr_whole.specs.declared.traced_figures.TracedFigures.{TracedFigures}
 use Rattle.fr_whole.specs.declared.traced_figures.TracedKind.{TracedKind}
 use Rattle.fr_whole.specs.declared.traced_figures.TracedKind.TheVariants.{Alone, Alike, Beside}
@@ -73,11 +73,11 @@ IsUnlikeTold p t Beside synced unlike = IsUnlikeFound p t synced unlike
 
 pub record AreTracedFigures (p : Values) (t : TraceView) (figures : TracedFigures) : Type 0 where
   pub kind : IsTracedKind p t figures.kind
-  pub synced : IsRecordedSharpFound (is_beside figures.kind) p t figures.sharp.synced
+  pub synced : IsRecordedSharpFound (is_kind_beside figures.kind) p t figures.sharp.synced
   pub unlike : IsUnlikeTold p t figures.kind figures.sharp.synced figures.unlike
   pub greatest : IsGreatestSince p t.history figures.sharp.synced figures.sharp.greatest
   pub above :
-      IsAboveSince p t.history (pos (sharp_precision (is_beside figures.kind) p (recorded_flutter p))) figures.sharp.synced
+      IsAboveSince p t.history (pos (sharp_precision (is_kind_beside figures.kind) p (recorded_flutter p))) figures.sharp.synced
       figures.sharp.above
 
 -- ---- what is promised

@@ -36,8 +36,8 @@ pub use sharp_gathering::write_sharp_report;
 pub use sharp_report::{answer_sharp_report, answer_sharp_run, files_decide_what_is_told_sharply};
 pub use sharp_report_laws::{a_sharp_report_is_lawful, files_decide_the_sharp_report};
 pub use status_laws::{
-    a_power_on_has_one_status, a_sharp_check_has_one_status, a_sharp_report_has_one_status, an_observation_has_one_status,
-    each_word_has_one_status,
+    a_power_on_has_one_status, a_sharp_check_has_one_status, a_sharp_report_has_one_status,
+    an_observation_has_one_status, each_word_has_one_status,
 };
 pub use top::flexray;
 pub use traced_figures::{TracedFigures, TracedKind};

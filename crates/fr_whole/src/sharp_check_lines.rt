@@ -11,12 +11,12 @@ ghost use Rattle.fr_whole.specs.TracedMeaning.{traced_lasts};
 
 use crate::traced_figures::{TracedFigures, TracedKind};
 use fr_bound::{CheckSides, sharp_bounds, sharp_lasts, sharp_side};
+use fr_check::recorded_flutter;
 use fr_cluster::Params;
 use fr_series::lasts_piece;
 use fr_skew::Peak;
 use fr_text::Piece::{Natural, Signed, Word};
 use fr_text::{Line, line_of};
-use fr_verdict::recorded_flutter;
 
 // What the sharper bounds say of a trace, by its figures.
 #[tactic(auto, unfolding(crate::specs::SharpCheckText::sharp_check_lines))]
@@ -55,7 +55,8 @@ fn kind_line(kind: TracedKind) -> Line
 }
 
 fn precision_line(params: &Params, beside: bool) -> Line
-    ensures { result ≡ line (codes "precision " ++ decimal (sharp_precision beside params.now (recorded_flutter params.now))) }
+    ensures { result ≡
+        line (codes "precision " ++ decimal (sharp_precision beside params.now (recorded_flutter params.now))) }
 {
     let bounds = sharp_bounds(params, beside, recorded_flutter(params));
     line_of(&[Word(b"precision "), Natural(bounds.precision as u64)])
@@ -66,8 +67,12 @@ fn check_line(params: &Params, beside: bool, number: u8) -> Line
     requires to { number ≤ 5 }
     ensures { result ≡ sharp_check_line (codes "") beside (recorded_flutter params.now) number params.now }
 {
-    let CheckSides { left, right, holds } =
-        sharp_side(params, beside, recorded_flutter(params), number);
+    let CheckSides { left, right, holds } = sharp_side(
+        params,
+        beside,
+        recorded_flutter(params),
+        number,
+    );
     line_of(&[
         Word(b"C"),
         Natural(u64::from(number)),
@@ -83,7 +88,9 @@ fn traced_lasts(params: &Params, beside: bool) -> Option<u64>
     ensures { result ≡ traced_lasts beside params.now }
 {
     let flutter = recorded_flutter(params);
-    if sharp_side(params, beside, flutter, 2).holds && sharp_side(params, beside, flutter, 3).holds {
+    if sharp_side(params, beside, flutter, 2).holds
+        && sharp_side(params, beside, flutter, 3).holds
+    {
         sharp_lasts(params, flutter)
     } else {
         Some(0)

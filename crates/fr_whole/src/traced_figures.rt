@@ -9,15 +9,14 @@ ghost use Rattle.fr_trace.specs.Fits.{TraceFits};
 ghost use Rattle.fr_verdict.specs.Alike.{first_unlike};
 ghost use Rattle.fr_verdict.specs.Sound.{IsSound};
 ghost use Rattle.fr_verdict.specs.Sync.{first_synced_of, is_early};
-ghost use Rattle.fr_whole.specs.TracedFigures.{figures_of_kind, is_beside, kind_from, recorded_figures, traced_figures_of};
+ghost use Rattle.fr_whole.specs.TracedFigures.{figures_of_kind, is_kind_beside, kind_from, recorded_figures, traced_figures_of};
 
 use fr_base::NodeRow;
-use fr_check::sound_cycles;
+use fr_check::{first_unlike, recorded_flutter, sound_cycles};
 use fr_cluster::Params;
 use fr_series::{Scale, SharpFigures, are_in_sharp_sync, sharp_scale};
 use fr_time::grid_of;
 use fr_trace::{Trace, TracedCycle};
-use fr_verdict::{first_unlike, recorded_flutter};
 
 /// For which kind of cluster a trace counts.
 #[derive(Clone, Copy, Debug, PartialEq, Eq)]
@@ -33,7 +32,7 @@ pub enum TracedKind {
 impl TracedKind {
     /// Whether its numbers are those beside arbitrary sync nodes.
     pub fn is_beside(self) -> bool
-        ensures { result ≡ is_beside self }
+        ensures { result ≡ is_kind_beside self }
     {
         matches!(self, TracedKind::Beside)
     }
@@ -134,31 +133,31 @@ fn recorded_figures(
     for double in 0..trace.doubles() {
         let even = &cycles[2 * double as usize];
         let odd = &cycles[2 * double as usize + 1];
-        figures = with_double(params, &scale, synced, double, even, odd, figures);
+        figures = with_double(params, &scale, (double, synced), even, odd, figures);
     }
     figures
 }
 
-// Those with one more double cycle.
+// Those with one more double cycle, by its number and the first one in sync.
 fn with_double(
     params: &Params,
     scale: &Scale,
-    synced: Option<u32>,
-    double: u32,
+    at: (u32, Option<u32>),
     even: &TracedCycle,
     odd: &TracedCycle,
     figures: SharpFigures,
 ) -> SharpFigures
     requires scale { IsScale scale.now }
     requires grid { scale.now.grid ≡ grid_for params.now }
-    requires double { double < 100_000 }
+    requires double { at.0 < 100_000 }
     requires even { IsSound params.now (kept_of even.now) }
     requires odd { IsSound params.now (kept_of odd.now) }
-    ensures { result ≡ next_sharply scale.now double even.now.rows.items odd.now.rows.items
-        (not (is_early synced double) && are_in_sync_by_even scale.now.bounds even.now.rows.items odd.now.rows.items)
+    ensures { result ≡ next_sharply scale.now at.0 even.now.rows.items odd.now.rows.items
+        (not (is_early at.1 at.0) && are_in_sync_by_even scale.now.bounds even.now.rows.items odd.now.rows.items)
         false figures }
 {
     let _grid = grid_of(params);
+    let (double, synced) = at;
     with_rows(scale, synced, double, &even.rows, &odd.rows, figures)
 }
 

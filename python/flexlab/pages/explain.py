@@ -41,8 +41,8 @@ USAGE = {
     "upgrade": "upgrade PARAMS",
     "settle": "settle PARAMS START RATE, settle PARAMS START RATE sharp FLUTTER or settle PARAMS power FLUTTER",
     "nm": "nm WIDTH FILE", "run": "run PARAMS DRIFT SCRIPT or run PARAMS DRIFT SCRIPT sharp", "trace": "trace PARAMS DRIFT SCRIPT",
-    "check": "check PARAMS TRACE", "make": "make SEED DOUBLES", "capture": "capture A FILE or capture B "
-                                                                           "FILE", "cold": "cold PARAMS POWER",
+    "check": "check PARAMS TRACE or check PARAMS TRACE sharp", "make": "make SEED DOUBLES",
+    "capture": "capture A FILE or capture B FILE", "cold": "cold PARAMS POWER",
     "observe": "observe PARAMS LOG",
 }
 # How names of files end that `flexlab log` turns into logs, beside CSV files.

@@ -13,12 +13,11 @@ ghost use Rattle.fr_verdict.specs.Alike.{alike_offsets, alike_rates, are_all_ali
 ghost use Rattle.fr_verdict.specs.SharpTraces.{recorded_flutter};
 ghost use Rattle.fr_verdict.specs.Sound.{IsHeardCycle, AreHeardCycles};
 
-use crate::covering::dev_in;
-use crate::found::is_named;
 use fr_base::{Channel, Dev, NodeId, NodeRow, Slot, ticks_of};
 use fr_bound::{arrival_error, longest_microtick, sharp_pi, steady_error};
 use fr_cluster::{NodeSpec, ParamName, Params};
 use fr_trace::{Trace, TracedCycle};
+use fr_verdict::{dev_in, is_named};
 
 /// By how much recorded deviations flutter at most, in ticks: by both errors of an arrival.
 pub fn recorded_flutter(params: &Params) -> u64
@@ -187,7 +186,8 @@ fn lie_rates_alike(
     requires odds { AreAscendingDevs odds.now }
     requires rows { All IsTimed rows.now }
     ensures { result ≡
-        list_all (is_near_all (alike_rates params.now) (rate_place_in evens.now odds.now slot params.now) rows.now) rows.now }
+        list_all (is_near_all (alike_rates params.now) (rate_place_in evens.now odds.now slot params.now) rows.now)
+        rows.now }
 {
     let mut all = true;
     for one in rows {

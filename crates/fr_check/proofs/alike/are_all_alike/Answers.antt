@@ -1,7 +1,7 @@
 use Rattle.std.proofs.Common.{◌∙◌, ◌+◌, ◌*◌, sym, subst, arith}
 use Rattle.fr_verdict.specs.Sound.{IsHeardCycle}
-use Rattle.fr_verdict.proofs.AlikeCycles.{alike_away, alike_there}
-use Rattle.fr_verdict.proofs.alike.are_all_alike.Goals as goal
+use Rattle.fr_check.proofs.AlikeCycles.{alike_away, alike_there}
+use Rattle.fr_check.proofs.alike.are_all_alike.Goals as goal
 
 pub are_alike_in-requires-clause-even : goal.are_alike_in-requires-clause-even
 are_alike_in-requires-clause-even c =

@@ -1,7 +1,7 @@
 use Rattle.std.proofs.Common.{◌<◌, ℕ, subst}
 use Rattle.fr_verdict.specs.Alike.{unlike_at}
 use Rattle.fr_verdict.proofs.Stepping.{below_hit, below_more, below_none}
-use Rattle.fr_verdict.proofs.alike.first_unlike.Goals as goal
+use Rattle.fr_check.proofs.alike.first_unlike.Goals as goal
 
 pub loop-double-init : goal.loop-double-init
 loop-double-init c = below_none (unlike_at c.args.params.now c.args.trace.now c.args.from)

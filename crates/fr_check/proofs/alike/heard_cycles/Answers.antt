@@ -3,7 +3,7 @@ use Rattle.std.specs.Prelude.{All}
 use Rattle.fr_history.specs.History.{History}
 use Rattle.fr_trace.specs.Lasting.{IsTracedRecord}
 use Rattle.fr_verdict.proofs.Records.{ordered_each, timed_each}
-use Rattle.fr_verdict.proofs.alike.heard_cycles.Goals as goal
+use Rattle.fr_check.proofs.alike.heard_cycles.Goals as goal
 
 pub returns-clause-heard : goal.returns-clause-heard
 returns-clause-heard c =

@@ -3,7 +3,7 @@ use Rattle.std.specs.Prelude.{All}
 use Rattle.fr_base.specs.Rows.{AreAscendingDevs}
 use Rattle.fr_base.specs.Timed.{IsTimed}
 use Rattle.fr_verdict.specs.Alike.{is_said_alike_in}
-use Rattle.fr_verdict.proofs.alike.is_said_alike.Goals as goal
+use Rattle.fr_check.proofs.alike.is_said_alike.Goals as goal
 
 pub is_said_alike_in-requires-clause-evens : goal.is_said_alike_in-requires-clause-evens
 is_said_alike_in-requires-clause-evens c = subst AreAscendingDevs (sym c.deref.ensures.value) c.requires.even.ordered
