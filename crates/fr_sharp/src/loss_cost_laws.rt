@@ -1,5 +1,6 @@
 ghost use Rattle.fr_sharp.specs.LossBursts.{BurstsCostNoMore, BurstsKeepThePeak};
 ghost use Rattle.fr_sharp.specs.LossCosts.{EverySecondIsReached, OneLongest, OneLossCost, OneSecondCost, SomeLongest, SomeLossCost, SomeSecondCost};
+ghost use Rattle.fr_sharp.specs.MeetingCosts.{OneMeetingCost, SomeMeetingCost};
 
 use crate::losing::histories_keep_through_losses;
 use fr_promise::heard_numbers;
@@ -8,6 +9,7 @@ use fr_promise::heard_numbers;
 pub fn costs_are_one()
     ensures row { OneLossCost }
     ensures second { OneSecondCost }
+    ensures meeting { OneMeetingCost }
     ensures longest { OneLongest }
 {}
 
@@ -16,6 +18,7 @@ pub fn costs_are_one()
 pub fn costs_are_there()
     ensures row { SomeLossCost }
     ensures second { SomeSecondCost }
+    ensures meeting { SomeMeetingCost }
     ensures longest { SomeLongest }
     ensures reached { EverySecondIsReached }
 {}

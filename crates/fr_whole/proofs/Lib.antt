@@ -8,5 +8,6 @@ pub mod SharpReports
 pub mod ZeroTerms
 pub mod LoneLeader
 pub mod LedRuns
+pub mod FewMissed
 pub mod PowerOnTexts
 pub mod WorkedLed
