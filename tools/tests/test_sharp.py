@@ -700,7 +700,7 @@ class Losses(Case):
         two_each, three_each = ([(one, two) for two in range(1, 9) for one in [one for one in range(1, 9) if one != two][:share]]
                                 for share in (2, 3))
         for lost, missed, heard in (((), [], "all"), *(((3,), [(1, 2)], "most"), ((0, 9), [(1, 2)], "most"), (range(10), [(1, 2)], "most")),
-                                    *((lost, two_each, "most") for lost in ((3,), range(10))),
+                                    *((lost, two_each, "most") for lost in ((3,), range(2, 10))),
                                     *((lost, three_each, "any") for lost in ((3,), (3, 4), (0, 9), (3, 4, 5)))):
             script = "".join(f"lose,{2 * double},{one},{two},{channel},,\n" for double in lost for one, two in missed for channel in "AB")
             path = self.write("script.csv", script)
