@@ -76,8 +76,10 @@ class LostBound:
     """How far clocks come apart where any frames are lost in `lost` double cycles in a row, and all is heard in each later one;
     without arbitrary sync nodes. `apart` is by double cycle, up to `back`, from which on it is `precision`. `every_second` is for
     ever, where all is heard in one of any two in a row, and `every_second_holds` whether the checks from 3 to 5 hold for that.
-    `longest` is how many in a row they bear, None where they fail though nothing is lost; `lasts` is by the walk of lengths
-    alone, so a number where `SharpBound` has None since the walk is held."""
+    `meeting` is for ever too, where each node misses the frames of `missed` other sync nodes at most in each double cycle and none
+    is damaged, and `meeting_holds` whether these checks hold for that. `longest` is how many in a row they bear, None where they
+    fail though nothing is lost; `lasts` is by the walk of lengths alone, so a number where `SharpBound` has None since the walk is
+    held."""
 
     text: str = field(repr=False)
     flutter: int
@@ -93,6 +95,9 @@ class LostBound:
     back: int
     every_second: int
     every_second_holds: bool
+    meeting: int
+    missed: int
+    meeting_holds: bool
     longest: int | None
 
     @property

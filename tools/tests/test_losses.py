@@ -8,6 +8,7 @@ import unittest
 import losses_peer
 from bench import FLEXRAY, SERIES, Bench, needs_series
 from clocks_peer import CHANGE, PRODUCTION
+from flexray import texts
 
 RUNS = int(os.environ.get("FLEXRAY_LOSS_RUNS", "14"))
 DRIFT = "doubles,2,,,,\n"
@@ -15,7 +16,7 @@ CHANGING = {CHANGE: 1, "pRateCorrectionOut": 41, "pOffsetCorrectionOut": 300, "g
 EACH = range(1, 9)
 
 
-class Bordering(unittest.TestCase):
+class Bordering(Bench):
     """How much may be lost until lists meet no longer, or are trusted no longer, by what is reckoned here."""
 
     def heard(self, count, missed, liars=0, damaged=(), is_even=False):
@@ -43,6 +44,18 @@ class Bordering(unittest.TestCase):
                 (self.heard(2, {1: 1}), "most"), (self.heard(2, {}), "all"), (self.heard(1, {}), "all")):
             with self.subTest(what=what, wanted=wanted):
                 self.assertEqual(what, (wanted, {"all": "clean", "most": "meeting", "any": "poor"}[wanted], True))
+
+    def test_flexray_bound_says_so_of_each_number_of_sync_nodes(self):
+        """With so many missed by each lists meet, and with one more they do not. Of one node nothing can be missed."""
+        for count in range(1, 16):
+            each = range(1, count + 1)
+            params = self.write("params.csv", "".join(f"param,{name},{value},,\n" for name, value in PRODUCTION.items())
+                                + "".join(f"node,{node},{node},A,1\n" for node in each))
+            missed = texts.lost_bound(self.flexray("bound", params, "sharp", "0", "lost", "1")[1]).missed
+            with self.subTest(count=count):
+                self.assertEqual(missed, [0, 0, 1, 0, 1, 1, 2, 2, 3, 3, 4, 3, 4, 4, 5][count - 1])
+                self.assertEqual(self.heard(count, dict.fromkeys(each, missed)).word, "most" if missed else "all")
+                self.assertEqual(self.heard(count, dict.fromkeys(each, missed + 1)).word, "any" if count > 1 else "all")
 
     def test_beside_arbitrary_nodes(self):
         """Where all is heard lists meet at best. They are trusted as long as all that may be of arbitrary nodes is discarded."""

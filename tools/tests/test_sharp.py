@@ -662,7 +662,11 @@ class Losses(Case):
         self.longest = 1_000_000 + self.p["xRateBound"]
         self.changes = 2 * (self.p["pMicroPerCycle"] + self.p["pRateCorrectionOut"]) * self.p["xChangeBound"]
         for flutter in (0, 3_000_000, sharp.MOST):
-            alone = self.told(flutter)["alone"]
+            alone, beside = self.told(flutter)["alone"], self.told(flutter)["beside"]
+            # From sharp sync on the numbers grow to those beside arbitrary nodes and no further, which stay as they are.
+            meeting = [self.costs(alone, pattern) for pattern in itertools.product(("most", "all"), repeat=8)]
+            self.assertEqual(self.step(alone, "most", beside.pi, beside.lambda_), (beside.pi, beside.lambda_))
+            far = self.near(alone, beside.pi, beside.lambda_)
             seconds = [self.costs(alone, pattern) for pattern in itertools.product(("any", "all"), repeat=8)
                        if all("all" in two for two in zip(pattern, pattern[1:]))]
             longest = next(n for n in itertools.count() if not self.holds(alone, self.costs(alone, ["any"] * n + ["all"])[1])) - 1
@@ -679,6 +683,9 @@ class Losses(Case):
                                  [least.holds(number, least.Sides(left, right)) for number, left, right in self.sides(alone, reach)])
                 self.assertEqual((told.every_second, told.every_second_holds),
                                  (max(max(apart) for apart, _ in seconds), self.holds(alone, max(reach for _, reach in seconds))))
+                self.assertEqual((told.meeting, told.missed, told.meeting_holds), (beside.precision, 2, self.holds(alone, far)))
+                self.assertLessEqual(max(max(apart) for apart, _ in meeting), told.meeting)
+                self.assertLessEqual(max(reach for _, reach in meeting), far)
                 self.assertEqual((told.longest, told.lasts), (longest if longest >= 0 else None, alone.lasts))
                 self.assertFalse(alone.is_held)
 
@@ -690,9 +697,11 @@ class Losses(Case):
         self.changes = 2 * (self.p["pMicroPerCycle"] + self.p["pRateCorrectionOut"]) * self.p["xChangeBound"]
         folder = os.path.join(REPOSITORY, "examples", "sharp")
         alone = self.told(0)["alone"]
-        three = [(one, two) for two in range(1, 9) for one in [one for one in range(1, 9) if one != two][:3]]
+        two_each, three_each = ([(one, two) for two in range(1, 9) for one in [one for one in range(1, 9) if one != two][:share]]
+                                for share in (2, 3))
         for lost, missed, heard in (((), [], "all"), *(((3,), [(1, 2)], "most"), ((0, 9), [(1, 2)], "most"), (range(10), [(1, 2)], "most")),
-                                    *((lost, three, "any") for lost in ((3,), (3, 4), (0, 9), (3, 4, 5)))):
+                                    *((lost, two_each, "most") for lost in ((3,), range(2, 10))),
+                                    *((lost, three_each, "any") for lost in ((3,), (3, 4), (0, 9), (3, 4, 5)))):
             script = "".join(f"lose,{2 * double},{one},{two},{channel},,\n" for double in lost for one, two in missed for channel in "AB")
             path = self.write("script.csv", script)
             told = texts.sharp_series(subprocess.run(

@@ -11,6 +11,8 @@ use Rattle.fr_promise.specs.declared.way.SharpWay.{SharpWay}
 use Rattle.fr_sharp.specs.LossCosts.{OneLongest, OneLossCost, OneSecondCost}
 use Rattle.fr_sharp.specs.declared.loss_costs.LossCost.{LossCost}
 use Rattle.fr_sharp.specs.declared.loss_costs.SecondCost.{SecondCost}
+use Rattle.fr_sharp.specs.declared.meeting_costs.MeetingCost.{MeetingCost}
+use Rattle.fr_sharp.specs.MeetingCosts.{OneMeetingCost}
 use Rattle.fr_promise.specs.SharpWay.{OneSharpWay}
 use Rattle.fr_text.specs.Kind.{HasOneAnswer}
 use Rattle.fr_text.specs.Files.{IsDecided}
@@ -35,19 +37,20 @@ one_sharp_bounds one flutter = decided (sharp_files flutter) (one, λ p written 
 pub one_sharp_join_bounds : HasOneAnswer params_file → (flutter : ℕ) → IsDecided (sharp_join_files flutter)
 one_sharp_join_bounds one flutter = decided (sharp_join_files flutter) (one, λ p written again is more. is ∙ sym more)
 
-same_figures : (one other : LossFigures) → one.row ≡ other.row → one.second ≡ other.second → one.longest ≡ other.longest → one ≡ other
-same_figures one other row second longest =
-    let made : LossCost → SecondCost → Option ℕ → LossFigures = λ a b c. record { row = a; second = b; longest = c } in
-    ap (λ (a : LossCost). made a one.second one.longest) row ∙ ap (λ (b : SecondCost). made other.row b one.longest) second ∙ ap (made other.row other.second) longest
+same_figures : (one other : LossFigures) → one.row ≡ other.row → one.second ≡ other.second → one.meeting ≡ other.meeting → one.longest ≡ other.longest → one ≡ other
+same_figures one other row second meeting longest =
+    let made : LossCost → SecondCost → MeetingCost → Option ℕ → LossFigures = λ a b m c. record { row = a; second = b; meeting = m; longest = c } in
+    ap (λ (a : LossCost). made a one.second one.meeting one.longest) row ∙ ap (λ (b : SecondCost). made other.row b one.meeting one.longest) second
+    ∙ ap (λ (m : MeetingCost). made other.row other.second m one.longest) meeting ∙ ap (made other.row other.second other.meeting) longest
 
-pub one_losses : HasOneAnswer params_file → OneLossCost → OneSecondCost → OneLongest → (flutter count : ℕ) → IsDecided (loss_files flutter count)
-one_losses one row second longest flutter count =
+pub one_losses : HasOneAnswer params_file → OneLossCost → OneSecondCost → OneMeetingCost → OneLongest → (flutter count : ℕ) → IsDecided (loss_files flutter count)
+one_losses one row second meeting longest flutter count =
     decided (loss_files flutter count) (
       one,
       λ p written again is more.
           let figures : is.figures ≡ more.figures =
           same_figures is.figures more.figures (row p flutter count is.figures.row more.figures.row is.are.row more.are.row) (second p flutter is.figures.second more.figures.second is.are.second more.are.second)
-          (longest p flutter is.figures.longest more.figures.longest is.are.longest more.are.longest) in
+          (meeting p flutter is.figures.meeting more.figures.meeting is.are.meeting more.are.meeting) (longest p flutter is.figures.longest more.figures.longest is.are.longest more.are.longest) in
           is.shown ∙ ap (loss_text p flutter count) figures ∙ sym more.shown,
     )
 

@@ -4,6 +4,7 @@ use Rattle.std.specs.Prelude.{ℕ, zero, suc, ◌+◌, Bool, true, false, List, 
 use Rattle.std.specs.Fmt.{decimal}
 use Rattle.fr_cluster.specs.Values.{Values}
 use Rattle.fr_sharp.specs.declared.loss_costs.SecondCost.{SecondCost}
+use Rattle.fr_sharp.specs.declared.meeting_costs.MeetingCost.{MeetingCost}
 use Rattle.fr_sharp.specs.LossCosts.{heard_behind, limits_hold}
 use Rattle.fr_sharp.specs.Losses.{lost_apart}
 use Rattle.fr_bound.specs.SharpChecks.{sharp_holds_of, sharp_left_of, sharp_right_of}
@@ -49,6 +50,13 @@ abbrev pub second_line : Values → ℕ → SecondCost → List ℕ
 second_line p flutter second =
     line (codes "every second " ++ decimal second.peak ++ fails_text (limits_hold flutter second.reach p))
 
+-- how far they may where each node misses the frames of no more than so many other sync nodes in each double cycle, and that number
+abbrev pub meeting_line : Values → ℕ → MeetingCost → List ℕ
+meeting_line p flutter meeting = line (
+    codes "meeting " ++ decimal meeting.peak ++ codes " " ++ decimal meeting.missed
+    ++ fails_text (limits_hold flutter meeting.reach p)
+    )
+
 -- the greatest number of double cycles in a row for which those checks hold; none where they fail though nothing is lost
 abbrev pub longest_line : Option ℕ → List ℕ
 longest_line None = line (codes "longest none")
@@ -67,6 +75,7 @@ loss_figures_text p flutter figures =
     ++ lasts_text false p flutter
     ++ line (codes "back " ++ decimal figures.row.back)
     ++ second_line p flutter figures.second
+    ++ meeting_line p flutter figures.meeting
     ++ longest_line figures.longest
 
 -- the lines of double cycles go on until macroticks lie no further apart than the sharper precision

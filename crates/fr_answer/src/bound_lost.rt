@@ -12,7 +12,7 @@ ghost use Rattle.fr_program.specs.Command.{CommandEnds};
 ghost use Rattle.fr_program.specs.Failure.{EndingWritesNothing};
 ghost use Rattle.fr_answer.specs.LossAnswer.{AreLossFigures, loss_command};
 ghost use Rattle.fr_answer.specs.LossText.{fails_text, longest_line, loss_apart_line, loss_apart_lines, loss_bounds_text};
-ghost use Rattle.fr_answer.specs.LossText.{loss_check_line, loss_figures_text, loss_text, second_line};
+ghost use Rattle.fr_answer.specs.LossText.{loss_check_line, loss_figures_text, loss_text, meeting_line, second_line};
 
 use crate::bound::value_line;
 use crate::bound_sharp::{lambda_line, lasts_line, pi_line, precision_line};
@@ -21,8 +21,8 @@ use fr_cluster::Params;
 use fr_params::ParamsFile;
 use fr_program::Failure;
 use fr_sharp::{
-    Digits, LossCost, LossSides, LossSpread, SecondCost, every_second_cost, heard_behind,
-    limits_hold, longest_loss, loss_cost, loss_side,
+    Digits, LossCost, LossSides, LossSpread, MeetingCost, SecondCost, every_second_cost,
+    heard_behind, limits_hold, longest_loss, loss_cost, loss_side, meeting_cost,
 };
 use fr_text::Piece::{Natural, Word};
 use fr_text::{Line, accepted, line_of, put_line, put_lines};
@@ -35,6 +35,8 @@ pub struct LossFigures {
     pub row: LossCost,
     /// Every second double cycle for ever.
     pub second: SecondCost,
+    /// Each double cycle for ever where lists meet.
+    pub meeting: MeetingCost,
     /// How many double cycles in a row the limits bear; none where they do not though nothing is lost.
     pub longest: Option<u32>,
 }
@@ -76,6 +78,7 @@ fn figures_of(params: &Params, flutter: u64, count: u32) -> LossFigures
     LossFigures {
         row: loss_cost(params, flutter, count),
         second: every_second_cost(params, flutter),
+        meeting: meeting_cost(params, flutter),
         longest: longest_loss(params, flutter),
     }
 }
@@ -169,7 +172,7 @@ fn apart_line(double: u32, apart: u128) -> Line
 }
 
 // The peak, the reach, the checks with it, how long the walk lasts, and the way back; and what is of the parameters alone.
-fn figure_lines(params: &Params, flutter: u64, figures: &LossFigures) -> [Option<Line>; 11]
+fn figure_lines(params: &Params, flutter: u64, figures: &LossFigures) -> [Option<Line>; 12]
     requires flutter { flutter ≤ most_flutter }
     requires row { figures.now.row.reach ≤ most_lost }
     requires second { figures.now.second.reach ≤ most_lost }
@@ -187,6 +190,7 @@ fn figure_lines(params: &Params, flutter: u64, figures: &LossFigures) -> [Option
         Some(lasts_line(params, false, flutter)),
         Some(value_line(b"back ", u64::from(figures.row.back))),
         Some(second_line(params, flutter, &figures.second)),
+        Some(meeting_line(params, flutter, &figures.meeting)),
         Some(longest_line(figures.longest)),
     ]
 }
@@ -228,6 +232,20 @@ fn second_line(params: &Params, flutter: u64, second: &SecondCost) -> Line
         Word(b"every second "),
         Word(digits.bytes()),
         Word(fails(limits_hold(params, flutter, second.reach))),
+    ])
+}
+
+fn meeting_line(params: &Params, flutter: u64, meeting: &MeetingCost) -> Line
+    requires { flutter ≤ most_flutter }
+    ensures { result ≡ meeting_line params.now flutter meeting.now }
+{
+    let holds = limits_hold(params, flutter, u128::from(meeting.reach));
+    line_of(&[
+        Word(b"meeting "),
+        Natural(meeting.peak),
+        Word(b" "),
+        Natural(u64::from(meeting.missed)),
+        Word(fails(holds)),
     ])
 }
 

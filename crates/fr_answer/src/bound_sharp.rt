@@ -9,8 +9,7 @@ ghost use Rattle.fr_program.specs.Command.{CommandEnds};
 ghost use Rattle.fr_program.specs.Failure.{EndingWritesNothing};
 ghost use Rattle.fr_answer.specs.BoundAnswer.{sharp_command};
 ghost use Rattle.fr_answer.specs.SharpText.{kind_text, lambda_line, lasting_text, lasts_text, pi_line, precision_line};
-ghost use Rattle.fr_answer.specs.SharpText.{sharp_bounds_text, sharp_check_line};
-ghost use Rattle.fr_answer.specs.SharpText.{sharp_checks_text, sharp_text};
+ghost use Rattle.fr_answer.specs.SharpText.{sharp_bounds_text, sharp_check_line, sharp_checks_text, sharp_text};
 
 use crate::bound::value_line;
 use fr_base::{PutFault, Shelf, Sink};
@@ -84,33 +83,24 @@ pub(crate) fn lambda_line(params: &Params, beside: bool, flutter: u64) -> Line
     requires { flutter ≤ most_flutter }
     ensures { result ≡ lambda_line beside params.now flutter }
 {
-    kind_line(
-        beside,
-        b"lambda ",
-        sharp_bounds(params, beside, flutter).lambda as u64,
-    )
+    let lambda = sharp_bounds(params, beside, flutter).lambda as u64;
+    kind_line(beside, b"lambda ", lambda)
 }
 
 pub(crate) fn pi_line(params: &Params, beside: bool, flutter: u64) -> Line
     requires { flutter ≤ most_flutter }
     ensures { result ≡ pi_line beside params.now flutter }
 {
-    kind_line(
-        beside,
-        b"pi ",
-        sharp_bounds(params, beside, flutter).pi as u64,
-    )
+    let pi = sharp_bounds(params, beside, flutter).pi as u64;
+    kind_line(beside, b"pi ", pi)
 }
 
 pub(crate) fn precision_line(params: &Params, beside: bool, flutter: u64) -> Line
     requires { flutter ≤ most_flutter }
     ensures { result ≡ precision_line beside params.now flutter }
 {
-    kind_line(
-        beside,
-        b"precision ",
-        sharp_bounds(params, beside, flutter).precision as u64,
-    )
+    let precision = sharp_bounds(params, beside, flutter).precision as u64;
+    kind_line(beside, b"precision ", precision)
 }
 
 pub(crate) fn kind_line(beside: bool, label: &[u8], value: u64) -> Line

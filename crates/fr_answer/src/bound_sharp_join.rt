@@ -73,11 +73,8 @@ fn reach_line(params: &Params, beside: bool, flutter: u64) -> Line
     requires { flutter ≤ most_flutter }
     ensures { result ≡ sharp_reach_line beside params.now flutter }
 {
-    kind_line(
-        beside,
-        b"reach ",
-        sharp_reach(params, beside, flutter) as u64,
-    )
+    let reach = sharp_reach(params, beside, flutter) as u64;
+    kind_line(beside, b"reach ", reach)
 }
 
 fn check_line(front: &[u8], params: &Params, beside: bool, flutter: u64, number: u8) -> Line

@@ -103,12 +103,9 @@ fn peak_line(beside: bool, peak: u64) -> Line
 fn verdict_line(beside: bool, way: &SharpWay) -> Line
     ensures { result ≡ sharp_verdict_line beside way.now.doubles way.now.failed }
 {
+    let doubles = u64::from(way.doubles);
     match way.failed {
-        None => line_of(&[
-            Word(kind(beside)),
-            Word(b"settles "),
-            Natural(u64::from(way.doubles)),
-        ]),
+        None => line_of(&[Word(kind(beside)), Word(b"settles "), Natural(doubles)]),
         Some((number, left, right)) => failing_line(beside, number, left, right),
     }
 }

@@ -1,8 +1,9 @@
-mod TrafficCounts
+pub mod TrafficCounts
 pub mod DigitTexts
 pub mod LossLemmas
 pub mod LossNumbers
 pub mod LossRows
+pub mod MeetingNumbers
 pub mod HeardCounts
 pub mod HeardInPart
 pub mod HeardEvents

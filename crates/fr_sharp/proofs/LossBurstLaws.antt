@@ -14,7 +14,7 @@ use Rattle.fr_bound.specs.declared.judging.Heard.{Heard}
 use Rattle.fr_bound.specs.declared.judging.Heard.TheVariants as heard
 use Rattle.fr_precision.specs.Among.{apart_through_losses, lost_spread, spread_through_losses, LaterSpreadsAreLess, SpreadsAreBelowLost}
 use Rattle.fr_sharp.specs.Bearing.{KeepsThrough}
-use Rattle.fr_sharp.specs.LossBursts.{BurstsCostNoMore, BurstsKeepThePeak, IsInBurst, LosesInBursts}
+use Rattle.fr_sharp.specs.LossBursts.{BurstsCostNoMore, BurstsKeepThePeak, IsInBurstFrom, LosesInBursts, LosesInBurstsFrom}
 use Rattle.fr_sharp.specs.LossCosts.{heard_behind}
 use Rattle.fr_sharp.specs.Losses.{lost_apart, HistoriesKeepThroughLosses}
 use Rattle.fr_sharp.specs.LossStatement.{whole_in}
@@ -68,14 +68,14 @@ module _ (p : Values) (flutter : ℕ) where
 
   -- every spread lies below that of so many in a row
   module _ (count : ℕ) (whole : ℕ → Bool) (bursts : LosesInBursts whole count) where
-    behind_loss : (k : ℕ) → IsInBurst whole count k → IsBelow (lost_spread p flutter whole (suc k)) (by_never count)
+    behind_loss : (k : ℕ) → IsInBurstFrom whole 0 count k → IsBelow (lost_spread p flutter whole (suc k)) (by_never count)
     behind_loss k burst =
         let n : ℕ = suc k - burst.start in
-        let from = burst.from in
+        let begun = burst.begun in
         let within = burst.within in
-        let here : burst.start + n ≡ suc k = omega (arith, from) in
-        let there : n + (count - n) ≡ count = omega (arith, from, within) in
-        let one : IsBelow (lost_spread p flutter whole (burst.start + n)) (by_never n) = from_calm whole burst.start n (calm_below whole burst.start burst.calm) in
+        let here : burst.start + n ≡ suc k = omega (arith, begun) in
+        let there : n + (count - n) ≡ count = omega (arith, begun, within) in
+        let one : IsBelow (lost_spread p flutter whole (burst.start + n)) (by_never n) = from_calm whole burst.start n (calm_below whole burst.start (λ earlier less le. burst.calm earlier (omega arith) less le)) in
         let At : ℕ → Type 0 = λ m. IsBelow (lost_spread p flutter whole m) (by_never n) in
         let Up : ℕ → Type 0 = λ m. IsBelow (by_never n) (by_never m) in
         through (lost_spread p flutter whole (suc k)) (by_never n) (by_never count) (subst At here one) (subst Up there (never_rises p flutter n (count - n)))
@@ -92,7 +92,7 @@ module _ (p : Values) (flutter : ℕ) where
           let next : lost_spread p flutter whole (suc k) ≡ next_lost_spread true p flutter s = next_is p flutter whole k true heard in
           let Under : Spread → Type 0 = λ t. IsBelow t (by_never count) in
           subst Under (sym next) (through (next_lost_spread true p flutter s) s (by_never count) (whole_falls p flutter s (always_wide p flutter whole k)) (in_bursts k))
-      | inr lost ↦ behind_loss k (bursts k lost)
+      | inr lost ↦ behind_loss k (bursts k (omega arith) lost)
     ]
 
 pub bursts_cost_no_more : BurstsCostNoMore
@@ -151,19 +151,38 @@ below_lost below p flutter what whole k clean =
     let two = below p flutter what whole (suc k) clean in
     apart_below p (spread_through_losses false p flutter what k) (lost_spread p flutter whole k) (spread_through_losses false p flutter what (suc k)) (lost_spread p flutter whole (suc k)) (record { start = one.0; long = one.1 }) two.0
 
+-- what is lost from a double cycle on, counted from it
+from_there : (whole : ℕ → Bool) (from count : ℕ) → LosesInBurstsFrom whole from count → LosesInBursts (λ m. whole (from + m)) count
+from_there whole from count bursts k late lost =
+    let burst = bursts (from + k) (omega arith) lost in
+    let begun = burst.begun in
+    let within = burst.within in
+    record {
+      start = burst.start - from;
+      begun = omega (arith, begun);
+      within = omega (arith, within);
+      calm = λ earlier since less le. burst.calm (from + earlier) (omega arith) (omega (arith, less)) (omega (arith, less, le));
+    }
+
 pub bursts_keep_the_peak : HistoriesKeepThroughLosses → LaterSpreadsAreLess → SpreadsAreBelowLost → BurstsKeepThePeak
 bursts_keep_the_peak keep later below p d s from flutter count cost h double passed sane bursts is covered alone run late sync awake within lasts =
-    let what : ℕ → Heard = λ m. heard_in (traffic_in p s) m in
+    let j : ℕ = double - from in
+    let what : ℕ → Heard = λ m. heard_in (traffic_in p s) (from + m) in
+    let whole : ℕ → Bool = λ m. whole_in p s (from + m) in
+    let since : ℕ → Heard = λ m. heard_in (traffic_in p s) (double + m) in
+    let place : (m : ℕ) → double + m ≡ from + (j + m) = λ m. omega (arith, late) in
+    let same_since : since ≡ (λ m. what (j + m)) = λ i m. heard_in (traffic_in p s) (place m i) in
     let synced : IsInSharpSyncAt (has_arbitrary p s) p flutter (pos 0) h double = subst (λ (b : Bool). IsInSharpSyncAt b p flutter (pos 0) h double) (sym alone) sync in
     let keeps = covered_files_keep_through_losses keep later p d s from flutter cost.reach h double sane covered run late synced awake passed within lasts in
-    let one = later_apart later (has_arbitrary p s) p flutter what double passed (none_is_clean p s) in
-    let other = below_lost below p flutter what (whole_in p s) (double + passed) (whole_is_clean p s alone) in
-    let same : apart_through_losses (has_arbitrary p s) p flutter what (double + passed) ≡ apart_through_losses false p flutter what (double + passed) = ap (λ (b : Bool). apart_through_losses b p flutter what (double + passed)) alone in
-    let cost_is = (bursts_cost_no_more p flutter count (whole_in p s) cost (double + passed) sane bursts is).0 in
-    keeps_wider (setting_of p d s) h (double + passed) (apart_through_losses (has_arbitrary p s) p flutter (λ m. heard_in (traffic_in p s) (double + m)) passed) cost.peak
-    (up (apart_through_losses (has_arbitrary p s) p flutter (λ m. heard_in (traffic_in p s) (double + m)) passed) (apart_through_losses (has_arbitrary p s) p flutter what (double + passed)) (apart_through_losses false p flutter what (double + passed))
-    (lost_apart p flutter (whole_in p s) (double + passed)) cost.peak one same other cost_is)
+    let here : apart_through_losses (has_arbitrary p s) p flutter since passed ≡ apart_through_losses (has_arbitrary p s) p flutter (λ m. what (j + m)) passed = ap (λ (w : ℕ → Heard). apart_through_losses (has_arbitrary p s) p flutter w passed) same_since in
+    let one = later_apart later (has_arbitrary p s) p flutter what j passed (λ beside m. none_is_clean p s beside (from + m)) in
+    let same : apart_through_losses (has_arbitrary p s) p flutter what (j + passed) ≡ apart_through_losses false p flutter what (j + passed) = ap (λ (b : Bool). apart_through_losses b p flutter what (j + passed)) alone in
+    let other = below_lost below p flutter what whole (j + passed) (λ m. whole_is_clean p s alone (from + m)) in
+    let cost_is = (bursts_cost_no_more p flutter count whole cost (j + passed) sane (from_there (whole_in p s) from count bursts) is).0 in
+    keeps_wider (setting_of p d s) h (double + passed) (apart_through_losses (has_arbitrary p s) p flutter since passed) cost.peak
+    (up (apart_through_losses (has_arbitrary p s) p flutter since passed) (apart_through_losses (has_arbitrary p s) p flutter (λ m. what (j + m)) passed) (apart_through_losses (has_arbitrary p s) p flutter what (j + passed))
+    (apart_through_losses false p flutter what (j + passed)) (lost_apart p flutter whole (j + passed)) cost.peak here one same other cost_is)
     keeps
   where
-    up : (a b c d e : ℕ) → a ≤ b → b ≡ c → c ≤ d → d ≤ e → a ≤ e
-    up a b c d e h is k m = omega (arith, h, is, k, m)
+    up : (z a b c d e : ℕ) → z ≡ a → a ≤ b → b ≡ c → c ≤ d → d ≤ e → z ≤ e
+    up z a b c d e first h is k m = omega (arith, first, h, is, k, m)

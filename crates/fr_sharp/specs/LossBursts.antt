@@ -21,16 +21,19 @@ use Rattle.fr_sharp.specs.Traffic.{none_lacks, traffic_in}
 use Rattle.fr_precision.specs.SharpRun.{WalkLastsAfter}
 use Rattle.fr_bound.specs.SharpSpreads.{sharply_near_in}
 
--- a double cycle is among so many from one on, and in the two before that one all is heard, as far as these are there
-pub record IsInBurst (whole : ℕ → Bool) (count double : ℕ) : Type 0 where
+-- of those from a double cycle on one is among so many in a row, and in the two before them all is heard, as far as these are there
+pub record IsInBurstFrom (whole : ℕ → Bool) (from count double : ℕ) : Type 0 where
   pub start : ℕ
-  pub from : start ≤ double
+  pub begun : start ≤ double
   pub within : double < start + count
-  pub calm : (earlier : ℕ) → earlier < start → start ≤ earlier + 2 → whole earlier ≡ true
+  pub calm : (earlier : ℕ) → from ≤ earlier → earlier < start → start ≤ earlier + 2 → whole earlier ≡ true
 
--- each that loses frames is
+-- each of them that loses frames is; and so of all double cycles
+abbrev pub LosesInBurstsFrom : (ℕ → Bool) → ℕ → ℕ → Type 0
+LosesInBurstsFrom whole from count = (double : ℕ) → from ≤ double → whole double ≡ false → IsInBurstFrom whole from count double
+
 abbrev pub LosesInBursts : (ℕ → Bool) → ℕ → Type 0
-LosesInBursts whole count = (double : ℕ) → whole double ≡ false → IsInBurst whole count double
+LosesInBursts whole count = LosesInBurstsFrom whole 0 count
 
 -- then no macroticks and no action points may lie further apart than where frames are lost in so many in a row alone
 abbrev pub BurstsCostNoMore : Type 0
@@ -39,13 +42,13 @@ BurstsCostNoMore =
     → IsSane p → LosesInBursts whole count → IsLossCost p flutter count cost
     → (lost_apart p flutter whole double ≤ cost.peak) × (sharply_near_in p (lost_spread p flutter whole double) ≤ cost.reach)
 
--- so a run of files that are covered through losses, without arbitrary nodes, keeps within the peak, from each double cycle in sharp sync
--- on in which no node lacks values and as long as the walk lasts: no term is cut, none is missing but where a node has no value of its
--- kind, and every correct node is active
+-- so a run of files that are covered through losses from a double cycle on, without arbitrary nodes, and loses frames in bursts from
+-- there on, keeps within the peak, from each double cycle in sharp sync from there on in which no node lacks values and as long as the walk
+-- lasts: no term is cut, none is missing but where a node has no value of its kind, and every correct node is active
 abbrev pub BurstsKeepThePeak : Type 0
 BurstsKeepThePeak =
     (p : Values) (d : DriftView) (s : ScriptView) (from flutter count : ℕ) (cost : LossCost) (h : Cycles) (double passed : ℕ)
-    → IsSane p → LosesInBursts (whole_in p s) count → IsLossCost p flutter count cost
+    → IsSane p → LosesInBurstsFrom (whole_in p s) from count → IsLossCost p flutter count cost
     → IsCoveredThroughLosses p d s from flutter cost.reach → has_arbitrary p s ≡ false → IsRunOf (setting_of p d s) h
     → from ≤ double → IsInSharpSyncAt false p flutter (pos 0) h double → none_lacks (traffic_in p s) double ≡ true
     → double + passed < doubles_of d → WalkLastsAfter p flutter passed → KeepsThrough (setting_of p d s) h (double + passed) cost.peak

@@ -20,6 +20,7 @@ mod loss_costs;
 mod loss_steps;
 mod losses_of_runs;
 mod lossy_files;
+mod meeting_costs;
 mod sharp_covered;
 mod strays;
 mod through;
@@ -48,6 +49,7 @@ pub use loss_costs::{
 pub use loss_steps::LossSpread;
 pub use losses_of_runs::{RunLosses, losses_are_told, run_losses};
 pub use lossy_files::{files_keep_through_losses, lossy_files_give_runs};
+pub use meeting_costs::{MeetingCost, meeting_cost};
 pub use sharp_covered::first_sharp_gap;
 pub use strays::strays_are_told;
 pub use through::is_through;

@@ -1,5 +1,6 @@
 ghost use Rattle.fr_sharp.specs.LossBursts.{BurstsCostNoMore, BurstsKeepThePeak};
 ghost use Rattle.fr_sharp.specs.LossCosts.{EverySecondIsReached, OneLongest, OneLossCost, OneSecondCost, SomeLongest, SomeLossCost, SomeSecondCost};
+ghost use Rattle.fr_sharp.specs.MeetingCosts.{OneMeetingCost, SomeMeetingCost};
 
 use crate::losing::histories_keep_through_losses;
 use fr_promise::heard_numbers;
@@ -8,6 +9,7 @@ use fr_promise::heard_numbers;
 pub fn costs_are_one()
     ensures row { OneLossCost }
     ensures second { OneSecondCost }
+    ensures meeting { OneMeetingCost }
     ensures longest { OneLongest }
 {}
 
@@ -16,15 +18,16 @@ pub fn costs_are_one()
 pub fn costs_are_there()
     ensures row { SomeLossCost }
     ensures second { SomeSecondCost }
+    ensures meeting { SomeMeetingCost }
     ensures longest { SomeLongest }
     ensures reached { EverySecondIsReached }
 {}
 
 /// The promise where frames are lost in bursts, each of no more than so many double cycles and behind two in which all is
 /// heard: no macroticks lie further apart than the peak of so many in a row, in ticks, and no action points than their
-/// reach. So a run of files that are covered through losses with that reach, without arbitrary sync nodes, keeps within that
-/// peak, from each double cycle in sharp sync on and as long as the walk lasts: no term is cut or missing, and every correct
-/// node is active.
+/// reach. So a run of files that are covered through losses from a double cycle on with that reach, without arbitrary sync
+/// nodes, and that from there on loses frames in bursts, keeps within that peak, from each double cycle in sharp sync from
+/// there on and as long as the walk lasts: no term is cut or missing, and every correct node is active.
 pub fn bursts_keep_the_peak()
     ensures cost { BurstsCostNoMore }
     ensures keep { BurstsKeepThePeak }

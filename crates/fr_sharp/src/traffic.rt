@@ -385,7 +385,7 @@ fn comes(surely: bool, event: Event<'_>) -> bool
     }
 }
 
-fn discarded_of(count: u64) -> u64
+pub(crate) fn discarded_of(count: u64) -> u64
     ensures value { result ≡ discarded count }
     ensures most { result ≤ 2 }
 {

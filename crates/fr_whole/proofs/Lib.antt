@@ -8,6 +8,7 @@ pub mod SharpReports
 pub mod ZeroTerms
 pub mod LoneLeader
 pub mod LedRuns
+pub mod FewMissed
 pub mod PowerOnTexts
 pub mod WorkedLed
 pub mod TracedDoubles

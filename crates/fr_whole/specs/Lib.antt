@@ -4,6 +4,7 @@ pub mod Pages
 pub mod ObservedText
 pub mod ObserveAnswer
 pub mod PowerOn
+pub mod FewMissed
 pub mod PowerOnAnswer
 pub mod SharpGaps
 pub mod SharpReport

@@ -3,6 +3,7 @@
 //! which stands on nothing that these alone need. And the law that ties the startup of a cluster to a run of it.
 #![tactic(auto)]
 
+mod few_missed_laws;
 mod observe;
 mod observe_laws;
 mod pages;
@@ -21,6 +22,7 @@ mod status_laws;
 mod top;
 mod traced_figures;
 
+pub use few_missed_laws::{few_missed_keep_the_peak, few_missed_meet};
 pub use fr_text::Status;
 pub use observe::{ObserveFiles, answer_observe, files_decide_what_is_told};
 pub use observe_laws::an_observed_text_is_so;

@@ -15,5 +15,6 @@ returns c =
       c.value_line.ensures,
       c.from.ensures,
       c.second_line.ensures,
+      c.meeting_line.ensures,
       c.longest_line.ensures,
     ) refl
