@@ -19,7 +19,7 @@ mod terms;
 mod unlawful_lines;
 mod walk;
 
-pub use alike::{first_unlike, recorded_flutter};
+pub use alike::first_unlike;
 pub use answering::answer_check;
 pub use checking::{check, check_otherwise, sound_cycles};
 pub use command_laws::files_decide_the_verdict;

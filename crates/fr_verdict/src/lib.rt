@@ -7,6 +7,7 @@ mod covering;
 mod found;
 mod laws;
 mod ordered;
+mod places;
 mod run_laws;
 mod searching;
 mod traces;
@@ -19,6 +20,7 @@ pub use laws::{
     hearing_suffices, one_answer, other_gaps_are_found, worked_trace,
 };
 pub use ordered::devs_of;
+pub use places::{is_said_alike_in, recorded_flutter};
 pub use run_laws::{
     a_covered_run_passes, a_run_breaks_no_law, a_run_is_read_back, a_verdict_tells_of_the_run,
     files_are_read_back,

@@ -11,12 +11,12 @@ ghost use Rattle.fr_whole.specs.TracedMeaning.{traced_lasts};
 
 use crate::traced_figures::{TracedFigures, TracedKind};
 use fr_bound::{CheckSides, sharp_bounds, sharp_lasts, sharp_side};
-use fr_check::recorded_flutter;
 use fr_cluster::Params;
 use fr_series::lasts_piece;
 use fr_skew::Peak;
 use fr_text::Piece::{Natural, Signed, Word};
 use fr_text::{Line, line_of};
+use fr_verdict::recorded_flutter;
 
 // What the sharper bounds say of a trace, by its figures.
 #[tactic(auto, unfolding(crate::specs::SharpCheckText::sharp_check_lines))]

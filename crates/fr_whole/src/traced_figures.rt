@@ -12,11 +12,12 @@ ghost use Rattle.fr_verdict.specs.Sync.{first_synced_of, is_early};
 ghost use Rattle.fr_whole.specs.TracedFigures.{figures_of_kind, is_kind_beside, kind_from, recorded_figures, traced_figures_of};
 
 use fr_base::NodeRow;
-use fr_check::{first_unlike, recorded_flutter, sound_cycles};
+use fr_check::{first_unlike, sound_cycles};
 use fr_cluster::Params;
 use fr_series::{Scale, SharpFigures, are_in_sharp_sync, sharp_scale};
 use fr_time::grid_of;
 use fr_trace::{Trace, TracedCycle};
+use fr_verdict::recorded_flutter;
 
 /// For which kind of cluster a trace counts.
 #[derive(Clone, Copy, Debug, PartialEq, Eq)]

@@ -1,6 +1,6 @@
 use Rattle.std.proofs.Common.{◌≡◌, take}
 use Rattle.fr_verdict.specs.Alike.{alike_rates, is_near_all, rate_place_in}
-use Rattle.fr_check.proofs.alike.is_rate_near_all.Given as goal
+use Rattle.fr_verdict.proofs.places.is_rate_near_all.Given as goal
 
 -- each so far
 abbrev pub invariant-loop-other : goal.invariant-loop-other

@@ -1,7 +1,7 @@
 use Rattle.std.proofs.Common.{◌≡◌, take}
 use Rattle.std.specs.List.{list_all}
 use Rattle.fr_verdict.specs.Alike.{alike_offsets, is_near_all, offset_place_in}
-use Rattle.fr_check.proofs.alike.lie_offsets_alike.Given as goal
+use Rattle.fr_verdict.proofs.places.lie_offsets_alike.Given as goal
 
 -- each so far
 abbrev pub invariant-loop-one : goal.invariant-loop-one
