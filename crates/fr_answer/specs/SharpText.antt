@@ -6,7 +6,7 @@ use Rattle.fr_cluster.specs.Values.{Values}
 use Rattle.fr_bound.specs.Checks.{holds_of}
 use Rattle.fr_bound.specs.SharpBounds.{sharp_lambda, sharp_near, sharp_pi, sharp_precision}
 use Rattle.fr_bound.specs.SharpChecks.{sharp_holds_of, sharp_left_of, sharp_right_of}
-use Rattle.fr_sharp.specs.HeldWalks.{lasts_by}
+use Rattle.fr_promise.specs.HeldWalks.{lasts_by}
 use Rattle.fr_text.specs.Pieces.{line}
 use Rattle.fr_answer.specs.BoundText.{holds_text}
 

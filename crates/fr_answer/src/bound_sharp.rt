@@ -17,7 +17,7 @@ use fr_bound::{CheckSides, sharp_bounds, sharp_side, side};
 use fr_cluster::Params;
 use fr_params::ParamsFile;
 use fr_program::Failure;
-use fr_sharp::lasts_by;
+use fr_promise::lasts_by;
 use fr_text::Piece::{Natural, Word};
 use fr_text::{Line, accepted, line_of, put_lines};
 use std::alloc::Global;

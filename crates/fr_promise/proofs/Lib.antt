@@ -38,3 +38,5 @@ pub mod WayRows
 pub mod TimedRuns
 pub mod RunSync
 pub mod RunCycles
+pub mod LevelSums
+pub mod LevelLemmas

@@ -3,6 +3,7 @@ pub mod Statement
 pub mod Files
 pub mod Way
 -- of the sharper precision
+pub mod HeldWalks
 pub mod JoinedHistories
 pub mod SharpFollowing
 pub mod SharpGroup

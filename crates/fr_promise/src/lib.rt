@@ -1,7 +1,7 @@
 //! What the files of a run promise: a run without a gap is covered, and keeps its precision from its first double
 //! cycle in sync on in which no node follows. And how soon clocks that begin apart come into sync. And why the nodes
-//! of a run that others join keep the sharper precision. Laws; only the way to sharp sync and the bounds and checks of
-//! nodes that join are computed here.
+//! of a run that others join keep the sharper precision. Laws; only the way to sharp sync, for how long that lasts, and the
+//! bounds and checks of nodes that join are computed here.
 #![tactic(auto)]
 
 mod among;
@@ -12,6 +12,7 @@ mod joined;
 mod joined_histories;
 mod joining;
 mod laws;
+mod levels;
 mod listening;
 mod settles;
 mod sharp_settling;
@@ -32,6 +33,7 @@ pub use laws::{
     covered_files_are_stated, drift_of_a_file_fits, files_keep_precision, greatest_skew_is_within,
     rates_are_within, the_headline,
 };
+pub use levels::{lasts_by, levels_hold, sync_lasts};
 pub use listening::listeners_come_near;
 pub use settles::{files_settle, runs_settle};
 pub use sharp_settling::{one_sharp_way, sharp_spreads_settle};

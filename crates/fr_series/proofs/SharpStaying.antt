@@ -25,7 +25,7 @@ use Rattle.fr_base.specs.declared.node_row.NodeRow.{NodeRow}
 use Rattle.fr_skew.specs.Spreads.{spread_at}
 use Rattle.fr_skew.specs.declared.peak.Peak.{Peak}
 use Rattle.fr_skew.specs.declared.sync.SyncBounds.{SyncBounds}
-use Rattle.fr_sharp.specs.HeldWalks.{sync_lasts}
+use Rattle.fr_promise.specs.HeldWalks.{sync_lasts}
 use Rattle.fr_sharp.specs.JoinedFiles.{CoveredFilesKeepSharplyJoined, KeepsSharplyJoined}
 use Rattle.fr_promise.specs.JoinedHistories.{first_rates_last}
 use Rattle.fr_bound.specs.SharpBounds.{sharp_precision}

@@ -9,7 +9,7 @@ use Rattle.fr_script.specs.View.{ScriptView}
 use Rattle.fr_time.specs.Position.{grid_for}
 use Rattle.fr_skew.specs.Sync.{are_in_sync_by_even}
 use Rattle.fr_history.specs.Cycles.{Cycles, told_of}
-use Rattle.fr_sharp.specs.HeldWalks.{lasts_by}
+use Rattle.fr_promise.specs.HeldWalks.{lasts_by}
 use Rattle.fr_promise.specs.JoinedHistories.{first_rates_last}
 use Rattle.fr_sharp.specs.LossRuns.{is_through_losses, losses_of}
 use Rattle.fr_bound.specs.SharpBounds.{sharp_near, sharp_precision}

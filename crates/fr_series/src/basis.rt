@@ -7,9 +7,9 @@ use fr_bound::{sharp_bounds, sharp_side};
 use fr_cluster::Params;
 use fr_coverage::{Fluttering, Gap, flutter, some_join, ticks_of};
 use fr_drift::Drift;
-use fr_promise::first_rates_last;
+use fr_promise::{first_rates_last, lasts_by};
 use fr_script::Script;
-use fr_sharp::{first_sharp_gap, has_arbitrary, is_through, lasts_by, run_losses};
+use fr_sharp::{first_sharp_gap, has_arbitrary, is_through, run_losses};
 
 /// What a sharper series rests on, besides the cycles of its run.
 #[derive(Clone, Copy, Debug, PartialEq, Eq)]

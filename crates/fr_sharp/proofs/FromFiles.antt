@@ -26,7 +26,7 @@ use Rattle.fr_runs.proofs.Nodes.{correct_node}
 use Rattle.fr_promise.proofs.Covering.{few_nodes, nodes_keep_within, HaveNoGapFrom}
 use Rattle.fr_runs.specs.Flutter.{FluttersWithin}
 use Rattle.fr_sharp.specs.HeldHistories.{HeldHistoriesKeepSharpSync, HistoriesKeepForEver, IsHeldAt}
-use Rattle.fr_sharp.specs.HeldWalks.{beyond_after, beyond_for_ever, walk_is_held, SyncLastsAfter, SyncLastsUpTo}
+use Rattle.fr_promise.specs.HeldWalks.{beyond_after, beyond_for_ever, walk_is_held, SyncLastsAfter, SyncLastsUpTo}
 use Rattle.fr_precision.specs.Lengths.{walked_after}
 use Rattle.fr_bound.specs.SharpBounds.{sharp_near, sharp_precision}
 use Rattle.fr_bound.specs.SharpChecks.{SharpChecksHold}

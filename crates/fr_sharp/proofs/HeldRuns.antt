@@ -28,7 +28,7 @@ use Rattle.fr_history.specs.Cycles.{Cycles}
 use Rattle.fr_runs.proofs.Parts.{cycle_within}
 use Rattle.fr_precision.proofs.RoundLemmas.{contains_map}
 use Rattle.fr_sharp.specs.HeldHistories.{HeldHistoriesKeepSharpSync, HistoriesKeepForEver, IsHeldAt}
-use Rattle.fr_sharp.specs.HeldWalks.{beyond_for_ever, micros_of, oscillators_stay, sync_lasts, walk_is_held, IsHighLevel, IsLowLevel, LevelsAreThere, LevelsHold, LieBetween}
+use Rattle.fr_promise.specs.HeldWalks.{beyond_for_ever, micros_of, oscillators_stay, sync_lasts, walk_is_held, IsHighLevel, IsLowLevel, LevelsAreThere, LevelsHold, LieBetween}
 use Rattle.fr_precision.specs.Lengths.{IsAboutCycle, IsNextEven, KeepSenders}
 use Rattle.fr_sharp.specs.SharpFiles.{SyncLastsOn}
 use Rattle.fr_runs.specs.SharpHistories.{members_at, senders_at, IsInSharpSyncAt, IsSteadyRunFrom, KeepsApart, KeepsSharpPrecision}

@@ -24,7 +24,7 @@ use Rattle.fr_history.specs.Standing.{has_row}
 use Rattle.fr_runs.specs.Gathered.{round_at}
 use Rattle.fr_runs.proofs.Courses.{row_two}
 use Rattle.fr_runs.proofs.Doubles.{even_length}
-use Rattle.fr_sharp.specs.HeldWalks.{micros_of, oscillators_stay}
+use Rattle.fr_promise.specs.HeldWalks.{micros_of, oscillators_stay}
 use Rattle.fr_runs.specs.SteadyRuns.{IsTimedFrom}
 use Rattle.fr_runs.proofs.RowsSupplied.{few_in, LawfulRows}
 use Rattle.fr_promise.proofs.RunDoubles.{all_among, AllHave}

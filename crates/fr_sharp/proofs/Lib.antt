@@ -29,7 +29,5 @@ pub mod LossTold
 pub mod JoinedFromFiles
 pub mod JudgedLaws
 pub mod JudgedCarried
-pub mod LevelSums
-pub mod LevelLemmas
 pub mod CheckGaps
 pub mod SharpCovering

@@ -5,7 +5,7 @@ use Rattle.fr_cluster.specs.Setting.{Setting}
 use Rattle.fr_history.specs.Cycles.{Cycles}
 use Rattle.fr_bound.specs.SharpBounds.{sharp_near, sharp_precision}
 use Rattle.fr_bound.specs.SharpChecks.{SharpChecksHold}
-use Rattle.fr_sharp.specs.HeldWalks.{beyond_for_ever, sync_lasts, walk_is_held}
+use Rattle.fr_promise.specs.HeldWalks.{beyond_for_ever, sync_lasts, walk_is_held}
 use Rattle.fr_runs.specs.SharpHistories.{IsInSharpSyncAt, IsSteadyRunFrom, KeepsApart, KeepsSharpPrecision}
 
 -- each double cycle keeps within the sharper precision and ends well, and is in sharp sync, with lengths less than a microtick beyond

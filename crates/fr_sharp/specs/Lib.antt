@@ -1,7 +1,6 @@
 -- what the public contract cites
 pub mod Bearing
 pub mod HeldHistories
-pub mod HeldWalks
 pub mod JoinedFiles
 pub mod JudgedStates
 pub mod JudgedSteps

@@ -12,7 +12,7 @@ use Rattle.fr_history.specs.Cycles.{Cycles, some_joins}
 use Rattle.fr_promise.specs.Statement.{IsRunOf}
 use Rattle.fr_runs.specs.Flutter.{FluttersWithin}
 use Rattle.fr_bound.specs.SharpChecks.{sharp_holds_of}
-use Rattle.fr_sharp.specs.HeldWalks.{sync_lasts, walk_is_held}
+use Rattle.fr_promise.specs.HeldWalks.{sync_lasts, walk_is_held}
 use Rattle.fr_sharp.specs.SettlingHistories.{AreStatedNear}
 use Rattle.fr_promise.specs.SharpWay.{IsSharpWay}
 use Rattle.fr_sharp.specs.WayHistories.{ComesByTheWay}

@@ -17,7 +17,7 @@ use Rattle.fr_coverage.specs.Links.{is_sync}
 use Rattle.fr_coverage.specs.Order.{HasNoGapFrom}
 use Rattle.fr_history.specs.Cycles.{Cycles}
 use Rattle.fr_promise.specs.Statement.{IsRunOf}
-use Rattle.fr_sharp.specs.HeldWalks.{beyond_after, beyond_for_ever, sync_lasts, SyncLastsAfter, SyncLastsUpTo}
+use Rattle.fr_promise.specs.HeldWalks.{beyond_after, beyond_for_ever, sync_lasts, SyncLastsAfter, SyncLastsUpTo}
 use Rattle.fr_bound.specs.SharpBounds.{sharp_near, sharp_precision}
 use Rattle.fr_bound.specs.SharpChecks.{SharpChecksHold}
 use Rattle.fr_runs.specs.SharpHistories.{IsInSharpSyncAt, KeepsApart, KeepsSharpPrecision}

@@ -1,7 +1,7 @@
 //! Why runs keep a sharper precision where delays change little from one cycle of a double cycle to the next, without
 //! arbitrary nodes and beside them: laws over the lawful histories of runs that no node joins, where frames are lost too, over
-//! double cycles that are judged by their own numbers, and over what the files of a run promise. For how long sharp sync
-//! lasts and what losses cost is computed here, and what a run loses and whether it has an arbitrary node.
+//! double cycles that are judged by their own numbers, and over what the files of a run promise. What losses cost is
+//! computed here, and what a run loses and whether it has an arbitrary node.
 #![tactic(auto)]
 
 mod arbitrary;
@@ -33,7 +33,7 @@ pub use files::{
     covered_files_keep_sharply, files_are_steady, files_keep_sharp_precision, files_settle_sharply,
 };
 pub use heard::all_reach;
-pub use held::{held_walks_keep_sharp_sync, lasts_by, levels_hold, sync_lasts};
+pub use held::held_walks_keep_sharp_sync;
 pub use histories::{
     histories_come_into_sharp_sync, histories_keep_sharp_sync, histories_settle_sharply,
     stated_runs_are_steady,

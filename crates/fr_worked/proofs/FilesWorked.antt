@@ -22,7 +22,7 @@ use Rattle.fr_runs.proofs.Nodes.{correct_node}
 use Rattle.fr_script.specs.Deeds.{deed_in}
 use Rattle.fr_script.specs.Events.{event_of}
 use Rattle.fr_script.specs.View.{deed_of, is_arbitrary, join_of}
-use Rattle.fr_sharp.specs.HeldWalks.{sync_lasts}
+use Rattle.fr_promise.specs.HeldWalks.{sync_lasts}
 use Rattle.fr_precision.specs.Lengths.{IsAboutCycle}
 use Rattle.fr_sharp.specs.SettlingHistories.{AreStatedNear}
 use Rattle.fr_bound.specs.SharpBounds.{last_of, sharp_lambda, sharp_near, sharp_pi}

@@ -43,7 +43,7 @@ use Rattle.fr_script.specs.declared.deeds.Passage.{Passage}
 use Rattle.fr_bound.specs.Bounds.{shortest_micro}
 use Rattle.fr_bound.specs.SharpBounds.{last_of, rate_walk, sharp_near, walk_lasts}
 use Rattle.fr_bound.specs.SharpChecks.{sharp_holds_of, SharpChecksHold}
-use Rattle.fr_sharp.specs.HeldWalks.{SyncLastsAfter, sync_lasts}
+use Rattle.fr_promise.specs.HeldWalks.{SyncLastsAfter, sync_lasts}
 use Rattle.fr_sharp.specs.JoinedFiles.{IsSharplyCoveredToJoin, JoinedFilesKeepSharpPrecision, KeepsSharplyJoined}
 use Rattle.fr_promise.specs.JoinedHistories.{FirstRatesLast, FirstRatesLastSo, first_rates_last}
 use Rattle.fr_runs.specs.SharpHistories.{IsInSharpSyncAt}

@@ -17,7 +17,7 @@ use Rattle.fr_runs.specs.Stated.{all_cycles}
 use Rattle.fr_bound.specs.Bounds.{shortest_micro}
 use Rattle.fr_bound.specs.SharpBounds.{rate_walk, sharp_near, sharp_precision, walk_lasts}
 use Rattle.fr_bound.specs.SharpChecks.{sharp_holds_of}
-use Rattle.fr_sharp.specs.HeldWalks.{beyond_for_ever, sync_lasts}
+use Rattle.fr_promise.specs.HeldWalks.{beyond_for_ever, sync_lasts}
 use Rattle.fr_sharp.specs.JoinedFiles.{IsSharplyCoveredToJoin, KeepsSharplyJoined}
 use Rattle.fr_promise.specs.JoinedHistories.{first_rates_last, IsJoinedUpTo, KeepsJoined}
 use Rattle.fr_runs.specs.SharpHistories.{KeepsApart, KeepsSharpPrecision}

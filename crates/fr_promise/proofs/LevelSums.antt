@@ -15,7 +15,7 @@ use Rattle.fr_time.proofs.Lines.{rest_of}
 use Rattle.fr_bound.specs.Bounds.{shortest_micro}
 use Rattle.fr_bound.specs.SharpBounds.{rate_walk}
 use Rattle.fr_precision.specs.Rows.{longest_cycle, shortest_cycle}
-use Rattle.fr_sharp.specs.HeldWalks.{is_clear_above, is_clear_below, IsHighLevel, IsLowLevel, LevelsAreThere}
+use Rattle.fr_promise.specs.HeldWalks.{is_clear_above, is_clear_below, IsHighLevel, IsLowLevel, LevelsAreThere}
 use Rattle.fr_precision.proofs.Signed.{signed_of}
 
 -- ---- quotients rounded down

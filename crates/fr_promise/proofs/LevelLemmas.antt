@@ -26,7 +26,7 @@ use Rattle.fr_precision.proofs.Figures.{longest_is, shortest_is}
 use Rattle.fr_precision.proofs.PlacementLaws.{steady_within}
 use Rattle.fr_precision.proofs.Senders.{All-both}
 use Rattle.fr_precision.proofs.StepLaws.{unmapped}
-use Rattle.fr_sharp.specs.HeldWalks.{is_clear_above, is_clear_below, micros_of, walk_is_held, IsHighLevel, IsLowLevel, LevelsHold}
+use Rattle.fr_promise.specs.HeldWalks.{is_clear_above, is_clear_below, micros_of, walk_is_held, IsHighLevel, IsLowLevel, LevelsHold}
 use Rattle.fr_precision.specs.Steady.{PlacesEven}
 use Rattle.fr_precision.proofs.CrowdLemmas.{count_by-map, crowd_from, crowd_to, some_from, some_to}
 use Rattle.fr_precision.proofs.Signed.{signed_of}

@@ -1,6 +1,6 @@
-use Rattle.fr_sharp.proofs.LevelLemmas.{levels_hold_lem}
-use Rattle.fr_sharp.proofs.LevelSums.{levels_are_there_lem}
-use Rattle.fr_sharp.proofs.held.levels_hold.Goals as goal
+use Rattle.fr_promise.proofs.LevelLemmas.{levels_hold_lem}
+use Rattle.fr_promise.proofs.LevelSums.{levels_are_there_lem}
+use Rattle.fr_promise.proofs.levels.levels_hold.Goals as goal
 
 pub returns-clause-there : goal.returns-clause-there
 returns-clause-there c = levels_are_there_lem
