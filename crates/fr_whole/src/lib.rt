@@ -1,5 +1,5 @@
-//! The whole program as a call: what `flexray observe PARAMS LOG`, `flexray run PARAMS DRIFT SCRIPT sharp` and `flexray
-//! settle PARAMS power FLUTTER` answer, and with it all words of `flexray`. The other words are answered by `fr_answer`,
+//! The whole program as a call: what `flexray observe PARAMS LOG`, `flexray run PARAMS DRIFT SCRIPT sharp`, `flexray check
+//! PARAMS TRACE sharp` and `flexray settle PARAMS power FLUTTER` answer, and with it all words of `flexray`. The other words are answered by `fr_answer`,
 //! which stands on nothing that these alone need. And the law that ties the startup of a cluster to a run of it.
 #![tactic(auto)]
 
