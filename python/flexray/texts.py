@@ -355,7 +355,7 @@ FAILURES = tuple((kind, re.compile(form, re.ASCII)) for kind, form in (
     ("incomplete", r"(?P<role>trace): incomplete (?P<number>\d{1,18})"),
     ("frame", f"(?P<role>frame): (?P<words>{FRAME_FAULT})"),
     ("breach", rf"(?P<role>trace): record (?P<number>\d{{1,18}}) (?P<words>{BREACH})"),
-    ("gap", f"(?P<role>trace): not covered (?P<words>{GAP})")))
+    ("gap", rf"(?P<role>trace): not covered (?P<words>{GAP}|join \d+)")))
 
 
 def failure(line: str) -> Failure:

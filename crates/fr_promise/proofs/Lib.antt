@@ -4,8 +4,6 @@ pub mod Covering
 pub mod Stating
 pub mod Within
 pub mod Promising
-pub mod Numbers
-pub mod Settling
 pub mod Computed
 pub mod AmongNumbers
 pub mod StrayLemmas

@@ -1,7 +1,6 @@
 -- what the public contract cites
 pub mod Statement
 pub mod Files
-pub mod Way
 -- of the sharper precision
 pub mod HeldWalks
 pub mod JoinedHistories

@@ -1,5 +1,5 @@
 //! What the files of a run promise: a run without a gap is covered, and keeps its precision from its first double
-//! cycle in sync on in which no node follows. And how soon clocks that begin apart come into sync. And why the nodes
+//! cycle in sync on in which no node follows. And why the nodes
 //! of a run that others join keep the sharper precision. Laws; only the way to sharp sync, for how long that lasts, and the
 //! bounds and checks of nodes that join are computed here.
 #![tactic(auto)]
@@ -14,7 +14,6 @@ mod joining;
 mod laws;
 mod levels;
 mod listening;
-mod settles;
 mod sharp_settling;
 mod tested;
 mod way;
@@ -35,7 +34,6 @@ pub use laws::{
 };
 pub use levels::{lasts_by, levels_hold, sync_lasts};
 pub use listening::listeners_come_near;
-pub use settles::{files_settle, runs_settle};
 pub use sharp_settling::{one_sharp_way, sharp_spreads_settle};
 pub use tested::{one_first_sharp_sync, sharp_sync_is_tested};
 pub use way::{SharpWay, sharp_settle};

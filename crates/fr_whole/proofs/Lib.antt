@@ -13,3 +13,5 @@ pub mod PowerOnTexts
 pub mod WorkedLed
 pub mod TracedDoubles
 pub mod SharpChecks
+mod Numbers
+mod Settling

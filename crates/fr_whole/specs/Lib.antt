@@ -14,3 +14,5 @@ pub mod TracedMeaning
 pub mod SharpCheckText
 pub mod SharpCheckAnswer
 pub mod WorkedPowerOn
+-- how soon clocks that begin apart are in sync, by the classical bounds
+pub mod Way

@@ -1,6 +1,7 @@
-//! The whole program as a call: what `flexray observe PARAMS LOG`, `flexray run PARAMS DRIFT SCRIPT sharp` and `flexray
-//! settle PARAMS power FLUTTER` answer, and with it all words of `flexray`. The other words are answered by `fr_answer`,
-//! which stands on nothing that these alone need. And the law that ties the startup of a cluster to a run of it.
+//! The whole program as a call: what `flexray observe PARAMS LOG`, `flexray run PARAMS DRIFT SCRIPT sharp`, `flexray check
+//! PARAMS TRACE sharp` and `flexray settle PARAMS power FLUTTER` answer, and with it all words of `flexray`. The other
+//! words are answered by `fr_answer`, which stands on nothing that these alone need. And the laws of how clocks come into
+//! sync: those that begin apart, by the classical bounds, and the startup of a cluster with a run of it.
 #![tactic(auto)]
 
 mod few_missed_laws;
@@ -11,6 +12,7 @@ mod power_on;
 mod power_on_laws;
 mod report_lines;
 mod request;
+mod settles;
 mod sharp_check;
 mod sharp_check_laws;
 mod sharp_check_lines;
@@ -31,6 +33,7 @@ pub use power_on::answer_power_on;
 pub use power_on_laws::{
     a_power_on_is_told, a_run_that_is_led, file_decides_the_power_on, power_on_comes_into_sync,
 };
+pub use settles::{files_settle, runs_settle};
 pub use sharp_check::answer_sharp_check;
 pub use sharp_check_laws::{a_sharp_check_is_told, files_decide_the_sharp_check};
 pub use sharp_gaps::SharpGaps;

@@ -278,6 +278,8 @@ def explain_gap_of_trace(gap: Sequence[str], words: Sequence[str]) -> list[str]:
     if gap[0] == "link":
         return [f"in double cycle {gap[3]} no common channel has `dev` rows of node {gap[2]} about node {gap[1]} "
                 f"in both its cycles ({2 * int(gap[3])} and {2 * int(gap[3]) + 1})"]
+    if gap[0] == "join":
+        return [f"node {gap[1]} joins, and the sharp bounds are of traces that no node joins; without the word sharp it is judged"]
     return explain_gap(gap, words)
 
 
@@ -314,14 +316,20 @@ def explain_check(check: FailedCheck, words: Sequence[str], way: bool = False) -
             *check_words(number, left, right, parameters, way)[1:], f"{name} stands on line {known.line(name)}"]
 
 
-def explain_sharp_check(name: str, check: FailedCheck, words: Sequence[str]) -> list[str]:
-    """A failing check of the sharper bounds, of a kind by its name, as `bound .. sharp FLUTTER`, also with `join`, and
-    `settle .. sharp FLUTTER` and `settle .. power FLUTTER` tell it."""
+def flutter_of(text: str, words: Sequence[str]) -> int:
+    """The flutter that a request by the sharper bounds states, or that its text has, as that of a trace."""
+    if words[0] == "check":
+        return int(text.split(maxsplit=2)[1])
+    return int(words[words.index("power" if is_power(words) else "sharp", 2) + 1])
+
+
+def explain_sharp_check(name: str, check: FailedCheck, words: Sequence[str], flutter: int) -> list[str]:
+    """A failing check of the sharper bounds, of a kind by its name, as `bound .. sharp FLUTTER`, also with `join`,
+    `settle .. sharp FLUTTER`, `settle .. power FLUTTER` and `check .. sharp` tell it."""
     number, left, right = check.number, check.left, check.right
     known, way = known_of(words), words[0] == "settle" and not is_power(words)
     parameters = Given(known)
-    place = words.index("power" if is_power(words) else "sharp", 2)
-    kind = Kind(name == "beside", int(words[place + 1]), max(key for _, key, _ in known.keys()))
+    kind = Kind(name == "beside", flutter, max(key for _, key, _ in known.keys()))
     told = (sharp_way_words if way else sharp_check_words)(number, left, right, parameters, kind)
     # `bound PARAMS sharp FLUTTER` alone is of runs that lose no frame and that no node joins.
     if number == 1 and words[0] == "bound" and len(words) == 4 and sharp_bounds_of(parameters, kind).is_held:
@@ -337,7 +345,8 @@ def explain_answer(text: str, words: Sequence[str]) -> list[str]:
     for told in texts.failing(text):
         found.append(told.line)
         if told.check and ("sharp" in words[2:] or is_power(words)):
-            found += ["  " + part for part in explain_sharp_check(told.side, told.check, words)]
+            name = "beside" if "\nkind beside\n" in text else told.side
+            found += ["  " + part for part in explain_sharp_check(name, told.check, words, flutter_of(text, words))]
         elif told.check:
             found += ["  " + part for part in explain_check(told.check, words, told.is_way)]
         elif told.gap and told.gap[0] == "check":

@@ -49,8 +49,8 @@ use Rattle.fr_runs.proofs.RowsRun.{next_rows, spread_rows}
 use Rattle.fr_coverage.specs.Decided.{setting_of}
 use Rattle.fr_promise.specs.Statement.{IsRunOf}
 use Rattle.fr_promise.proofs.Stating.{files_are_covered_alone, rates_begin}
-use Rattle.fr_promise.specs.Way.{BeginsWithin, FilesSettle, IsSyncedBy, RunsSettle, SettlesBy}
-use Rattle.fr_promise.proofs.Numbers.{end_within, first_wide, fits, fits_twice, leaves_room, limit_suffices, shrinks, spread_wider}
+use Rattle.fr_whole.specs.Way.{BeginsWithin, FilesSettle, IsSyncedBy, RunsSettle, SettlesBy}
+use Rattle.fr_whole.proofs.Numbers.{end_within, first_wide, fits, fits_twice, leaves_room, limit_suffices, shrinks, spread_wider}
 
 -- ---- where no node joins
 

@@ -1,4 +1,4 @@
-ghost use Rattle.fr_promise.specs.Way.{FilesSettle, RunsSettle};
+ghost use Rattle.fr_whole.specs.Way.{FilesSettle, RunsSettle};
 
 /// The law of settling: a lawful run that is covered as the headline covers it, that no node joins, and that begins no
 /// further apart than is stated, for which the checks for the way hold, is in sync in the double cycle that is computed,

@@ -1,5 +1,0 @@
-use Rattle.fr_promise.proofs.Settling.{files_settle}
-use Rattle.fr_promise.proofs.settles.files_settle.Goals as goal
-
-pub returns : goal.returns
-returns c = files_settle
