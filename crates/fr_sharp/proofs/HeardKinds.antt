@@ -17,7 +17,7 @@ use Rattle.fr_runs.specs.SteadyRuns.{IsWhole, MayHaveArbitrary}
 use Rattle.fr_sharp.specs.Traffic.{all_linked, arbitrary_count, heard_in, bears_on, lists_meet, rate_on, traffic_of}
 use Rattle.fr_sharp.proofs.HeardCounts.{all_pass}
 use Rattle.fr_sharp.proofs.HeardEvents.{regular_of}
-use Rattle.fr_sharp.proofs.HeardValues.{share_of}
+use Rattle.fr_sharp.proofs.HeardSurely.{share_of}
 
 by_tests : Bool → Bool → Bool → Bool → Heard
 by_tests all none offsets rates = if all && none then Clean else (if offsets && rates then Meeting else Poor)

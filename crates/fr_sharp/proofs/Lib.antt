@@ -6,11 +6,13 @@ pub mod LossRows
 pub mod HeardCounts
 pub mod HeardInPart
 pub mod HeardEvents
+pub mod HeardSurely
 pub mod HeardValues
 pub mod RowsInPart
 pub mod BearingRows
 pub mod HeardInCommon
 pub mod HeardKinds
+pub mod JoinedInPart
 pub mod BearingKinds
 pub mod BearingStatus
 pub mod BearingCounts
