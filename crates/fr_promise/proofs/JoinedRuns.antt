@@ -18,7 +18,7 @@ use Rattle.fr_midpoint.proofs.Products.{addz-mulz}
 use Rattle.fr_correct.specs.declared.term.Term.{Term}
 use Rattle.fr_bound.specs.Checks.{holds_of, left_of, right_of}
 use Rattle.fr_precision.specs.Instants.{gap_of}
-use Rattle.fr_precision.specs.Round.{senders_of, Hearer}
+use Rattle.fr_precision.specs.Round.{Hearer}
 use Rattle.fr_precision.proofs.Figures.{nat_le-true}
 use Rattle.fr_skew.specs.Spreads.{spread_at}
 use Rattle.fr_history.specs.Cycles.{Cycle, Cycles, cycle_at, told_of}
@@ -28,8 +28,8 @@ use Rattle.fr_history.specs.Rows.{offset_after}
 use Rattle.fr_history.specs.Skew.{skew_at}
 use Rattle.fr_history.specs.Standing.{has_row, row_nodes}
 use Rattle.fr_history.specs.Terms.{offset_term_in, status_in}
-use Rattle.fr_runs.specs.Gathered.{hearers_of, round_at, row_hearer}
-use Rattle.fr_runs.specs.Hearers.{group_of, member_from, IsOneOf}
+use Rattle.fr_runs.specs.Gathered.{hearers_of, row_hearer}
+use Rattle.fr_runs.specs.Hearers.{member_from, IsOneOf}
 use Rattle.fr_runs.specs.Links.{cycle_in}
 use Rattle.fr_runs.specs.Rounds.{IsDoubleOf}
 use Rattle.fr_runs.proofs.Courses.{row_term_is}
@@ -44,15 +44,15 @@ use Rattle.fr_runs.proofs.Spread.{macrotick_within, spread_within}
 use Rattle.fr_runs.proofs.Standing.{has_stays, is_none, told_has}
 use Rattle.fr_runs.proofs.Whole.{prior_of}
 use Rattle.fr_precision.specs.Lengths.{walked_after}
+use Rattle.fr_runs.specs.SteadyRuns.{IsTimedPartFrom}
 use Rattle.fr_bound.specs.SharpBounds.{rate_walk, sharp_precision}
 use Rattle.fr_bound.specs.SharpChecks.{RateSuffices}
-use Rattle.fr_promise.specs.SharpGroup.{IsSharpGroupKept}
 use Rattle.fr_runs.specs.SharpHistories.{IsInSharpSyncAt}
-use Rattle.fr_promise.specs.SharpJoining.{sharp_reach}
+use Rattle.fr_promise.specs.SharpJoining.{sharp_group_spread, sharp_reach, GroupSpread}
 use Rattle.fr_precision.specs.SharpStep.{IsInSharpSync}
 use Rattle.fr_precision.specs.SharpRun.{WalkLastsAfter}
 use Rattle.fr_promise.specs.SharpListening.{RateTakesIn}
-use Rattle.fr_promise.specs.SharpJoined.{IsJoinedDouble, IsSteadyJoinedFrom, WalksJoined}
+use Rattle.fr_promise.specs.SharpJoined.{IsFollowedDouble, IsFollowedKept, IsJoinedDouble, IsSteadyJoinedFrom, WalksJoined}
 use Rattle.fr_promise.specs.SharpTested.{IsUnfollowedSharpSyncAt}
 use Rattle.fr_promise.specs.JoinedHistories.{FirstRatesLast, FirstRatesLastOn, JoinedHistoriesKeepSharpSync, KeepsJoined, NoneIsCut}
 use Rattle.fr_precision.proofs.BoundLemmas.{first_check_stops_walk, walk_is_held, walked_none}
@@ -67,7 +67,7 @@ use Rattle.fr_promise.proofs.RunDoubles.{rows_lie}
 -- ---- numbers
 
 -- behind a double cycle in which the walk lasts, the rate limit still follows as far as the lengths have walked
-next_suffices : (p : Values) (flutter passed : ℕ) → IsSane p → holds_of 2 p ≡ true → WalkLastsAfter p flutter passed → RateSuffices p (walked_after p flutter (suc passed))
+pub next_suffices : (p : Values) (flutter passed : ℕ) → IsSane p → holds_of 2 p ≡ true → WalkLastsAfter p flutter passed → RateSuffices p (walked_after p flutter (suc passed))
 next_suffices p flutter passed sane second before = by (int_le (rate_walk p flutter) (pos 0)) (walk_is_held p flutter passed sane second before).0.suffices
   where
     still : (a b : ℕ) → a ≤ b → (pos a +ℤ pos 0) ≤ℤ pos b
@@ -104,6 +104,106 @@ first_rates_last_on beside p flutter reach passed sane first checks =
     let Takes : ℤ → Type 0 = λ z. RateTakesIn p flutter z in
     (subst Lasts (sym (does_not_walk p flutter still)) tt, subst Takes (sym (still_zero (rate_walk p flutter) (pos passed *ℤ rate_walk p flutter) still)) (sharp_join_checks_suffice_lem beside p flutter sane checks).2)
 
+-- ---- what a double cycle comes to, from any numbers
+
+module _
+    (x : Setting) (from flutter : ℕ) (h : Cycles) (part : IsTimedPartFrom x from flutter h) (k : ℕ) (behind : from ≤ k) (now to : GroupSpread) (apart : ℕ) (reach beyond next : ℤ)
+    (earlier : Cycles) (even odd : Cycle) (d : IsDoubleOf h k earlier even odd) (g : IsFollowedDouble x now beyond earlier even odd k)
+    (kept : IsFollowedKept x flutter to apart reach beyond next earlier even odd k) where
+  lawful : LawfulRows x flutter earlier even odd k
+  lawful = timed_rows_from x from flutter h part k behind earlier even odd d
+
+  offset_within : (m : Hearer) → IsOneOf (hearers_of x earlier even odd k) m → (member_from x.params m).offset_term.outcome ≡ Within
+  offset_within m one = kept.uncut (member_from x.params m) (is_of x earlier even odd k m one)
+
+  rate_within : (m : Hearer) → IsOneOf (hearers_of x earlier even odd k) m → (member_from x.params m).rate_term.outcome ≡ Within
+  rate_within m one = (kept.range (member_from x.params m) (is_of x earlier even odd k m one)).uncut
+
+  row_active : (node : NodeSpec) → Contains (row_nodes x earlier) node → (status_in x.params (told_of (odd ∷ even ∷ earlier)) node.id).state ≡ Active
+  row_active node among =
+      let p = x.params in
+      let s = lawful in
+      let at : NodeSpec → Hearer = λ m. row_hearer x even odd m.id in
+      let early = row_runs_by (row_laws x earlier) (offset_after p (told_of earlier) even.told) (row_nodes x earlier) even.told.rows node s.two.even_rows among in
+      let late = row_runs_by (row_laws x (even ∷ earlier)) (offset_after p (told_of (even ∷ earlier)) odd.told) (row_nodes x earlier) odd.told.rows node s.two.odd_rows among in
+      let active = each_row (row_nodes x earlier) even.told.rows (λ row. row.state ≡ Active) node s.two.even_rows.nodes among g.active_even in
+      let one : IsOneOf (hearers_of x earlier even odd k) (at node) = inl (inl (contains_map at (row_nodes x earlier) node among)) in
+      active_after x earlier even odd k node.id (row_for odd.told.rows node.id) s.counted late.has.is (sym early.state ∙ active)
+      (ap (λ m. (offset_term_in p (told_of (even ∷ earlier)) odd.told.devs m).outcome) late.has.number ∙ offset_within (at node) one)
+      (ap (λ (t : Term). t.outcome) (row_term_is x earlier even odd node.id late.has.number) ∙ rate_within (at node) one)
+
+  -- of a node without a row no term was told, so it stands as it begins
+  all_active : (node : NodeSpec) → Contains (correct_nodes x) node → (status_in x.params (told_of (odd ∷ even ∷ earlier)) node.id).state ≡ Active
+  all_active node there = by_kind (has_row x earlier node.id) refl
+    where
+      by_kind : (b : Bool) → has_row x earlier node.id ≡ b → (status_in x.params (told_of (odd ∷ even ∷ earlier)) node.id).state ≡ Active
+      by_kind true has = row_active node (kept_filtered (λ (n : NodeSpec). has_row x earlier n.id) (correct_nodes x) node there has)
+      by_kind false has =
+          let s = lawful in
+          let untold : is_some (row_of odd.told.rows node.id) ≡ false =
+          told_has x (even ∷ earlier) odd node s.odd_runs there ∙ has_stays x earlier even k node s.counted s.even_runs there ∙ has in
+          let none = is_none (row_of odd.told.rows node.id) untold in
+          begun_active x (odd ∷ even ∷ earlier) node.id (outcomes_none x earlier even odd k node.id s.counted none ∙ g.fresh node there has)
+
+  pub followed_ends : NoneIsCut x earlier even odd
+  followed_ends = record {
+    within = terms_within x flutter earlier even odd k lawful g.active_odd offset_within rate_within;
+    uncut_even = even_uncut x flutter earlier even odd k lawful g.active_odd offset_within rate_within;
+    uncut_odd = odd_uncut x flutter earlier even odd k lawful g.active_odd offset_within rate_within;
+    active = all_active;
+  }
+
+  pub followed_skew : (macrotick : ℕ) (is_odd : Bool) → macrotick < amount x.params name.gMacroPerCycle
+      → skew_at x.params (told_of h) (cycle_in is_odd k) macrotick ≤ℤ pos apart
+  followed_skew macrotick is_odd less =
+      let p = x.params in
+      let s = lawful in
+      let lie =
+      rows_lie x flutter earlier even odd k s (pos apart) macrotick
+      (λ is_odd one other here there. kept.precise one other (pos macrotick) is_odd here there (no_less macrotick) (macrotick_within p macrotick s.covered.sane less)) in
+      by is_odd lie.0 lie.1
+    where
+      Most : ℕ → Option Record → Type 0
+      Most cycle o = option_map_or (λ r. spread_at (grid_for x.params) cycle r.rows macrotick) o (pos 0) ≤ℤ pos apart
+
+      by : (is_odd : Bool)
+          → All (λ one. All (λ other. IsWithin (pos apart) (gap_of x.params false (pos macrotick) one other)) even.told.rows) even.told.rows
+          → All (λ one. All (λ other. IsWithin (pos apart) (gap_of x.params true (pos macrotick) one other)) odd.told.rows) odd.told.rows
+          → skew_at x.params (told_of h) (cycle_in is_odd k) macrotick ≤ℤ pos apart
+      by false early late =
+          let told : record_at (told_of h) (2 * k) ≡ Some even.told = told_at h (2 * k) ∙ ap (option_map (λ (c : Cycle). c.told)) (even_is h k earlier even odd d) in
+          subst (Most (2 * k)) (sym told)
+          (spread_within x.params (2 * k) (pos apart) even.told.rows macrotick false (even_length (2 * k) k refl) (no_less apart) early)
+      by true early late =
+          let told : record_at (told_of h) (suc (2 * k)) ≡ Some odd.told = told_at h (suc (2 * k)) ∙ ap (option_map (λ (c : Cycle). c.told)) (odd_is h k earlier even odd d) in
+          subst (Most (suc (2 * k))) (sym told)
+          (spread_within x.params (suc (2 * k)) (pos apart) odd.told.rows macrotick true (odd_length (2 * k) k refl) (no_less apart) late)
+
+-- ---- where it begins
+
+-- the rate limit suffices for lengths in their range
+pub within_range : (p : Values) → holds_of 2 p ≡ true → RateSuffices p (pos 0)
+within_range p second = zero_suffices (right_of 2 p) (left_of 2 p) (nat_le-true (right_of 2 p) (left_of 2 p) second)
+  where
+    zero_suffices : (a b : ℕ) → a ≤ b → (pos a +ℤ pos 0) ≤ℤ pos b
+    zero_suffices a b le = omega (arith, ints, le)
+
+-- the two cycles of a double cycle in sharp sync in which none follows
+pub unfollowed_in : (beside : Bool) (x : Setting) (flutter : ℕ) (h : Cycles) (double : ℕ) → IsUnfollowedSharpSyncAt beside x.params flutter h double → (earlier : Cycles) (even odd : Cycle) → IsDoubleOf h double earlier even odd
+    → IsInSharpSync beside x.params flutter (pos 0) even.told.rows odd.told.rows × (even.followers ≡ [])
+unfollowed_in beside x flutter h double begin earlier even odd d =
+    let p = x.params in
+    let s = begin.synced in
+    let second_is : odd_cycle double ≡ suc (2 * double) = omega arith in
+    let one : Some s.even ≡ Some even = sym s.has_even ∙ even_is h double earlier even odd d in
+    let other : Some s.odd ≡ Some odd = sym s.has_odd ∙ ap (cycle_at h) second_is ∙ odd_is h double earlier even odd d in
+    let same_even : s.even ≡ even = cc in
+    let same_odd : s.odd ≡ odd = cc in
+    let Even : Cycle → Type 0 = λ c. IsInSharpSync beside p flutter (pos 0) c.told.rows odd.told.rows in
+    let Odd : Cycle → Type 0 = λ c. IsInSharpSync beside p flutter (pos 0) s.even.told.rows c.told.rows in
+    let Free : Cycle → Type 0 = λ c. c.followers ≡ [] in
+    (subst Even same_even (subst Odd same_odd s.in_sync), subst Free same_even begin.none_early)
+
 -- ---- a history
 
 module _ (beside : Bool) (x : Setting) (from flutter : ℕ) (h : Cycles) (w : IsSteadyJoinedFrom beside x from flutter h) where
@@ -122,25 +222,9 @@ module _ (beside : Bool) (x : Setting) (from flutter : ℕ) (h : Cycles) (w : Is
   module _ (double : ℕ) (late : from ≤ double) (begin : IsUnfollowedSharpSyncAt beside x.params flutter h double) where
     first : (earlier : Cycles) (even odd : Cycle) → IsDoubleOf h double earlier even odd → IsJoinedDouble beside x flutter (walked_after x.params flutter 0) earlier even odd double
     first earlier even odd d =
-        let p = x.params in
-        let s = begin.synced in
-        let second_is : odd_cycle double ≡ suc (2 * double) = omega arith in
-        let one : Some s.even ≡ Some even = sym s.has_even ∙ even_is h double earlier even odd d in
-        let other : Some s.odd ≡ Some odd = sym s.has_odd ∙ ap (cycle_at h) second_is ∙ odd_is h double earlier even odd d in
-        let same_even : s.even ≡ even = cc in
-        let same_odd : s.odd ≡ odd = cc in
-        let Even : Cycle → Type 0 = λ c. IsInSharpSync beside p flutter (pos 0) c.told.rows odd.told.rows in
-        let Odd : Cycle → Type 0 = λ c. IsInSharpSync beside p flutter (pos 0) s.even.told.rows c.told.rows in
-        let Free : Cycle → Type 0 = λ c. c.followers ≡ [] in
+        let at = unfollowed_in beside x flutter h double begin earlier even odd d in
         let At : ℤ → Type 0 = λ z. IsJoinedDouble beside x flutter z earlier even odd double in
-        subst At (sym (walked_none p flutter))
-        (
-        unfollowed_is_joined beside x from flutter h double earlier even odd (pos 0) w late d (zero_suffices (right_of 2 p) (left_of 2 p) (nat_le-true (right_of 2 p) (left_of 2 p) second))
-        (subst Even same_even (subst Odd same_odd s.in_sync)) (subst Free same_even begin.none_early)
-        )
-      where
-        zero_suffices : (a b : ℕ) → a ≤ b → (pos a +ℤ pos 0) ≤ℤ pos b
-        zero_suffices a b le = omega (arith, ints, le)
+        subst At (sym (walked_none x.params flutter)) (unfollowed_is_joined beside x from flutter h double earlier even odd (pos 0) w late d (within_range x.params second) at.0 at.1)
 
     joined_from : (n k : ℕ) (earlier : Cycles) (even odd : Cycle) → k ≡ n + double → k < x.doubles → ((m : ℕ) → m < n → FirstRatesLast x.params flutter m) → IsDoubleOf h k earlier even odd
         → IsJoinedDouble beside x flutter (walked_after x.params flutter n) earlier even odd k
@@ -187,94 +271,25 @@ module _ (beside : Bool) (x : Setting) (from flutter : ℕ) (h : Cycles) (w : Is
         in_sync = joined_is_in_sharp_sync beside x from flutter h k f.earlier f.even f.odd beyond w behind f.is (joined f.earlier f.even f.odd f.is);
       }
 
-  module _
-      (k : ℕ) (behind : from ≤ k) (beyond walk next : ℤ) (earlier : Cycles) (even odd : Cycle) (d : IsDoubleOf h k earlier even odd) (n : WalksJoined beside x flutter beyond walk next)
-      (g : IsJoinedDouble beside x flutter beyond earlier even odd k) where
-    lawful : LawfulRows x flutter earlier even odd k
-    lawful = timed_rows_from x from flutter h (joined_part beside x from flutter h w) k behind earlier even odd d
-
-    kept :
-        IsSharpGroupKept beside x.params flutter beyond next (senders_of (round_at x earlier even odd)) (group_of x.params (hearers_of x earlier even odd k))
-        (pos (sharp_reach beside x.params flutter))
-    kept = joined_doubles_are_kept beside x from flutter h k earlier even odd beyond walk next w behind d n g
-
-    offset_within : (m : Hearer) → IsOneOf (hearers_of x earlier even odd k) m → (member_from x.params m).offset_term.outcome ≡ Within
-    offset_within m one = kept.uncut (member_from x.params m) (is_of x earlier even odd k m one)
-
-    rate_within : (m : Hearer) → IsOneOf (hearers_of x earlier even odd k) m → (member_from x.params m).rate_term.outcome ≡ Within
-    rate_within m one = (kept.range (member_from x.params m) (is_of x earlier even odd k m one)).uncut
-
-    row_active : (node : NodeSpec) → Contains (row_nodes x earlier) node → (status_in x.params (told_of (odd ∷ even ∷ earlier)) node.id).state ≡ Active
-    row_active node among =
-        let p = x.params in
-        let s = lawful in
-        let at : NodeSpec → Hearer = λ m. row_hearer x even odd m.id in
-        let early = row_runs_by (row_laws x earlier) (offset_after p (told_of earlier) even.told) (row_nodes x earlier) even.told.rows node s.two.even_rows among in
-        let late = row_runs_by (row_laws x (even ∷ earlier)) (offset_after p (told_of (even ∷ earlier)) odd.told) (row_nodes x earlier) odd.told.rows node s.two.odd_rows among in
-        let active = each_row (row_nodes x earlier) even.told.rows (λ row. row.state ≡ Active) node s.two.even_rows.nodes among g.active_even in
-        let one : IsOneOf (hearers_of x earlier even odd k) (at node) = inl (inl (contains_map at (row_nodes x earlier) node among)) in
-        active_after x earlier even odd k node.id (row_for odd.told.rows node.id) s.counted late.has.is (sym early.state ∙ active)
-        (ap (λ m. (offset_term_in p (told_of (even ∷ earlier)) odd.told.devs m).outcome) late.has.number ∙ offset_within (at node) one)
-        (ap (λ (t : Term). t.outcome) (row_term_is x earlier even odd node.id late.has.number) ∙ rate_within (at node) one)
-
-    -- of a node without a row no term was told, so it stands as it begins
-    all_active : (node : NodeSpec) → Contains (correct_nodes x) node → (status_in x.params (told_of (odd ∷ even ∷ earlier)) node.id).state ≡ Active
-    all_active node there = by_kind (has_row x earlier node.id) refl
-      where
-        by_kind : (b : Bool) → has_row x earlier node.id ≡ b → (status_in x.params (told_of (odd ∷ even ∷ earlier)) node.id).state ≡ Active
-        by_kind true has = row_active node (kept_filtered (λ (n : NodeSpec). has_row x earlier n.id) (correct_nodes x) node there has)
-        by_kind false has =
-            let s = lawful in
-            let untold : is_some (row_of odd.told.rows node.id) ≡ false =
-            told_has x (even ∷ earlier) odd node s.odd_runs there ∙ has_stays x earlier even k node s.counted s.even_runs there ∙ has in
-            let none = is_none (row_of odd.told.rows node.id) untold in
-            begun_active x (odd ∷ even ∷ earlier) node.id (outcomes_none x earlier even odd k node.id s.counted none ∙ g.fresh node there has)
-
-    none_is_cut : NoneIsCut x earlier even odd
-    none_is_cut = record {
-      within = terms_within x flutter earlier even odd k lawful g.active_odd offset_within rate_within;
-      uncut_even = even_uncut x flutter earlier even odd k lawful g.active_odd offset_within rate_within;
-      uncut_odd = odd_uncut x flutter earlier even odd k lawful g.active_odd offset_within rate_within;
-      active = all_active;
-    }
-
-    skew_in : (macrotick : ℕ) (is_odd : Bool) → macrotick < amount x.params name.gMacroPerCycle
-        → skew_at x.params (told_of h) (cycle_in is_odd k) macrotick ≤ℤ pos (sharp_precision beside x.params flutter)
-    skew_in macrotick is_odd less =
-        let p = x.params in
-        let s = lawful in
-        let lie =
-        rows_lie x flutter earlier even odd k s (pos (sharp_precision beside x.params flutter)) macrotick
-        (λ is_odd one other here there. kept.precise one other (pos macrotick) is_odd here there (no_less macrotick) (macrotick_within p macrotick s.covered.sane less)) in
-        by is_odd lie.0 lie.1
-      where
-        Most : ℕ → Option Record → Type 0
-        Most cycle o = option_map_or (λ r. spread_at (grid_for x.params) cycle r.rows macrotick) o (pos 0) ≤ℤ pos (sharp_precision beside x.params flutter)
-
-        by : (is_odd : Bool)
-            → All (λ one. All (λ other. IsWithin (pos (sharp_precision beside x.params flutter)) (gap_of x.params false (pos macrotick) one other)) even.told.rows) even.told.rows
-            → All (λ one. All (λ other. IsWithin (pos (sharp_precision beside x.params flutter)) (gap_of x.params true (pos macrotick) one other)) odd.told.rows) odd.told.rows
-            → skew_at x.params (told_of h) (cycle_in is_odd k) macrotick ≤ℤ pos (sharp_precision beside x.params flutter)
-        by false early late =
-            let told : record_at (told_of h) (2 * k) ≡ Some even.told = told_at h (2 * k) ∙ ap (option_map (λ (c : Cycle). c.told)) (even_is h k earlier even odd d) in
-            subst (Most (2 * k)) (sym told)
-            (spread_within x.params (2 * k) (pos (sharp_precision beside x.params flutter)) even.told.rows macrotick false (even_length (2 * k) k refl) (no_less (sharp_precision beside x.params flutter)) early)
-        by true early late =
-            let told : record_at (told_of h) (suc (2 * k)) ≡ Some odd.told = told_at h (suc (2 * k)) ∙ ap (option_map (λ (c : Cycle). c.told)) (odd_is h k earlier even odd d) in
-            subst (Most (suc (2 * k))) (sym told)
-            (spread_within x.params (suc (2 * k)) (pos (sharp_precision beside x.params flutter)) odd.told.rows macrotick true (odd_length (2 * k) k refl) (no_less (sharp_precision beside x.params flutter)) late)
-
   keeps_at : (k passed : ℕ) → from ≤ k → k < x.doubles → FirstRatesLast x.params flutter passed
       → ((earlier : Cycles) (even odd : Cycle) → IsDoubleOf h k earlier even odd → IsJoinedDouble beside x flutter (walked_after x.params flutter passed) earlier even odd k)
       → KeepsJoined x h k (sharp_precision beside x.params flutter)
   keeps_at k passed behind within last joined =
       let f = found_at k within in
       let beyond = walked_after x.params flutter passed in
-      let walk = rate_walk x.params flutter in
       let next = walked_after x.params flutter (suc passed) in
+      let now = sharp_group_spread beside x.params flutter in
+      let apart = sharp_precision beside x.params flutter in
+      let reach = pos (sharp_reach beside x.params flutter) in
+      let part = joined_part beside x from flutter h w in
+      let kept =
+      λ (earlier : Cycles) (even odd : Cycle) (d : IsDoubleOf h k earlier even odd).
+      joined_doubles_are_kept beside x from flutter h k earlier even odd beyond (rate_walk x.params flutter) next w behind d (numbers passed last) (joined earlier even odd d) in
       record {
-        skew = skew_in k behind beyond walk next f.earlier f.even f.odd f.is (numbers passed last) (joined f.earlier f.even f.odd f.is);
-        ends = λ earlier even odd d. none_is_cut k behind beyond walk next earlier even odd d (numbers passed last) (joined earlier even odd d);
+        skew =
+            followed_skew x from flutter h part k behind now now apart reach beyond next f.earlier f.even f.odd f.is (joined f.earlier f.even f.odd f.is)
+            (kept f.earlier f.even f.odd f.is);
+        ends = λ earlier even odd d. followed_ends x from flutter h part k behind now now apart reach beyond next earlier even odd d (joined earlier even odd d) (kept earlier even odd d);
       }
 
 pub joined_histories_keep_sharp_sync : JoinedHistoriesKeepSharpSync

@@ -13,6 +13,7 @@ pub mod BearingRows
 pub mod HeardInCommon
 pub mod HeardKinds
 pub mod JoinedInPart
+pub mod JoinedThrough
 pub mod BearingKinds
 pub mod BearingStatus
 pub mod BearingCounts

@@ -1,5 +1,5 @@
 ghost use Rattle.fr_sharp.specs.Bearing.{RowsBear, ThroughIsApart};
-ghost use Rattle.fr_sharp.specs.JoinedLosses.{FollowedDoublesHearInPart};
+ghost use Rattle.fr_sharp.specs.JoinedLosses.{FollowedDoublesHearInPart, JoinedHistoriesKeepThroughLosses, RowsGoThroughLosses};
 ghost use Rattle.fr_sharp.specs.Losses.{HistoriesKeepThroughLosses, RoundsInPartComputeOwn, RowsComputeOwn, RowsMeet, SharpAfterTwoWhole};
 
 use fr_promise::{heard_numbers, losses_last};
@@ -30,3 +30,13 @@ pub fn histories_keep_through_losses()
     losses_last();
     heard_numbers();
 }
+
+/// The law of losses in a run that nodes join: from a double cycle in sharp sync in which no node follows, whatever frames are
+/// lost in whichever double cycles, as long as each correct node that has begun trusts what it has of the senders that do not
+/// join, macroticks of nodes with rows lie no further apart than the numbers by what was heard, in ticks, no term of them or of
+/// those that follow is cut or missing, and no follower is left behind, for as long as the rate limit holds the walk and
+/// suffices for first rates. The numbers of the nodes with rows are those of a run that no node joins.
+pub fn joined_histories_keep_through_losses()
+    ensures keep { JoinedHistoriesKeepThroughLosses }
+    ensures rows { RowsGoThroughLosses }
+{}
