@@ -103,10 +103,10 @@ module _ (x : Setting) (flutter : ℕ) (h : Cycles) (even odd : Cycle) (double :
       no_more : (a b : ℕ) → a ≤ b → pos a ≤ℤ pos b
       no_more a b le = omega (arith, ints, le)
 
-  sending : RowsSend x h even odd double reach
+  pub sending : RowsSend x h even odd double reach
   sending = lawful_rows_send x flutter h even odd double reach s r.active_even r.active_odd r.room
 
-  receiving : (node : NodeSpec) → Contains (following_nodes x h) node → IsReceiver x h even odd reach (follower_receivers x h even odd) node
+  pub receiving : (node : NodeSpec) → Contains (following_nodes x h) node → IsReceiver x h even odd reach (follower_receivers x h even odd) node
   receiving node among =
       follower_receiver x h even odd double reach node s.even_obeys s.odd_obeys sending among (follower_regular x flutter h even odd double s r.rates node among)
       (λ is_odd sender slot there key. r.acts is_odd sender node (pos (action_point_of x.params slot)) there among (no_less (action_point_of x.params slot)) (acts_early sender slot there key))
@@ -163,7 +163,7 @@ module _ (x : Setting) (flutter : ℕ) (h : Cycles) (even odd : Cycle) (double :
     other = follower_other x h even odd node sender index slot s.even_runs among other;
   }
 
-  pairs_steady : (node : NodeSpec) → Contains (following_nodes x h) node → AreSteadyPairs (round_at x h even odd) flutter (follower_hearer x even odd node.id)
+  pub pairs_steady : (node : NodeSpec) → Contains (following_nodes x h) node → AreSteadyPairs (round_at x h even odd) flutter (follower_hearer x even odd node.id)
   pairs_steady node among index slot sender channel early late other is late_is =
       pair_steady sender node slot channel early late (link_to node index slot sender among other)
       (sym (looked_up node.id index slot false channel other.slot_is) ∙ is) (sym (looked_up node.id index slot true channel other.slot_is) ∙ late_is)

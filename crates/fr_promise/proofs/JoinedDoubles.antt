@@ -88,7 +88,7 @@ module _
     doubled : Double x.params now.rows.starts now.rows.lengths beyond (row_members x h even odd)
     doubled = record { sane = s.covered.sane; sharp = g.placed.sharp; regular = members_regular x flutter h even odd double s g.rows.rates }
 
-    rows_in : AreRowsInReach x h even odd reach
+    pub rows_in : AreRowsInReach x h even odd reach
     rows_in = record {
       active_even = g.active_even;
       active_odd = g.active_odd;
@@ -125,7 +125,7 @@ module _
               (g.placed.firsts_start row node (row_member sender here) member) (g.placed.firsts_last row node (inl (row_member sender here)) member) from to
         ]
 
-    followers_in : AreFollowersInReach x h even odd reach
+    pub followers_in : AreFollowersInReach x h even odd reach
     followers_in = record {
       active_even = g.active_even;
       active_odd = g.active_odd;

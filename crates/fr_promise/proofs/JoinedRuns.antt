@@ -69,7 +69,7 @@ use Rattle.fr_promise.proofs.RunDoubles.{rows_lie}
 -- ---- numbers
 
 -- behind a double cycle in which the walk lasts, the rate limit still follows as far as the lengths have walked
-next_suffices : (p : Values) (flutter passed : ℕ) → IsSane p → holds_of 2 p ≡ true → WalkLastsAfter p flutter passed → RateSuffices p (walked_after p flutter (suc passed))
+pub next_suffices : (p : Values) (flutter passed : ℕ) → IsSane p → holds_of 2 p ≡ true → WalkLastsAfter p flutter passed → RateSuffices p (walked_after p flutter (suc passed))
 next_suffices p flutter passed sane second before = by (int_le (rate_walk p flutter) (pos 0)) (walk_is_held p flutter passed sane second before).0.suffices
   where
     still : (a b : ℕ) → a ≤ b → (pos a +ℤ pos 0) ≤ℤ pos b
@@ -146,7 +146,7 @@ followed_runs_go_on x from flutter h double what spreads reach late run first pa
         last.1 (next_suffices x.params flutter n run.part.covered.sane run.second last.0) g kept
         )
 
--- ---- what a double cycle comes to
+-- ---- what a double cycle comes to, from any numbers
 
 module _
     (x : Setting) (from flutter : ℕ) (h : Cycles) (part : IsTimedPartFrom x from flutter h) (k : ℕ) (behind : from ≤ k) (now to : GroupSpread) (apart : ℕ) (reach beyond next : ℤ)
@@ -187,17 +187,17 @@ module _
           let none = is_none (row_of odd.told.rows node.id) untold in
           begun_active x (odd ∷ even ∷ earlier) node.id (outcomes_none x earlier even odd k node.id s.counted none ∙ g.fresh node there has)
 
-  none_is_cut : NoneIsCut x earlier even odd
-  none_is_cut = record {
+  pub followed_ends : NoneIsCut x earlier even odd
+  followed_ends = record {
     within = terms_within x flutter earlier even odd k lawful g.active_odd offset_within rate_within;
     uncut_even = even_uncut x flutter earlier even odd k lawful g.active_odd offset_within rate_within;
     uncut_odd = odd_uncut x flutter earlier even odd k lawful g.active_odd offset_within rate_within;
     active = all_active;
   }
 
-  skew_in : (macrotick : ℕ) (is_odd : Bool) → macrotick < amount x.params name.gMacroPerCycle
+  pub followed_skew : (macrotick : ℕ) (is_odd : Bool) → macrotick < amount x.params name.gMacroPerCycle
       → skew_at x.params (told_of h) (cycle_in is_odd k) macrotick ≤ℤ pos apart
-  skew_in macrotick is_odd less =
+  followed_skew macrotick is_odd less =
       let p = x.params in
       let s = lawful in
       let lie =
@@ -226,12 +226,37 @@ followed_doubles_keep x from flutter h double now to apart reach beyond next par
     let f = double_at h double (omega (arith, whole, within)) in
     let at = each f.earlier f.even f.odd f.is in
     record {
-      skew = skew_in x from flutter h part double late now to apart reach beyond next f.earlier f.even f.odd f.is at.0 at.1;
+      skew = followed_skew x from flutter h part double late now to apart reach beyond next f.earlier f.even f.odd f.is at.0 at.1;
       ends =
           λ earlier even odd d.
           let of = each earlier even odd d in
-          none_is_cut x from flutter h part double late now to apart reach beyond next earlier even odd d of.0 of.1;
+          followed_ends x from flutter h part double late now to apart reach beyond next earlier even odd d of.0 of.1;
     }
+
+-- ---- where it begins
+
+-- the rate limit suffices for lengths in their range
+pub within_range : (p : Values) → holds_of 2 p ≡ true → RateSuffices p (pos 0)
+within_range p second = zero_suffices (right_of 2 p) (left_of 2 p) (nat_le-true (right_of 2 p) (left_of 2 p) second)
+  where
+    zero_suffices : (a b : ℕ) → a ≤ b → (pos a +ℤ pos 0) ≤ℤ pos b
+    zero_suffices a b le = omega (arith, ints, le)
+
+-- the two cycles of a double cycle in sharp sync in which none follows
+pub unfollowed_in : (beside : Bool) (x : Setting) (flutter : ℕ) (h : Cycles) (double : ℕ) → IsUnfollowedSharpSyncAt beside x.params flutter h double → (earlier : Cycles) (even odd : Cycle) → IsDoubleOf h double earlier even odd
+    → IsInSharpSync beside x.params flutter (pos 0) even.told.rows odd.told.rows × (even.followers ≡ [])
+unfollowed_in beside x flutter h double begin earlier even odd d =
+    let p = x.params in
+    let s = begin.synced in
+    let second_is : odd_cycle double ≡ suc (2 * double) = omega arith in
+    let one : Some s.even ≡ Some even = sym s.has_even ∙ even_is h double earlier even odd d in
+    let other : Some s.odd ≡ Some odd = sym s.has_odd ∙ ap (cycle_at h) second_is ∙ odd_is h double earlier even odd d in
+    let same_even : s.even ≡ even = cc in
+    let same_odd : s.odd ≡ odd = cc in
+    let Even : Cycle → Type 0 = λ c. IsInSharpSync beside p flutter (pos 0) c.told.rows odd.told.rows in
+    let Odd : Cycle → Type 0 = λ c. IsInSharpSync beside p flutter (pos 0) s.even.told.rows c.told.rows in
+    let Free : Cycle → Type 0 = λ c. c.followers ≡ [] in
+    (subst Even same_even (subst Odd same_odd s.in_sync), subst Free same_even begin.none_early)
 
 -- ---- a history
 
@@ -251,25 +276,9 @@ module _ (beside : Bool) (x : Setting) (from flutter : ℕ) (h : Cycles) (w : Is
   module _ (double : ℕ) (late : from ≤ double) (begin : IsUnfollowedSharpSyncAt beside x.params flutter h double) where
     first : (earlier : Cycles) (even odd : Cycle) → IsDoubleOf h double earlier even odd → IsJoinedDouble beside x flutter (walked_after x.params flutter 0) earlier even odd double
     first earlier even odd d =
-        let p = x.params in
-        let s = begin.synced in
-        let second_is : odd_cycle double ≡ suc (2 * double) = omega arith in
-        let one : Some s.even ≡ Some even = sym s.has_even ∙ even_is h double earlier even odd d in
-        let other : Some s.odd ≡ Some odd = sym s.has_odd ∙ ap (cycle_at h) second_is ∙ odd_is h double earlier even odd d in
-        let same_even : s.even ≡ even = cc in
-        let same_odd : s.odd ≡ odd = cc in
-        let Even : Cycle → Type 0 = λ c. IsInSharpSync beside p flutter (pos 0) c.told.rows odd.told.rows in
-        let Odd : Cycle → Type 0 = λ c. IsInSharpSync beside p flutter (pos 0) s.even.told.rows c.told.rows in
-        let Free : Cycle → Type 0 = λ c. c.followers ≡ [] in
+        let at = unfollowed_in beside x flutter h double begin earlier even odd d in
         let At : ℤ → Type 0 = λ z. IsJoinedDouble beside x flutter z earlier even odd double in
-        subst At (sym (walked_none p flutter))
-        (
-        unfollowed_is_joined beside x from flutter h double earlier even odd (pos 0) w late d (zero_suffices (right_of 2 p) (left_of 2 p) (nat_le-true (right_of 2 p) (left_of 2 p) second))
-        (subst Even same_even (subst Odd same_odd s.in_sync)) (subst Free same_even begin.none_early)
-        )
-      where
-        zero_suffices : (a b : ℕ) → a ≤ b → (pos a +ℤ pos 0) ≤ℤ pos b
-        zero_suffices a b le = omega (arith, ints, le)
+        subst At (sym (walked_none x.params flutter)) (unfollowed_is_joined beside x from flutter h double earlier even odd (pos 0) w late d (within_range x.params second) at.0 at.1)
 
     joined_from : (passed : ℕ) → ((m : ℕ) → m < passed → FirstRatesLast x.params flutter m) → (earlier : Cycles) (even odd : Cycle) → IsDoubleOf h (double + passed) earlier even odd
         → IsJoinedDouble beside x flutter (walked_after x.params flutter passed) earlier even odd (double + passed)

@@ -306,10 +306,10 @@ module _ (x : Setting) (flutter : ℕ) (h : Cycles) (even odd : Cycle) (double :
       no_more : (a b : ℕ) → a ≤ b → pos a ≤ℤ pos b
       no_more a b le = omega (arith, ints, le)
 
-  sending : RowsSend x h even odd double reach
+  pub sending : RowsSend x h even odd double reach
   sending = lawful_rows_send x flutter h even odd double reach s r.active_even r.active_odd r.room
 
-  receiving : (node : NodeSpec) → Contains (row_nodes x h) node → IsReceiver x h even odd reach (row_receivers x h even odd) node
+  pub receiving : (node : NodeSpec) → Contains (row_nodes x h) node → IsReceiver x h even odd reach (row_receivers x h even odd) node
   receiving node among =
       row_receiver x h even odd double reach node s.even_obeys s.odd_obeys sending among (row_regular x flutter h even odd double s r.rates node among)
       (λ is_odd sender slot there key. row_reached node sender is_odd (pos (action_point_of x.params slot)) among there (no_less (action_point_of x.params slot)) (acts_early sender slot there key))

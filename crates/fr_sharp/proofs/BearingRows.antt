@@ -46,7 +46,8 @@ use Rattle.fr_sharp.specs.Traffic.{bears, is_deaf, is_trusted, lacks_values, may
 use Rattle.fr_sharp.proofs.BearingKinds.{none_is_deaf_of}
 use Rattle.fr_sharp.proofs.HeardCounts.{all_pass}
 use Rattle.fr_sharp.proofs.HeardInPart.{all_heard, heard_some, offset_round, rate_round, IsPlacedInPart}
-use Rattle.fr_sharp.proofs.HeardValues.{no_value, trusted_of, value_by}
+use Rattle.fr_sharp.proofs.HeardSurely.{value_by}
+use Rattle.fr_sharp.proofs.HeardValues.{no_value, trusted_of}
 use Rattle.fr_sharp.proofs.RowsInPart.{round_is}
 
 -- ---- terms as they are borne
@@ -178,7 +179,7 @@ module _ (x : Setting) (flutter : ℕ) (h : Cycles) (even odd : Cycle) (double :
       let n = row_hearer x even odd node.id in
       let heard = heard_of (round_at x h even odd) (offset_at n.look n.own) in
       let some = heard_some (round_at x h even odd) (offset_at n.look n.own) trusted.some in
-      let own = offset_round (round_at x h even odd) flutter n (round_is x flutter h even odd double reach s r all) (placed node among) trusted in
+      let own = offset_round (round_at x h even odd) flutter n (round_is x flutter h even odd double reach s r) (placed node among) trusted in
       let Values_are : List ℤ → Type 0 = λ values. IsOffsetRound p heard n.odd values (borne_term (offset_term_of p.offset_limit (offsets_of n))) in
       let Term_is : Term → Type 0 = λ term. IsOffsetRound p heard n.odd (offsets_of n) term in
       record {
@@ -244,7 +245,7 @@ module _ (x : Setting) (flutter : ℕ) (h : Cycles) (even odd : Cycle) (double :
       let n = row_hearer x even odd node.id in
       let heard = heard_of (round_at x h even odd) (rate_at n.look n.own) in
       let some = heard_some (round_at x h even odd) (rate_at n.look n.own) trusted.some in
-      let own = rate_round (round_at x h even odd) flutter n (round_is x flutter h even odd double reach s r all) (placed node among) trusted in
+      let own = rate_round (round_at x h even odd) flutter n (round_is x flutter h even odd double reach s r) (placed node among) trusted in
       let Term_is : Term → Type 0 = λ term. IsSteadyRound p flutter heard n.odd (rates_of n) term in
       record {
         regular = (placed node among).regular;

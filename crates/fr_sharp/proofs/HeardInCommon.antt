@@ -36,7 +36,8 @@ use Rattle.fr_runs.specs.SteadyRuns.{row_hearers, row_members, AreRowsInReach}
 use Rattle.fr_sharp.specs.Traffic.{all_trusted, costs_of, has_value, lists_meet, most_count, sender_count, is_correct_sender, traffic_of}
 use Rattle.fr_sharp.proofs.HeardCounts.{count_three, discards_more, is_passed, passes_at, passes_is, two_cost, IsPassed}
 use Rattle.fr_sharp.proofs.HeardInPart.{offsets_heard, placed_of, rates_heard}
-use Rattle.fr_sharp.proofs.HeardValues.{most_values, senders_counted, surely_heard, value_by}
+use Rattle.fr_sharp.proofs.HeardSurely.{senders_counted, value_by}
+use Rattle.fr_sharp.proofs.HeardValues.{most_values, surely_heard}
 use Rattle.fr_precision.proofs.RoundLemmas.{acts_early, all_given, map_contains, sender_among}
 use Rattle.fr_sharp.proofs.RowsInPart.{round_trusted}
 use Rattle.fr_runs.proofs.RowsSupplied.{timed_rows_from, LawfulRows}
@@ -292,9 +293,9 @@ module _ (x : Setting) (flutter : ℕ) (h : Cycles) (even odd : Cycle) (double :
       let other_values = most_values x flutter h even odd double reach s r all rate c there in
       let discards = discards_more (length (values_of (at rate b))) (most_count rate t double b) values in
       let also_discards = discards_more (length (values_of (at rate c))) (most_count rate t double c) other_values in
-      let senders = senders_counted x flutter h even odd double reach s r all (λ a. true) in
-      let missed = senders_counted x flutter h even odd double reach s r all (λ a. not (has rate b a)) in
-      let also_missed = senders_counted x flutter h even odd double reach s r all (λ a. not (has rate c a)) in
+      let senders = senders_counted x (λ a. true) sane in
+      let missed = senders_counted x (λ a. not (has rate b a)) sane in
+      let also_missed = senders_counted x (λ a. not (has rate c a)) sane in
       let common = filter_map_counts (both_at (round_at x h even odd) (at rate b) (at rate c)) (range_with_len 0 15) in
       let three =
       count_three (passes_at x.params (λ (a : NodeSpec). is_correct_sender t a && true)) (λ i. is_some (both_at (round_at x h even odd) (at rate b) (at rate c) i)) (passes_at x.params (misses rate b))

@@ -1,5 +1,5 @@
 -- What a receiver makes of the frames that came, whatever was lost: each value is that of a sender.
-use Rattle.std.proofs.Common.{◌≡◌, ◌⊎◌, ℕ, ◌+◌, ◌≤◌, Bool, true, false, ◌&&◌, cond, ℤ, pos, Option, Some, None, ◌++◌, All, map, length, refl, ap, sym, ◌∙◌, subst, inl, inr, arith, if◌then◌else◌}
+use Rattle.std.proofs.Common.{◌≡◌, ◌⊎◌, ℕ, ◌+◌, ◌≤◌, Bool, true, false, ◌&&◌, cond, ℤ, pos, Option, Some, None, ◌++◌, All, List, map, length, refl, ap, sym, ◌∙◌, subst, inl, inr, arith, if◌then◌else◌}
 use Rattle.std.specs.Prelude.{◌-ℤ◌, Contains, is_some, int_lt, count_by}
 use Rattle.std.specs.Int.{int_min}
 use Rattle.std.specs.List.{range_with_len}
@@ -355,32 +355,35 @@ module _ (r : Round) (flutter : ℕ) (n : Hearer) (is : IsRound r) (s : IsPlaced
 
 -- ---- a round
 
+-- a receiver supplied so that trusts both its lists computes its terms from the values of senders of its own, some of those with rows,
+-- whether it has rows or not
+pub computes_in_part : (r : Round) (flutter : ℕ) (rows : List Hearer) (n : Hearer) → IsRound r
+    → ((node : NodeSpec) (slot : ℕ) → IsSender r node slot → (n : Hearer) × Contains rows n × (n.even ≡ r.even node.id) × (n.odd ≡ r.odd node.id)) → IsSuppliedInPart r flutter n
+    → IsTrustedOf r (offset_at n.look n.own) × IsTrustedOf r (rate_at n.look n.own)
+    → ComputesOwn r.params flutter (map (as_member r.params) rows) (pos (last_action r.params)) (as_member r.params n)
+computes_in_part r flutter rows n is have supplied trusted =
+    let p = r.params in
+    let nodes = map (as_member p) rows in
+    let offsets = offset_at n.look n.own in
+    let rates = rate_at n.look n.own in
+    let placed = placed_of r flutter n supplied in
+    record {
+      regular = supplied.regular;
+      offset_senders = heard_of r offsets;
+      rate_senders = heard_of r rates;
+      some_offsets = trusted.0.some;
+      some_rates = trusted.1.some;
+      offsets_among = all_heard r offsets (IsAmong nodes) (sender_among r rows have);
+      rates_among = all_heard r rates (IsAmong nodes) (sender_among r rows have);
+      acts = all_heard r offsets (λ (sender : Sender). IsBetween (pos 0) (pos (last_action p)) sender.action) (acts_early r is.sane);
+      by_offset = offset_round r flutter n is placed trusted.0;
+      by_rate = rate_round r flutter n is placed trusted.1;
+    }
+
 pub rounds_in_part_compute_own : RoundsInPartComputeOwn
 rounds_in_part_compute_own r flutter rows node s here =
     let p = r.params in
     let at = as_member p in
     let found = map_contains at rows node here in
     let Own : Member → Type 0 = λ one. ComputesOwn p flutter (map at rows) (pos (last_action p)) one in
-    subst Own found.2 (own found.0 found.1)
-  where
-    own : (n : Hearer) → Contains rows n → ComputesOwn r.params flutter (map (as_member r.params) rows) (pos (last_action r.params)) (as_member r.params n)
-    own n among =
-        let p = r.params in
-        let nodes = map (as_member p) rows in
-        let supplied = s.supplied n among in
-        let offsets = offset_at n.look n.own in
-        let rates = rate_at n.look n.own in
-        let trusted = s.trusted n among in
-        let placed = placed_of r flutter n supplied in
-        record {
-          regular = supplied.regular;
-          offset_senders = heard_of r offsets;
-          rate_senders = heard_of r rates;
-          some_offsets = trusted.0.some;
-          some_rates = trusted.1.some;
-          offsets_among = all_heard r offsets (IsAmong nodes) (sender_among r rows s.among);
-          rates_among = all_heard r rates (IsAmong nodes) (sender_among r rows s.among);
-          acts = all_heard r offsets (λ (sender : Sender). IsBetween (pos 0) (pos (last_action p)) sender.action) (acts_early r s.round.sane);
-          by_offset = offset_round r flutter n s.round placed trusted.0;
-          by_rate = rate_round r flutter n s.round placed trusted.1;
-        }
+    subst Own found.2 (computes_in_part r flutter rows found.0 s.round s.among (s.supplied found.0 found.1) (s.trusted found.0 found.1))

@@ -17,7 +17,7 @@ use Rattle.fr_runs.specs.SteadyRuns.{IsWhole, MayHaveArbitrary}
 use Rattle.fr_sharp.specs.Traffic.{all_linked, arbitrary_count, heard_in, bears_on, lists_meet, rate_on, traffic_of}
 use Rattle.fr_sharp.proofs.HeardCounts.{all_pass}
 use Rattle.fr_sharp.proofs.HeardEvents.{regular_of}
-use Rattle.fr_sharp.proofs.HeardValues.{share_of}
+use Rattle.fr_sharp.proofs.HeardSurely.{share_of}
 
 by_tests : Bool → Bool → Bool → Bool → Heard
 by_tests all none offsets rates = if all && none then Clean else (if offsets && rates then Meeting else Poor)
@@ -58,7 +58,7 @@ module _ (x : Setting) (double : ℕ) where
         odd = ap (λ (c : ℕ). x.event c sender.id receiver.id channel) number ∙ regular_of (x.event (2 * double + 1) sender.id receiver.id channel) both.1;
       }
 
-  all_carried : all_linked (traffic_of x) double ≡ true → IsWhole x double
+  pub all_carried : all_linked (traffic_of x) double ≡ true → IsWhole x double
   all_carried all sender receiver slot link =
       let t = traffic_of x in
       let from = correct_node x sender link.sends in
@@ -76,15 +76,19 @@ module _ (x : Setting) (double : ℕ) where
       right true b is either = either
       right false b is either = absurd (cc)
 
+  -- no sync node is arbitrary where none is counted
+  pub none_arbitrary : nat_eq (arbitrary_count (traffic_of x)) 0 ≡ true → MayHaveArbitrary false x
+  none_arbitrary is = zero_of (arbitrary_count (traffic_of x)) is
+    where
+      zero_of : (n : ℕ) → nat_eq n 0 ≡ true → n ≡ 0
+      zero_of n is = grind (arith, nat_tests)
+
   pub clean_is : heard_in (traffic_of x) double ≡ Clean → IsWhole x double × MayHaveArbitrary false x
   unfolding by_tests
   clean_is is =
       let t = traffic_of x in
       let both = tests_clean (all_linked t double) (nat_eq (arbitrary_count t) 0) (lists_meet false t double) (lists_meet true t double) is in
-      (all_carried both.0, zero_of (arbitrary_count t) both.1)
-    where
-      zero_of : (n : ℕ) → nat_eq n 0 ≡ true → n ≡ 0
-      zero_of n is = grind (arith, nat_tests)
+      (all_carried both.0, none_arbitrary both.1)
 
   -- and lists meet where it says so
   pub meeting_is : heard_in (traffic_of x) double ≡ Meeting → (lists_meet false (traffic_of x) double ≡ true) × (lists_meet true (traffic_of x) double ≡ true)

@@ -1,12 +1,11 @@
--- What a node with a row surely has of senders, by what becomes of their frames, and what it may have: counted, and trusted.
-use Rattle.std.proofs.Common.{◌≡◌, ◌≢◌, ◌⊎◌, ℕ, suc, ◌+◌, ◌*◌, ◌≤◌, ◌==◌, ◌&&◌, ◌||◌, Bool, true, false, not, ℤ, Option, Some, None, List, [], ◌∷◌, length, refl, ap, sym, ◌∙◌, inl, inr, arith, if◌then◌else◌}
-use Rattle.std.specs.Prelude.{Contains, IsSome, count_by, is_some, nat_le}
+-- What a node with a row surely has of senders where each correct node has one, and what it may have: counted, and trusted.
+use Rattle.std.proofs.Common.{◌≡◌, ◌⊎◌, ℕ, suc, ◌+◌, ◌*◌, ◌≤◌, ◌==◌, ◌&&◌, ◌||◌, Bool, true, false, not, ℤ, Option, Some, None, List, [], ◌∷◌, length, refl, ap, sym, ◌∙◌, inl, inr, arith, if◌then◌else◌}
+use Rattle.std.specs.Prelude.{Contains, IsSome, is_some}
 use Rattle.std.specs.List.{list_any, range_with_len}
-use Rattle.std.proofs.lemmas.Bool.{and_parts, eqb-true, not-true, or_cases}
-use Rattle.std.proofs.lemmas.Bool.Decides.{nat_tests}
+use Rattle.std.proofs.lemmas.Bool.{and_parts, not-true}
 use Rattle.fr_base.specs.declared.channel.Channel.{Channel}
 use Rattle.fr_base.specs.declared.channel.Channel.TheVariants.{A, B}
-use Rattle.fr_cluster.specs.Questions.{has_channel, index_in, key_in, key_slot_of, own_index}
+use Rattle.fr_cluster.specs.Questions.{index_in, key_slot_of, own_index}
 use Rattle.fr_cluster.specs.Sane.{IsSane}
 use Rattle.fr_cluster.specs.Setting.{Setting, is_correct}
 use Rattle.fr_cluster.specs.Values.{Values}
@@ -14,101 +13,34 @@ use Rattle.fr_cluster.specs.declared.nodes.NodeSpec.{NodeSpec}
 use Rattle.fr_cluster.proofs.Elements.{Contains-none}
 use Rattle.fr_cluster.proofs.KeyNodes.{Contains-cons_cases}
 use Rattle.fr_time.specs.Senders.{key_node_of}
-use Rattle.fr_time.proofs.Keys.{key_node_has, key_node_is, key_slot_has, slot_of_index}
-use Rattle.fr_midpoint.specs.Midpoint.{discarded}
-use Rattle.fr_measure.specs.Values.{change_at, change_of, is_own, least_of, mean_of, offset_at, own_value_or, rate_at, values_of}
-use Rattle.fr_precision.specs.Round.{sender_at, sender_with, Hearer, IsSender, Round}
-use Rattle.fr_precision.specs.Rows.{Sender}
-use Rattle.fr_precision.proofs.Counting.{count_le}
+use Rattle.fr_time.proofs.Keys.{key_node_has, key_node_is, slot_of_index}
+use Rattle.fr_measure.specs.Values.{change_at, is_own, least_of, mean_of, offset_at, rate_at, values_of}
+use Rattle.fr_precision.specs.Round.{sender_at, Hearer, IsSender, Round}
 use Rattle.fr_precision.proofs.Parting.{filter_map_counts}
-use Rattle.fr_precision.proofs.RoundSenders.{sender_found}
-use Rattle.fr_precision.proofs.Values.{change_from, other_value, own_value}
+use Rattle.fr_precision.proofs.Values.{change_from, other_value}
 use Rattle.fr_history.specs.Cycles.{Cycle, Cycles}
 use Rattle.fr_history.specs.Standing.{has_row, row_nodes}
 use Rattle.fr_runs.specs.Gathered.{round_at, row_hearer}
 use Rattle.fr_runs.specs.Links.{Share, cycle_in}
 use Rattle.fr_runs.proofs.Courses.{is_correct_row}
-use Rattle.fr_runs.proofs.Nodes.{correct_node, node_there}
-use Rattle.fr_runs.proofs.Receivers.{is_correct_node}
+use Rattle.fr_runs.proofs.Nodes.{correct_node}
 use Rattle.fr_runs.proofs.RowsHeard.{RowLink}
-use Rattle.fr_coverage.specs.Links.{is_regular, is_sync, shares}
-use Rattle.fr_sharp.specs.Losses.{heard_at, heard_of, IsTrustedOf}
+use Rattle.fr_coverage.specs.Links.{is_sync, shares}
+use Rattle.fr_sharp.specs.Losses.{IsTrustedOf}
 use Rattle.fr_runs.specs.SteadyRuns.{AreRowsInReach}
-use Rattle.fr_sharp.specs.Traffic.{all_trusted, arbitrary_count, comes, has_value, is_deaf, is_trusted, may_reach, may_say, most_count, is_correct_sender, sure_count, traffic_of, trusts, value_on, Traffic}
-use Rattle.fr_sharp.proofs.HeardCounts.{all_pass, count_two, discards_more, is_passed, nodes_counted, passes_at, passes_is}
-use Rattle.fr_sharp.proofs.HeardEvents.{may_come, regular_of}
+use Rattle.fr_sharp.specs.Traffic.{all_trusted, comes, has_value, is_deaf, is_trusted, may_reach, may_say, most_count, is_correct_sender, traffic_of, trusts, value_on, Traffic}
+use Rattle.fr_sharp.proofs.HeardCounts.{all_pass, count_two, passes_at, passes_is}
+use Rattle.fr_sharp.proofs.HeardEvents.{may_come}
+use Rattle.fr_sharp.proofs.HeardSurely.{own_of, row_owns, senders_counted, surely_heard as heard_of_sure, trusted_so, value_by}
 use Rattle.fr_sharp.proofs.HeardInPart.{is_other, least_there, mean_there, others_counted}
-use Rattle.fr_runs.proofs.RowsSupplied.{comes_in, counted_in, frames_stored, link_to, looked_up, rows_heard_in_part, says_in, LawfulRows}
-use Rattle.fr_promise.proofs.RunDoubles.{all_among, AllHave}
+use Rattle.fr_runs.proofs.Fed.{row_receivers}
+use Rattle.fr_runs.proofs.RowsSupplied.{comes_in, counted_in, link_to, looked_up, receiving, rows_heard_in_part, says_in, sending, LawfulRows}
+use Rattle.fr_promise.proofs.RunDoubles.{AllHave}
 
--- the values of one of both kinds, by key index
-abbrev pub value_by : Bool → Hearer → (ℕ → Option ℤ)
-value_by false n = offset_at n.look n.own
-value_by true n = rate_at n.look n.own
-
--- ---- values of both channels, and of both cycles
-
--- of both channels one suffices
-pub least_some : (f : Channel → Option ℤ) (channel : Channel) → IsSome (f channel) → IsSome (least_of (f A) (f B))
-least_some f A there = by (f A) (f B) there
-  where
-    by : (a b : Option ℤ) → IsSome a → IsSome (least_of a b)
-    by None b is = absurd (cc)
-    by (Some a) None is = refl
-    by (Some a) (Some b) is = refl
-least_some f B there = by (f A) (f B) there
-  where
-    by : (a b : Option ℤ) → IsSome b → IsSome (least_of a b)
-    by a None is = absurd (cc)
-    by None (Some b) is = refl
-    by (Some a) (Some b) is = refl
-
-pub mean_some : (f : Channel → Option ℤ) (channel : Channel) → IsSome (f channel) → IsSome (mean_of (f A) (f B))
-mean_some f A there = by (f A) (f B) there
-  where
-    by : (a b : Option ℤ) → IsSome a → IsSome (mean_of a b)
-    by None b is = absurd (cc)
-    by (Some a) None is = refl
-    by (Some a) (Some b) is = refl
-mean_some f B there = by (f A) (f B) there
-  where
-    by : (a b : Option ℤ) → IsSome b → IsSome (mean_of a b)
-    by a None is = absurd (cc)
-    by None (Some b) is = refl
-    by (Some a) (Some b) is = refl
-
-pub change_some : (early late : Option ℤ) → IsSome early → IsSome late → IsSome (change_of early late)
-change_some None late is also = absurd (cc)
-change_some (Some early) None is also = absurd (cc)
-change_some (Some early) (Some late) is also = refl
-
--- whose own index it is makes no difference
-pub own_or_other : (own : Option ℕ) (index : ℕ) (value : Option ℤ) (is : Bool) → is_own own index ≡ is → IsSome value → IsSome (own_value_or own index value)
-own_or_other own index value true is there = ap is_some (own_value own index value is)
-own_or_other own index value false is there = ap is_some (other_value own index value is) ∙ there
-
-pub own_there : (own : Option ℕ) (index : ℕ) (value : Option ℤ) → own ≡ Some index → IsSome (own_value_or own index value)
-own_there own index value is = ap is_some (own_value own index value (itself own index is))
-  where
-    itself : (own : Option ℕ) (index : ℕ) → own ≡ Some index → is_own own index ≡ true
-    itself None index is = absurd (cc)
-    itself (Some own) index is = let e : own ≡ index = cc in grind (arith, e)
-
-pub own_of : (p : Values) (node : NodeSpec) → IsSane p → Contains p.nodes node → own_index p node.id ≡ index_in p node.key
-own_of p node sane there = ap (λ o. index_in p (key_in o)) (node_there p node sane there)
-
--- ---- channels
-
-pub share_of : (a b : NodeSpec) (channel : Channel) → shares a b channel ≡ true → Share a b channel
-share_of a b channel is =
-    let both = and_parts (has_channel (Some a) channel) (has_channel (Some b) channel) is in
-    record { by_sender = both.0; by_receiver = both.1 }
+-- ---- channels and lists
 
 shared : (a b : NodeSpec) (channel : Channel) → Share a b channel → shares a b channel ≡ true
 shared a b channel share = rw (share.by_sender, share.by_receiver) refl
-
-at_most : (a b : ℕ) → nat_le a b ≡ true → a ≤ b
-at_most a b is = grind (arith, nat_tests)
 
 -- what one of a list passes some of it passes
 any_pass : {X : Type 0} (test : X → Bool) (xs : List X) (x : X) → Contains xs x → test x ≡ true → list_any test xs ≡ true
@@ -144,92 +76,18 @@ module _ (x : Setting) (flutter : ℕ) (h : Cycles) (even odd : Cycle) (double :
   sane : IsSane x.params
   sane = s.covered.sane
 
-  -- a sender of the cluster has a row, and is one of the round
-  record IsCorrectAt (index : ℕ) (sender : NodeSpec) : Type 0 where
-    slot : ℕ
-    slot_is : key_slot_of x.params index ≡ Some slot
-    key : sender.key ≡ Some slot
-    among : Contains (row_nodes x h) sender
-    from : sender_at (round_at x h even odd) index ≡ Some (sender_with (round_at x h even odd) slot sender.id)
-
-  correct_at : (index slot : ℕ) (sender : NodeSpec) → key_slot_of x.params index ≡ Some slot → Contains x.params.nodes sender → sender.key ≡ Some slot → is_correct_sender (traffic_of x) sender ≡ true
-      → IsCorrectAt index sender
-  correct_at index slot sender slot_is there key is =
-      let both = and_parts (is_sync sender) (not (x.is_arbitrary sender.id)) is in
-      let correct = is_correct_node x sender there both.1 in
-      let rows : (is_correct x sender.id && has_row x h sender.id) ≡ true = rw (both.1, all sender correct) refl in
-      record {
-        slot = slot;
-        slot_is = slot_is;
-        key = key;
-        among = all_among x h sender all correct;
-        from = sender_found (round_at x h even odd) index slot sender sane (record { there = there; rows = rows; key = key }) slot_is;
-      }
-
   -- ---- what it surely has
 
-  own_index_is : (node sender : NodeSpec) (index slot : ℕ) → sender.id ≡ node.id → Contains x.params.nodes sender → sender.key ≡ Some slot → key_slot_of x.params index ≡ Some slot
-      → own_index x.params node.id ≡ Some index
-  own_index_is node sender index slot same there key slot_is =
-      ap (own_index x.params) (sym same) ∙ own_of x.params sender sane there ∙ ap (index_in x.params) key ∙ (key_slot_has x.params index slot slot_is).0
-
-  own_value_there : (rate : Bool) (node : NodeSpec) (index : ℕ) → own_index x.params node.id ≡ Some index → IsSome (value_by rate (row_hearer x even odd node.id) index)
-  own_value_there false node index own =
-      let n = row_hearer x even odd node.id in
-      own_there n.own index (least_of (n.look index true A) (n.look index true B)) own
-  own_value_there true node index own =
-      let n = row_hearer x even odd node.id in
-      own_there n.own index (mean_of (change_at n.look index A) (change_at n.look index B)) own
-
-  stored_there : (node sender : NodeSpec) (index slot : ℕ) (is_odd : Bool) (channel : Channel) → RowLink x h sender node slot → key_slot_of x.params index ≡ Some slot → Share sender node channel
-      → is_regular (x.event (cycle_in is_odd double) sender.id node.id channel) ≡ true → IsSome ((row_hearer x even odd node.id).look index is_odd channel)
-  stored_there node sender index slot is_odd channel link slot_is share regular =
-      ap is_some (looked_up x flutter h even odd double reach s r node.id index slot is_odd channel slot_is)
-      ∙ frames_stored x flutter h even odd double reach s r is_odd sender node slot channel link share (regular_of (x.event (cycle_in is_odd double) sender.id node.id channel) regular)
+  -- of a sender of whom it surely has a value it has heard
+  pub surely_heard : (rate : Bool) (node : NodeSpec) (index : ℕ) → Contains (row_nodes x h) node
+      → passes_at x.params (λ (a : NodeSpec). is_correct_sender (traffic_of x) a && has_value rate true (traffic_of x) double node a) index ≡ true
+      → IsSome (value_by rate (row_hearer x even odd node.id) index) × (is_some (sender_at (round_at x h even odd) index) ≡ true)
+  surely_heard rate node index among is =
+      heard_of_sure x h even odd double reach (row_receivers x h even odd) node (sending x flutter h even odd double reach s r) (receiving x flutter h even odd double reach s r node among) (row_owns x h even odd node sane)
+      (λ a. true) (λ a there is. all a there) rate index is
 
   odd_number : 2 * double + 1 ≡ suc (2 * double)
   odd_number = omega arith
-
-  value_there : (rate : Bool) (node sender : NodeSpec) (index slot : ℕ) (channel : Channel) → RowLink x h sender node slot → key_slot_of x.params index ≡ Some slot
-      → value_on rate true (traffic_of x) sender node double channel ≡ true → IsSome (value_by rate (row_hearer x even odd node.id) index)
-  value_there false node sender index slot channel link slot_is is =
-      let n = row_hearer x even odd node.id in
-      let both = and_parts (shares sender node channel) (is_regular (x.event (2 * double + 1) sender.id node.id channel)) is in
-      let regular = ap (λ (c : ℕ). is_regular (x.event c sender.id node.id channel)) (sym odd_number) ∙ both.1 in
-      own_or_other n.own index (least_of (n.look index true A) (n.look index true B)) (is_own n.own index) refl
-      (least_some (n.look index true) channel (stored_there node sender index slot true channel link slot_is (share_of sender node channel both.0) regular))
-  value_there true node sender index slot channel link slot_is is =
-      let n = row_hearer x even odd node.id in
-      let both = and_parts (shares sender node channel && is_regular (x.event (2 * double) sender.id node.id channel)) (is_regular (x.event (2 * double + 1) sender.id node.id channel)) is in
-      let two = and_parts (shares sender node channel) (is_regular (x.event (2 * double) sender.id node.id channel)) both.0 in
-      let regular = ap (λ (c : ℕ). is_regular (x.event c sender.id node.id channel)) (sym odd_number) ∙ both.1 in
-      let share = share_of sender node channel two.0 in
-      own_or_other n.own index (mean_of (change_at n.look index A) (change_at n.look index B)) (is_own n.own index) refl
-      (
-      mean_some (change_at n.look index) channel
-      (
-      change_some (n.look index false channel) (n.look index true channel) (stored_there node sender index slot false channel link slot_is share two.1)
-      (stored_there node sender index slot true channel link slot_is share regular)
-      )
-      )
-
-  sure_value : (rate : Bool) (node sender : NodeSpec) (index slot : ℕ) → Contains (row_nodes x h) node → key_slot_of x.params index ≡ Some slot → Contains x.params.nodes sender → sender.key ≡ Some slot
-      → is_correct_sender (traffic_of x) sender ≡ true → has_value rate true (traffic_of x) double node sender ≡ true → IsSome (value_by rate (row_hearer x even odd node.id) index)
-  sure_value rate node sender index slot among slot_is there key correct has = by (sender.id == node.id) refl has
-    where
-      unequal : (a b : ℕ) → (a == b) ≡ false → a ≢ b
-      unequal a b is = grind arith
-
-      by : (b : Bool) → (sender.id == node.id) ≡ b
-          → (b || (value_on rate true (traffic_of x) sender node double A || value_on rate true (traffic_of x) sender node double B)) ≡ true → IsSome (value_by rate (row_hearer x even odd node.id) index)
-      by true same is = own_value_there rate node index (own_index_is node sender index slot (eqb-true sender.id node.id same) there key slot_is)
-      by false differs is =
-          let at = correct_at index slot sender slot_is there key correct in
-          let link : RowLink x h sender node slot = record { sends = at.among; hears = among; key = key; other = unequal sender.id node.id differs } in
-          elim (or_cases (value_on rate true (traffic_of x) sender node double A) (value_on rate true (traffic_of x) sender node double B) is) [
-            | inl a ↦ value_there rate node sender index slot A link slot_is a
-            | inr b ↦ value_there rate node sender index slot B link slot_is b
-          ]
 
   -- ---- what it may have
 
@@ -513,47 +371,11 @@ module _ (x : Setting) (flutter : ℕ) (h : Cycles) (even odd : Cycle) (double :
 
   -- ---- counted
 
-  tested_by_key : (test : NodeSpec → Bool) (node : NodeSpec) → node.key ≡ None → (is_correct_sender (traffic_of x) node && test node) ≡ false
-  tested_by_key test node none = ap (λ (o : Option ℕ). (is_some o && not (x.is_arbitrary node.id)) && test node) none
-
-  pub senders_counted : (test : NodeSpec → Bool)
-      → count_by (λ (a : NodeSpec). is_correct_sender (traffic_of x) a && test a) x.params.nodes ≡ count_by (passes_at x.params (λ (a : NodeSpec). is_correct_sender (traffic_of x) a && test a)) (range_with_len 0 15)
-  senders_counted test = nodes_counted x.params (λ (a : NodeSpec). is_correct_sender (traffic_of x) a && test a) sane (tested_by_key test)
-
-  -- of a sender of whom it surely has a value it has heard
-  pub surely_heard : (rate : Bool) (node : NodeSpec) (index : ℕ) → Contains (row_nodes x h) node
-      → passes_at x.params (λ (a : NodeSpec). is_correct_sender (traffic_of x) a && has_value rate true (traffic_of x) double node a) index ≡ true
-      → IsSome (value_by rate (row_hearer x even odd node.id) index) × (is_some (sender_at (round_at x h even odd) index) ≡ true)
-  surely_heard rate node index among is =
-      let of = is_passed x.params (λ (a : NodeSpec). is_correct_sender (traffic_of x) a && has_value rate true (traffic_of x) double node a) index sane is in
-      let both = and_parts (is_correct_sender (traffic_of x) of.node) (has_value rate true (traffic_of x) double node of.node) of.passes in (
-        sure_value rate node of.node index of.slot among of.slot_is of.there of.key both.0 both.1,
-        ap is_some (correct_at index of.slot of.node of.slot_is of.there of.key both.0).from,
-      )
-
-  heard_enough : (rate : Bool) (node : NodeSpec) → Contains (row_nodes x h) node
-      → sure_count rate (traffic_of x) double node ≤ length (heard_of (round_at x h even odd) (value_by rate (row_hearer x even odd node.id)))
-  heard_enough rate node among =
-      let at = value_by rate (row_hearer x even odd node.id) in
-      let test = λ (a : NodeSpec). is_correct_sender (traffic_of x) a && has_value rate true (traffic_of x) double node a in
-      let sure = senders_counted (has_value rate true (traffic_of x) double node) in
-      let heard = filter_map_counts (heard_at (round_at x h even odd) at) (range_with_len 0 15) in
-      let le =
-      count_le (passes_at x.params test) (λ i. is_some (heard_at (round_at x h even odd) at i)) (range_with_len 0 15)
-      (λ index is.
-      let has = surely_heard rate node index among is in
-      there (is_some (at index)) (sender_at (round_at x h even odd) index) has.0 has.1) in
-      omega (arith, sure, heard, le)
-    where
-      there : (b : Bool) (o : Option Sender) → b ≡ true → is_some o ≡ true → is_some (if b then o else None) ≡ true
-      there true o is also = also
-      there false o is also = absurd (cc)
-
   pub most_values : (rate : Bool) (node : NodeSpec) → Contains (row_nodes x h) node → length (values_of (value_by rate (row_hearer x even odd node.id))) ≤ most_count rate (traffic_of x) double node
   unfolding values_of
   most_values rate node among =
       let at = value_by rate (row_hearer x even odd node.id) in
-      let senders = senders_counted (has_value rate false (traffic_of x) double node) in
+      let senders = senders_counted x (has_value rate false (traffic_of x) double node) sane in
       let others = others_counted (round_at x h even odd) sane in
       let values = filter_map_counts at (range_with_len 0 15) in
       let le =
@@ -570,15 +392,8 @@ module _ (x : Setting) (flutter : ℕ) (h : Cycles) (even odd : Cycle) (double :
   pub trusted_of : (rate : Bool) (node : NodeSpec) → Contains (row_nodes x h) node → is_trusted rate (traffic_of x) double node ≡ true
       → IsTrustedOf (round_at x h even odd) (value_by rate (row_hearer x even odd node.id))
   trusted_of rate node among is =
-      let sure = sure_count rate (traffic_of x) double node in
-      let others = arbitrary_count (traffic_of x) in
-      let both = and_parts (nat_le 1 sure) (nat_le others (discarded (sure + others))) is in
-      let some = at_most 1 sure both.0 in
-      let few = at_most others (discarded (sure + others)) both.1 in
-      let heard = length (heard_of (round_at x h even odd) (value_by rate (row_hearer x even odd node.id))) in
-      let enough : sure ≤ heard = heard_enough rate node among in
-      let more = discards_more (sure + others) (heard + others) (omega (arith, enough)) in
-      record { few = omega (arith, few, more); some = omega (arith, some, enough) }
+      trusted_so x h even odd double reach (row_receivers x h even odd) node (sending x flutter h even odd double reach s r) (receiving x flutter h even odd double reach s r node among) (row_owns x h even odd node sane)
+      (λ a. true) (λ a there is. all a there) rate is
 
   pub rows_trusted : all_trusted (traffic_of x) double ≡ true → (node : NodeSpec) → Contains (row_nodes x h) node
       → IsTrustedOf (round_at x h even odd) (offset_at (row_hearer x even odd node.id).look (row_hearer x even odd node.id).own)

@@ -7,11 +7,14 @@ pub mod MeetingNumbers
 pub mod HeardCounts
 pub mod HeardInPart
 pub mod HeardEvents
+pub mod HeardSurely
 pub mod HeardValues
 pub mod RowsInPart
 pub mod BearingRows
 pub mod HeardInCommon
 pub mod HeardKinds
+pub mod JoinedInPart
+pub mod JoinedThrough
 pub mod BearingKinds
 pub mod BearingStatus
 pub mod BearingCounts

@@ -13,7 +13,7 @@ use Rattle.fr_cluster.proofs.KeyIndexes.{index-lt}
 use Rattle.fr_cluster.proofs.KeyNodes.{key_among, Contains-cons_cases}
 use Rattle.fr_time.proofs.Keys.{key_index_is, key_slot_has, rank_of, slot_of_index}
 use Rattle.fr_measure.specs.Values.{change_at, is_own, least_of, mean_of, offset_at, rate_at, values_of}
-use Rattle.fr_precision.specs.Round.{offsets_of, rates_of, Hearer, IsRound}
+use Rattle.fr_precision.specs.Round.{offsets_of, rates_of, Hearer, IsRound, IsSender}
 use Rattle.fr_precision.specs.Step.{Member}
 use Rattle.fr_precision.proofs.Counting.{range_contains}
 use Rattle.fr_history.specs.Cycles.{Cycle, Cycles}
@@ -33,7 +33,8 @@ use Rattle.fr_bound.specs.SharpBounds.{last_action}
 use Rattle.fr_precision.specs.Among.{ComputesOwn}
 use Rattle.fr_runs.specs.SteadyRuns.{row_hearers, row_members, AreRowsInReach, HearsSome, MayHaveArbitrary, NoneIsDeaf}
 use Rattle.fr_sharp.proofs.HeardInPart.{both_trusted, heard_some, placed_of, rounds_in_part_compute_own}
-use Rattle.fr_sharp.proofs.HeardValues.{change_some, least_some, mean_some, own_of, own_or_other, own_there, rows_trusted}
+use Rattle.fr_sharp.proofs.HeardSurely.{change_some, least_some, mean_some, own_of, own_or_other, own_there}
+use Rattle.fr_sharp.proofs.HeardValues.{rows_trusted}
 use Rattle.fr_runs.proofs.RowsSupplied.{few_in, frames_stored, looked_up, odd_active, pairs_steady, row_regular, rows_heard_in_part, timed_rows_from, LawfulRows}
 use Rattle.fr_promise.proofs.RunDoubles.{all_among, all_have, AllHave}
 
@@ -61,58 +62,12 @@ some_value at index below there = some_at at (range_with_len 0 15) index (range_
 
 -- ---- a node of a double cycle
 
-module _ (x : Setting) (flutter : ℕ) (h : Cycles) (even odd : Cycle) (double : ℕ) (reach : ℤ) (s : LawfulRows x flutter h even odd double) (r : AreRowsInReach x h even odd reach) (all : AllHave x h) where
+module _ (x : Setting) (flutter : ℕ) (h : Cycles) (even odd : Cycle) (double : ℕ) (reach : ℤ) (s : LawfulRows x flutter h even odd double) (r : AreRowsInReach x h even odd reach) where
   sane : IsSane x.params
   sane = s.covered.sane
 
-  -- both lists have a value of a node's own
-  own_values : (node : NodeSpec) (index : ℕ) → Contains (row_nodes x h) node → own_index x.params node.id ≡ Some index
-      → (1 ≤ length (offsets_of (row_hearer x even odd node.id))) × (1 ≤ length (rates_of (row_hearer x even odd node.id)))
-  own_values node index among own =
-      let p = x.params in
-      let n = row_hearer x even odd node.id in
-      let itself = row_itself x h even odd node index sane among own in
-      let below : index < 15 = index-lt p itself.0 index sane (key_slot_has p index itself.0 itself.1.1.slot_is).0 in (
-        some_value (offset_at n.look n.own) index below (own_there n.own index (least_of (n.look index true A) (n.look index true B)) own),
-        some_value (rate_at n.look n.own) index below (own_there n.own index (mean_of (change_at n.look index A) (change_at n.look index B)) own),
-      )
-
-  -- and of one whose frames of both cycles are carried
-  carried_values : (node sender : NodeSpec) (slot : ℕ) → Contains (row_nodes x h) node → IsLinked x sender node slot → IsCarried x sender node double
-      → (1 ≤ length (offsets_of (row_hearer x even odd node.id))) × (1 ≤ length (rates_of (row_hearer x even odd node.id)))
-  carried_values node sender slot among linked carried =
-      let p = x.params in
-      let n = row_hearer x even odd node.id in
-      let link : RowLink x h sender node slot = record { sends = all_among x h sender all linked.sends; hears = among; key = linked.key; other = linked.other } in
-      let key = key_among p.nodes sender slot (correct_node x sender linked.sends).there linked.key in
-      let index = rank_of p slot in
-      let indexed = key_index_is p slot key in
-      let slot_is : key_slot_of p index ≡ Some slot = slot_of_index p index slot indexed in
-      let below : index < 15 = index-lt p slot index sane indexed in
-      let early = ap is_some (looked_up x flutter h even odd double reach s r node.id index slot false carried.channel slot_is) ∙ frames_stored x flutter h even odd double reach s r false sender node slot carried.channel link carried.share carried.even in
-      let late = ap is_some (looked_up x flutter h even odd double reach s r node.id index slot true carried.channel slot_is) ∙ frames_stored x flutter h even odd double reach s r true sender node slot carried.channel link carried.share carried.odd in (
-        some_value (offset_at n.look n.own) index below
-            (own_or_other n.own index (least_of (n.look index true A) (n.look index true B)) (is_own n.own index) refl (least_some (n.look index true) carried.channel late)),
-        some_value (rate_at n.look n.own) index below
-            (own_or_other n.own index (mean_of (change_at n.look index A) (change_at n.look index B)) (is_own n.own index) refl
-            (mean_some (change_at n.look index) carried.channel (change_some (n.look index false carried.channel) (n.look index true carried.channel) early late))),
-      )
-
-  has_values : (node : NodeSpec) → Contains (row_nodes x h) node → HearsSome x node double
-      → (1 ≤ length (offsets_of (row_hearer x even odd node.id))) × (1 ≤ length (rates_of (row_hearer x even odd node.id)))
-  has_values node among (inr from) = carried_values node from.0 from.1.0 among from.1.1 from.1.2
-  has_values node among (inl key) = by_key node.key refl key
-    where
-      by_key : (o : Option ℕ) → node.key ≡ o → IsSome o → (1 ≤ length (offsets_of (row_hearer x even odd node.id))) × (1 ≤ length (rates_of (row_hearer x even odd node.id)))
-      by_key None is there = absurd (cc)
-      by_key (Some slot) is there =
-          let p = x.params in
-          let correct = correct_node x node (is_correct_row x h node among) in
-          let indexed = key_index_is p slot (key_among p.nodes node slot correct.there is) in
-          own_values node (rank_of p slot) among (own_of p node sane correct.there ∙ ap (index_in p) is ∙ indexed)
-
   -- a node that has values is supplied
-  supplied_with : (node : NodeSpec) → Contains (row_nodes x h) node → 1 ≤ length (offsets_of (row_hearer x even odd node.id)) → 1 ≤ length (rates_of (row_hearer x even odd node.id))
+  pub supplied_with : (node : NodeSpec) → Contains (row_nodes x h) node → 1 ≤ length (offsets_of (row_hearer x even odd node.id)) → 1 ≤ length (rates_of (row_hearer x even odd node.id))
       → IsSuppliedInPart (round_at x h even odd) flutter (row_hearer x even odd node.id)
   supplied_with node among some_offsets some_rates = record {
     regular = row_regular x flutter h even odd double s r.rates node among;
@@ -130,49 +85,104 @@ module _ (x : Setting) (flutter : ℕ) (h : Cycles) (even odd : Cycle) (double :
     regular = λ node there has. row_regular x flutter h even odd double s r.rates node (is_row_node x h node there has);
   }
 
-  -- both its lists are trusted
-  abbrev Trusted : Hearer → Type 0
-  Trusted n = IsTrustedOf (round_at x h even odd) (offset_at n.look n.own) × IsTrustedOf (round_at x h even odd) (rate_at n.look n.own)
-
-  round_with : ((node : NodeSpec) → Contains (row_nodes x h) node → IsSuppliedInPart (round_at x h even odd) flutter (row_hearer x even odd node.id))
-      → ((node : NodeSpec) → Contains (row_nodes x h) node → Trusted (row_hearer x even odd node.id)) → IsRoundInPart (round_at x h even odd) flutter (row_hearers x h even odd)
-  round_with supplied trusted =
+  -- each sender has the rows of one of them
+  pub senders_among : (node : NodeSpec) (slot : ℕ) → IsSender (round_at x h even odd) node slot
+      → (n : Hearer) × Contains (row_hearers x h even odd) n × (n.even ≡ (round_at x h even odd).even node.id) × (n.odd ≡ (round_at x h even odd).odd node.id)
+  senders_among node slot sender =
       let at : NodeSpec → Hearer = λ n. row_hearer x even odd n.id in
-      record {
-        round = round_is;
-        trusted = λ n here. let found = map_contains at (row_nodes x h) n here in subst Trusted found.2 (trusted found.0 found.1);
-        supplied = λ n here.
-            let found = map_contains at (row_nodes x h) n here in
-            subst (IsSuppliedInPart (round_at x h even odd) flutter) found.2 (supplied found.0 found.1);
-        among = λ node slot sender.
-            (at node, contains_map at (row_nodes x h) node (is_row_node x h node sender.there sender.rows), refl, refl);
-      }
+      (at node, contains_map at (row_nodes x h) node (is_row_node x h node sender.there sender.rows), refl, refl)
 
-  -- where no node is deaf, without arbitrary sync nodes
-  pub round_in_part : MayHaveArbitrary false x → NoneIsDeaf x double → IsRoundInPart (round_at x h even odd) flutter (row_hearers x h even odd)
-  round_in_part none hears =
-      round_with supplied (λ node among.
-      let own = supplied node among in
-      let n = row_hearer x even odd node.id in
-      both_trusted (round_at x h even odd) flutter n round_is (placed_of (round_at x h even odd) flutter n own) none own.some_offsets own.some_rates)
-    where
-      supplied : (node : NodeSpec) → Contains (row_nodes x h) node → IsSuppliedInPart (round_at x h even odd) flutter (row_hearer x even odd node.id)
-      supplied node among =
-          let some = has_values node among (hears node (is_correct_row x h node among)) in
-          supplied_with node among some.0 some.1
+  -- ---- where each correct node has a row
 
-  -- where each correct node trusts its lists
-  pub round_trusted : all_trusted (traffic_of x) double ≡ true → IsRoundInPart (round_at x h even odd) flutter (row_hearers x h even odd)
-  round_trusted all_trust =
-      round_with
-      (λ node among.
-      let both = trusted node among in
-      let n = row_hearer x even odd node.id in
-      supplied_with node among (heard_some (round_at x h even odd) (offset_at n.look n.own) both.0.some) (heard_some (round_at x h even odd) (rate_at n.look n.own) both.1.some))
-      trusted
-    where
-      trusted : (node : NodeSpec) → Contains (row_nodes x h) node → Trusted (row_hearer x even odd node.id)
-      trusted node among = rows_trusted x flutter h even odd double reach s r all all_trust node among
+  module _ (all : AllHave x h) where
+    -- both lists have a value of a node's own
+    own_values : (node : NodeSpec) (index : ℕ) → Contains (row_nodes x h) node → own_index x.params node.id ≡ Some index
+        → (1 ≤ length (offsets_of (row_hearer x even odd node.id))) × (1 ≤ length (rates_of (row_hearer x even odd node.id)))
+    own_values node index among own =
+        let p = x.params in
+        let n = row_hearer x even odd node.id in
+        let itself = row_itself x h even odd node index sane among own in
+        let below : index < 15 = index-lt p itself.0 index sane (key_slot_has p index itself.0 itself.1.1.slot_is).0 in (
+          some_value (offset_at n.look n.own) index below (own_there n.own index (least_of (n.look index true A) (n.look index true B)) own),
+          some_value (rate_at n.look n.own) index below (own_there n.own index (mean_of (change_at n.look index A) (change_at n.look index B)) own),
+        )
+
+    -- and of one whose frames of both cycles are carried
+    carried_values : (node sender : NodeSpec) (slot : ℕ) → Contains (row_nodes x h) node → IsLinked x sender node slot → IsCarried x sender node double
+        → (1 ≤ length (offsets_of (row_hearer x even odd node.id))) × (1 ≤ length (rates_of (row_hearer x even odd node.id)))
+    carried_values node sender slot among linked carried =
+        let p = x.params in
+        let n = row_hearer x even odd node.id in
+        let link : RowLink x h sender node slot = record { sends = all_among x h sender all linked.sends; hears = among; key = linked.key; other = linked.other } in
+        let key = key_among p.nodes sender slot (correct_node x sender linked.sends).there linked.key in
+        let index = rank_of p slot in
+        let indexed = key_index_is p slot key in
+        let slot_is : key_slot_of p index ≡ Some slot = slot_of_index p index slot indexed in
+        let below : index < 15 = index-lt p slot index sane indexed in
+        let early = ap is_some (looked_up x flutter h even odd double reach s r node.id index slot false carried.channel slot_is) ∙ frames_stored x flutter h even odd double reach s r false sender node slot carried.channel link carried.share carried.even in
+        let late = ap is_some (looked_up x flutter h even odd double reach s r node.id index slot true carried.channel slot_is) ∙ frames_stored x flutter h even odd double reach s r true sender node slot carried.channel link carried.share carried.odd in (
+          some_value (offset_at n.look n.own) index below
+              (own_or_other n.own index (least_of (n.look index true A) (n.look index true B)) (is_own n.own index) refl (least_some (n.look index true) carried.channel late)),
+          some_value (rate_at n.look n.own) index below
+              (own_or_other n.own index (mean_of (change_at n.look index A) (change_at n.look index B)) (is_own n.own index) refl
+              (mean_some (change_at n.look index) carried.channel (change_some (n.look index false carried.channel) (n.look index true carried.channel) early late))),
+        )
+
+    has_values : (node : NodeSpec) → Contains (row_nodes x h) node → HearsSome x node double
+        → (1 ≤ length (offsets_of (row_hearer x even odd node.id))) × (1 ≤ length (rates_of (row_hearer x even odd node.id)))
+    has_values node among (inr from) = carried_values node from.0 from.1.0 among from.1.1 from.1.2
+    has_values node among (inl key) = by_key node.key refl key
+      where
+        by_key : (o : Option ℕ) → node.key ≡ o → IsSome o → (1 ≤ length (offsets_of (row_hearer x even odd node.id))) × (1 ≤ length (rates_of (row_hearer x even odd node.id)))
+        by_key None is there = absurd (cc)
+        by_key (Some slot) is there =
+            let p = x.params in
+            let correct = correct_node x node (is_correct_row x h node among) in
+            let indexed = key_index_is p slot (key_among p.nodes node slot correct.there is) in
+            own_values node (rank_of p slot) among (own_of p node sane correct.there ∙ ap (index_in p) is ∙ indexed)
+
+    -- both its lists are trusted
+    abbrev Trusted : Hearer → Type 0
+    Trusted n = IsTrustedOf (round_at x h even odd) (offset_at n.look n.own) × IsTrustedOf (round_at x h even odd) (rate_at n.look n.own)
+
+    round_with : ((node : NodeSpec) → Contains (row_nodes x h) node → IsSuppliedInPart (round_at x h even odd) flutter (row_hearer x even odd node.id))
+        → ((node : NodeSpec) → Contains (row_nodes x h) node → Trusted (row_hearer x even odd node.id)) → IsRoundInPart (round_at x h even odd) flutter (row_hearers x h even odd)
+    round_with supplied trusted =
+        let at : NodeSpec → Hearer = λ n. row_hearer x even odd n.id in
+        record {
+          round = round_is;
+          trusted = λ n here. let found = map_contains at (row_nodes x h) n here in subst Trusted found.2 (trusted found.0 found.1);
+          supplied = λ n here.
+              let found = map_contains at (row_nodes x h) n here in
+              subst (IsSuppliedInPart (round_at x h even odd) flutter) found.2 (supplied found.0 found.1);
+          among = senders_among;
+        }
+
+    -- where no node is deaf, without arbitrary sync nodes
+    pub round_in_part : MayHaveArbitrary false x → NoneIsDeaf x double → IsRoundInPart (round_at x h even odd) flutter (row_hearers x h even odd)
+    round_in_part none hears =
+        round_with supplied (λ node among.
+        let own = supplied node among in
+        let n = row_hearer x even odd node.id in
+        both_trusted (round_at x h even odd) flutter n round_is (placed_of (round_at x h even odd) flutter n own) none own.some_offsets own.some_rates)
+      where
+        supplied : (node : NodeSpec) → Contains (row_nodes x h) node → IsSuppliedInPart (round_at x h even odd) flutter (row_hearer x even odd node.id)
+        supplied node among =
+            let some = has_values node among (hears node (is_correct_row x h node among)) in
+            supplied_with node among some.0 some.1
+
+    -- where each correct node trusts its lists
+    pub round_trusted : all_trusted (traffic_of x) double ≡ true → IsRoundInPart (round_at x h even odd) flutter (row_hearers x h even odd)
+    round_trusted all_trust =
+        round_with
+        (λ node among.
+        let both = trusted node among in
+        let n = row_hearer x even odd node.id in
+        supplied_with node among (heard_some (round_at x h even odd) (offset_at n.look n.own) both.0.some) (heard_some (round_at x h even odd) (rate_at n.look n.own) both.1.some))
+        trusted
+      where
+        trusted : (node : NodeSpec) → Contains (row_nodes x h) node → Trusted (row_hearer x even odd node.id)
+        trusted node among = rows_trusted x flutter h even odd double reach s r all all_trust node among
 
 -- each of the nodes with rows computes its terms from some of theirs
 pub computes_own : (x : Setting) (flutter : ℕ) (earlier : Cycles) (even odd : Cycle) (double : ℕ) (reach : ℤ) (s : LawfulRows x flutter earlier even odd double) (r : AreRowsInReach x earlier even odd reach) (node : Member)

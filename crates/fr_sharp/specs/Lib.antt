@@ -2,6 +2,7 @@
 pub mod Bearing
 pub mod HeldHistories
 pub mod JoinedFiles
+pub mod JoinedLosses
 pub mod JudgedStates
 pub mod JudgedSteps
 pub mod LossBursts

@@ -40,7 +40,9 @@ pub use histories::{
 };
 pub use joined_files::{covered_files_keep_sharply_joined, joined_files_keep_sharp_precision};
 pub use judged_steps::{carried_states_are_known, judged_double_cycles_go_on};
-pub use losing::{histories_keep_through_losses, what_is_heard_suffices};
+pub use losing::{
+    histories_keep_through_losses, joined_histories_keep_through_losses, what_is_heard_suffices,
+};
 pub use loss_checks::{LossSides, limits_hold, loss_side};
 pub use loss_cost_laws::{bursts_keep_the_peak, costs_are_one, costs_are_there};
 pub use loss_costs::{

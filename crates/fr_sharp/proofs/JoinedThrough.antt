@@ -1,0 +1,247 @@
+-- A lawful history that nodes join and in which frames are lost keeps to the bounds by what was heard.
+use Rattle.std.proofs.Common.{◌≡◌, ℕ, zero, suc, ◌+◌, ◌*◌, ◌<◌, ◌≤◌, ◌||◌, Bool, true, false, if◌then◌else◌, ℤ, pos, [], ◌∷◌, length, map, refl, ap, sym, ◌∙◌, subst, lit≤, arith}
+use Rattle.std.specs.Prelude.{◌≤ℤ◌, Contains, max, nat_eq}
+use Rattle.std.proofs.lemmas.Int.{ints}
+use Rattle.fr_cluster.proofs.Elements.{filtered}
+use Rattle.fr_cluster.specs.Sane.{IsSane}
+use Rattle.fr_cluster.specs.Setting.{Setting}
+use Rattle.fr_cluster.specs.Values.{Values}
+use Rattle.fr_cluster.specs.declared.nodes.NodeSpec.{NodeSpec}
+use Rattle.fr_bound.specs.Bounds.{longest_micro}
+use Rattle.fr_bound.specs.Checks.{holds_of}
+use Rattle.fr_bound.specs.Judged.{heard_spread}
+use Rattle.fr_bound.specs.SharpBounds.{near_by, precision_by, rate_walk}
+use Rattle.fr_bound.specs.SharpChecks.{SharpChecksHold}
+use Rattle.fr_bound.specs.declared.judging.Heard.{Heard}
+use Rattle.fr_bound.specs.declared.judging.Heard.TheVariants.{Clean, Meeting, Poor}
+use Rattle.fr_bound.specs.declared.settling.Spread.{Spread}
+use Rattle.fr_precision.specs.Among.{apart_through_losses, spread_through_losses}
+use Rattle.fr_precision.specs.Lengths.{walked_after, CanWalk}
+use Rattle.fr_precision.specs.Offsets.{LimitSuffices}
+use Rattle.fr_precision.specs.Reception.{LeavesRoom}
+use Rattle.fr_precision.specs.Round.{Hearer}
+use Rattle.fr_precision.specs.Step.{Member}
+use Rattle.fr_precision.proofs.BoundLemmas.{sharp_checks_suffice_lem, walk_is_held, walked_none}
+use Rattle.fr_precision.proofs.RoundLemmas.{map_contains}
+use Rattle.fr_history.specs.Cycles.{Cycle, Cycles}
+use Rattle.fr_history.specs.Standing.{following_nodes}
+use Rattle.fr_runs.specs.Gathered.{follower_hearer, followers_since, hearers_of, listened_by}
+use Rattle.fr_runs.specs.Hearers.{group_of, member_from}
+use Rattle.fr_runs.specs.Rounds.{IsDoubleOf}
+use Rattle.fr_runs.specs.SteadyRuns.{IsTimedPartFrom}
+use Rattle.fr_runs.proofs.Courses.{is_correct_follower}
+use Rattle.fr_runs.proofs.Parts.{double_at}
+use Rattle.fr_runs.proofs.Whole.{prior_of}
+use Rattle.fr_promise.specs.JoinedHistories.{FirstRatesLast, KeepsJoined}
+use Rattle.fr_promise.specs.SharpGroup.{TakesInGroup}
+use Rattle.fr_promise.specs.SharpJoined.{IsFollowedDouble, IsFollowedHearing, IsFollowedKept, NoneIsLeftBehind}
+use Rattle.fr_promise.specs.SharpJoining.{next_group_spread, sharp_group_spread, GroupGoesTo, GroupSpread}
+use Rattle.fr_promise.specs.SharpTested.{IsUnfollowedSharpSyncAt}
+use Rattle.fr_promise.proofs.JoinBounds.{lengths_nearer, next_group_spread_goes}
+use Rattle.fr_promise.proofs.JoinedDoubles.{followed_doubles_are_kept, followed_doubles_hear, unfollowed_is_followed}
+use Rattle.fr_promise.proofs.JoinedFollowers.{steady_followers_join}
+use Rattle.fr_promise.proofs.JoinedNext.{followed_doubles_go_on}
+use Rattle.fr_promise.proofs.JoinedRuns.{followed_ends, followed_skew, next_suffices, unfollowed_in, within_range}
+use Rattle.fr_sharp.specs.JoinedLosses.{all_trusted_to_join, group_through_losses, heard_to_join, IsLossyJoinedFrom, JoinedHistoriesKeepThroughLosses, RowsGoThroughLosses, StaysThrough, TakesInJoining}
+use Rattle.fr_sharp.specs.Traffic.{all_linked, arbitrary_count, traffic_of}
+use Rattle.fr_sharp.proofs.HeardKinds.{all_carried, none_arbitrary}
+use Rattle.fr_sharp.proofs.JoinedInPart.{followed_doubles_hear_in_part}
+
+-- ---- numbers
+
+pub rows_go_through_losses : RowsGoThroughLosses
+unfolding group_through_losses spread_through_losses
+rows_go_through_losses beside p flutter what zero = refl
+rows_go_through_losses beside p flutter what (suc k) = ap (heard_spread (what k) p flutter) (rows_go_through_losses beside p flutter what k)
+
+-- first lengths lie no nearer than those of the nodes with rows
+wide : (beside : Bool) (p : Values) (flutter : ℕ) (what : ℕ → Heard) (k : ℕ)
+    → (group_through_losses beside p flutter what k).rows.lengths ≤ (group_through_losses beside p flutter what k).firsts.lengths
+unfolding group_through_losses
+wide beside p flutter what zero = lengths_nearer beside p flutter
+wide beside p flutter what (suc k) = (next_group_spread_goes (what k) p flutter (group_through_losses beside p flutter what k) (wide beside p flutter what k)).1
+
+goes : (beside : Bool) (p : Values) (flutter : ℕ) (what : ℕ → Heard) (k : ℕ)
+    → GroupGoesTo (what k) p flutter (group_through_losses beside p flutter what k) (group_through_losses beside p flutter what (suc k))
+unfolding group_through_losses
+goes beside p flutter what k = (next_group_spread_goes (what k) p flutter (group_through_losses beside p flutter what k) (wide beside p flutter what k)).0
+
+-- how far macroticks may lie apart is as far as both ends say
+apart_fits : (beside : Bool) (p : Values) (flutter : ℕ) (what : ℕ → Heard) (k : ℕ)
+    → (precision_by p (group_through_losses beside p flutter what k).rows.starts (group_through_losses beside p flutter what k).rows.lengths ≤ apart_through_losses beside p flutter what k)
+    × ((group_through_losses beside p flutter what (suc k)).rows.starts + longest_micro p ≤ apart_through_losses beside p flutter what k)
+apart_fits beside p flutter what k =
+    let both = most (precision_by p (spread_through_losses beside p flutter what k).starts (spread_through_losses beside p flutter what k).lengths) ((spread_through_losses beside p flutter what (suc k)).starts + longest_micro p) in
+    let apart = apart_through_losses beside p flutter what k in
+    let Now : Spread → Type 0 = λ s. precision_by p s.starts s.lengths ≤ apart in
+    let Next : Spread → Type 0 = λ s. s.starts + longest_micro p ≤ apart in
+    (subst Now (sym (rows_go_through_losses beside p flutter what k)) both.0, subst Next (sym (rows_go_through_losses beside p flutter what (suc k))) both.1)
+  where
+    most : (a b : ℕ) → (a ≤ max a b) × (b ≤ max a b)
+    most a b = (grind arith, grind arith)
+
+-- ---- a history
+
+module _
+    (beside : Bool) (x : Setting) (from flutter : ℕ) (h : Cycles) (double reach : ℕ) (w : IsLossyJoinedFrom x from flutter h) (late : from ≤ double) (checks : SharpChecksHold flutter reach x.params)
+    (fits : (k : ℕ) → double + k < x.doubles → TakesInJoining x (group_through_losses beside x.params flutter (λ m. heard_to_join x (double + m)) k) (double + k) reach)
+    (begin : IsUnfollowedSharpSyncAt beside x.params flutter h double) where
+  abbrev on : ℕ → Heard
+  on k = heard_to_join x (double + k)
+
+  abbrev spread : ℕ → GroupSpread
+  spread k = group_through_losses beside x.params flutter (λ m. heard_to_join x (double + m)) k
+
+  abbrev apart : ℕ → ℕ
+  apart k = apart_through_losses beside x.params flutter (λ m. heard_to_join x (double + m)) k
+
+  abbrev beyond : ℕ → ℤ
+  beyond k = walked_after x.params flutter k
+
+  part : IsTimedPartFrom x from flutter h
+  part = record { covered = w.covered; lawful = w.lawful; within = (let whole = w.whole in omega (arith, whole)) }
+
+  sane : IsSane x.params
+  sane = w.covered.sane
+
+  second : holds_of 2 x.params ≡ true
+  second = checks 2 (lit≤ tt) (lit≤ tt)
+
+  limit : LimitSuffices x.params (pos reach)
+  limit = (sharp_checks_suffice_lem x.params flutter reach sane checks).0
+
+  room : LeavesRoom x.params (pos reach)
+  room = (sharp_checks_suffice_lem x.params flutter reach sane checks).1
+
+  no_more : (a b : ℕ) → a ≤ b → pos a ≤ℤ pos b
+  no_more a b le = omega (arith, ints, le)
+
+  -- ---- one double cycle
+
+  module _ (k : ℕ) (within : double + k < x.doubles) (last : FirstRatesLast x.params flutter k) (earlier : Cycles) (even odd : Cycle) (d : IsDoubleOf h (double + k) earlier even odd)
+      (g : IsFollowedDouble x (group_through_losses beside x.params flutter (λ m. heard_to_join x (double + m)) k) (walked_after x.params flutter k) earlier even odd (double + k)) where
+    -- a node that follows listened before
+    listened : (ago : ℕ) (node : Member) → Contains (map (member_from x.params) (map (λ (n : NodeSpec). follower_hearer x even odd n.id) (followers_since x earlier ago (double + k)))) node
+        → (n : NodeSpec) × Contains (following_nodes x earlier) n × (listened_by (x.join n.id) ago (double + k) ≡ true)
+    listened ago node here =
+        let at : NodeSpec → Hearer = λ n. follower_hearer x even odd n.id in
+        let n = map_contains (member_from x.params) (map at (followers_since x earlier ago (double + k))) node here in
+        let of = map_contains at (followers_since x earlier ago (double + k)) n.0 n.1 in
+        let both = filtered (λ (n : NodeSpec). listened_by (x.join n.id) ago (double + k)) (following_nodes x earlier) of.0 of.1 in
+        (of.0, both.0, both.1)
+
+    takes : TakesInGroup x.params (spread k) (group_of x.params (hearers_of x earlier even odd (double + k))) (pos reach)
+    takes =
+        let in_reach = fits k within in
+        let s = spread k in
+        record {
+          limit = limit;
+          fits = no_more (near_by x.params s.rows.starts s.rows.lengths) reach in_reach.rows;
+          fits_seconds = λ node here.
+              let of = listened 2 node here in
+              no_more (near_by x.params s.seconds s.rows.lengths) reach (in_reach.seconds of.0 (is_correct_follower x earlier of.0 of.1) of.2);
+          fits_firsts = λ node here.
+              let of = listened 1 node here in
+              no_more (near_by x.params s.firsts.starts s.firsts.lengths) reach (in_reach.firsts of.0 (is_correct_follower x earlier of.0 of.1) of.2);
+        }
+
+    walks : CanWalk x.params flutter (beyond k) (rate_walk x.params flutter)
+    walks = (walk_is_held x.params flutter k sane second last.0).0
+
+    heard_by : (linked none : Bool) → all_linked (traffic_of x) (double + k) ≡ linked → nat_eq (arbitrary_count (traffic_of x)) 0 ≡ none
+        → IsFollowedHearing (if linked then (if none then Clean else Meeting) else Poor) x flutter earlier even odd (double + k)
+    heard_by true true linked none =
+        followed_doubles_hear false x from flutter h (double + k) earlier even odd (spread k) (pos reach) (beyond k) (rate_walk x.params flutter) part (omega (arith, late)) d (none_arbitrary x (double + k) none)
+        (all_carried x (double + k) linked) walks room takes g
+    heard_by true false linked none =
+        followed_doubles_hear true x from flutter h (double + k) earlier even odd (spread k) (pos reach) (beyond k) (rate_walk x.params flutter) part (omega (arith, late)) d tt (all_carried x (double + k) linked) walks
+        room takes g
+    heard_by false none linked is =
+        followed_doubles_hear_in_part x from flutter h (double + k) earlier even odd (spread k) (pos reach) (beyond k) part (omega (arith, late)) d
+        (second_of (all_linked (traffic_of x) (double + k)) (all_trusted_to_join x (double + k)) linked (w.hears (double + k) (omega (arith, late)) within)) room takes g
+      where
+        second_of : (a b : Bool) → a ≡ false → (a || b) ≡ true → b ≡ true
+        second_of false b is either = either
+        second_of true b is either = absurd (cc)
+
+    hears : IsFollowedHearing (on k) x flutter earlier even odd (double + k)
+    hears = heard_by (all_linked (traffic_of x) (double + k)) (nat_eq (arbitrary_count (traffic_of x)) 0) refl refl
+
+    kept : IsFollowedKept x flutter (spread (suc k)) (apart k) (pos reach) (beyond k) (beyond (suc k)) earlier even odd (double + k)
+    kept =
+        let held = walk_is_held x.params flutter k sane second last.0 in
+        let both = apart_fits beside x.params flutter on k in
+        followed_doubles_are_kept (on k) x from flutter h (double + k) earlier even odd (spread k) (spread (suc k)) (apart k) (pos reach) (beyond k) (rate_walk x.params flutter) (beyond (suc k)) part (omega (arith, late))
+        d held.0 held.1 held.2 takes hears (goes beside x.params flutter on k) both.0 both.1 g
+
+  -- ---- from the first on
+
+  first : (earlier : Cycles) (even odd : Cycle) → IsDoubleOf h double earlier even odd → IsFollowedDouble x (spread 0) (beyond 0) earlier even odd double
+  unfolding group_through_losses
+  first earlier even odd d =
+      let at = unfollowed_in beside x flutter h double begin earlier even odd d in
+      let At : ℤ → Type 0 = λ z. IsFollowedDouble x (sharp_group_spread beside x.params flutter) z earlier even odd double in
+      subst At (sym (walked_none x.params flutter))
+      (
+      unfollowed_is_followed x from flutter h double earlier even odd (sharp_group_spread beside x.params flutter) (pos 0) part late d (within_range x.params second) at.0.active_even
+      at.0.active_odd at.0.rows at.1
+      )
+
+  followed_from : (n k : ℕ) (earlier : Cycles) (even odd : Cycle) → k ≡ double + n → k < x.doubles → ((m : ℕ) → m < n → FirstRatesLast x.params flutter m) → IsDoubleOf h k earlier even odd
+      → IsFollowedDouble x (spread n) (beyond n) earlier even odd k
+  followed_from zero k earlier even odd is within lasting d =
+      let same : k ≡ double = omega (arith, is) in
+      let Of : ℕ → Type 0 = λ j. IsDoubleOf h j earlier even odd in
+      let At : ℕ → Type 0 = λ j. IsFollowedDouble x (spread 0) (beyond 0) earlier even odd j in
+      subst At (sym same) (first earlier even odd (subst Of same d))
+  followed_from (suc n) k [] even odd is within lasting d =
+      let counted : 0 ≡ 2 * k = d.counted in
+      absurd (omega (arith, counted, is))
+  followed_from (suc n) k (o ∷ []) even odd is within lasting d =
+      let counted : 1 ≡ 2 * k = d.counted in
+      absurd (omega (arith, counted))
+  followed_from (suc n) k (o ∷ e ∷ earlier) even odd is within lasting d =
+      let next : k ≡ suc (double + n) = omega (arith, is) in
+      let Of : ℕ → Type 0 = λ j. IsDoubleOf h j (o ∷ e ∷ earlier) even odd in
+      let At : ℕ → Type 0 = λ j. IsFollowedDouble x (spread (suc n)) (beyond (suc n)) (o ∷ e ∷ earlier) even odd j in
+      let there : IsDoubleOf h (suc (double + n)) (o ∷ e ∷ earlier) even odd = subst Of next d in
+      let last = lasting n (omega arith) in
+      let inside : double + n < x.doubles = omega (arith, is, within) in
+      let prior = prior_of h (double + n) earlier e o even odd there in
+      let before = followed_from n (double + n) earlier e o refl inside (λ j less. lasting j (omega (arith, less))) prior in
+      subst At (sym next)
+      (
+      followed_doubles_go_on x from flutter h (double + n) earlier e o even odd (spread n) (spread (suc n)) (apart n) (pos reach) (beyond n) (beyond (suc n)) part w.referenced (omega (arith, late)) there last.1
+      (next_suffices x.params flutter n sane second last.0) before (kept n inside last earlier e o prior before)
+      )
+
+  module _ (passed : ℕ) (within : double + passed < x.doubles) (lasting : (m : ℕ) → m < passed → FirstRatesLast x.params flutter m) where
+    followed : (earlier : Cycles) (even odd : Cycle) → IsDoubleOf h (double + passed) earlier even odd → IsFollowedDouble x (spread passed) (beyond passed) earlier even odd (double + passed)
+    followed earlier even odd d = followed_from passed (double + passed) earlier even odd refl within lasting d
+
+    pub stays_through : StaysThrough beside x flutter h double passed
+    stays_through =
+        let k = double + passed in
+        let found = double_at h k (let whole = w.whole in omega (arith, whole, within)) in
+        let now = spread passed in
+        let to = spread (suc passed) in
+        let most = apart passed in
+        let ends =
+        λ (last : FirstRatesLast x.params flutter passed) (earlier : Cycles) (even odd : Cycle) (d : IsDoubleOf h (double + passed) earlier even odd).
+        kept passed within last earlier even odd d (followed earlier even odd d) in
+        record {
+          followed = followed;
+          keeps = λ last. record {
+            skew =
+                followed_skew x from flutter h part k (omega (arith, late)) now to most (pos reach) (beyond passed) (beyond (suc passed)) found.earlier found.even found.odd found.is
+                (followed found.earlier found.even found.odd found.is) (ends last found.earlier found.even found.odd found.is);
+            ends = λ earlier even odd d.
+                followed_ends x from flutter h part k (omega (arith, late)) now to most (pos reach) (beyond passed) (beyond (suc passed)) earlier even odd d (followed earlier even odd d) (ends last earlier even odd d);
+          };
+          joins = λ last earlier even odd d.
+              steady_followers_join x from flutter h k earlier even odd to most (pos reach) (beyond passed) (beyond (suc passed)) part (omega (arith, late)) d (ends last earlier even odd d);
+        }
+
+pub joined_histories_keep_through_losses : JoinedHistoriesKeepThroughLosses
+joined_histories_keep_through_losses beside x from flutter h double reach w late checks fits begin passed within lasting =
+    stays_through beside x from flutter h double reach w late checks fits begin passed within lasting
