@@ -9,8 +9,8 @@ pub fn nodes_come_among()
 {}
 
 /// The law of a double cycle in which anything may be lost: its nodes come so near, in ticks; and what that costs from
-/// sharp sync, without arbitrary nodes. Nodes that keep their rates come no less near, and lie beyond their range by no more
-/// than two changes of a cycle.
+/// sharp sync, without arbitrary nodes. Nodes that keep their rates come no less near, and lie further beyond their range by
+/// no more than two changes of a cycle.
 pub fn losses_cost()
     ensures step { LostSpreadsGrow }
     ensures deaf { DeafSpreadsGrow }
