@@ -1,5 +1,5 @@
 -- Whether arbitrary nodes are alike in a double cycle, by the cycles of a trace.
-use Rattle.std.proofs.Common.{◌≡◌, ℕ, suc, ◌+◌, ◌*◌, ◌<◌, ◌≤◌, Bool, true, List, length, get_or, Option, Some, None, ap, ap₂, refl, sym, ◌∙◌, arith}
+use Rattle.std.proofs.Common.{◌≡◌, ℕ, suc, ◌+◌, ◌*◌, ◌<◌, ◌≤◌, true, List, length, get_or, Option, Some, None, ap, ap₂, refl, sym, ◌∙◌, arith}
 use Rattle.std.specs.List.{list_all}
 use Rattle.fr_cluster.specs.Values.{Values}
 use Rattle.fr_history.specs.History.{History, Record, record_at}

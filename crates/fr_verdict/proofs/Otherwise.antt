@@ -4,7 +4,7 @@ use Rattle.fr_cluster.specs.Sane.{IsSane}
 use Rattle.fr_cluster.specs.Values.{Values}
 use Rattle.fr_coverage.specs.declared.gap.Gap.{Gap}
 use Rattle.fr_trace.specs.Trace.{TraceView}
-use Rattle.fr_verdict.specs.OtherGaps.{first_other_gap_of, IsOtherwiseCovered, IsOtherwiseUncovered, IsRefusedOtherwise, OneOtherwise, SomeOtherwise}
+use Rattle.fr_verdict.specs.OtherGaps.{first_other_gap_of, IsOtherwiseCovered, IsRefusedOtherwise, OneOtherwise, SomeOtherwise}
 use Rattle.fr_verdict.specs.Search.{first_breach_of}
 use Rattle.fr_verdict.specs.declared.unlawful.Unlawful.{Unlawful}
 use Rattle.fr_verdict.specs.declared.unlawful.Unlawful.TheVariants as unlawful

@@ -1,5 +1,5 @@
 -- What the sharper bounds say of a trace is so, and the bytes of its files decide it.
-use Rattle.std.proofs.Common.{◌≡◌, ◌≢◌, ◌⊎◌, ◌∙◌, inl, inr, ℕ, zero, suc, ◌+◌, ◌*◌, ◌<◌, ◌≤◌, Bool, true, false, not, ◌&&◌, ℤ, pos, List, [], ◌∷◌, Option, Some, None, length, refl, ap, ap₂, sym, subst, arith}
+use Rattle.std.proofs.Common.{◌≡◌, ◌≢◌, ◌⊎◌, ◌∙◌, inl, inr, ℕ, ◌+◌, ◌*◌, ◌<◌, ◌≤◌, Bool, true, false, not, ◌&&◌, ℤ, pos, List, [], ◌∷◌, Option, Some, None, length, refl, ap, ap₂, sym, subst, arith}
 use Rattle.std.specs.Prelude.{◌≤ℤ◌, ◌/◌, IfSome, count_by, if◌then◌else◌, int_le, is_none, is_some, nat_abs, option_and_then}
 use Rattle.std.proofs.lemmas.Bool.{and_parts}
 use Rattle.std.proofs.lemmas.Int.{ints}
@@ -10,7 +10,6 @@ use Rattle.fr_cluster.specs.Sane.{IsSane}
 use Rattle.fr_cluster.specs.Values.{Values, amount}
 use Rattle.fr_cluster.specs.declared.names.ParamName.TheVariants as name
 use Rattle.fr_cluster.specs.declared.nodes.NodeSpec.{NodeSpec}
-use Rattle.fr_coverage.specs.First.{first_below}
 use Rattle.fr_coverage.specs.declared.gap.Gap.{Gap}
 use Rattle.fr_history.proofs.Synced.{record_at-lt}
 use Rattle.fr_history.specs.History.{Record, record_at}
@@ -19,7 +18,6 @@ use Rattle.fr_params.specs.Files.{params_file}
 use Rattle.fr_params.specs.Upgrades.{AcceptedAreSane}
 use Rattle.fr_precision.specs.Round.{sync_count}
 use Rattle.fr_promise.proofs.TestedLemmas.{sharp_sync_from, to_sharp_sync}
-use Rattle.fr_promise.specs.SharpTested.{is_in_sharp_sync}
 use Rattle.fr_series.proofs.SharpPlaces.{above_since_is, greatest_since_is}
 use Rattle.fr_series.specs.Basis.{sharp_scale_of}
 use Rattle.fr_text.proofs.Commands.{decided}
@@ -38,17 +36,17 @@ use Rattle.fr_trace.specs.Trace.{TraceView, is_named}
 use Rattle.fr_trace.specs.declared.trace.TracedJoin.{TracedJoin}
 use Rattle.fr_verdict.proofs.AlikeFound.{FoundFirst, below_all, below_some}
 use Rattle.fr_verdict.proofs.Syncing.{behind_early, early_not}
-use Rattle.fr_verdict.specs.Alike.{first_unlike, AlikeTracesKeepPrecision, AlikeTracesKeepSharpSync, AreAllAlike, AreSaidFrom, FirstUnlikeIsFound, IsSteadyAlike}
+use Rattle.fr_verdict.specs.Alike.{first_unlike, AlikeTracesKeepPrecision, AlikeTracesKeepSharpSync, AreSaidFrom, FirstUnlikeIsFound, IsSteadyAlike}
 use Rattle.fr_verdict.specs.Gaps.{IsTraceGap, IsTracedCheckGap}
 use Rattle.fr_verdict.specs.OtherGaps.{IsOtherwiseCovered, IsRefusedOtherwise, OneOtherwise, SomeOtherwise}
 use Rattle.fr_verdict.specs.SharpTraces.{recorded_flutter, CheckedTracesAreSteady, IsRecordedInSharpSync, IsSteadyTrace, KeepsSharpClocks, MayNameArbitrary, RecordsKeepApart, StaysRecordedInSharpSync, TracedChecksHold, TracesKeepSharpPrecision, TracesKeepSharpSync}
-use Rattle.fr_verdict.specs.Sync.{first_synced_of, is_early, IsFirstSynced}
+use Rattle.fr_verdict.specs.Sync.{first_synced_of, is_early}
 use Rattle.fr_verdict.specs.declared.unlawful.Unlawful.{Unlawful}
 use Rattle.fr_whole.proofs.TracedDoubles.{sharp_at-place}
-use Rattle.fr_whole.specs.SharpCheckAnswer.{joined_text, sharp_check_files, IsJoinSaid, IsRefusalSaid, IsSharpCheckSaid, IsSharpCheckText}
+use Rattle.fr_whole.specs.SharpCheckAnswer.{joined_text, sharp_check_files, IsSharpCheckSaid, IsSharpCheckText}
 use Rattle.fr_whole.specs.SharpCheckText.{sharp_check_text}
-use Rattle.fr_whole.specs.TracedFigures.{are_sharp_by, figures_of_kind, first_recorded_sharp, is_kind_beside, is_sharp_at, kind_among, kind_from, kind_of_trace, sharp_at, traced_figures_of, unlike_since}
-use Rattle.fr_whole.specs.TracedMeaning.{traced_lasts, AreTracedFigures, CountsAsBeside, IsFirstRecordedSharp, IsFirstUnlike, IsRecordedSharpFound, IsSharpBehindSync, IsTracedKind, IsUnlikeFound, IsUnlikeTold, KeepsTracedSharply}
+use Rattle.fr_whole.specs.TracedFigures.{are_sharp_by, figures_of_kind, first_recorded_sharp, is_kind_beside, is_sharp_at, kind_among, kind_from, kind_of_trace, sharp_at, unlike_since}
+use Rattle.fr_whole.specs.TracedMeaning.{AreTracedFigures, IsFirstRecordedSharp, IsRecordedSharpFound, IsSharpBehindSync, IsTracedKind, IsUnlikeFound, IsUnlikeTold, KeepsTracedSharply}
 use Rattle.fr_whole.specs.declared.traced_figures.TracedKind.{TracedKind}
 use Rattle.fr_whole.specs.declared.traced_figures.TracedKind.TheVariants.{Alone, Alike, Beside}
 

@@ -1,6 +1,6 @@
 -- The figures of a trace by the sharper bounds, gathered double cycle by double cycle.
 use Rattle.std.proofs.Common.{◌≡◌, ◌∙◌, ℕ, suc, ◌+◌, ◌*◌, ◌<◌, ◌≤◌, Bool, true, false, not, ◌&&◌, List, [], ◌∷◌, length, take, get_or, Option, Some, None, refl, ap, ap₂, sym, subst, arith, add-one}
-use Rattle.std.specs.Prelude.{All, IfSome, if◌then◌else◌, slice_index_or}
+use Rattle.std.specs.Prelude.{All, if◌then◌else◌, slice_index_or}
 use Rattle.std.specs.Option.{option_or}
 use Rattle.std.proofs.lemmas.List.{length-take, take_all}
 use Rattle.fr_base.specs.declared.node_row.NodeRow.{NodeRow}
@@ -8,7 +8,6 @@ use Rattle.fr_cluster.specs.Values.{Values}
 use Rattle.fr_coverage.specs.First.{first_below}
 use Rattle.fr_history.specs.Cycles.{Cycle, Cycles, told_of}
 use Rattle.fr_history.specs.History.{History, Record, record_at}
-use Rattle.fr_promise.specs.SharpTested.{is_in_sharp_sync}
 use Rattle.fr_series.specs.Basis.{next_sharply, sharp_scale_of}
 use Rattle.fr_series.specs.Figures.{above_since, figures_by, greatest_since}
 use Rattle.fr_series.specs.Scale.{next_above, next_figures, next_greatest, next_synced}

@@ -1,5 +1,5 @@
 -- What the figures of a trace by the sharper bounds mean, as facts about the trace, and what is promised of it.
-use Rattle.std.specs.Prelude.{◌≡◌, ◌≢◌, ℕ, ◌+◌, ◌<◌, ◌≤◌, pos, Bool, true, false, [], Option, Some, None, IfSome, if◌then◌else◌}
+use Rattle.std.specs.Prelude.{◌≡◌, ◌≢◌, ℕ, ◌+◌, ◌<◌, ◌≤◌, pos, Bool, false, [], Option, Some, None, IfSome, if◌then◌else◌}
 use Rattle.fr_bound.specs.SharpBounds.{sharp_near, sharp_precision, walk_lasts}
 use Rattle.fr_bound.specs.SharpChecks.{sharp_holds_of}
 use Rattle.fr_cluster.specs.Values.{Values}

@@ -1,6 +1,5 @@
 use Rattle.std.proofs.Common.{ℕ, List, ap, inr}
 use Rattle.fr_text.specs.declared.status.Status.TheVariants.{No}
-use Rattle.fr_text.specs.declared.told.Told.{Told}
 use Rattle.fr_whole.specs.SharpCheckAnswer.{joined_text}
 use Rattle.fr_whole.proofs.sharp_check.joined_by_none.Goals as goal
 
