@@ -34,7 +34,7 @@ use Rattle.fr_promise.proofs.JoinBounds.{near_grows}
 use Rattle.fr_sharp.proofs.TrafficCounts.{some_counted}
 
 -- what is stated of oscillators and delays does not speak of what is lost
-same_times : (p : Values) (d : DriftView) (s : ScriptView) (from flutter : ℕ) → IsTimedFrom (setting_of p d (without_losses s)) from flutter → IsTimedFrom (setting_of p d s) from flutter
+pub same_times : (p : Values) (d : DriftView) (s : ScriptView) (from flutter : ℕ) → IsTimedFrom (setting_of p d (without_losses s)) from flutter → IsTimedFrom (setting_of p d s) from flutter
 unfolding is_arbitrary join_of
 same_times p d s from flutter t = record {
   sane = t.sane;
@@ -48,7 +48,7 @@ same_times p d s from flutter t = record {
       t.flutters sender receiver slot ch double (record { sends = link.sends; hears = link.hears; key = link.key; other = link.other }) share behind within;
 }
 
-same_flutter : (p : Values) (d : DriftView) (s : ScriptView) (from : ℕ) → flutter_from p d (without_losses s) from ≡ flutter_from p d s from
+pub same_flutter : (p : Values) (d : DriftView) (s : ScriptView) (from : ℕ) → flutter_from p d (without_losses s) from ≡ flutter_from p d s from
 unfolding is_arbitrary flutter_from
 same_flutter p d s from = refl
 
@@ -94,14 +94,17 @@ clean_only true false false is = absurd (cc)
 clean_only false few true is = absurd (cc)
 clean_only false few false is = absurd (cc)
 
-pub none_is_clean : (p : Values) (s : ScriptView) → has_arbitrary p s ≡ true → (double : ℕ) → heard_in (traffic_in p s) double ≡ heard.Clean → ⊥
-none_is_clean p s beside double clean =
-    let t : Traffic = traffic_in p s in
-    let none = clean_only (all_linked t double) (nat_eq (arbitrary_count t) 0) (lists_meet false t double && lists_meet true t double) clean in
-    never (arbitrary_count t) none (some_counted (λ (a : NodeSpec). is_sync a && is_arbitrary s a.id) p.nodes ∙ beside)
+pub some_is_not_none : (p : Values) (s : ScriptView) → has_arbitrary p s ≡ true → nat_eq (arbitrary_count (traffic_in p s)) 0 ≡ true → ⊥
+some_is_not_none p s beside none =
+    never (arbitrary_count (traffic_in p s)) none (some_counted (λ (a : NodeSpec). is_sync a && is_arbitrary s a.id) p.nodes ∙ beside)
   where
     never : (n : ℕ) → nat_eq n 0 ≡ true → nat_le 1 n ≡ true → ⊥
     never n none some = grind (arith, nat_tests)
+
+pub none_is_clean : (p : Values) (s : ScriptView) → has_arbitrary p s ≡ true → (double : ℕ) → heard_in (traffic_in p s) double ≡ heard.Clean → ⊥
+none_is_clean p s beside double clean =
+    let t : Traffic = traffic_in p s in
+    some_is_not_none p s beside (clean_only (all_linked t double) (nat_eq (arbitrary_count t) 0) (lists_meet false t double && lists_meet true t double) clean)
 
 -- and without them each in which all is heard is
 both_clean : (b few meet : Bool) → b ≡ true → few ≡ true → (if b && few then heard.Clean else (if meet then heard.Meeting else heard.Poor)) ≡ heard.Clean

@@ -40,10 +40,10 @@ use Rattle.fr_runs.proofs.Starts.{starts_are_natural}
 use Rattle.fr_promise.proofs.Starts.{lengths_are_natural}
 use Rattle.fr_promise.proofs.JoinedRuns.{first_rates_last_on, joined_histories_keep_sharp_sync, still_zero}
 
-script_of_a_file_fits : (p : Values) (s : ScriptView) (bytes : List ℕ) → IsScriptFile p s bytes → ScriptFits p s
+pub script_of_a_file_fits : (p : Values) (s : ScriptView) (bytes : List ℕ) → IsScriptFile p s bytes → ScriptFits p s
 script_of_a_file_fits p s bytes file = record { records = _; none_refused = file.none_refused; stands = file.stands }
 
-have_references : (p : Values) (d : DriftView) (s : ScriptView) → ScriptFits p s → HaveReferences (setting_of p d s)
+pub have_references : (p : Values) (d : DriftView) (s : ScriptView) → ScriptFits p s → HaveReferences (setting_of p d s)
 have_references p d s fits node join there at = reference_is p d s node join (fits-join p s fits node.id join at)
 
 joined_run : (p : Values) (d : DriftView) (s : ScriptView) (from flutter : ℕ) (h : Cycles) → IsSane p → ScriptFits p s → IsSharplyCoveredToJoin p d s from flutter → IsRunOf (setting_of p d s) h

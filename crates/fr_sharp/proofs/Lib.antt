@@ -30,6 +30,7 @@ pub mod LossBurstLaws
 pub mod StrayFits
 pub mod LossTold
 pub mod JoinedFromFiles
+pub mod JoinedFromLossyFiles
 pub mod JudgedLaws
 pub mod JudgedCarried
 pub mod CheckGaps

@@ -11,6 +11,7 @@ pub mod LossRuns
 pub mod LossSteps
 pub mod Losses
 pub mod LossStatement
+pub mod JoinedLossStatement
 pub mod MeetingCosts
 pub mod SettlingHistories
 pub mod SharpFiles

@@ -1,4 +1,8 @@
 ghost use Rattle.fr_sharp.specs.JoinedFiles.{CoveredFilesKeepSharplyJoined, JoinedFilesKeepSharpPrecision};
+ghost use Rattle.fr_sharp.specs.JoinedLossStatement.{JoinedFilesKeepThroughLosses, LossyFilesGiveJoinedRuns};
+
+use crate::losing::joined_histories_keep_through_losses;
+use fr_promise::heard_numbers;
 
 /// The promise of the files of a run that nodes join: where they are sharply covered to join, each double cycle from one
 /// in sharp sync on in which no node follows is in sharp sync, no corresponding macroticks lie further apart than the
@@ -14,3 +18,15 @@ pub fn joined_files_keep_sharp_precision()
 pub fn covered_files_keep_sharply_joined()
     ensures { CoveredFilesKeepSharplyJoined }
 {}
+
+/// The promise of the files of a run that nodes join and that loses frames: where they are covered to join through losses,
+/// from each double cycle in sharp sync on in which no node follows, nodes with rows keep to the numbers by what was heard
+/// since, in ticks, no term of them or of those that follow is cut or missing, and no follower is left behind, for as long as
+/// the rate limit holds the walk and suffices for first rates.
+pub fn joined_files_keep_through_losses()
+    ensures keep { JoinedFilesKeepThroughLosses }
+    ensures runs { LossyFilesGiveJoinedRuns }
+{
+    joined_histories_keep_through_losses();
+    heard_numbers();
+}

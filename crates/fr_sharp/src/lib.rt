@@ -38,7 +38,10 @@ pub use histories::{
     histories_come_into_sharp_sync, histories_keep_sharp_sync, histories_settle_sharply,
     stated_runs_are_steady,
 };
-pub use joined_files::{covered_files_keep_sharply_joined, joined_files_keep_sharp_precision};
+pub use joined_files::{
+    covered_files_keep_sharply_joined, joined_files_keep_sharp_precision,
+    joined_files_keep_through_losses,
+};
 pub use judged_steps::{carried_states_are_known, judged_double_cycles_go_on};
 pub use losing::{
     histories_keep_through_losses, joined_histories_keep_through_losses, what_is_heard_suffices,

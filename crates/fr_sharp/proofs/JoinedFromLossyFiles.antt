@@ -1,0 +1,216 @@
+-- The run that files decide where nodes join and frames are lost: it is as the law of losses asks for, so it keeps to the bounds by what
+-- is heard.
+use Rattle.std.proofs.Common.{◌≡◌, ℕ, zero, suc, ◌+◌, ◌-◌, ◌*◌, ◌/◌, ◌<◌, ◌≤◌, Bool, true, false, if◌then◌else◌, refl, sym, subst, arith}
+use Rattle.std.specs.Prelude.{max, nat_eq}
+use Rattle.std.proofs.Math.Nat.{le-max_left}
+use Rattle.fr_cluster.specs.Values.{Values, amount}
+use Rattle.fr_cluster.specs.declared.names.ParamName.TheVariants as name
+use Rattle.fr_drift.specs.Questions.{doubles_of}
+use Rattle.fr_drift.specs.View.{DriftView}
+use Rattle.fr_script.specs.View.{ScriptView}
+use Rattle.fr_bound.specs.Bounds.{arrival_error, cycle_change, longest_micro}
+use Rattle.fr_bound.specs.Judged.{heard_spread}
+use Rattle.fr_bound.specs.SharpBounds.{near_by, sharp_lambda, sharp_pi, steady_error}
+use Rattle.fr_bound.specs.declared.judging.Heard.{Heard}
+use Rattle.fr_bound.specs.declared.judging.Heard.TheVariants.{Clean, Meeting, Poor}
+use Rattle.fr_bound.specs.declared.settling.Spread.{Spread}
+use Rattle.fr_coverage.specs.Decided.{setting_of}
+use Rattle.fr_precision.specs.Among.{spread_through_losses, LaterSpreadsAreLess}
+use Rattle.fr_promise.specs.SharpJoining.{all_heard, first_apart_by, first_lengths_by, second_apart_by, sharp_first_lengths, sharp_group_spread, GroupSpread}
+use Rattle.fr_promise.proofs.JoinBounds.{near_grows}
+use Rattle.fr_sharp.specs.JoinedLosses.{group_through_losses, heard_to_join, JoinedHistoriesKeepThroughLosses, RowsGoThroughLosses, TakesInJoining}
+use Rattle.fr_sharp.specs.JoinedLossStatement.{group_since, JoinedFilesKeepThroughLosses, LossyFilesGiveJoinedRuns}
+use Rattle.fr_sharp.specs.LossStatement.{without_losses}
+use Rattle.fr_sharp.specs.SharpStatement.{has_arbitrary}
+use Rattle.fr_sharp.specs.Traffic.{all_linked, arbitrary_count, traffic_in}
+use Rattle.fr_sharp.proofs.FromFiles.{files_are_steady}
+use Rattle.fr_sharp.proofs.FromLossyFiles.{later_since, same_flutter, same_times, some_is_not_none}
+use Rattle.fr_sharp.proofs.JoinedFromFiles.{have_references, script_of_a_file_fits}
+
+pub lossy_files_give_joined_runs : LossyFilesGiveJoinedRuns
+lossy_files_give_joined_runs p d s from flutter reach h sane fits covered run =
+    let Fits : ℕ → Type 0 = λ n. n ≤ flutter in
+    let steady = files_are_steady p d (without_losses s) from flutter sane covered.none (subst Fits (sym (same_flutter p d s from)) covered.flutters) in
+    record {
+      covered = same_times p d s from flutter steady.timed;
+      referenced = have_references p d s fits;
+      lawful = run.lawful;
+      whole = run.whole;
+      hears = covered.hears;
+    }
+
+-- ---- beside arbitrary nodes nothing is clean
+
+none_is_clean : (p : Values) (d : DriftView) (s : ScriptView) → has_arbitrary p s ≡ true → (double : ℕ) → heard_to_join (setting_of p d s) double ≡ Clean → ⊥
+none_is_clean p d s beside double clean =
+    some_is_not_none p s beside (only (all_linked (traffic_in p s) double) (nat_eq (arbitrary_count (traffic_in p s)) 0) clean)
+  where
+    only : (b few : Bool) → (if b then (if few then Clean else Meeting) else Poor) ≡ Clean → few ≡ true
+    only true true is = refl
+    only true false is = absurd (cc)
+    only false few is = absurd (cc)
+
+-- ---- greater bounds go to greater ones
+
+-- no bound of the one is above that of the other
+record IsBelow (one other : GroupSpread) : Type 0 where
+  starts : one.rows.starts ≤ other.rows.starts
+  lengths : one.rows.lengths ≤ other.rows.lengths
+  seconds : one.seconds ≤ other.seconds
+  first_starts : one.firsts.starts ≤ other.firsts.starts
+  first_lengths : one.firsts.lengths ≤ other.firsts.lengths
+
+clean_step : (j e q f f' : ℕ) → f ≤ f' → (f + 2 * j) + 2 * e + 3 * q ≤ (f' + 2 * j) + 2 * e + 3 * q
+clean_step j e q f f' c = omega (arith, c)
+
+meeting_step : (j e q s l f s' l' f' : ℕ) → s ≤ s' → l ≤ l' → f ≤ f'
+    → (s + l + 2 * (f + 2 * j) + 4 * e + 7 * q) / 2 ≤ (s' + l' + 2 * (f' + 2 * j) + 4 * e + 7 * q) / 2
+meeting_step j e q s l f s' l' f' a b c = omega arith
+
+poor_step : (j e q s l f s' l' f' : ℕ) → s ≤ s' → l ≤ l' → f ≤ f' → s + l + (f + 2 * j) + 2 * e + 3 * q ≤ s' + l' + (f' + 2 * j) + 2 * e + 3 * q
+poor_step j e q s l f s' l' f' a b c = omega (arith, a, b, c)
+
+clean_meets : (j e q f s' l' f' : ℕ) → f ≤ f' → (f + 2 * j) + 2 * e + 3 * q ≤ (s' + l' + 2 * (f' + 2 * j) + 4 * e + 7 * q) / 2
+clean_meets j e q f s' l' f' c = omega arith
+
+clean_is_poor : (j e q f s' l' f' : ℕ) → f ≤ f' → (f + 2 * j) + 2 * e + 3 * q ≤ s' + l' + (f' + 2 * j) + 2 * e + 3 * q
+clean_is_poor j e q f s' l' f' c = omega (arith, c)
+
+meeting_is_poor : (j e q s l f s' l' f' : ℕ) → s ≡ 3 * l + 4 * j + 4 * e + 7 * q → s ≤ s' → l ≤ l' → f ≤ f'
+    → (s + l + 2 * (f + 2 * j) + 4 * e + 7 * q) / 2 ≤ s' + l' + (f' + 2 * j) + 2 * e + 3 * q
+meeting_is_poor j e q s l f s' l' f' is a b c = omega arith
+
+seconds_grow : (what : Heard) (p : Values) (s l f s' l' f' : ℕ) → s ≤ s' → l ≤ l' → f ≤ f' → second_apart_by what p s l f ≤ second_apart_by what p s' l' f'
+seconds_grow Clean p s l f s' l' f' a b c = clean_step (cycle_change p) (arrival_error p) (longest_micro p) f f' c
+seconds_grow Meeting p s l f s' l' f' a b c = meeting_step (cycle_change p) (arrival_error p) (longest_micro p) s l f s' l' f' a b c
+seconds_grow Poor p s l f s' l' f' a b c = poor_step (cycle_change p) (arrival_error p) (longest_micro p) s l f s' l' f' a b c
+
+-- from sharp sync whatever is heard
+sharp_seconds : (beside : Bool) (what : Heard) (p : Values) (flutter s' l' f' : ℕ) → (beside ≡ true → what ≡ Clean → ⊥) → sharp_pi beside p flutter ≤ s' → sharp_lambda beside p flutter ≤ l' → sharp_first_lengths beside p flutter ≤ f'
+    → second_apart_by (all_heard beside) p (sharp_pi beside p flutter) (sharp_lambda beside p flutter) (sharp_first_lengths beside p flutter) ≤ second_apart_by what p s' l' f'
+sharp_seconds false Clean p flutter s' l' f' never a b c = clean_step (cycle_change p) (arrival_error p) (longest_micro p) (sharp_first_lengths false p flutter) f' c
+sharp_seconds false Meeting p flutter s' l' f' never a b c = clean_meets (cycle_change p) (arrival_error p) (longest_micro p) (sharp_first_lengths false p flutter) s' l' f' c
+sharp_seconds false Poor p flutter s' l' f' never a b c = clean_is_poor (cycle_change p) (arrival_error p) (longest_micro p) (sharp_first_lengths false p flutter) s' l' f' c
+sharp_seconds true Clean p flutter s' l' f' never a b c = absurd (never refl refl)
+sharp_seconds true Meeting p flutter s' l' f' never a b c =
+    meeting_step (cycle_change p) (arrival_error p) (longest_micro p) (sharp_pi true p flutter) (sharp_lambda true p flutter) (sharp_first_lengths true p flutter) s' l' f' a b c
+sharp_seconds true Poor p flutter s' l' f' never a b c =
+    meeting_is_poor (cycle_change p) (arrival_error p) (longest_micro p) (sharp_pi true p flutter) (sharp_lambda true p flutter) (sharp_first_lengths true p flutter) s' l' f' refl a b c
+
+first_starts_grow : (p : Values) (flutter s l s' l' : ℕ) → s ≤ s' → l ≤ l' → first_apart_by p flutter s l ≤ first_apart_by p flutter s' l'
+first_starts_grow p flutter s l s' l' a b = step s l s' l' (4 * cycle_change p) (2 * arrival_error p) flutter (4 * longest_micro p) a b
+  where
+    step : (s l s' l' j e t q : ℕ) → s ≤ s' → l ≤ l' → s + 2 * l + j + e + t + q ≤ s' + 2 * l' + j + e + t + q
+    step s l s' l' j e t q a b = omega (arith, a, b)
+
+first_lengths_grow : (p : Values) (flutter l l' : ℕ) → l ≤ l' → first_lengths_by p flutter l ≤ first_lengths_by p flutter l'
+first_lengths_grow p flutter l l' b = step l l' (2 * steady_error p flutter) (amount p name.pClusterDriftDamping * longest_micro p) (4 * cycle_change p) b
+  where
+    step : (l l' k c j : ℕ) → l ≤ l' → l + k + c + j ≤ l' + k + c + j
+    step l l' k c j b = omega (arith, b)
+
+at_most : (a b c : ℕ) → a ≤ b → b ≤ c → a ≤ c
+at_most a b c h k = omega (arith, h, k)
+
+itself : (n : ℕ) → n ≤ n
+itself n = omega arith
+
+most_grow : (a b a' b' : ℕ) → a ≤ a' → b ≤ b' → max a b ≤ max a' b'
+most_grow a b a' b' h k = grind arith
+
+-- ---- what was heard since a later double cycle says no more than what was heard since an earlier one
+
+module _ (later : LaterSpreadsAreLess) (rows_go : RowsGoThroughLosses) (beside : Bool) (p : Values) (from flutter : ℕ) (what : ℕ → Heard) (never : beside ≡ true → (m : ℕ) → what m ≡ Clean → ⊥) where
+  rows_since : (double k n : ℕ) → from ≤ double → n ≡ (double + k) - from
+      → ((group_through_losses beside p flutter (λ m. what (double + m)) k).rows.starts ≤ (group_through_losses beside p flutter (λ m. what (from + m)) n).rows.starts)
+      × ((group_through_losses beside p flutter (λ m. what (double + m)) k).rows.lengths ≤ (group_through_losses beside p flutter (λ m. what (from + m)) n).rows.lengths)
+  rows_since double k n late is =
+      let now = spread_through_losses beside p flutter (λ m. what (double + m)) k in
+      let Less : Spread → Spread → Type 0 = λ one other. (one.starts ≤ other.starts) × (one.lengths ≤ other.lengths) in
+      let at : Less now (spread_through_losses beside p flutter (λ m. what (from + m)) n) =
+      subst (λ (j : ℕ). Less now (spread_through_losses beside p flutter (λ m. what (from + m)) j)) (sym is) (later_since later beside p from flutter what double k late never) in
+      subst (λ (one : Spread). Less one (group_through_losses beside p flutter (λ m. what (from + m)) n).rows) (sym (rows_go beside p flutter (λ m. what (double + m)) k))
+      (subst (Less now) (sym (rows_go beside p flutter (λ m. what (from + m)) n)) at)
+
+  -- none of sharp sync is above those of any later double cycle
+  sharp_is_below : (n : ℕ) → IsBelow (sharp_group_spread beside p flutter) (group_through_losses beside p flutter (λ m. what (from + m)) n)
+  unfolding group_through_losses
+  sharp_is_below zero = record {
+    starts = itself (sharp_group_spread beside p flutter).rows.starts;
+    lengths = itself (sharp_group_spread beside p flutter).rows.lengths;
+    seconds = itself (sharp_group_spread beside p flutter).seconds;
+    first_starts = itself (sharp_group_spread beside p flutter).firsts.starts;
+    first_lengths = itself (sharp_group_spread beside p flutter).firsts.lengths;
+  }
+  sharp_is_below (suc n) =
+      let before = sharp_is_below n in
+      let s = group_through_losses beside p flutter (λ m. what (from + m)) n in
+      let rows = rows_since (from + suc n) 0 (suc n) (omega arith) (omega arith) in
+      record {
+        starts = rows.0;
+        lengths = rows.1;
+        seconds = sharp_seconds beside (what (from + n)) p flutter s.rows.starts s.rows.lengths s.firsts.lengths (λ some. never some (from + n)) before.starts before.lengths before.first_lengths;
+        first_starts = first_starts_grow p flutter (sharp_pi beside p flutter) (sharp_lambda beside p flutter) s.rows.starts s.rows.lengths before.starts before.lengths;
+        first_lengths =
+            at_most (sharp_first_lengths beside p flutter) (first_lengths_by p flutter s.rows.lengths) (max (first_lengths_by p flutter s.rows.lengths) (heard_spread (what (from + n)) p flutter s.rows).lengths)
+            (first_lengths_grow p flutter (sharp_lambda beside p flutter) s.rows.lengths before.lengths)
+            (le-max_left (first_lengths_by p flutter s.rows.lengths) (heard_spread (what (from + n)) p flutter s.rows).lengths);
+      }
+
+  group_is_below : (double k n : ℕ) → from ≤ double → n ≡ (double + k) - from
+      → IsBelow (group_through_losses beside p flutter (λ m. what (double + m)) k) (group_through_losses beside p flutter (λ m. what (from + m)) n)
+  unfolding group_through_losses
+  group_is_below double zero n late is = sharp_is_below n
+  group_is_below double (suc k) zero late is = absurd (omega (arith, late, is))
+  group_is_below double (suc k) (suc n) late is =
+      let before = group_is_below double k n late (omega (arith, late, is)) in
+      let rows = rows_since double (suc k) (suc n) late is in
+      let s = group_through_losses beside p flutter (λ m. what (double + m)) k in
+      let to = group_through_losses beside p flutter (λ m. what (from + m)) n in
+      let same : double + k ≡ from + n = omega (arith, late, is) in
+      let Second : ℕ → Type 0 = λ j. second_apart_by (what (double + k)) p s.rows.starts s.rows.lengths s.firsts.lengths ≤ second_apart_by (what j) p to.rows.starts to.rows.lengths to.firsts.lengths in
+      record {
+        starts = rows.0;
+        lengths = rows.1;
+        seconds =
+            subst Second same
+            (seconds_grow (what (double + k)) p s.rows.starts s.rows.lengths s.firsts.lengths to.rows.starts to.rows.lengths to.firsts.lengths before.starts before.lengths before.first_lengths);
+        first_starts = first_starts_grow p flutter s.rows.starts s.rows.lengths to.rows.starts to.rows.lengths before.starts before.lengths;
+        first_lengths =
+            most_grow (first_lengths_by p flutter s.rows.lengths) (heard_spread (what (double + k)) p flutter s.rows).lengths (first_lengths_by p flutter to.rows.lengths)
+            (heard_spread (what (from + n)) p flutter to.rows).lengths (first_lengths_grow p flutter s.rows.lengths to.rows.lengths before.lengths) rows.1;
+      }
+
+  group_later : (double k : ℕ) → from ≤ double
+      → IsBelow (group_through_losses beside p flutter (λ m. what (double + m)) k) (group_since beside p from flutter what (double + k))
+  group_later double k late = group_is_below double k ((double + k) - from) late refl
+
+-- ---- the promise
+
+module _ (keep : JoinedHistoriesKeepThroughLosses) (rows_go : RowsGoThroughLosses) (later : LaterSpreadsAreLess) where
+  pub joined_files_keep_through_losses_lem : JoinedFilesKeepThroughLosses
+  joined_files_keep_through_losses_lem p d s drift script from flutter reach h double sane drift_file script_file covered run late sync passed within lasting =
+      keep (has_arbitrary p s) (setting_of p d s) from flutter h double reach (lossy_files_give_joined_runs p d s from flutter reach h sane (script_of_a_file_fits p s script script_file) covered run) late
+      covered.checks takes sync passed within lasting
+    where
+      what : ℕ → Heard
+      what m = heard_to_join (setting_of p d s) m
+
+      takes : (k : ℕ) → double + k < doubles_of d
+          → TakesInJoining (setting_of p d s) (group_through_losses (has_arbitrary p s) p flutter (λ m. heard_to_join (setting_of p d s) (double + m)) k) (double + k) reach
+      takes k short =
+          let below = group_later later rows_go (has_arbitrary p s) p from flutter what (none_is_clean p d s) double k late in
+          let now = group_through_losses (has_arbitrary p s) p flutter (λ m. heard_to_join (setting_of p d s) (double + m)) k in
+          let all = group_since (has_arbitrary p s) p from flutter what (double + k) in
+          let in_reach = covered.takes (double + k) (omega (arith, late)) short in
+          record {
+            rows =
+                at_most (near_by p now.rows.starts now.rows.lengths) (near_by p all.rows.starts all.rows.lengths) reach
+                (near_grows p now.rows.starts now.rows.lengths all.rows.starts all.rows.lengths sane below.starts below.lengths) in_reach.rows;
+            seconds = λ node there listened.
+                at_most (near_by p now.seconds now.rows.lengths) (near_by p all.seconds all.rows.lengths) reach
+                (near_grows p now.seconds now.rows.lengths all.seconds all.rows.lengths sane below.seconds below.lengths) (in_reach.seconds node there listened);
+            firsts = λ node there listened.
+                at_most (near_by p now.firsts.starts now.firsts.lengths) (near_by p all.firsts.starts all.firsts.lengths) reach
+                (near_grows p now.firsts.starts now.firsts.lengths all.firsts.starts all.firsts.lengths sane below.first_starts below.first_lengths) (in_reach.firsts node there listened);
+          }
