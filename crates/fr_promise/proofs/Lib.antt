@@ -26,6 +26,7 @@ pub mod JoinedDoubles
 pub mod JoinedMoves
 pub mod JoinedNext
 pub mod JoinedUncut
+pub mod FollowedRuns
 pub mod JoinedRuns
 pub mod JoinedCycles
 pub mod FirstRates
