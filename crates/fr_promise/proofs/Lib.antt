@@ -21,6 +21,7 @@ pub mod SharpListened
 pub mod SharpGrouped
 pub mod SharpFollowed
 pub mod FollowersSupplied
+pub mod HeardInPart
 pub mod SharpCatches
 pub mod JoinedDoubles
 pub mod JoinedMoves

@@ -4,6 +4,7 @@ pub mod Files
 pub mod Way
 -- of the sharper precision
 pub mod JoinedHistories
+pub mod RoundsInPart
 pub mod SharpFollowing
 pub mod SharpGroup
 pub mod SharpJoined

@@ -26,13 +26,13 @@ use Rattle.fr_runs.proofs.Courses.{is_correct_row}
 use Rattle.fr_runs.proofs.Nodes.{correct_node}
 use Rattle.fr_runs.proofs.RowsHeard.{RowLink}
 use Rattle.fr_coverage.specs.Links.{is_sync, shares}
-use Rattle.fr_sharp.specs.Losses.{IsTrustedOf}
+use Rattle.fr_promise.specs.RoundsInPart.{IsTrustedOf}
 use Rattle.fr_runs.specs.SteadyRuns.{AreRowsInReach}
 use Rattle.fr_sharp.specs.Traffic.{all_trusted, comes, has_value, is_deaf, is_trusted, may_reach, may_say, most_count, is_correct_sender, traffic_of, trusts, value_on, Traffic}
-use Rattle.fr_sharp.proofs.HeardCounts.{all_pass, count_two, passes_at, passes_is}
+use Rattle.fr_runs.proofs.KeyedCounts.{all_pass, count_two, passes_at, passes_is}
 use Rattle.fr_sharp.proofs.HeardEvents.{may_come}
 use Rattle.fr_sharp.proofs.HeardSurely.{own_of, row_owns, senders_counted, surely_heard as heard_of_sure, trusted_so, value_by}
-use Rattle.fr_sharp.proofs.HeardInPart.{is_other, least_there, mean_there, others_counted}
+use Rattle.fr_promise.proofs.HeardInPart.{is_other, least_there, mean_there, others_counted}
 use Rattle.fr_runs.proofs.Fed.{row_receivers}
 use Rattle.fr_runs.proofs.RowsSupplied.{comes_in, counted_in, link_to, looked_up, receiving, rows_heard_in_part, says_in, sending, LawfulRows}
 use Rattle.fr_promise.proofs.RunDoubles.{AllHave}

@@ -1,6 +1,6 @@
 -- A double cycle of a run that nodes join in which frames may be lost: each node with a row computes its terms from the values that it
 -- has, and so does each that follows.
-use Rattle.std.proofs.Common.{◌≡◌, ℕ, Bool, true, false, ◌&&◌, ◌||◌, not, ℤ, pos, Option, None, Some, ◌∷◌, length, map, refl, ap, sym, ◌∙◌, subst, inl, inr, arith}
+use Rattle.std.proofs.Common.{◌≡◌, ℕ, Bool, true, false, ◌&&◌, ◌||◌, not, ℤ, pos, Option, None, Some, ◌∷◌, length, map, refl, ap, ◌∙◌, subst, inl, inr, arith}
 use Rattle.std.specs.Prelude.{Contains, ◌<◌, nat_lt}
 use Rattle.std.proofs.lemmas.Bool.{and_parts}
 use Rattle.std.proofs.lemmas.Bool.Decides.{nat_tests}
@@ -23,7 +23,7 @@ use Rattle.fr_runs.specs.Gathered.{follower_hearer, followers_since, hearers_of,
 use Rattle.fr_runs.specs.Hearers.{group_of, member_from}
 use Rattle.fr_runs.specs.SteadyRuns.{row_hearers, row_members, AreRowsInReach}
 use Rattle.fr_runs.specs.Supplied.{stays_on}
-use Rattle.fr_runs.proofs.Courses.{follower_applied, is_correct_follower, is_correct_row}
+use Rattle.fr_runs.proofs.Courses.{follower_applied}
 use Rattle.fr_runs.proofs.Covers.{stays_has}
 use Rattle.fr_runs.proofs.Doubles.{odd_length}
 use Rattle.fr_runs.proofs.Fed.{follower_receivers, lawful_part, row_receivers}
@@ -38,10 +38,10 @@ use Rattle.fr_promise.specs.SharpJoining.{GroupSpread}
 use Rattle.fr_promise.proofs.FollowersSupplied.{follower_regular, pairs_steady as follower_pairs, receiving as follower_receiving}
 use Rattle.fr_promise.proofs.JoinedDoubles.{followers_in, rows_in}
 use Rattle.fr_sharp.specs.JoinedLosses.{has_begun, is_trusted_by, trusts_to_join, all_trusted_to_join, FollowedDoublesHearInPart}
-use Rattle.fr_sharp.specs.Losses.{IsSuppliedInPart, IsTrustedOf}
+use Rattle.fr_promise.specs.RoundsInPart.{IsTrustedOf}
 use Rattle.fr_sharp.specs.Traffic.{traffic_of}
-use Rattle.fr_sharp.proofs.HeardCounts.{all_pass}
-use Rattle.fr_sharp.proofs.HeardInPart.{computes_in_part, heard_some}
+use Rattle.fr_runs.proofs.KeyedCounts.{all_pass}
+use Rattle.fr_promise.proofs.HeardInPart.{computes_in_part, heard_some}
 use Rattle.fr_sharp.proofs.HeardSurely.{follower_owns, row_owns, trusted_so, value_by, KeepsOwn}
 use Rattle.fr_sharp.proofs.RowsInPart.{round_is, senders_among, supplied_with}
 

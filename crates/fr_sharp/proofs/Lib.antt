@@ -3,8 +3,7 @@ pub mod DigitTexts
 pub mod LossLemmas
 pub mod LossNumbers
 pub mod LossRows
-pub mod HeardCounts
-pub mod HeardInPart
+pub mod GreatestCosts
 pub mod HeardEvents
 pub mod HeardSurely
 pub mod HeardValues
