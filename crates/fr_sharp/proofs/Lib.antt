@@ -6,6 +6,7 @@ pub mod LossRows
 pub mod GreatestCosts
 pub mod HeardEvents
 pub mod HeardSurely
+pub mod HeardAtMost
 pub mod HeardValues
 pub mod RowsInPart
 pub mod BearingRows
