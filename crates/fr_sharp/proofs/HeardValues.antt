@@ -1,14 +1,12 @@
--- What a node with a row surely has of senders where each correct node has one, and what it may have: counted, and trusted.
-use Rattle.std.proofs.Common.{◌≡◌, ℕ, ◌≤◌, ◌&&◌, ◌||◌, Bool, true, false, ℤ, Some, length}
-use Rattle.std.specs.Prelude.{Contains, IsSome, is_some}
+-- A node with a row where each correct node has one: it trusts its lists, or has no value.
+use Rattle.std.proofs.Common.{◌≡◌, ℕ, ◌&&◌, ◌||◌, Bool, true, false, ℤ, Some}
+use Rattle.std.specs.Prelude.{Contains}
 use Rattle.std.proofs.lemmas.Bool.{and_parts}
 use Rattle.fr_cluster.specs.Questions.{key_slot_of, own_index}
 use Rattle.fr_cluster.specs.Sane.{IsSane}
 use Rattle.fr_cluster.specs.Setting.{Setting}
-use Rattle.fr_cluster.specs.Values.{Values}
 use Rattle.fr_cluster.specs.declared.nodes.NodeSpec.{NodeSpec}
-use Rattle.fr_measure.specs.Values.{is_own, offset_at, rate_at, values_of}
-use Rattle.fr_precision.specs.Round.{sender_at, Hearer, Round}
+use Rattle.fr_measure.specs.Values.{is_own, offset_at, rate_at}
 use Rattle.fr_history.specs.Cycles.{Cycle, Cycles}
 use Rattle.fr_history.specs.Standing.{row_nodes}
 use Rattle.fr_runs.specs.Gathered.{round_at, row_hearer}
@@ -16,10 +14,10 @@ use Rattle.fr_runs.proofs.Courses.{is_correct_row}
 use Rattle.fr_runs.proofs.Nodes.{correct_node}
 use Rattle.fr_promise.specs.RoundsInPart.{IsTrustedOf}
 use Rattle.fr_runs.specs.SteadyRuns.{AreRowsInReach}
-use Rattle.fr_sharp.specs.Traffic.{all_trusted, has_value, is_deaf, is_trusted, most_count, is_correct_sender, traffic_of, trusts, Traffic}
-use Rattle.fr_runs.proofs.KeyedCounts.{all_pass, passes_at}
-use Rattle.fr_sharp.proofs.HeardAtMost.{no_value as none_reaches, most_values as values_at_most, row_owned}
-use Rattle.fr_sharp.proofs.HeardSurely.{row_owns, surely_heard as heard_of_sure, trusted_so, value_by}
+use Rattle.fr_sharp.specs.Traffic.{all_trusted, is_deaf, is_trusted, traffic_of, trusts}
+use Rattle.fr_runs.proofs.KeyedCounts.{all_pass}
+use Rattle.fr_sharp.proofs.HeardAtMost.{no_value as none_reaches, row_owned}
+use Rattle.fr_sharp.proofs.HeardSurely.{row_owns, trusted_so, value_by}
 use Rattle.fr_runs.proofs.Fed.{row_receivers}
 use Rattle.fr_runs.proofs.RowsSupplied.{receiving, sending, LawfulRows}
 use Rattle.fr_promise.proofs.RunDoubles.{AllHave}
@@ -27,35 +25,13 @@ use Rattle.fr_promise.proofs.RunDoubles.{AllHave}
 -- ---- a node with a row
 
 module _ (x : Setting) (flutter : ℕ) (h : Cycles) (even odd : Cycle) (double : ℕ) (reach : ℤ) (s : LawfulRows x flutter h even odd double) (r : AreRowsInReach x h even odd reach) (all : AllHave x h) where
-  abbrev p : Values
-  p = x.params
-
-  abbrev t : Traffic
-  t = traffic_of x
-
-  abbrev round : Round
-  round = round_at x h even odd
-
-  abbrev hearer : NodeSpec → Hearer
-  hearer node = row_hearer x even odd node.id
-
   sane : IsSane x.params
   sane = s.covered.sane
-
-  -- ---- what it surely has
-
-  -- of a sender of whom it surely has a value it has heard
-  pub surely_heard : (rate : Bool) (node : NodeSpec) (index : ℕ) → Contains (row_nodes x h) node
-      → passes_at x.params (λ (a : NodeSpec). is_correct_sender (traffic_of x) a && has_value rate true (traffic_of x) double node a) index ≡ true
-      → IsSome (value_by rate (row_hearer x even odd node.id) index) × (is_some (sender_at (round_at x h even odd) index) ≡ true)
-  surely_heard rate node index among is =
-      heard_of_sure x h even odd double reach (row_receivers x h even odd) node (sending x flutter h even odd double reach s r) (receiving x flutter h even odd double reach s r node among) (row_owns x h even odd node sane)
-      (λ a. true) (λ a there is. all a there) rate index is
 
   -- ---- what it may have
 
   owned : (node : NodeSpec) (index : ℕ) → Contains (row_nodes x h) node → is_own (own_index x.params node.id) index ≡ true → (slot : ℕ) × (node.key ≡ Some slot) × (key_slot_of x.params index ≡ Some slot)
-  owned node index among own = row_owned x node index s.covered.sane (is_correct_row x h node among) own
+  owned node index among own = row_owned x node index sane (is_correct_row x h node among) own
 
   -- a deaf node has no value
   pub no_value : (rate : Bool) (node : NodeSpec) (index : ℕ) (value : ℤ) → Contains (row_nodes x h) node → is_deaf rate (traffic_of x) double node ≡ true
@@ -63,11 +39,6 @@ module _ (x : Setting) (flutter : ℕ) (h : Cycles) (even odd : Cycle) (double :
   no_value rate node index value among deaf is =
       none_reaches x h even odd double reach (row_receivers x h even odd) (Contains (row_nodes x h)) (sending x flutter h even odd double reach s r) (receiving x flutter h even odd double reach s r) owned rate node index
       value among deaf is
-
-  pub most_values : (rate : Bool) (node : NodeSpec) → Contains (row_nodes x h) node → length (values_of (value_by rate (row_hearer x even odd node.id))) ≤ most_count rate (traffic_of x) double node
-  most_values rate node among =
-      values_at_most x h even odd double reach (row_receivers x h even odd) (Contains (row_nodes x h)) (sending x flutter h even odd double reach s r) (receiving x flutter h even odd double reach s r) owned rate node
-      among
 
   -- ---- trusted
 

@@ -1,6 +1,7 @@
 -- A lawful history that nodes join and in which frames are lost keeps to the bounds by what was heard.
-use Rattle.std.proofs.Common.{◌≡◌, ℕ, zero, suc, ◌+◌, ◌<◌, ◌≤◌, ◌||◌, Bool, true, false, if◌then◌else◌, ℤ, pos, map, refl, ap, sym, subst, lit≤, arith}
+use Rattle.std.proofs.Common.{◌≡◌, ℕ, zero, suc, ◌+◌, ◌<◌, ◌≤◌, ◌&&◌, ◌||◌, Bool, true, false, if◌then◌else◌, ℤ, pos, map, refl, ap, sym, subst, lit≤, arith}
 use Rattle.std.specs.Prelude.{◌≤ℤ◌, Contains, max, nat_eq}
+use Rattle.std.proofs.lemmas.Bool.{and_parts}
 use Rattle.std.proofs.lemmas.Int.{ints}
 use Rattle.fr_cluster.proofs.Elements.{filtered}
 use Rattle.fr_cluster.specs.Sane.{IsSane}
@@ -39,10 +40,10 @@ use Rattle.fr_promise.proofs.JoinBounds.{lengths_nearer, next_group_spread_goes}
 use Rattle.fr_promise.proofs.JoinedDoubles.{followed_doubles_are_kept, followed_doubles_hear, unfollowed_is_followed}
 use Rattle.fr_promise.proofs.FollowedRuns.{followed, followed_joins, followed_keeps, IsFollowedRun}
 use Rattle.fr_promise.proofs.JoinedRuns.{unfollowed_in, within_range}
-use Rattle.fr_sharp.specs.JoinedLosses.{all_trusted_to_join, group_through_losses, heard_to_join, IsLossyJoinedFrom, JoinedHistoriesKeepThroughLosses, RowsGoThroughLosses, TakesInJoining}
+use Rattle.fr_sharp.specs.JoinedLosses.{all_trusted_to_join, group_through_losses, heard_to_join, lists_meet_to_join, IsLossyJoinedFrom, JoinedHistoriesKeepThroughLosses, RowsGoThroughLosses, TakesInJoining}
 use Rattle.fr_sharp.specs.Traffic.{all_linked, arbitrary_count, traffic_of}
 use Rattle.fr_sharp.proofs.HeardKinds.{all_carried, none_arbitrary}
-use Rattle.fr_sharp.proofs.JoinedInPart.{followed_doubles_hear_in_part}
+use Rattle.fr_sharp.proofs.JoinedInPart.{followed_doubles_hear_in_part, followed_doubles_meet}
 
 -- ---- numbers
 
@@ -145,24 +146,31 @@ module _
     walks : CanWalk x.params flutter (beyond k) (rate_walk x.params flutter)
     walks = (walk_is_held x.params flutter k sane second last.0).0
 
-    heard_by : (linked none : Bool) → all_linked (traffic_of x) (double + k) ≡ linked → nat_eq (arbitrary_count (traffic_of x)) 0 ≡ none
-        → IsFollowedHearing (if linked then (if none then Clean else Meeting) else Poor) x flutter earlier even odd (double + k)
-    heard_by true true linked none =
-        followed_doubles_hear false x from flutter h (double + k) earlier even odd (spread k) (pos reach) (beyond k) (rate_walk x.params flutter) part (omega (arith, late)) d (none_arbitrary x (double + k) none)
-        (all_carried x (double + k) linked) walks room takes g
-    heard_by true false linked none =
-        followed_doubles_hear true x from flutter h (double + k) earlier even odd (spread k) (pos reach) (beyond k) (rate_walk x.params flutter) part (omega (arith, late)) d tt (all_carried x (double + k) linked) walks
-        room takes g
-    heard_by false none linked is =
-        followed_doubles_hear_in_part x from flutter h (double + k) earlier even odd (spread k) (pos reach) (beyond k) part (omega (arith, late)) d
-        (second_of (all_linked (traffic_of x) (double + k)) (all_trusted_to_join x (double + k)) linked (w.hears (double + k) (omega (arith, late)) within)) room takes g
+    trusted : all_linked (traffic_of x) (double + k) ≡ false → all_trusted_to_join x (double + k) ≡ true
+    trusted linked = second_of (all_linked (traffic_of x) (double + k)) (all_trusted_to_join x (double + k)) linked (w.hears (double + k) (omega (arith, late)) within)
       where
         second_of : (a b : Bool) → a ≡ false → (a || b) ≡ true → b ≡ true
         second_of false b is either = either
         second_of true b is either = absurd (cc)
 
+    heard_by : (linked none meet : Bool) → all_linked (traffic_of x) (double + k) ≡ linked → nat_eq (arbitrary_count (traffic_of x)) 0 ≡ none
+        → (lists_meet_to_join false x (double + k) && lists_meet_to_join true x (double + k)) ≡ meet
+        → IsFollowedHearing (if linked && none then Clean else (if linked || meet then Meeting else Poor)) x flutter earlier even odd (double + k)
+    heard_by true true meet linked none lists =
+        followed_doubles_hear false x from flutter h (double + k) earlier even odd (spread k) (pos reach) (beyond k) (rate_walk x.params flutter) part (omega (arith, late)) d (none_arbitrary x (double + k) none)
+        (all_carried x (double + k) linked) walks room takes g
+    heard_by true false meet linked none lists =
+        followed_doubles_hear true x from flutter h (double + k) earlier even odd (spread k) (pos reach) (beyond k) (rate_walk x.params flutter) part (omega (arith, late)) d tt (all_carried x (double + k) linked) walks
+        room takes g
+    heard_by false none true linked is lists =
+        let both = and_parts (lists_meet_to_join false x (double + k)) (lists_meet_to_join true x (double + k)) lists in
+        followed_doubles_meet x from flutter h (double + k) earlier even odd (spread k) (pos reach) (beyond k) part (omega (arith, late)) d (trusted linked) both.0 both.1 room takes g
+    heard_by false none false linked is lists =
+        followed_doubles_hear_in_part x from flutter h (double + k) earlier even odd (spread k) (pos reach) (beyond k) part (omega (arith, late)) d (trusted linked) room takes g
+
     hears : IsFollowedHearing (on k) x flutter earlier even odd (double + k)
-    hears = heard_by (all_linked (traffic_of x) (double + k)) (nat_eq (arbitrary_count (traffic_of x)) 0) refl refl
+    hears =
+        heard_by (all_linked (traffic_of x) (double + k)) (nat_eq (arbitrary_count (traffic_of x)) 0) (lists_meet_to_join false x (double + k) && lists_meet_to_join true x (double + k)) refl refl refl
 
     kept : IsFollowedKept x flutter (spread (suc k)) (apart k) (pos reach) (beyond k) (beyond (suc k)) earlier even odd (double + k)
     kept =
