@@ -19,11 +19,13 @@ pub mod SharpListened
 pub mod SharpGrouped
 pub mod SharpFollowed
 pub mod FollowersSupplied
+pub mod HeardInPart
 pub mod SharpCatches
 pub mod JoinedDoubles
 pub mod JoinedMoves
 pub mod JoinedNext
 pub mod JoinedUncut
+pub mod FollowedRuns
 pub mod JoinedRuns
 pub mod JoinedCycles
 pub mod FirstRates

@@ -42,34 +42,6 @@ FirstRatesLast p flutter passed = WalkLastsAfter p flutter passed × RateTakesIn
 abbrev pub FirstRatesLastToEnd : Setting → ℕ → ℕ → Type 0
 FirstRatesLastToEnd x flutter double = (m : ℕ) → double + m < x.doubles → FirstRatesLast x.params flutter m
 
--- a lawful run that nodes join, whatever frames are lost: the bounds of its double cycles from one on go by what is heard in each,
--- with a reach that takes all in; and so much is heard in one that lies within them
-pub record IsFollowedRun (x : Setting) (from flutter : ℕ) (h : Cycles) (double : ℕ) (what : ℕ → Heard) (spreads : ℕ → GroupSpread) (reach : ℤ) : Type 0 where
-  pub part : IsTimedPartFrom x from flutter h
-  pub referenced : HaveReferences x
-  pub second : holds_of 2 x.params ≡ true
-  pub goes : (k : ℕ) → GroupGoesTo (what k) x.params flutter (spreads k) (spreads (suc k))
-  pub takes :
-      (k : ℕ) (earlier : Cycles) (even odd : Cycle) → IsDoubleOf h (double + k) earlier even odd
-      → TakesInGroup x.params (spreads k) (group_of x.params (hearers_of x earlier even odd (double + k))) reach
-  pub hears :
-      (k : ℕ) (earlier : Cycles) (even odd : Cycle) → IsDoubleOf h (double + k) earlier even odd → FirstRatesLast x.params flutter k
-      → IsFollowedDouble x (spreads k) (walked_after x.params flutter k) earlier even odd (double + k)
-      → IsFollowedHearing (what k) x flutter earlier even odd (double + k)
-
--- where one of them lies within its bounds, each later one does, as long as first rates last
-abbrev pub FollowedRunsGoOn : Type 0
-FollowedRunsGoOn =
-    (x : Setting) (from flutter : ℕ) (h : Cycles) (double : ℕ) (what : ℕ → Heard) (spreads : ℕ → GroupSpread) (reach : ℤ)
-    → from ≤ double → IsFollowedRun x from flutter h double what spreads reach
-    → (
-    (earlier : Cycles) (even odd : Cycle) → IsDoubleOf h double earlier even odd
-    → IsFollowedDouble x (spreads 0) (walked_after x.params flutter 0) earlier even odd double
-    )
-    → (passed : ℕ) → ((m : ℕ) → m < passed → FirstRatesLast x.params flutter m)
-    → (earlier : Cycles) (even odd : Cycle) → IsDoubleOf h (double + passed) earlier even odd
-    → IsFollowedDouble x (spreads passed) (walked_after x.params flutter passed) earlier even odd (double + passed)
-
 -- for how many double cycles: for none where the sixth of the sharper checks fails, on and on without a number where lengths do not
 -- walk, and else until the walk has used up the room of the rate limit, or all of it but what a first rate may be off
 abbrev pub first_rates_of_walk : ℕ → ℕ → ℤ → Option ℕ
@@ -109,17 +81,6 @@ pub record KeepsJoined (x : Setting) (h : Cycles) (double apart : ℕ) : Type 0 
       (macrotick : ℕ) (is_odd : Bool) → macrotick < amount x.params name.gMacroPerCycle
       → skew_at x.params (told_of h) (cycle_in is_odd double) macrotick ≤ℤ pos apart
   pub ends : (earlier : Cycles) (even odd : Cycle) → IsDoubleOf h double earlier even odd → NoneIsCut x earlier even odd
-
--- a double cycle whose group comes to so much does
-abbrev pub FollowedDoublesKeep : Type 0
-FollowedDoublesKeep =
-    (x : Setting) (from flutter : ℕ) (h : Cycles) (double : ℕ) (s to : GroupSpread) (apart : ℕ) (reach beyond next : ℤ)
-    → IsTimedPartFrom x from flutter h → length h ≡ 2 * x.doubles → from ≤ double → double < x.doubles
-    → (
-    (earlier : Cycles) (even odd : Cycle) → IsDoubleOf h double earlier even odd
-    → IsFollowedDouble x s beyond earlier even odd double × IsFollowedKept x flutter to apart reach beyond next earlier even odd double
-    )
-    → KeepsJoined x h double apart
 
 -- the same by the cycle: from a double cycle on no corresponding macroticks of nodes with rows lie further apart than this, in
 -- ticks; each of these nodes is active in each cycle, and each correct node behind the last one; and no row tells a cut, of a node

@@ -4,6 +4,7 @@ pub mod Files
 -- of the sharper precision
 pub mod HeldWalks
 pub mod JoinedHistories
+pub mod RoundsInPart
 pub mod SharpFollowing
 pub mod SharpGroup
 pub mod SharpJoined

@@ -1,14 +1,5 @@
-ghost use Rattle.fr_promise.specs.JoinedHistories.{FirstRatesLastOn, FirstRatesLastSo, FollowedDoublesKeep, FollowedRunsGoOn};
+ghost use Rattle.fr_promise.specs.JoinedHistories.{FirstRatesLastOn, FirstRatesLastSo};
 ghost use Rattle.fr_promise.specs.JoinedHistories.{JoinedHistoriesKeepSharpPrecision, JoinedHistoriesKeepSharpSync, JoinedListenersJoin, JoinedListenersJoinUpTo};
-
-/// The law of lawful runs that nodes join, where delays flutter little, whatever frames are lost in them: where one double
-/// cycle lies within its bounds, in ticks, and these go by what is heard in each, every later one lies within its own, for
-/// as long as the rate limit holds the walk and suffices for first rates. In one that comes to what the step says no
-/// macroticks of nodes with rows lie further apart than that, and no term is cut.
-pub fn followed_runs_go_on()
-    ensures next { FollowedRunsGoOn }
-    ensures keep { FollowedDoublesKeep }
-{}
 
 /// The law of lawful histories of runs that nodes join, where delays flutter little: from a double cycle in sharp sync
 /// in which no node follows, with even lengths in their range, the nodes with rows are in sharp sync in each later one, no

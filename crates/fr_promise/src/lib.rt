@@ -26,7 +26,7 @@ pub use following::followers_hear_steadily;
 pub use grouping::{sharp_groups_are_kept, steady_groups_are_kept};
 pub use join_checking::{first_rates_last, sharp_join_checks, sharp_join_side, sharp_reach};
 pub use joined::{followed_doubles_go_on, joined_doubles_go_on};
-pub use joined_histories::{followed_runs_go_on, joined_histories_keep_sharp_sync};
+pub use joined_histories::joined_histories_keep_sharp_sync;
 pub use joining::{followers_come_nearer, group_spreads_go, sharp_join_checks_suffice};
 pub use laws::{
     covered_files_are_stated, drift_of_a_file_fits, files_keep_precision, greatest_skew_is_within,

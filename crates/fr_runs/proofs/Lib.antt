@@ -54,3 +54,4 @@ pub mod Covers
 pub mod RunFlutter
 pub mod FramesCounted
 pub mod RowsSupplied
+pub mod KeyedCounts

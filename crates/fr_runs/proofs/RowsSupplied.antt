@@ -1,6 +1,6 @@
 -- The nodes with rows of a double cycle of a run, whoever follows in it: their rows are regular, and each has its deviations of
 -- every other one, those of one channel as a steady pair.
-use Rattle.std.proofs.Common.{◌≡◌, ℕ, suc, ◌*◌, ◌<◌, ◌≤◌, Bool, true, false, ◌&&◌, ℤ, pos, Some, All, ◌∷◌, ◌++◌, length, map, refl, ap, sym, ◌∙◌, subst, arith}
+use Rattle.std.proofs.Common.{◌≡◌, ℕ, suc, ◌*◌, ◌<◌, ◌≤◌, Bool, true, false, ◌&&◌, ℤ, pos, Some, All, ◌∷◌, ◌++◌, length, map, refl, sym, ◌∙◌, subst, arith}
 use Rattle.std.specs.Prelude.{◌≤ℤ◌, ◌+ℤ◌, ◌-ℤ◌, Contains, IsSome, is_some}
 use Rattle.std.proofs.lemmas.Bool.{and_parts}
 use Rattle.std.proofs.lemmas.Int.{ints}
@@ -45,7 +45,7 @@ use Rattle.fr_runs.proofs.Covers.{coverage_suffices, stays_has}
 use Rattle.fr_runs.proofs.Doubles.{even_length, odd_length}
 use Rattle.fr_runs.proofs.Fed.{lawful_part, row_other, row_receiver, row_receivers}
 use Rattle.fr_runs.proofs.Going.{is_row_node, rows_ascend}
-use Rattle.fr_runs.proofs.Hearing.{before_in, comes, counted_from, cycle_of, delayed, even_exchange, heard_at, heard_in_part, looked, odd_exchange, stored, IsReceiver, RowsSend}
+use Rattle.fr_runs.proofs.Hearing.{before_in, counted_from, cycle_of, delayed, heard_at, heard_in_part, looked, stored, IsReceiver, RowsSend}
 use Rattle.fr_runs.proofs.Begun.{row_sends}
 use Rattle.fr_runs.proofs.Lawful.{lawful_cycles_run}
 use Rattle.fr_runs.proofs.Nodes.{IsKeySlot, correct_node, key_slot_there}
@@ -61,10 +61,10 @@ use Rattle.fr_bound.specs.SharpChecks.{RateSuffices}
 use Rattle.fr_precision.specs.SharpRound.{as_member, IsRoundInReach, IsSteadilySupplied}
 use Rattle.fr_precision.specs.SharpStep.{IsSharpDouble}
 use Rattle.fr_precision.specs.Steady.{IsSteadyPair}
-use Rattle.fr_runs.specs.SteadyRuns.{is_silent, row_hearers, row_members, AreRowsInReach, CoveredRunsAreSteady, IsSteadyPart, IsSteadyPartFrom, IsTimedFrom, IsTimedPartFrom, IsWhole, MayHaveArbitrary, RowsAreSharpDoubles, RowsHearSteadily, SteadyRunsAreLater, TimedRunsAreLater}
+use Rattle.fr_runs.specs.SteadyRuns.{row_hearers, row_members, AreRowsInReach, CoveredRunsAreSteady, IsSteadyPart, IsSteadyPartFrom, IsTimedFrom, IsTimedPartFrom, IsWhole, MayHaveArbitrary, RowsAreSharpDoubles, RowsHearSteadily, SteadyRunsAreLater, TimedRunsAreLater}
 use Rattle.fr_precision.proofs.Arriving.{frames_are_steady}
 use Rattle.fr_precision.proofs.BoundLemmas.{key_slots_act_early}
-use Rattle.fr_runs.proofs.FramesCounted.{link_in, recorded_says}
+use Rattle.fr_runs.proofs.FramesCounted.{link_in}
 use Rattle.fr_runs.proofs.Links.{IsCounted}
 use Rattle.fr_precision.proofs.RateRange.{rate_in_limit}
 use Rattle.fr_precision.proofs.RoundLemmas.{rounds_in_reach_are_sharp, contains_map, map_contains}
@@ -332,24 +332,6 @@ module _ (x : Setting) (flutter : ℕ) (h : Cycles) (even odd : Cycle) (double :
   counted_in true sender receiver slot channel value link is =
       counted_from x h even odd double reach (row_receivers x h even odd) receiver sender slot true channel value sending (receiving receiver link.hears) (row_sends x h even odd sender slot link.sends link.key) link.other is
 
-  -- of a frame that is not silent
-  pub comes_in : (is_odd : Bool) (sender receiver : NodeSpec) (slot : ℕ) (channel : Channel) (value : ℤ) → RowLink x h sender receiver slot
-      → dev_in (cycle_of is_odd even odd).told.devs receiver.id slot channel ≡ Some value → is_silent (x.event (cycle_in is_odd double) sender.id receiver.id channel) ≡ false
-  comes_in false sender receiver slot channel value link is =
-      comes x h even odd double reach (row_receivers x h even odd) receiver sender slot false channel value sending (receiving receiver link.hears) (row_sends x h even odd sender slot link.sends link.key) link.other is
-  comes_in true sender receiver slot channel value link is =
-      comes x h even odd double reach (row_receivers x h even odd) receiver sender slot true channel value sending (receiving receiver link.hears) (row_sends x h even odd sender slot link.sends link.key) link.other is
-
-  -- and of an arbitrary node none of one that says nothing
-  pub says_in : (is_odd : Bool) (sender receiver : NodeSpec) (slot : ℕ) (channel : Channel) (value : ℤ) → Contains x.params.nodes sender → sender.key ≡ Some slot → x.is_arbitrary sender.id ≡ true
-      → Contains (row_nodes x h) receiver → dev_in (cycle_of is_odd even odd).told.devs receiver.id slot channel ≡ Some value → is_silent (x.event (cycle_in is_odd double) sender.id receiver.id channel) ≡ false
-  says_in false sender receiver slot channel value there key arbitrary hears is =
-      ap (λ (n : ℕ). is_silent (x.event n sender.id receiver.id channel)) (sym sending.counted)
-      ∙ recorded_says x (even_exchange x h even (row_receivers x h even odd)) sender receiver slot channel value sane (receiving receiver hears).evens there key arbitrary (receiving receiver hears).hears_even is
-  says_in true sender receiver slot channel value there key arbitrary hears is =
-      ap (λ (n : ℕ). is_silent (x.event (suc n) sender.id receiver.id channel)) (sym sending.counted)
-      ∙ recorded_says x (odd_exchange x h even odd (row_receivers x h even odd)) sender receiver slot channel value sane (receiving receiver hears).odds there key arbitrary (receiving receiver hears).hears_odd is
-
   -- so two of one channel are a steady pair
   pair_steady : (sender receiver : NodeSpec) (slot : ℕ) (channel : Channel) (early late : ℤ) → RowLink x h sender receiver slot → dev_in even.told.devs receiver.id slot channel ≡ Some early
       → dev_in odd.told.devs receiver.id slot channel ≡ Some late
@@ -385,7 +367,7 @@ module _ (x : Setting) (flutter : ℕ) (h : Cycles) (even odd : Cycle) (double :
   looked_up node index slot false channel slot_is = looked x (row_receivers x h even odd) node index slot false channel slot_is
   looked_up node index slot true channel slot_is = looked x (row_receivers x h even odd) node index slot true channel slot_is
 
-  pub link_to : (node : NodeSpec) (index slot : ℕ) (sender : NodeSpec) → Contains (row_nodes x h) node → IsOther (round_at x h even odd) (row_hearer x even odd node.id) index slot sender → RowLink x h sender node slot
+  link_to : (node : NodeSpec) (index slot : ℕ) (sender : NodeSpec) → Contains (row_nodes x h) node → IsOther (round_at x h even odd) (row_hearer x even odd node.id) index slot sender → RowLink x h sender node slot
   link_to node index slot sender among other = record {
     sends = is_row_node x h sender other.sender.there other.sender.rows;
     hears = among;

@@ -9,38 +9,43 @@ use Rattle.std.proofs.lemmas.List.Elements.{All-append}
 use Rattle.std.proofs.lemmas.List.Sorted.{IsPermutation-append_left, IsPermutation-cons, IsPermutation-middle, IsPermutation-refl, IsPermutation-trans}
 use Rattle.fr_base.specs.Within.{IsBetween}
 use Rattle.fr_cluster.specs.Sane.{IsSane}
-use Rattle.fr_cluster.specs.Setting.{Setting}
+use Rattle.fr_cluster.specs.Questions.{key_slot_of}
+use Rattle.fr_cluster.specs.Setting.{Setting, correct_nodes}
 use Rattle.fr_cluster.specs.declared.nodes.NodeSpec.{NodeSpec}
 use Rattle.fr_time.proofs.Keys.{key_node_is}
 use Rattle.fr_midpoint.specs.Midpoint.{discarded}
 use Rattle.fr_midpoint.specs.Receivers.{Hears}
-use Rattle.fr_measure.specs.Values.{offset_at, rate_at, values_of}
+use Rattle.fr_measure.specs.Values.{is_own, offset_at, rate_at, values_of}
 use Rattle.fr_correct.proofs.There.{offset_term_is_there, rate_term_is_there}
 use Rattle.fr_precision.specs.Offsets.{IsDeviation}
-use Rattle.fr_precision.specs.Round.{offsets_of, rates_of, sender_at, Hearer, Round}
+use Rattle.fr_precision.specs.Round.{offsets_of, rates_of, sender_at, Hearer, IsRound, IsSender, Round}
 use Rattle.fr_precision.specs.Rows.{Sender}
 use Rattle.fr_precision.specs.Step.{IsAmong, Member}
 use Rattle.fr_precision.proofs.Parting.{filter_map_counts}
 use Rattle.fr_precision.proofs.RoundSenders.{sender_is, IsFrom}
 use Rattle.fr_history.specs.Cycles.{Cycle, Cycles}
-use Rattle.fr_history.specs.Standing.{row_nodes}
+use Rattle.fr_history.specs.Standing.{has_row, row_nodes}
 use Rattle.fr_runs.specs.Gathered.{round_at, row_hearer}
 use Rattle.fr_runs.proofs.Courses.{is_correct_row}
+use Rattle.fr_runs.proofs.Fed.{row_receivers}
+use Rattle.fr_runs.proofs.Hearing.{hearer_from, IsReceiver, Receivers, RowsSend}
 use Rattle.fr_runs.proofs.Nodes.{correct_node}
 use Rattle.fr_bound.specs.SharpBounds.{last_action}
 use Rattle.fr_precision.specs.Among.{HearInCommon}
-use Rattle.fr_sharp.specs.Losses.{heard_at, IsRoundInPart, RowsMeet}
+use Rattle.fr_promise.specs.RoundsInPart.{heard_at, IsSuppliedInPart, IsTrustedOf}
+use Rattle.fr_sharp.specs.Losses.{RowsMeet}
 use Rattle.fr_precision.specs.SharpRound.{as_member}
 use Rattle.fr_precision.specs.Steady.{PlacesEven}
 use Rattle.fr_runs.specs.SteadyRuns.{row_hearers, row_members, AreRowsInReach}
 use Rattle.fr_sharp.specs.Traffic.{all_trusted, costs_of, has_value, lists_meet, most_count, sender_count, is_correct_sender, traffic_of}
-use Rattle.fr_sharp.proofs.HeardCounts.{count_three, discards_more, is_passed, passes_at, passes_is, two_cost, IsPassed}
-use Rattle.fr_sharp.proofs.HeardInPart.{offsets_heard, placed_of, rates_heard}
-use Rattle.fr_sharp.proofs.HeardSurely.{senders_counted, value_by}
-use Rattle.fr_sharp.proofs.HeardValues.{most_values, surely_heard}
+use Rattle.fr_runs.proofs.KeyedCounts.{count_three, discards_more, is_passed, passes_at, passes_is, IsPassed}
+use Rattle.fr_sharp.proofs.GreatestCosts.{two_cost}
+use Rattle.fr_promise.proofs.HeardInPart.{offsets_heard, placed_of, rates_heard}
+use Rattle.fr_sharp.proofs.HeardAtMost.{most_values, row_owned}
+use Rattle.fr_sharp.proofs.HeardSurely.{row_owns, senders_counted, surely_heard, value_by, KeepsOwn}
 use Rattle.fr_precision.proofs.RoundLemmas.{acts_early, all_given, map_contains, sender_among}
 use Rattle.fr_sharp.proofs.RowsInPart.{round_trusted}
-use Rattle.fr_runs.proofs.RowsSupplied.{timed_rows_from, LawfulRows}
+use Rattle.fr_runs.proofs.RowsSupplied.{receiving, sending, timed_rows_from, LawfulRows}
 use Rattle.fr_promise.proofs.RunDoubles.{all_have, AllHave}
 
 -- ---- the values of some senders, split in two
@@ -118,7 +123,7 @@ module _ (X : Type 0) (Says : X → ℤ → Type 0) (who one other : ℕ → Opt
 -- ---- two receivers of a round
 
 -- the senders of whom both have a value, and those of whom only the first has one
-both_at : Round → (ℕ → Option ℤ) → (ℕ → Option ℤ) → ℕ → Option Sender
+pub both_at : Round → (ℕ → Option ℤ) → (ℕ → Option ℤ) → ℕ → Option Sender
 both_at r at other index = if is_some (at index) && is_some (other index) then sender_at r index else None
 
 alone_at : Round → (ℕ → Option ℤ) → (ℕ → Option ℤ) → ℕ → Option Sender
@@ -167,13 +172,16 @@ all_three r at other P each =
     given who from = all_given who P (range_with_len 0 15) (λ index sender some. each index sender (sender_is r index sender (from index sender some)))
 
 -- the lists of two receivers have more senders in common than both discard
-abbrev Enough : Round → (ℕ → Option ℤ) → (ℕ → Option ℤ) → Type 0
+abbrev pub Enough : Round → (ℕ → Option ℤ) → (ℕ → Option ℤ) → Type 0
 Enough r at other = discarded (length (values_of at)) + discarded (length (values_of other)) + 1 ≤ length (of (both_at r at other))
 
-hear_in_common : (r : Round) (flutter : ℕ) (rows : List Hearer) (n m : Hearer) → IsRoundInPart r flutter rows → Contains rows n → Contains rows m
+pub hear_in_common : (r : Round) (flutter : ℕ) (rows : List Hearer) (n m : Hearer) → IsRound r
+    → ((node : NodeSpec) (slot : ℕ) → IsSender r node slot → (n : Hearer) × Contains rows n × (n.even ≡ r.even node.id) × (n.odd ≡ r.odd node.id))
+    → IsSuppliedInPart r flutter n → IsSuppliedInPart r flutter m
+    → IsTrustedOf r (offset_at n.look n.own) × IsTrustedOf r (rate_at n.look n.own) → IsTrustedOf r (offset_at m.look m.own) × IsTrustedOf r (rate_at m.look m.own)
     → Enough r (offset_at n.look n.own) (offset_at m.look m.own) → Enough r (rate_at n.look n.own) (rate_at m.look m.own)
     → HearInCommon r.params flutter (map (as_member r.params) rows) (pos (last_action r.params)) (as_member r.params n) (as_member r.params m)
-hear_in_common r flutter rows n m s here there enough also =
+hear_in_common r flutter rows n m is among one two trusted other_trusted enough also =
     let p = r.params in
     let nodes = map (as_member p) rows in
     let offsets = offset_at n.look n.own in
@@ -181,8 +189,6 @@ hear_in_common r flutter rows n m s here there enough also =
     let rates = rate_at n.look n.own in
     let other_rates = rate_at m.look m.own in
     let range = range_with_len 0 15 in
-    let one = s.supplied n here in
-    let two = s.supplied m there in
     let Deviates = λ (k : Hearer) (sender : Sender) (value : ℤ). IsDeviation p true sender.action k.odd sender.odd value in
     let Places = λ (k : Hearer) (sender : Sender) (value : ℤ). PlacesEven p flutter sender k.odd value in
     record {
@@ -192,16 +198,16 @@ hear_in_common r flutter rows n m s here there enough also =
       rate_common = of (both_at r rates other_rates);
       rate_own = of (alone_at r rates other_rates);
       rate_other = of (alone_at r other_rates rates);
-      offsets_among = all_three r offsets other_offsets (IsAmong nodes) (sender_among r rows s.among);
-      rates_among = all_three r rates other_rates (IsAmong nodes) (sender_among r rows s.among);
-      acts = all_three r offsets other_offsets (λ (sender : Sender). IsBetween (pos 0) (pos (last_action p)) sender.action) (acts_early r s.round.sane);
+      offsets_among = all_three r offsets other_offsets (IsAmong nodes) (sender_among r rows among);
+      rates_among = all_three r rates other_rates (IsAmong nodes) (sender_among r rows among);
+      acts = all_three r offsets other_offsets (λ (sender : Sender). IsBetween (pos 0) (pos (last_action p)) sender.action) (acts_early r is.sane);
       enough_offsets = enough;
       enough_rates = also;
       by_offset = record {
         micro = one.regular.odd_micro;
         hears =
             hears_both Sender (Deviates n) (heard_at r offsets) (both_at r offsets other_offsets) (alone_at r offsets other_offsets) (in_one r offsets other_offsets) range (offsets_of n)
-            (offsets_heard r flutter n s.round (placed_of r flutter n one) (s.trusted n here).0);
+            (offsets_heard r flutter n is (placed_of r flutter n one) trusted.0);
         is_term = offset_term_is_there p.offset_limit (offsets_of n);
         applied = one.applied;
       };
@@ -209,7 +215,7 @@ hear_in_common r flutter rows n m s here there enough also =
         micro = two.regular.odd_micro;
         hears =
             hears_both Sender (Deviates m) (heard_at r other_offsets) (both_at r offsets other_offsets) (alone_at r other_offsets offsets) (in_other r offsets other_offsets) range (offsets_of m)
-            (offsets_heard r flutter m s.round (placed_of r flutter m two) (s.trusted m there).0);
+            (offsets_heard r flutter m is (placed_of r flutter m two) other_trusted.0);
         is_term = offset_term_is_there p.offset_limit (offsets_of m);
         applied = two.applied;
       };
@@ -217,50 +223,65 @@ hear_in_common r flutter rows n m s here there enough also =
         micro = one.regular.odd_micro;
         hears =
             hears_both Sender (Places n) (heard_at r rates) (both_at r rates other_rates) (alone_at r rates other_rates) (in_one r rates other_rates) range (rates_of n)
-            (rates_heard r flutter n s.round (placed_of r flutter n one) (s.trusted n here).1);
+            (rates_heard r flutter n is (placed_of r flutter n one) trusted.1);
         is_term = rate_term_is_there n.odd.rate p.damping p.rate_limit (rates_of n);
       };
       other_by_rate = record {
         micro = two.regular.odd_micro;
         hears =
             hears_both Sender (Places m) (heard_at r other_rates) (both_at r rates other_rates) (alone_at r other_rates rates) (in_other r rates other_rates) range (rates_of m)
-            (rates_heard r flutter m s.round (placed_of r flutter m two) (s.trusted m there).1);
+            (rates_heard r flutter m is (placed_of r flutter m two) other_trusted.1);
         is_term = rate_term_is_there m.odd.rate p.damping p.rate_limit (rates_of m);
       };
     }
 
--- ---- two nodes with rows, where lists meet
+-- ---- two receivers of a double cycle, where lists meet
 
-module _ (x : Setting) (flutter : ℕ) (h : Cycles) (even odd : Cycle) (double : ℕ) (reach : ℤ) (s : LawfulRows x flutter h even odd double) (r : AreRowsInReach x h even odd reach) (all : AllHave x h) where
-  abbrev at : Bool → NodeSpec → (ℕ → Option ℤ)
-  at rate node = value_by rate (row_hearer x even odd node.id)
+-- a receiver whose own values are those of its own frames, where it adds them
+pub record ReceivesOwn (x : Setting) (h : Cycles) (even odd : Cycle) (reach : ℤ) (rs : Receivers) (node : NodeSpec) : Type 0 where
+  pub is : IsReceiver x h even odd reach rs node
+  pub owns : KeepsOwn x h even odd rs node
+  pub owned : (index : ℕ) → is_own (rs.own node.id) index ≡ true → (slot : ℕ) × (node.key ≡ Some slot) × (key_slot_of x.params index ≡ Some slot)
+
+-- of how many senders that have rows one surely has no value, and how many it may discard at one end
+abbrev pub cost_of : (ℕ → Bool) → Bool → Setting → ℕ → NodeSpec → ℕ
+cost_of stays rate x double b =
+    sender_count (traffic_of x) (λ a. stays a.id && not (has_value rate true (traffic_of x) double b a)) + discarded (most_count rate (traffic_of x) double b)
+
+module _
+    (x : Setting) (h : Cycles) (even odd : Cycle) (double : ℕ) (reach : ℤ) (sending : RowsSend x h even odd double reach) (stays : ℕ → Bool)
+    (have : (a : NodeSpec) → Contains (correct_nodes x) a → stays a.id ≡ true → has_row x h a.id ≡ true) (bs cs : Receivers) (b c : NodeSpec) (first : ReceivesOwn x h even odd reach bs b)
+    (second : ReceivesOwn x h even odd reach cs c) where
+  abbrev at : Bool → (ℕ → Option ℤ)
+  at rate = value_by rate (hearer_from x bs b.id)
+
+  abbrev other_at : Bool → (ℕ → Option ℤ)
+  other_at rate = value_by rate (hearer_from x cs c.id)
 
   abbrev has : Bool → NodeSpec → NodeSpec → Bool
   has rate node sender = has_value rate true (traffic_of x) double node sender
 
   abbrev misses : Bool → NodeSpec → NodeSpec → Bool
-  misses rate node sender = is_correct_sender (traffic_of x) sender && not (has rate node sender)
-
-  sane : IsSane x.params
-  sane = s.covered.sane
+  misses rate node sender = is_correct_sender (traffic_of x) sender && (stays sender.id && not (has rate node sender))
 
   -- of each sender both have a value, or one of them misses it
-  heard_or_missed : (rate : Bool) (b c : NodeSpec) (index : ℕ) → Contains (row_nodes x h) b → Contains (row_nodes x h) c → passes_at x.params (λ (a : NodeSpec). is_correct_sender (traffic_of x) a && true) index ≡ true
-      → (is_some (both_at (round_at x h even odd) (at rate b) (at rate c) index) ≡ true)
+  heard_or_missed : (rate : Bool) (index : ℕ) → passes_at x.params (λ (a : NodeSpec). is_correct_sender (traffic_of x) a && stays a.id) index ≡ true
+      → (is_some (both_at (round_at x h even odd) (at rate) (other_at rate) index) ≡ true)
       ⊎ ((passes_at x.params (misses rate b) index ≡ true) ⊎ (passes_at x.params (misses rate c) index ≡ true))
   unfolding both_at
-  heard_or_missed rate b c index here there is = by (has rate b from.node) (has rate c from.node) refl refl
+  heard_or_missed rate index is = by (has rate b from.node) (has rate c from.node) refl refl
     where
-      from : IsPassed x.params (λ (a : NodeSpec). is_correct_sender (traffic_of x) a && true) index
-      from = is_passed x.params (λ (a : NodeSpec). is_correct_sender (traffic_of x) a && true) index sane is
+      from : IsPassed x.params (λ (a : NodeSpec). is_correct_sender (traffic_of x) a && stays a.id) index
+      from = is_passed x.params (λ (a : NodeSpec). is_correct_sender (traffic_of x) a && stays a.id) index sending.sane is
 
-      correct : is_correct_sender (traffic_of x) from.node ≡ true
-      correct = (and_parts (is_correct_sender (traffic_of x) from.node) true from.passes).0
+      correct : (is_correct_sender (traffic_of x) from.node ≡ true) × (stays from.node.id ≡ true)
+      correct = and_parts (is_correct_sender (traffic_of x) from.node) (stays from.node.id) from.passes
 
-      passes : (test : NodeSpec → Bool) → test from.node ≡ true → passes_at x.params (λ (a : NodeSpec). is_correct_sender (traffic_of x) a && test a) index ≡ true
+      passes : (test : NodeSpec → Bool) → test from.node ≡ true → passes_at x.params (λ (a : NodeSpec). is_correct_sender (traffic_of x) a && (stays a.id && test a)) index ≡ true
       passes test is =
-          passes_is x.params (λ (a : NodeSpec). is_correct_sender (traffic_of x) a && test a) index from.slot from.node from.slot_is (key_node_is x.params from.node from.slot sane from.there from.key)
-          ∙ rw (correct, is) refl
+          passes_is x.params (λ (a : NodeSpec). is_correct_sender (traffic_of x) a && (stays a.id && test a)) index from.slot from.node from.slot_is
+          (key_node_is x.params from.node from.slot sending.sane from.there from.key)
+          ∙ rw (correct.0, correct.1, is) refl
 
       found : (a b : Bool) (o : Option Sender) → a ≡ true → b ≡ true → is_some o ≡ true → is_some (if a && b then o else None) ≡ true
       found true true o one two is = is
@@ -268,20 +289,46 @@ module _ (x : Setting) (flutter : ℕ) (h : Cycles) (even odd : Cycle) (double :
       found true false o one two is = absurd (cc)
 
       by : (one two : Bool) → has rate b from.node ≡ one → has rate c from.node ≡ two
-          → (is_some (both_at (round_at x h even odd) (at rate b) (at rate c) index) ≡ true)
+          → (is_some (both_at (round_at x h even odd) (at rate) (other_at rate) index) ≡ true)
           ⊎ ((passes_at x.params (misses rate b) index ≡ true) ⊎ (passes_at x.params (misses rate c) index ≡ true))
-      by true true first second =
-          let one = surely_heard x flutter h even odd double reach s r all rate b index here (passes (has rate b) first) in
-          let two = surely_heard x flutter h even odd double reach s r all rate c index there (passes (has rate c) second) in
-          inl (found (is_some (at rate b index)) (is_some (at rate c index)) (sender_at (round_at x h even odd) index) one.0 two.0 one.1)
-      by false two first second = inr (inl (passes (λ (a : NodeSpec). not (has rate b a)) (ap not first)))
-      by true false first second = inr (inr (passes (λ (a : NodeSpec). not (has rate c a)) (ap not second)))
+      by true true one_is two_is =
+          let one = surely_heard x h even odd double reach bs b sending first.is first.owns stays have rate index (passes (has rate b) one_is) in
+          let two = surely_heard x h even odd double reach cs c sending second.is second.owns stays have rate index (passes (has rate c) two_is) in
+          inl (found (is_some (at rate index)) (is_some (other_at rate index)) (sender_at (round_at x h even odd) index) one.0 two.0 one.1)
+      by false two one_is two_is = inr (inl (passes (λ (a : NodeSpec). not (has rate b a)) (ap not one_is)))
+      by true false one_is two_is = inr (inr (passes (λ (a : NodeSpec). not (has rate c a)) (ap not two_is)))
 
+  pub enough_met : (rate : Bool) → cost_of stays rate x double b + cost_of stays rate x double c < sender_count (traffic_of x) (λ a. stays a.id) → Enough (round_at x h even odd) (at rate) (other_at rate)
+  enough_met rate within =
+      let t = traffic_of x in
+      let most =
+      λ (rs : Receivers) (node : NodeSpec) (r : ReceivesOwn x h even odd reach rs node).
+      most_values x h even odd double reach rs (λ n. ReceivesOwn x h even odd reach rs n) sending (λ n r. r.is) (λ n index r own. r.owned index own) rate node r in
+      let discards = discards_more (length (values_of (at rate))) (most_count rate t double b) (most bs b first) in
+      let also_discards = discards_more (length (values_of (other_at rate))) (most_count rate t double c) (most cs c second) in
+      let senders = senders_counted x (λ a. stays a.id) sending.sane in
+      let missed = senders_counted x (λ a. stays a.id && not (has rate b a)) sending.sane in
+      let also_missed = senders_counted x (λ a. stays a.id && not (has rate c a)) sending.sane in
+      let common = filter_map_counts (both_at (round_at x h even odd) (at rate) (other_at rate)) (range_with_len 0 15) in
+      let three =
+      count_three (passes_at x.params (λ (a : NodeSpec). is_correct_sender t a && stays a.id)) (λ i. is_some (both_at (round_at x h even odd) (at rate) (other_at rate) i)) (passes_at x.params (misses rate b))
+      (passes_at x.params (misses rate c)) (range_with_len 0 15) (λ index is. heard_or_missed rate index is) in
+      omega (arith, within, discards, also_discards, senders, missed, also_missed, common, three)
+
+-- a node with a row is one
+pub row_receives : (x : Setting) (h : Cycles) (even odd : Cycle) (reach : ℤ) (node : NodeSpec) → IsSane x.params → IsReceiver x h even odd reach (row_receivers x h even odd) node
+    → ReceivesOwn x h even odd reach (row_receivers x h even odd) node
+row_receives x h even odd reach node sane is =
+    record { is = is; owns = row_owns x h even odd node sane; owned = λ index own. row_owned x node index sane is.correct own }
+
+-- ---- two nodes with rows, where each correct node has one
+
+module _ (x : Setting) (flutter : ℕ) (h : Cycles) (even odd : Cycle) (double : ℕ) (reach : ℤ) (s : LawfulRows x flutter h even odd double) (r : AreRowsInReach x h even odd reach) (all : AllHave x h) where
   less : (a b : ℕ) → nat_lt a b ≡ true → a < b
   less a b is = grind (arith, nat_tests)
 
   enough : (rate : Bool) (b c : NodeSpec) → lists_meet rate (traffic_of x) double ≡ true → Contains (row_nodes x h) b → Contains (row_nodes x h) c → b.id ≢ c.id
-      → Enough (round_at x h even odd) (at rate b) (at rate c)
+      → Enough (round_at x h even odd) (value_by rate (row_hearer x even odd b.id)) (value_by rate (row_hearer x even odd c.id))
   enough rate b c meet here there other =
       let t = traffic_of x in
       let costs = costs_of rate t double x.params.nodes in
@@ -289,18 +336,11 @@ module _ (x : Setting) (flutter : ℕ) (h : Cycles) (even odd : Cycle) (double :
       let two = correct_node x c (is_correct_row x h c there) in
       let cost = two_cost rate t double b c one.there two.there one.correct two.correct other in
       let within = less (costs.most + costs.second) (sender_count t (λ a. true)) meet in
-      let values = most_values x flutter h even odd double reach s r all rate b here in
-      let other_values = most_values x flutter h even odd double reach s r all rate c there in
-      let discards = discards_more (length (values_of (at rate b))) (most_count rate t double b) values in
-      let also_discards = discards_more (length (values_of (at rate c))) (most_count rate t double c) other_values in
-      let senders = senders_counted x (λ a. true) sane in
-      let missed = senders_counted x (λ a. not (has rate b a)) sane in
-      let also_missed = senders_counted x (λ a. not (has rate c a)) sane in
-      let common = filter_map_counts (both_at (round_at x h even odd) (at rate b) (at rate c)) (range_with_len 0 15) in
-      let three =
-      count_three (passes_at x.params (λ (a : NodeSpec). is_correct_sender t a && true)) (λ i. is_some (both_at (round_at x h even odd) (at rate b) (at rate c) i)) (passes_at x.params (misses rate b))
-      (passes_at x.params (misses rate c)) (range_with_len 0 15) (λ index is. heard_or_missed rate b c index here there is) in
-      omega (arith, cost, within, discards, also_discards, senders, missed, also_missed, common, three)
+      let rs = row_receivers x h even odd in
+      let own =
+      λ (node : NodeSpec) (among : Contains (row_nodes x h) node).
+      row_receives x h even odd reach node s.covered.sane (receiving x flutter h even odd double reach s r node among) in
+      enough_met x h even odd double reach (sending x flutter h even odd double reach s r) (λ a. true) (λ a there is. all a there) rs rs b c (own b here) (own c there) rate (omega (arith, cost, within))
 
   members_meet : (one other : Member) → all_trusted (traffic_of x) double ≡ true → lists_meet false (traffic_of x) double ≡ true → lists_meet true (traffic_of x) double ≡ true
       → Contains (row_members x h even odd) one → Contains (row_members x h even odd) other
@@ -331,8 +371,10 @@ module _ (x : Setting) (flutter : ℕ) (h : Cycles) (even odd : Cycle) (double :
       by b c b_there c_there true is one two = inl (ap (λ (id : ℕ). as_member x.params (row_hearer x even odd id)) (eqb-true b.id c.id is))
       by b c b_there c_there false is one two =
           let differ = unequal b.id c.id is in
+          let part = round_trusted x flutter h even odd double reach s r all trusted in
           inr (
-          hear_in_common (round_at x h even odd) flutter (row_hearers x h even odd) (hearer b) (hearer c) (round_trusted x flutter h even odd double reach s r all trusted) one two
+          hear_in_common (round_at x h even odd) flutter (row_hearers x h even odd) (hearer b) (hearer c) part.round part.among (part.supplied (hearer b) one) (part.supplied (hearer c) two)
+          (part.trusted (hearer b) one) (part.trusted (hearer c) two)
           (enough false b c offsets_meet b_there c_there differ) (enough true b c rates_meet b_there c_there differ)
           )
 

@@ -1,391 +1,44 @@
--- What a node with a row surely has of senders where each correct node has one, and what it may have: counted, and trusted.
-use Rattle.std.proofs.Common.{◌≡◌, ◌⊎◌, ℕ, suc, ◌+◌, ◌*◌, ◌≤◌, ◌==◌, ◌&&◌, ◌||◌, Bool, true, false, not, ℤ, Option, Some, None, List, [], ◌∷◌, length, refl, ap, sym, ◌∙◌, inl, inr, arith, if◌then◌else◌}
-use Rattle.std.specs.Prelude.{Contains, IsSome, is_some}
-use Rattle.std.specs.List.{list_any, range_with_len}
-use Rattle.std.proofs.lemmas.Bool.{and_parts, not-true}
-use Rattle.fr_base.specs.declared.channel.Channel.{Channel}
-use Rattle.fr_base.specs.declared.channel.Channel.TheVariants.{A, B}
-use Rattle.fr_cluster.specs.Questions.{index_in, key_slot_of, own_index}
+-- A node with a row where each correct node has one: it trusts its lists, or has no value.
+use Rattle.std.proofs.Common.{◌≡◌, ℕ, ◌&&◌, ◌||◌, Bool, true, false, ℤ, Some}
+use Rattle.std.specs.Prelude.{Contains}
+use Rattle.std.proofs.lemmas.Bool.{and_parts}
+use Rattle.fr_cluster.specs.Questions.{key_slot_of, own_index}
 use Rattle.fr_cluster.specs.Sane.{IsSane}
-use Rattle.fr_cluster.specs.Setting.{Setting, is_correct}
-use Rattle.fr_cluster.specs.Values.{Values}
+use Rattle.fr_cluster.specs.Setting.{Setting}
 use Rattle.fr_cluster.specs.declared.nodes.NodeSpec.{NodeSpec}
-use Rattle.fr_cluster.proofs.Elements.{Contains-none}
-use Rattle.fr_cluster.proofs.KeyNodes.{Contains-cons_cases}
-use Rattle.fr_time.specs.Senders.{key_node_of}
-use Rattle.fr_time.proofs.Keys.{key_node_has, key_node_is, slot_of_index}
-use Rattle.fr_measure.specs.Values.{change_at, is_own, least_of, mean_of, offset_at, rate_at, values_of}
-use Rattle.fr_precision.specs.Round.{sender_at, Hearer, IsSender, Round}
-use Rattle.fr_precision.proofs.Parting.{filter_map_counts}
-use Rattle.fr_precision.proofs.Values.{change_from, other_value}
+use Rattle.fr_measure.specs.Values.{is_own, offset_at, rate_at}
 use Rattle.fr_history.specs.Cycles.{Cycle, Cycles}
-use Rattle.fr_history.specs.Standing.{has_row, row_nodes}
+use Rattle.fr_history.specs.Standing.{row_nodes}
 use Rattle.fr_runs.specs.Gathered.{round_at, row_hearer}
-use Rattle.fr_runs.specs.Links.{Share, cycle_in}
 use Rattle.fr_runs.proofs.Courses.{is_correct_row}
 use Rattle.fr_runs.proofs.Nodes.{correct_node}
-use Rattle.fr_runs.proofs.RowsHeard.{RowLink}
-use Rattle.fr_coverage.specs.Links.{is_sync, shares}
-use Rattle.fr_sharp.specs.Losses.{IsTrustedOf}
+use Rattle.fr_promise.specs.RoundsInPart.{IsTrustedOf}
 use Rattle.fr_runs.specs.SteadyRuns.{AreRowsInReach}
-use Rattle.fr_sharp.specs.Traffic.{all_trusted, comes, has_value, is_deaf, is_trusted, may_reach, may_say, most_count, is_correct_sender, traffic_of, trusts, value_on, Traffic}
-use Rattle.fr_sharp.proofs.HeardCounts.{all_pass, count_two, passes_at, passes_is}
-use Rattle.fr_sharp.proofs.HeardEvents.{may_come}
-use Rattle.fr_sharp.proofs.HeardSurely.{own_of, row_owns, senders_counted, surely_heard as heard_of_sure, trusted_so, value_by}
-use Rattle.fr_sharp.proofs.HeardInPart.{is_other, least_there, mean_there, others_counted}
+use Rattle.fr_sharp.specs.Traffic.{all_trusted, is_deaf, is_trusted, traffic_of, trusts}
+use Rattle.fr_runs.proofs.KeyedCounts.{all_pass}
+use Rattle.fr_sharp.proofs.HeardAtMost.{no_value as none_reaches, row_owned}
+use Rattle.fr_sharp.proofs.HeardSurely.{row_owns, trusted_so, value_by}
 use Rattle.fr_runs.proofs.Fed.{row_receivers}
-use Rattle.fr_runs.proofs.RowsSupplied.{comes_in, counted_in, link_to, looked_up, receiving, rows_heard_in_part, says_in, sending, LawfulRows}
+use Rattle.fr_runs.proofs.RowsSupplied.{receiving, sending, LawfulRows}
 use Rattle.fr_promise.proofs.RunDoubles.{AllHave}
-
--- ---- channels and lists
-
-shared : (a b : NodeSpec) (channel : Channel) → Share a b channel → shares a b channel ≡ true
-shared a b channel share = rw (share.by_sender, share.by_receiver) refl
-
--- what one of a list passes some of it passes
-any_pass : {X : Type 0} (test : X → Bool) (xs : List X) (x : X) → Contains xs x → test x ≡ true → list_any test xs ≡ true
-any_pass test [] x among is = absurd (Contains-none x among)
-any_pass test (y ∷ xs) x among is = elim (Contains-cons_cases y xs x among) [
-  | inl same ↦ here (test y) (list_any test xs) (ap test same ∙ is)
-  | inr more ↦ there (test y) (list_any test xs) (any_pass test xs x more is)
-]
-  where
-    here : (a b : Bool) → a ≡ true → (a || b) ≡ true
-    here true b is = refl
-    here false b is = absurd (cc)
-
-    there : (a b : Bool) → b ≡ true → (a || b) ≡ true
-    there true b is = refl
-    there false b is = is
 
 -- ---- a node with a row
 
 module _ (x : Setting) (flutter : ℕ) (h : Cycles) (even odd : Cycle) (double : ℕ) (reach : ℤ) (s : LawfulRows x flutter h even odd double) (r : AreRowsInReach x h even odd reach) (all : AllHave x h) where
-  abbrev p : Values
-  p = x.params
-
-  abbrev t : Traffic
-  t = traffic_of x
-
-  abbrev round : Round
-  round = round_at x h even odd
-
-  abbrev hearer : NodeSpec → Hearer
-  hearer node = row_hearer x even odd node.id
-
   sane : IsSane x.params
   sane = s.covered.sane
 
-  -- ---- what it surely has
-
-  -- of a sender of whom it surely has a value it has heard
-  pub surely_heard : (rate : Bool) (node : NodeSpec) (index : ℕ) → Contains (row_nodes x h) node
-      → passes_at x.params (λ (a : NodeSpec). is_correct_sender (traffic_of x) a && has_value rate true (traffic_of x) double node a) index ≡ true
-      → IsSome (value_by rate (row_hearer x even odd node.id) index) × (is_some (sender_at (round_at x h even odd) index) ≡ true)
-  surely_heard rate node index among is =
-      heard_of_sure x h even odd double reach (row_receivers x h even odd) node (sending x flutter h even odd double reach s r) (receiving x flutter h even odd double reach s r node among) (row_owns x h even odd node sane)
-      (λ a. true) (λ a there is. all a there) rate index is
-
-  odd_number : 2 * double + 1 ≡ suc (2 * double)
-  odd_number = omega arith
-
   -- ---- what it may have
 
-  key_of : (key : Option ℕ) (index : ℕ) → index_in x.params key ≡ Some index → (slot : ℕ) × (key ≡ Some slot) × (key_slot_of x.params index ≡ Some slot)
-  key_of None index is = absurd (cc)
-  key_of (Some slot) index is = (slot, refl, slot_of_index x.params index slot is)
+  owned : (node : NodeSpec) (index : ℕ) → Contains (row_nodes x h) node → is_own (own_index x.params node.id) index ≡ true → (slot : ℕ) × (node.key ≡ Some slot) × (key_slot_of x.params index ≡ Some slot)
+  owned node index among own = row_owned x node index sane (is_correct_row x h node among) own
 
-  -- a test of a sender and a receiver, as it is counted
-  abbrev may : Bool → NodeSpec → NodeSpec → Bool
-  may rate node sender = is_correct_sender (traffic_of x) sender && has_value rate false (traffic_of x) double node sender
-
-  own_passes : (rate : Bool) (node : NodeSpec) (index : ℕ) → Contains (row_nodes x h) node → is_own (own_index x.params node.id) index ≡ true → passes_at x.params (may rate node) index ≡ true
-  own_passes rate node index among own =
-      let correct = correct_node x node (is_correct_row x h node among) in
-      let is : own_index x.params node.id ≡ Some index = own_number (own_index x.params node.id) index own in
-      let key = key_of node.key index (sym (own_of x.params node sane correct.there) ∙ is) in
-      passes_is x.params (may rate node) index key.0 node key.2 (key_node_is x.params node key.0 sane correct.there key.1) ∙ rw (key.1, correct.correct, itself node.id) refl
-    where
-      itself : (a : ℕ) → (a == a) ≡ true
-      itself a = grind arith
-
-      own_number : (own : Option ℕ) (index : ℕ) → is_own own index ≡ true → own ≡ Some index
-      own_number None index is = absurd (cc)
-      own_number (Some own) index is = let e : own ≡ index = grind arith in ap Some e
-
-  -- what is stored of a sender, or else it is an arbitrary node's
-  record IsLinkedAt (node : NodeSpec) (index : ℕ) : Type 0 where
-    slot : ℕ
-    sender : NodeSpec
-    slot_is : key_slot_of x.params index ≡ Some slot
-    node_is : key_node_of x.params slot ≡ Some sender
-    correct : is_correct_sender (traffic_of x) sender ≡ true
-    link : RowLink x h sender node slot
-
-  record IsSaidAt (node : NodeSpec) (index : ℕ) : Type 0 where
-    slot : ℕ
-    sender : NodeSpec
-    slot_is : key_slot_of x.params index ≡ Some slot
-    node_is : key_node_of x.params slot ≡ Some sender
-    there : Contains x.params.nodes sender
-    key : sender.key ≡ Some slot
-    arbitrary : x.is_arbitrary sender.id ≡ true
-
-  from_at : (node : NodeSpec) (index : ℕ) (is_odd : Bool) (channel : Channel) (value : ℤ) → Contains (row_nodes x h) node → is_own (own_index x.params node.id) index ≡ false
-      → (row_hearer x even odd node.id).look index is_odd channel ≡ Some value → IsLinkedAt node index ⊎ IsSaidAt node index
-  from_at node index is_odd channel value among other is =
-      let only = (rows_heard_in_part x flutter h even odd double reach s r node among).only index is_odd channel value is in
-      by only.0 only.1.0 only.1.1 only.1.2 only.1.3
-    where
-      by : (slot : ℕ) (sender : NodeSpec) → key_slot_of x.params index ≡ Some slot → key_node_of x.params slot ≡ Some sender
-          → ((is_correct x sender.id && has_row x h sender.id) ≡ true) ⊎ (x.is_arbitrary sender.id ≡ true) → IsLinkedAt node index ⊎ IsSaidAt node index
-      by slot sender slot_is node_is (inl rows) =
-          let has = key_node_has x.params sender slot node_is in
-          let both = and_parts (is_correct x sender.id) (has_row x h sender.id) rows in
-          let from : IsSender (round_at x h even odd) sender slot = record { there = has.0; rows = rows; key = has.1 } in
-          inl (record {
-            slot = slot;
-            sender = sender;
-            slot_is = slot_is;
-            node_is = node_is;
-            correct = rw (has.1, both.0) refl;
-            link = link_to x flutter h even odd double reach s r node index slot sender among (record { sender = from; slot_is = slot_is; other = other });
-          })
-      by slot sender slot_is node_is (inr arbitrary) =
-          let has = key_node_has x.params sender slot node_is in
-          inr (record { slot = slot; sender = sender; slot_is = slot_is; node_is = node_is; there = has.0; key = has.1; arbitrary = arbitrary })
-
-  linked_at : (node : NodeSpec) (index : ℕ) (is_odd : Bool) (channel : Channel) (value : ℤ) → Contains (row_nodes x h) node → is_own (own_index x.params node.id) index ≡ false
-      → (row_hearer x even odd node.id).look index is_odd channel ≡ Some value → IsLinkedAt node index ⊎ (is_other (round_at x h even odd) index ≡ true)
-  linked_at node index is_odd channel value among other is = elim (from_at node index is_odd channel value among other is) [
-    | inl at ↦ inl at
-    | inr at ↦ inr (passes_is x.params (λ (one : NodeSpec). is_some one.key && x.is_arbitrary one.id) index at.slot at.sender at.slot_is at.node_is ∙ rw (at.key, at.arbitrary) refl)
-  ]
-
-  -- of a deviation both nodes have the channel, and the frame was not silent
-  may_store : (node : NodeSpec) (index : ℕ) (is_odd : Bool) (channel : Channel) (value : ℤ) (at : IsLinkedAt node index) → (row_hearer x even odd node.id).look index is_odd channel ≡ Some value
-      → (shares at.sender node channel ≡ true) × (comes false (x.event (cycle_in is_odd double) at.sender.id node.id channel) ≡ true)
-  may_store node index is_odd channel value at is =
-      let stored = sym (looked_up x flutter h even odd double reach s r node.id index at.slot is_odd channel at.slot_is) ∙ is in (
-        shared at.sender node channel (counted_in x flutter h even odd double reach s r is_odd at.sender node at.slot channel value at.link stored).share,
-        may_come (x.event (cycle_in is_odd double) at.sender.id node.id channel) (comes_in x flutter h even odd double reach s r is_odd at.sender node at.slot channel value at.link stored),
-      )
-
-  may_pass : (rate : Bool) (node : NodeSpec) (index : ℕ) (channel : Channel) (at : IsLinkedAt node index) → value_on rate false (traffic_of x) at.sender node double channel ≡ true
-      → passes_at x.params (may rate node) index ≡ true
-  may_pass rate node index channel at is =
-      passes_is x.params (may rate node) index at.slot at.sender at.slot_is at.node_is
-      ∙ whole (is_correct_sender (traffic_of x) at.sender) (at.sender.id == node.id) (value_on rate false (traffic_of x) at.sender node double) channel at.correct is
-    where
-      whole : (a b : Bool) (on : Channel → Bool) (channel : Channel) → a ≡ true → on channel ≡ true → (a && (b || (on A || on B))) ≡ true
-      whole true true on channel one two = refl
-      whole true false on A one two = rw two refl
-      whole true false on B one two = by (on A) two
-        where
-          by : (c : Bool) → on B ≡ true → (c || on B) ≡ true
-          by true is = refl
-          by false is = is
-      whole false b on channel one two = absurd (cc)
-
-  offset_on_may : (node : NodeSpec) (index : ℕ) (channel : Channel) (value : ℤ) (at : IsLinkedAt node index) → (row_hearer x even odd node.id).look index true channel ≡ Some value
-      → value_on false false (traffic_of x) at.sender node double channel ≡ true
-  offset_on_may node index channel value at is =
-      let both = may_store node index true channel value at is in
-      let late : comes false (x.event (2 * double + 1) at.sender.id node.id channel) ≡ true = ap (λ (c : ℕ). comes false (x.event c at.sender.id node.id channel)) odd_number ∙ both.1 in
-      rw (both.0, late) refl
-
-  rate_on_may : (node : NodeSpec) (index : ℕ) (channel : Channel) (early late : ℤ) (at : IsLinkedAt node index) → (row_hearer x even odd node.id).look index false channel ≡ Some early
-      → (row_hearer x even odd node.id).look index true channel ≡ Some late → value_on true false (traffic_of x) at.sender node double channel ≡ true
-  rate_on_may node index channel early late at is also =
-      let one = may_store node index false channel early at is in
-      let two = may_store node index true channel late at also in
-      let odd : comes false (x.event (2 * double + 1) at.sender.id node.id channel) ≡ true = ap (λ (c : ℕ). comes false (x.event c at.sender.id node.id channel)) odd_number ∙ two.1 in
-      rw (one.0, one.1, odd) refl
-
-  offset_may : (node : NodeSpec) (index : ℕ) (channel : Channel) (value : ℤ) (at : IsLinkedAt node index) → (row_hearer x even odd node.id).look index true channel ≡ Some value
-      → passes_at x.params (may false node) index ≡ true
-  offset_may node index channel value at is = may_pass false node index channel at (offset_on_may node index channel value at is)
-
-  rate_may : (node : NodeSpec) (index : ℕ) (channel : Channel) (early late : ℤ) (at : IsLinkedAt node index) → (row_hearer x even odd node.id).look index false channel ≡ Some early
-      → (row_hearer x even odd node.id).look index true channel ≡ Some late → passes_at x.params (may true node) index ≡ true
-  rate_may node index channel early late at is also = may_pass true node index channel at (rate_on_may node index channel early late at is also)
-
-  maybe_value : (rate : Bool) (node : NodeSpec) (index : ℕ) (value : ℤ) (own : Bool) → Contains (row_nodes x h) node → is_own (own_index x.params node.id) index ≡ own
-      → value_by rate (row_hearer x even odd node.id) index ≡ Some value → (passes_at x.params (may rate node) index ≡ true) ⊎ (is_other (round_at x h even odd) index ≡ true)
-  maybe_value rate node index value true among own is = inl (own_passes rate node index among own)
-  maybe_value false node index value false among other is =
-      let n = row_hearer x even odd node.id in
-      let least : least_of (n.look index true A) (n.look index true B) ≡ Some value = sym (other_value n.own index (least_of (n.look index true A) (n.look index true B)) other) ∙ is in
-      by (least_there (n.look index true A) (n.look index true B) value least)
-    where
-      on : (channel : Channel) (v : ℤ) → (row_hearer x even odd node.id).look index true channel ≡ Some v → (passes_at x.params (may false node) index ≡ true) ⊎ (is_other (round_at x h even odd) index ≡ true)
-      on channel v there = elim (linked_at node index true channel v among other there) [
-        | inl at ↦ inl (offset_may node index channel v at there)
-        | inr arbitrary ↦ inr arbitrary
-      ]
-
-      by : ((v : ℤ) × ((row_hearer x even odd node.id).look index true A ≡ Some v)) ⊎ ((v : ℤ) × ((row_hearer x even odd node.id).look index true B ≡ Some v))
-          → (passes_at x.params (may false node) index ≡ true) ⊎ (is_other (round_at x h even odd) index ≡ true)
-      by (inl one) = on A one.0 one.1
-      by (inr one) = on B one.0 one.1
-  maybe_value true node index value false among other is =
-      let n = row_hearer x even odd node.id in
-      let mean : mean_of (change_at n.look index A) (change_at n.look index B) ≡ Some value = sym (other_value n.own index (mean_of (change_at n.look index A) (change_at n.look index B)) other) ∙ is in
-      by (mean_there (change_at n.look index A) (change_at n.look index B) value mean)
-    where
-      on : (channel : Channel) (v : ℤ) → change_at (row_hearer x even odd node.id).look index channel ≡ Some v → (passes_at x.params (may true node) index ≡ true) ⊎ (is_other (round_at x h even odd) index ≡ true)
-      on channel v there =
-          let n = row_hearer x even odd node.id in
-          let both = change_from (n.look index false channel) (n.look index true channel) v there in
-          elim (linked_at node index true channel both.1.0 among other both.1.2) [
-            | inl at ↦ inl (rate_may node index channel both.0 both.1.0 at both.1.1 both.1.2)
-            | inr arbitrary ↦ inr arbitrary
-          ]
-
-      by : ((v : ℤ) × (change_at (row_hearer x even odd node.id).look index A ≡ Some v)) ⊎ ((v : ℤ) × (change_at (row_hearer x even odd node.id).look index B ≡ Some v))
-          → (passes_at x.params (may true node) index ≡ true) ⊎ (is_other (round_at x h even odd) index ≡ true)
-      by (inl one) = on A one.0 one.1
-      by (inr one) = on B one.0 one.1
-
-  -- ---- a node that hears nothing
-
-  -- of an arbitrary node it said something
-  says_at : (node : NodeSpec) (index : ℕ) (is_odd : Bool) (channel : Channel) (value : ℤ) → Contains (row_nodes x h) node → (at : IsSaidAt node index)
-      → (row_hearer x even odd node.id).look index is_odd channel ≡ Some value → comes false (x.event (cycle_in is_odd double) at.sender.id node.id channel) ≡ true
-  says_at node index is_odd channel value among at is =
-      may_come (x.event (cycle_in is_odd double) at.sender.id node.id channel)
-      (
-      says_in x flutter h even odd double reach s r is_odd at.sender node at.slot channel value at.there at.key at.arbitrary among
-      (sym (looked_up x flutter h even odd double reach s r node.id index at.slot is_odd channel at.slot_is) ∙ is)
-      )
-
-  -- each value comes of a sync node that may reach it
-  record IsReached (rate : Bool) (node : NodeSpec) : Type 0 where
-    sender : NodeSpec
-    there : Contains x.params.nodes sender
-    reaches : (is_sync sender && may_reach rate (traffic_of x) double node sender) ≡ true
-
-  by_link : (rate : Bool) (node : NodeSpec) (index : ℕ) (channel : Channel) (at : IsLinkedAt node index) → value_on rate false (traffic_of x) at.sender node double channel ≡ true → IsReached rate node
-  by_link rate node index channel at is =
-      let both = and_parts (is_sync at.sender) (not (x.is_arbitrary at.sender.id)) at.correct in
-      record {
-        sender = at.sender;
-        there = (key_node_has x.params at.sender at.slot at.node_is).0;
-        reaches =
-            whole (is_sync at.sender) (x.is_arbitrary at.sender.id) (may_say rate (traffic_of x) at.sender node double A || may_say rate (traffic_of x) at.sender node double B) (at.sender.id == node.id)
-            (value_on rate false (traffic_of x) at.sender node double) channel both.0 (not-true (x.is_arbitrary at.sender.id) both.1) is;
-      }
-    where
-      whole : (a c said own : Bool) (on : Channel → Bool) (channel : Channel) → a ≡ true → c ≡ false → on channel ≡ true → (a && (if c then said else (own || (on A || on B)))) ≡ true
-      whole a c said true on channel one two three = rw (one, two) refl
-      whole a c said false on A one two three = rw (one, two, three) refl
-      whole a c said false on B one two three = rw (one, two) (by (on A) three)
-        where
-          by : (d : Bool) → on B ≡ true → (d || on B) ≡ true
-          by true is = refl
-          by false is = is
-
-  by_saying : (rate : Bool) (node : NodeSpec) (index : ℕ) (channel : Channel) (at : IsSaidAt node index) → may_say rate (traffic_of x) at.sender node double channel ≡ true → IsReached rate node
-  by_saying rate node index channel at is = record {
-    sender = at.sender;
-    there = at.there;
-    reaches =
-        whole (is_sync at.sender) (x.is_arbitrary at.sender.id) (may_say rate (traffic_of x) at.sender node double) (has_value rate false (traffic_of x) double node at.sender) channel (ap is_some at.key) at.arbitrary is;
-  }
-    where
-      whole : (a c : Bool) (on : Channel → Bool) (has : Bool) (channel : Channel) → a ≡ true → c ≡ true → on channel ≡ true → (a && (if c then (on A || on B) else has)) ≡ true
-      whole a c on has A one two three = rw (one, two, three) refl
-      whole a c on has B one two three = rw (one, two) (by (on A) three)
-        where
-          by : (d : Bool) → on B ≡ true → (d || on B) ≡ true
-          by true is = refl
-          by false is = is
-
-  odd_says : (node : NodeSpec) (index : ℕ) (channel : Channel) (value : ℤ) → Contains (row_nodes x h) node → (at : IsSaidAt node index) → (row_hearer x even odd node.id).look index true channel ≡ Some value
-      → comes false (x.event (2 * double + 1) at.sender.id node.id channel) ≡ true
-  odd_says node index channel value among at is = ap (λ (c : ℕ). comes false (x.event c at.sender.id node.id channel)) odd_number ∙ says_at node index true channel value among at is
-
-  reached_by : (rate : Bool) (node : NodeSpec) (index : ℕ) (value : ℤ) → Contains (row_nodes x h) node → is_own (own_index x.params node.id) index ≡ false
-      → value_by rate (row_hearer x even odd node.id) index ≡ Some value → IsReached rate node
-  reached_by false node index value among other is =
-      let n = row_hearer x even odd node.id in
-      let least : least_of (n.look index true A) (n.look index true B) ≡ Some value = sym (other_value n.own index (least_of (n.look index true A) (n.look index true B)) other) ∙ is in
-      by (least_there (n.look index true A) (n.look index true B) value least)
-    where
-      on : (channel : Channel) (v : ℤ) → (row_hearer x even odd node.id).look index true channel ≡ Some v → IsReached false node
-      on channel v there = elim (from_at node index true channel v among other there) [
-        | inl at ↦ by_link false node index channel at (offset_on_may node index channel v at there)
-        | inr at ↦ by_saying false node index channel at (odd_says node index channel v among at there)
-      ]
-
-      by : ((v : ℤ) × ((row_hearer x even odd node.id).look index true A ≡ Some v)) ⊎ ((v : ℤ) × ((row_hearer x even odd node.id).look index true B ≡ Some v)) → IsReached false node
-      by (inl one) = on A one.0 one.1
-      by (inr one) = on B one.0 one.1
-  reached_by true node index value among other is =
-      let n = row_hearer x even odd node.id in
-      let mean : mean_of (change_at n.look index A) (change_at n.look index B) ≡ Some value = sym (other_value n.own index (mean_of (change_at n.look index A) (change_at n.look index B)) other) ∙ is in
-      by (mean_there (change_at n.look index A) (change_at n.look index B) value mean)
-    where
-      on : (channel : Channel) (v : ℤ) → change_at (row_hearer x even odd node.id).look index channel ≡ Some v → IsReached true node
-      on channel v there =
-          let n = row_hearer x even odd node.id in
-          let both = change_from (n.look index false channel) (n.look index true channel) v there in
-          elim (from_at node index true channel both.1.0 among other both.1.2) [
-            | inl at ↦ by_link true node index channel at (rate_on_may node index channel both.0 both.1.0 at both.1.1 both.1.2)
-            | inr at ↦ by_saying true node index channel at (rw (says_at node index false channel both.0 among at both.1.1, odd_says node index channel both.1.0 among at both.1.2) refl)
-          ]
-
-      by : ((v : ℤ) × (change_at (row_hearer x even odd node.id).look index A ≡ Some v)) ⊎ ((v : ℤ) × (change_at (row_hearer x even odd node.id).look index B ≡ Some v)) → IsReached true node
-      by (inl one) = on A one.0 one.1
-      by (inr one) = on B one.0 one.1
-
-  -- so a deaf node has none
+  -- a deaf node has no value
   pub no_value : (rate : Bool) (node : NodeSpec) (index : ℕ) (value : ℤ) → Contains (row_nodes x h) node → is_deaf rate (traffic_of x) double node ≡ true
       → value_by rate (row_hearer x even odd node.id) index ≡ Some value → ⊥
-  no_value rate node index value among deaf is = by (is_own (own_index x.params node.id) index) refl
-    where
-      parts : (not (is_sync node) ≡ true) × (not (list_any (λ (a : NodeSpec). is_sync a && may_reach rate (traffic_of x) double node a) x.params.nodes) ≡ true)
-      parts = and_parts (not (is_sync node)) (not (list_any (λ (a : NodeSpec). is_sync a && may_reach rate (traffic_of x) double node a) x.params.nodes)) deaf
-
-      keyless : (key : Option ℕ) → is_some key ≡ false → key ≡ None
-      keyless None fails = refl
-      keyless (Some slot) fails = absurd (cc)
-
-      own_number : (own : Option ℕ) → is_own own index ≡ true → own ≡ Some index
-      own_number None own_is = absurd (cc)
-      own_number (Some own) own_is = let e : own ≡ index = grind arith in ap Some e
-
-      by : (own : Bool) → is_own (own_index x.params node.id) index ≡ own → ⊥
-      by true own =
-          let correct = correct_node x node (is_correct_row x h node among) in
-          let key = keyless node.key (not-true (is_sync node) parts.0) in
-          let e : None ≡ Some index = sym (own_of x.params node sane correct.there ∙ ap (index_in x.params) key) ∙ own_number (own_index x.params node.id) own in
-          cc
-      by false other =
-          let from = reached_by rate node index value among other is in
-          let test : NodeSpec → Bool = λ a. is_sync a && may_reach rate (traffic_of x) double node a in
-          let any = any_pass test x.params.nodes from.sender from.there from.reaches in
-          let none = not-true (list_any test x.params.nodes) parts.1 in
-          let e : true ≡ false = sym any ∙ none in
-          cc
-
-  -- ---- counted
-
-  pub most_values : (rate : Bool) (node : NodeSpec) → Contains (row_nodes x h) node → length (values_of (value_by rate (row_hearer x even odd node.id))) ≤ most_count rate (traffic_of x) double node
-  unfolding values_of
-  most_values rate node among =
-      let at = value_by rate (row_hearer x even odd node.id) in
-      let senders = senders_counted x (has_value rate false (traffic_of x) double node) sane in
-      let others = others_counted (round_at x h even odd) sane in
-      let values = filter_map_counts at (range_with_len 0 15) in
-      let le =
-      count_two (λ i. is_some (at i)) (passes_at x.params (may rate node)) (is_other (round_at x h even odd)) (range_with_len 0 15)
-      (λ index some. let v = value_of (at index) some in maybe_value rate node index v.0 (is_own (own_index x.params node.id) index) among refl v.1) in
-      omega (arith, senders, others, values, le)
-    where
-      value_of : (o : Option ℤ) → is_some o ≡ true → (v : ℤ) × (o ≡ Some v)
-      value_of None is = absurd (cc)
-      value_of (Some v) is = (v, refl)
+  no_value rate node index value among deaf is =
+      none_reaches x h even odd double reach (row_receivers x h even odd) (Contains (row_nodes x h)) (sending x flutter h even odd double reach s r) (receiving x flutter h even odd double reach s r) owned rate node index
+      value among deaf is
 
   -- ---- trusted
 

@@ -1,6 +1,7 @@
 -- A lawful history that nodes join and in which frames are lost keeps to the bounds by what was heard.
-use Rattle.std.proofs.Common.{◌≡◌, ℕ, zero, suc, ◌+◌, ◌*◌, ◌<◌, ◌≤◌, ◌||◌, Bool, true, false, if◌then◌else◌, ℤ, pos, [], ◌∷◌, length, map, refl, ap, sym, ◌∙◌, subst, lit≤, arith}
+use Rattle.std.proofs.Common.{◌≡◌, ℕ, zero, suc, ◌+◌, ◌<◌, ◌≤◌, ◌&&◌, ◌||◌, Bool, true, false, if◌then◌else◌, ℤ, pos, map, refl, ap, sym, subst, lit≤, arith}
 use Rattle.std.specs.Prelude.{◌≤ℤ◌, Contains, max, nat_eq}
+use Rattle.std.proofs.lemmas.Bool.{and_parts}
 use Rattle.std.proofs.lemmas.Int.{ints}
 use Rattle.fr_cluster.proofs.Elements.{filtered}
 use Rattle.fr_cluster.specs.Sane.{IsSane}
@@ -30,22 +31,19 @@ use Rattle.fr_runs.specs.Hearers.{group_of, member_from}
 use Rattle.fr_runs.specs.Rounds.{IsDoubleOf}
 use Rattle.fr_runs.specs.SteadyRuns.{IsTimedPartFrom}
 use Rattle.fr_runs.proofs.Courses.{is_correct_follower}
-use Rattle.fr_runs.proofs.Parts.{double_at}
-use Rattle.fr_runs.proofs.Whole.{prior_of}
-use Rattle.fr_promise.specs.JoinedHistories.{FirstRatesLast, KeepsJoined}
+use Rattle.fr_promise.specs.JoinedHistories.{FirstRatesLast}
 use Rattle.fr_promise.specs.SharpGroup.{TakesInGroup}
-use Rattle.fr_promise.specs.SharpJoined.{IsFollowedDouble, IsFollowedHearing, IsFollowedKept, NoneIsLeftBehind}
-use Rattle.fr_promise.specs.SharpJoining.{next_group_spread, sharp_group_spread, GroupGoesTo, GroupSpread}
+use Rattle.fr_promise.specs.SharpJoined.{IsFollowedDouble, IsFollowedHearing, IsFollowedKept}
+use Rattle.fr_promise.specs.SharpJoining.{sharp_group_spread, GroupGoesTo, GroupSpread}
 use Rattle.fr_promise.specs.SharpTested.{IsUnfollowedSharpSyncAt}
 use Rattle.fr_promise.proofs.JoinBounds.{lengths_nearer, next_group_spread_goes}
 use Rattle.fr_promise.proofs.JoinedDoubles.{followed_doubles_are_kept, followed_doubles_hear, unfollowed_is_followed}
-use Rattle.fr_promise.proofs.JoinedFollowers.{steady_followers_join}
-use Rattle.fr_promise.proofs.JoinedNext.{followed_doubles_go_on}
-use Rattle.fr_promise.proofs.JoinedRuns.{followed_ends, followed_skew, next_suffices, unfollowed_in, within_range}
-use Rattle.fr_sharp.specs.JoinedLosses.{all_trusted_to_join, group_through_losses, heard_to_join, IsLossyJoinedFrom, JoinedHistoriesKeepThroughLosses, RowsGoThroughLosses, StaysThrough, TakesInJoining}
+use Rattle.fr_promise.proofs.FollowedRuns.{followed, followed_joins, followed_keeps, IsFollowedRun}
+use Rattle.fr_promise.proofs.JoinedRuns.{unfollowed_in, within_range}
+use Rattle.fr_sharp.specs.JoinedLosses.{all_trusted_to_join, group_through_losses, heard_to_join, lists_meet_to_join, IsLossyJoinedFrom, JoinedHistoriesKeepThroughLosses, RowsGoThroughLosses, TakesInJoining}
 use Rattle.fr_sharp.specs.Traffic.{all_linked, arbitrary_count, traffic_of}
 use Rattle.fr_sharp.proofs.HeardKinds.{all_carried, none_arbitrary}
-use Rattle.fr_sharp.proofs.JoinedInPart.{followed_doubles_hear_in_part}
+use Rattle.fr_sharp.proofs.JoinedInPart.{followed_doubles_hear_in_part, followed_doubles_meet}
 
 -- ---- numbers
 
@@ -148,24 +146,31 @@ module _
     walks : CanWalk x.params flutter (beyond k) (rate_walk x.params flutter)
     walks = (walk_is_held x.params flutter k sane second last.0).0
 
-    heard_by : (linked none : Bool) → all_linked (traffic_of x) (double + k) ≡ linked → nat_eq (arbitrary_count (traffic_of x)) 0 ≡ none
-        → IsFollowedHearing (if linked then (if none then Clean else Meeting) else Poor) x flutter earlier even odd (double + k)
-    heard_by true true linked none =
-        followed_doubles_hear false x from flutter h (double + k) earlier even odd (spread k) (pos reach) (beyond k) (rate_walk x.params flutter) part (omega (arith, late)) d (none_arbitrary x (double + k) none)
-        (all_carried x (double + k) linked) walks room takes g
-    heard_by true false linked none =
-        followed_doubles_hear true x from flutter h (double + k) earlier even odd (spread k) (pos reach) (beyond k) (rate_walk x.params flutter) part (omega (arith, late)) d tt (all_carried x (double + k) linked) walks
-        room takes g
-    heard_by false none linked is =
-        followed_doubles_hear_in_part x from flutter h (double + k) earlier even odd (spread k) (pos reach) (beyond k) part (omega (arith, late)) d
-        (second_of (all_linked (traffic_of x) (double + k)) (all_trusted_to_join x (double + k)) linked (w.hears (double + k) (omega (arith, late)) within)) room takes g
+    trusted : all_linked (traffic_of x) (double + k) ≡ false → all_trusted_to_join x (double + k) ≡ true
+    trusted linked = second_of (all_linked (traffic_of x) (double + k)) (all_trusted_to_join x (double + k)) linked (w.hears (double + k) (omega (arith, late)) within)
       where
         second_of : (a b : Bool) → a ≡ false → (a || b) ≡ true → b ≡ true
         second_of false b is either = either
         second_of true b is either = absurd (cc)
 
+    heard_by : (linked none meet : Bool) → all_linked (traffic_of x) (double + k) ≡ linked → nat_eq (arbitrary_count (traffic_of x)) 0 ≡ none
+        → (lists_meet_to_join false x (double + k) && lists_meet_to_join true x (double + k)) ≡ meet
+        → IsFollowedHearing (if linked && none then Clean else (if linked || meet then Meeting else Poor)) x flutter earlier even odd (double + k)
+    heard_by true true meet linked none lists =
+        followed_doubles_hear false x from flutter h (double + k) earlier even odd (spread k) (pos reach) (beyond k) (rate_walk x.params flutter) part (omega (arith, late)) d (none_arbitrary x (double + k) none)
+        (all_carried x (double + k) linked) walks room takes g
+    heard_by true false meet linked none lists =
+        followed_doubles_hear true x from flutter h (double + k) earlier even odd (spread k) (pos reach) (beyond k) (rate_walk x.params flutter) part (omega (arith, late)) d tt (all_carried x (double + k) linked) walks
+        room takes g
+    heard_by false none true linked is lists =
+        let both = and_parts (lists_meet_to_join false x (double + k)) (lists_meet_to_join true x (double + k)) lists in
+        followed_doubles_meet x from flutter h (double + k) earlier even odd (spread k) (pos reach) (beyond k) part (omega (arith, late)) d (trusted linked) both.0 both.1 room takes g
+    heard_by false none false linked is lists =
+        followed_doubles_hear_in_part x from flutter h (double + k) earlier even odd (spread k) (pos reach) (beyond k) part (omega (arith, late)) d (trusted linked) room takes g
+
     hears : IsFollowedHearing (on k) x flutter earlier even odd (double + k)
-    hears = heard_by (all_linked (traffic_of x) (double + k)) (nat_eq (arbitrary_count (traffic_of x)) 0) refl refl
+    hears =
+        heard_by (all_linked (traffic_of x) (double + k)) (nat_eq (arbitrary_count (traffic_of x)) 0) (lists_meet_to_join false x (double + k) && lists_meet_to_join true x (double + k)) refl refl refl
 
     kept : IsFollowedKept x flutter (spread (suc k)) (apart k) (pos reach) (beyond k) (beyond (suc k)) earlier even odd (double + k)
     kept =
@@ -187,61 +192,17 @@ module _
       at.0.active_odd at.0.rows at.1
       )
 
-  followed_from : (n k : ℕ) (earlier : Cycles) (even odd : Cycle) → k ≡ double + n → k < x.doubles → ((m : ℕ) → m < n → FirstRatesLast x.params flutter m) → IsDoubleOf h k earlier even odd
-      → IsFollowedDouble x (spread n) (beyond n) earlier even odd k
-  followed_from zero k earlier even odd is within lasting d =
-      let same : k ≡ double = omega (arith, is) in
-      let Of : ℕ → Type 0 = λ j. IsDoubleOf h j earlier even odd in
-      let At : ℕ → Type 0 = λ j. IsFollowedDouble x (spread 0) (beyond 0) earlier even odd j in
-      subst At (sym same) (first earlier even odd (subst Of same d))
-  followed_from (suc n) k [] even odd is within lasting d =
-      let counted : 0 ≡ 2 * k = d.counted in
-      absurd (omega (arith, counted, is))
-  followed_from (suc n) k (o ∷ []) even odd is within lasting d =
-      let counted : 1 ≡ 2 * k = d.counted in
-      absurd (omega (arith, counted))
-  followed_from (suc n) k (o ∷ e ∷ earlier) even odd is within lasting d =
-      let next : k ≡ suc (double + n) = omega (arith, is) in
-      let Of : ℕ → Type 0 = λ j. IsDoubleOf h j (o ∷ e ∷ earlier) even odd in
-      let At : ℕ → Type 0 = λ j. IsFollowedDouble x (spread (suc n)) (beyond (suc n)) (o ∷ e ∷ earlier) even odd j in
-      let there : IsDoubleOf h (suc (double + n)) (o ∷ e ∷ earlier) even odd = subst Of next d in
-      let last = lasting n (omega arith) in
-      let inside : double + n < x.doubles = omega (arith, is, within) in
-      let prior = prior_of h (double + n) earlier e o even odd there in
-      let before = followed_from n (double + n) earlier e o refl inside (λ j less. lasting j (omega (arith, less))) prior in
-      subst At (sym next)
-      (
-      followed_doubles_go_on x from flutter h (double + n) earlier e o even odd (spread n) (spread (suc n)) (apart n) (pos reach) (beyond n) (beyond (suc n)) part w.referenced (omega (arith, late)) there last.1
-      (next_suffices x.params flutter n sane second last.0) before (kept n inside last earlier e o prior before)
-      )
-
-  module _ (passed : ℕ) (within : double + passed < x.doubles) (lasting : (m : ℕ) → m < passed → FirstRatesLast x.params flutter m) where
-    followed : (earlier : Cycles) (even odd : Cycle) → IsDoubleOf h (double + passed) earlier even odd → IsFollowedDouble x (spread passed) (beyond passed) earlier even odd (double + passed)
-    followed earlier even odd d = followed_from passed (double + passed) earlier even odd refl within lasting d
-
-    pub stays_through : StaysThrough beside x flutter h double passed
-    stays_through =
-        let k = double + passed in
-        let found = double_at h k (let whole = w.whole in omega (arith, whole, within)) in
-        let now = spread passed in
-        let to = spread (suc passed) in
-        let most = apart passed in
-        let ends =
-        λ (last : FirstRatesLast x.params flutter passed) (earlier : Cycles) (even odd : Cycle) (d : IsDoubleOf h (double + passed) earlier even odd).
-        kept passed within last earlier even odd d (followed earlier even odd d) in
-        record {
-          followed = followed;
-          keeps = λ last. record {
-            skew =
-                followed_skew x from flutter h part k (omega (arith, late)) now to most (pos reach) (beyond passed) (beyond (suc passed)) found.earlier found.even found.odd found.is
-                (followed found.earlier found.even found.odd found.is) (ends last found.earlier found.even found.odd found.is);
-            ends = λ earlier even odd d.
-                followed_ends x from flutter h part k (omega (arith, late)) now to most (pos reach) (beyond passed) (beyond (suc passed)) earlier even odd d (followed earlier even odd d) (ends last earlier even odd d);
-          };
-          joins = λ last earlier even odd d.
-              steady_followers_join x from flutter h k earlier even odd to most (pos reach) (beyond passed) (beyond (suc passed)) part (omega (arith, late)) d (ends last earlier even odd d);
-        }
+  run : IsFollowedRun x from flutter h double spread apart (pos reach)
+  run = record { part = part; whole = w.whole; referenced = w.referenced; late = late; second = second; first = first; kept = kept }
 
 pub joined_histories_keep_through_losses : JoinedHistoriesKeepThroughLosses
 joined_histories_keep_through_losses beside x from flutter h double reach w late checks fits begin passed within lasting =
-    stays_through beside x from flutter h double reach w late checks fits begin passed within lasting
+    let r = run beside x from flutter h double reach w late checks fits begin in
+    let on : ℕ → Heard = λ m. heard_to_join x (double + m) in
+    let spread : ℕ → GroupSpread = λ k. group_through_losses beside x.params flutter on k in
+    let apart : ℕ → ℕ = λ k. apart_through_losses beside x.params flutter on k in
+    record {
+      followed = followed x from flutter h double spread apart (pos reach) r passed within lasting;
+      keeps = λ last. followed_keeps x from flutter h double spread apart (pos reach) r passed within lasting last;
+      joins = λ last. followed_joins x from flutter h double spread apart (pos reach) r passed within lasting last;
+    }

@@ -4,10 +4,10 @@ pub mod LossLemmas
 pub mod LossNumbers
 pub mod LossRows
 pub mod MeetingNumbers
-pub mod HeardCounts
-pub mod HeardInPart
+pub mod GreatestCosts
 pub mod HeardEvents
 pub mod HeardSurely
+pub mod HeardAtMost
 pub mod HeardValues
 pub mod RowsInPart
 pub mod BearingRows

@@ -37,7 +37,7 @@ use Rattle.fr_sharp.specs.Traffic.{all_bear_from, heard_in, traffic_in}
 use Rattle.fr_sharp.specs.declared.losses_of_runs.RunLosses.{RunLosses}
 use Rattle.fr_sharp.proofs.FromLossyFiles.{covered_files_keep_through_losses, later_since, none_is_clean}
 use Rattle.fr_sharp.proofs.LossBurstLaws.{apart_below, keeps_wider}
-use Rattle.fr_sharp.proofs.HeardCounts.{all_pass}
+use Rattle.fr_runs.proofs.KeyedCounts.{all_pass}
 use Rattle.fr_sharp.proofs.StrayFits.{stray_fits_is_told}
 
 -- ---- the figures of the first so many double cycles

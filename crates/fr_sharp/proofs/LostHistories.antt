@@ -74,9 +74,9 @@ use Rattle.fr_promise.proofs.StrayLemmas.{in_range, none_strayed, walk_is_held_t
 use Rattle.fr_sharp.proofs.BearingKinds.{meeting_trusts}
 use Rattle.fr_sharp.proofs.BearingRows.{bears_at, is_trusted_there, kept_member, kept_offset, kept_rate, no_values, rows_bear}
 use Rattle.fr_sharp.proofs.BearingStatus.{calm_outcome, limits_in_order, stands_on, stands_within, StandsBy}
-use Rattle.fr_sharp.proofs.HeardCounts.{all_pass}
+use Rattle.fr_runs.proofs.KeyedCounts.{all_pass}
 use Rattle.fr_sharp.proofs.HeardInCommon.{rows_meet}
-use Rattle.fr_sharp.proofs.HeardInPart.{heard_some}
+use Rattle.fr_promise.proofs.HeardInPart.{heard_some}
 use Rattle.fr_sharp.proofs.HeardKinds.{clean_is, meeting_is}
 use Rattle.fr_sharp.proofs.RowsInPart.{rows_compute_own}
 use Rattle.fr_promise.proofs.RunDoubles.{all_among, all_have, evens_are, followed_at, member_among, members_found, next_row, next_rows_are, none_early, none_late, odds_are, AllHave, IsCalm}

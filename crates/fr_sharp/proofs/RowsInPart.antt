@@ -27,12 +27,13 @@ use Rattle.fr_runs.proofs.Going.{is_row_node}
 use Rattle.fr_runs.proofs.Nodes.{correct_node}
 use Rattle.fr_precision.proofs.RoundLemmas.{contains_map, map_contains}
 use Rattle.fr_runs.proofs.RowsHeard.{RowLink}
-use Rattle.fr_sharp.specs.Losses.{IsRoundInPart, IsSuppliedInPart, IsTrustedOf, RowsComputeOwn}
+use Rattle.fr_promise.specs.RoundsInPart.{IsRoundInPart, IsSuppliedInPart, IsTrustedOf}
+use Rattle.fr_sharp.specs.Losses.{RowsComputeOwn}
 use Rattle.fr_sharp.specs.Traffic.{all_trusted, traffic_of}
 use Rattle.fr_bound.specs.SharpBounds.{last_action}
 use Rattle.fr_precision.specs.Among.{ComputesOwn}
 use Rattle.fr_runs.specs.SteadyRuns.{row_hearers, row_members, AreRowsInReach, HearsSome, MayHaveArbitrary, NoneIsDeaf}
-use Rattle.fr_sharp.proofs.HeardInPart.{both_trusted, heard_some, placed_of, rounds_in_part_compute_own}
+use Rattle.fr_promise.proofs.HeardInPart.{both_trusted, heard_some, placed_of, rounds_in_part_compute_own, IsPlacedInPart}
 use Rattle.fr_sharp.proofs.HeardSurely.{change_some, least_some, mean_some, own_of, own_or_other, own_there}
 use Rattle.fr_sharp.proofs.HeardValues.{rows_trusted}
 use Rattle.fr_runs.proofs.RowsSupplied.{few_in, frames_stored, looked_up, odd_active, pairs_steady, row_regular, rows_heard_in_part, timed_rows_from, LawfulRows}
@@ -66,17 +67,27 @@ module _ (x : Setting) (flutter : ℕ) (h : Cycles) (even odd : Cycle) (double :
   sane : IsSane x.params
   sane = s.covered.sane
 
-  -- a node that has values is supplied
-  pub supplied_with : (node : NodeSpec) → Contains (row_nodes x h) node → 1 ≤ length (offsets_of (row_hearer x even odd node.id)) → 1 ≤ length (rates_of (row_hearer x even odd node.id))
-      → IsSuppliedInPart (round_at x h even odd) flutter (row_hearer x even odd node.id)
-  supplied_with node among some_offsets some_rates = record {
+  pub row_placed : (node : NodeSpec) → Contains (row_nodes x h) node → IsPlacedInPart (round_at x h even odd) flutter (row_hearer x even odd node.id)
+  row_placed node among = record {
     regular = row_regular x flutter h even odd double s r.rates node among;
     applied = row_applied x h even odd node s.two (odd_length (length h) double s.counted) among (odd_active x flutter h even odd double reach s r node among);
     hears = rows_heard_in_part x flutter h even odd double reach s r node among;
     steady = pairs_steady x flutter h even odd double reach s r node among;
-    some_offsets = some_offsets;
-    some_rates = some_rates;
   }
+
+  -- a node that has values is supplied
+  supplied_with : (node : NodeSpec) → Contains (row_nodes x h) node → 1 ≤ length (offsets_of (row_hearer x even odd node.id)) → 1 ≤ length (rates_of (row_hearer x even odd node.id))
+      → IsSuppliedInPart (round_at x h even odd) flutter (row_hearer x even odd node.id)
+  supplied_with node among some_offsets some_rates =
+      let placed = row_placed node among in
+      record {
+        regular = placed.regular;
+        applied = placed.applied;
+        hears = placed.hears;
+        steady = placed.steady;
+        some_offsets = some_offsets;
+        some_rates = some_rates;
+      }
 
   pub round_is : IsRound (round_at x h even odd)
   round_is = record {

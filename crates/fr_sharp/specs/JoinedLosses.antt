@@ -1,7 +1,7 @@
 -- A run that nodes join and in which frames are lost: what a node with a row still makes of those that come, and one that follows, and
 -- how far clocks then lie apart. Relied on are senders that do not join, which have rows in every cycle; what comes of others that have
 -- rows is further.
-use Rattle.std.specs.Prelude.{◌≡◌, ◌≤◌, ◌<◌, ℕ, zero, suc, ℤ, ◌+◌, ◌*◌, ◌&&◌, ◌||◌, nat_eq, nat_le, nat_lt, Bool, true, false, not, if◌then◌else◌, length, Contains, Option, Some, None}
+use Rattle.std.specs.Prelude.{◌≡◌, ◌≤◌, ◌<◌, ℕ, zero, suc, ℤ, ◌+◌, ◌*◌, ◌==◌, ◌&&◌, ◌||◌, nat_eq, nat_le, nat_lt, Bool, true, false, not, if◌then◌else◌, length, Contains, Option, Some, None}
 use Rattle.std.specs.List.{list_all}
 use Rattle.fr_cluster.specs.Setting.{Setting, correct_nodes}
 use Rattle.fr_cluster.specs.Values.{Values}
@@ -28,7 +28,7 @@ use Rattle.fr_promise.specs.SharpGroup.{TakesInGroup}
 use Rattle.fr_promise.specs.SharpJoined.{IsFollowedDouble, IsFollowedHearing, NoneIsLeftBehind}
 use Rattle.fr_promise.specs.SharpJoining.{next_group_spread, sharp_group_spread, GroupSpread}
 use Rattle.fr_promise.specs.SharpTested.{IsUnfollowedSharpSyncAt}
-use Rattle.fr_sharp.specs.Traffic.{all_linked, arbitrary_count, has_value, sender_count, traffic_of, Traffic}
+use Rattle.fr_sharp.specs.Traffic.{all_linked, arbitrary_count, has_value, most_count, sender_count, traffic_of, Traffic}
 
 -- ---- one receiver
 
@@ -49,16 +49,39 @@ abbrev pub has_begun : Option Join → ℕ → Bool
 has_begun None double = true
 has_begun (Some join) double = nat_lt join.double double
 
--- both lists of each correct node that has begun are trusted
+-- a correct node that has begun
+abbrev pub takes_part : Setting → ℕ → NodeSpec → Bool
+takes_part x double b = not (x.is_arbitrary b.id) && has_begun (x.join b.id) double
+
+-- both lists of each of them are trusted
 abbrev pub trusts_to_join : Setting → ℕ → NodeSpec → Bool
 trusts_to_join x double b =
-    (x.is_arbitrary b.id || not (has_begun (x.join b.id) double))
+    not (takes_part x double b)
     || (is_trusted_by (stays_on x) false (traffic_of x) double b && is_trusted_by (stays_on x) true (traffic_of x) double b)
 
 abbrev pub all_trusted_to_join : Setting → ℕ → Bool
 all_trusted_to_join x double = list_all (trusts_to_join x double) x.params.nodes
 
--- then in a double cycle whose nodes with rows lie so near, and those that follow near them, each of both computes its terms from the
+-- how many senders that stay on one of them may miss or discard at one end
+abbrev pub cost_to_join : Bool → Setting → ℕ → NodeSpec → ℕ
+cost_to_join rate x double b =
+    sender_count (traffic_of x) (λ a. stays_on x a.id && not (has_value rate true (traffic_of x) double b a))
+    + discarded (most_count rate (traffic_of x) double b)
+
+-- the lists of any two of them have such a sender in common that neither misses nor discards
+abbrev pub meet_to_join : Bool → Setting → ℕ → NodeSpec → NodeSpec → Bool
+meet_to_join rate x double b c =
+    nat_lt (cost_to_join rate x double b + cost_to_join rate x double c) (sender_count (traffic_of x) (λ a. stays_on x a.id))
+
+abbrev pub lists_meet_to_join : Bool → Setting → ℕ → Bool
+lists_meet_to_join rate x double =
+    list_all
+    (λ b. list_all (λ c. not (takes_part x double b && takes_part x double c) || (b.id == c.id || meet_to_join rate x double b c)) x.params.nodes)
+    x.params.nodes
+
+-- ---- one double cycle
+
+-- in a double cycle whose nodes with rows lie so near, and those that follow near them, each of both then computes its terms from the
 -- values of senders of its own, with a reach that takes all in and for which slots leave room
 abbrev pub FollowedDoublesHearInPart : Type 0
 FollowedDoublesHearInPart =
@@ -67,14 +90,25 @@ FollowedDoublesHearInPart =
     → LeavesRoom x.params reach → TakesInGroup x.params s (group_of x.params (hearers_of x earlier even odd double)) reach
     → IsFollowedDouble x s beyond earlier even odd double → IsFollowedHearing heard.Poor x flutter earlier even odd double
 
+-- and where lists meet, any two of both have enough in common
+abbrev pub FollowedDoublesMeet : Type 0
+FollowedDoublesMeet =
+    (x : Setting) (from flutter : ℕ) (h : Cycles) (double : ℕ) (earlier : Cycles) (even odd : Cycle) (s : GroupSpread) (reach beyond : ℤ)
+    → IsTimedPartFrom x from flutter h → from ≤ double → IsDoubleOf h double earlier even odd → all_trusted_to_join x double ≡ true
+    → lists_meet_to_join false x double ≡ true → lists_meet_to_join true x double ≡ true
+    → LeavesRoom x.params reach → TakesInGroup x.params s (group_of x.params (hearers_of x earlier even odd double)) reach
+    → IsFollowedDouble x s beyond earlier even odd double → IsFollowedHearing heard.Meeting x flutter earlier even odd double
+
 -- ---- many double cycles
 
--- what is heard in one: all of all, where of any two nodes one channel carries the frames of both its cycles; or what there is
+-- what is heard in one: all of all, without arbitrary sync nodes; all of all beside them, or of any two nodes enough in common; or what
+-- there is
 abbrev pub heard_to_join : Setting → ℕ → Heard
 heard_to_join x double =
-    if all_linked (traffic_of x) double
-    then (if nat_eq (arbitrary_count (traffic_of x)) 0 then heard.Clean else heard.Meeting)
-    else heard.Poor
+    if all_linked (traffic_of x) double && nat_eq (arbitrary_count (traffic_of x)) 0 then heard.Clean
+    else (if all_linked (traffic_of x) double || (lists_meet_to_join false x double && lists_meet_to_join true x double)
+    then heard.Meeting
+    else heard.Poor)
 
 -- lawful cycles of a run that nodes join; in each double cycle from one on all is heard, or each correct node that has begun trusts its
 -- lists

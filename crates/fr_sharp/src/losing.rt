@@ -1,6 +1,7 @@
 ghost use Rattle.fr_sharp.specs.Bearing.{RowsBear, ThroughIsApart};
-ghost use Rattle.fr_sharp.specs.JoinedLosses.{FollowedDoublesHearInPart, JoinedHistoriesKeepThroughLosses, RowsGoThroughLosses};
-ghost use Rattle.fr_sharp.specs.Losses.{HistoriesKeepThroughLosses, RoundsInPartComputeOwn, RowsComputeOwn, RowsMeet, SharpAfterTwoWhole};
+ghost use Rattle.fr_sharp.specs.JoinedLosses.{FollowedDoublesHearInPart, FollowedDoublesMeet, JoinedHistoriesKeepThroughLosses, RowsGoThroughLosses};
+ghost use Rattle.fr_promise.specs.RoundsInPart.{RoundsInPartComputeOwn};
+ghost use Rattle.fr_sharp.specs.Losses.{HistoriesKeepThroughLosses, RowsComputeOwn, RowsMeet, SharpAfterTwoWhole};
 
 use fr_promise::{heard_numbers, losses_last};
 
@@ -8,12 +9,14 @@ use fr_promise::{heard_numbers, losses_last};
 /// values of senders of its own, those of whom it has one (sections 8.5 and 8.6). So do the nodes with rows in a double
 /// cycle of a lawful run that no node joins, whatever frames are lost in it; where lists meet, any two have enough in common.
 /// In a run that nodes join, so do the nodes with rows and those that follow, where each trusts what it has of the senders that
-/// do not join. A node that surely hears nothing keeps its rate and its end.
+/// do not join; and any two have enough in common where lists of those meet. A node that surely hears nothing keeps its rate
+/// and its end.
 pub fn what_is_heard_suffices()
     ensures rounds { RoundsInPartComputeOwn }
     ensures rows { RowsComputeOwn }
     ensures meet { RowsMeet }
     ensures joined { FollowedDoublesHearInPart }
+    ensures joined_meet { FollowedDoublesMeet }
     ensures bear { RowsBear }
 {}
 

@@ -34,11 +34,11 @@ use Rattle.fr_precision.proofs.RoundSenders.{sender_found, sender_is, IsFrom}
 use Rattle.fr_precision.proofs.Values.{acts_before, change_from, other_of, other_value, own_value, own_is}
 use Rattle.fr_precision.specs.Among.{ComputesOwn}
 use Rattle.fr_precision.specs.Hearing.{AreSteadyPairs, IsHeardInPart}
-use Rattle.fr_sharp.specs.Losses.{heard_at, heard_of, IsSuppliedInPart, IsTrustedOf, RoundsInPartComputeOwn}
+use Rattle.fr_promise.specs.RoundsInPart.{heard_at, heard_of, IsSuppliedInPart, IsTrustedOf, RoundsInPartComputeOwn}
 use Rattle.fr_bound.specs.SharpBounds.{last_action}
 use Rattle.fr_precision.specs.SharpRound.{as_member}
 use Rattle.fr_precision.specs.Steady.{PlacesEven}
-use Rattle.fr_sharp.proofs.HeardCounts.{fewer_discarded, nodes_counted, passes_at, passes_is}
+use Rattle.fr_runs.proofs.KeyedCounts.{fewer_discarded, nodes_counted, passes_at, passes_is}
 use Rattle.fr_precision.proofs.HearingLemmas.{acts_regularly, no_less}
 use Rattle.fr_precision.proofs.RoundLemmas.{acts_early, all_given, map_contains, sender_among}
 use Rattle.fr_precision.proofs.SteadyLemmas.{half_places_even, own_value_places_even, steady_values_place_lem}
