@@ -13,22 +13,15 @@ use Rattle.fr_history.specs.History.{row_for, row_of}
 use Rattle.fr_history.specs.Skew.{skew_at}
 use Rattle.fr_history.specs.Terms.{status_in}
 use Rattle.fr_promise.specs.Statement.{TermsAreWithin}
-use Rattle.fr_runs.specs.Gathered.{hearers_of}
-use Rattle.fr_runs.specs.Hearers.{group_of}
 use Rattle.fr_runs.specs.Links.{cycle_in}
-use Rattle.fr_runs.specs.References.{HaveReferences}
 use Rattle.fr_runs.specs.Rounds.{IsDoubleOf}
 use Rattle.fr_runs.specs.Whole.{IsJoined}
 use Rattle.fr_precision.specs.Lengths.{walked_after}
-use Rattle.fr_bound.specs.declared.judging.Heard.{Heard}
-use Rattle.fr_bound.specs.Checks.{holds_of}
 use Rattle.fr_bound.specs.SharpBounds.{rate_room, rate_walk, sharp_precision}
 use Rattle.fr_bound.specs.SharpChecks.{sharp_holds_of}
 use Rattle.fr_runs.specs.SharpHistories.{IsInSharpSyncAt}
-use Rattle.fr_runs.specs.SteadyRuns.{IsTimedPartFrom}
-use Rattle.fr_promise.specs.SharpGroup.{TakesInGroup}
-use Rattle.fr_promise.specs.SharpJoined.{IsFollowedDouble, IsFollowedHearing, IsFollowedKept, IsJoinedDouble, IsSteadyJoinedFrom}
-use Rattle.fr_promise.specs.SharpJoining.{counted_error, sharp_join_holds_of, GroupGoesTo, GroupSpread, SharpJoinChecksHold}
+use Rattle.fr_promise.specs.SharpJoined.{IsJoinedDouble, IsSteadyJoinedFrom}
+use Rattle.fr_promise.specs.SharpJoining.{counted_error, sharp_join_holds_of, SharpJoinChecksHold}
 use Rattle.fr_promise.specs.SharpListening.{RateTakesIn}
 use Rattle.fr_precision.specs.SharpRun.{WalkLastsAfter}
 use Rattle.fr_promise.specs.SharpTested.{IsUnfollowedSharpSyncAt}
