@@ -1,6 +1,6 @@
 -- The run that files decide where nodes join and frames are lost: it is as the law of losses asks for, so it keeps to the bounds by what
 -- is heard.
-use Rattle.std.proofs.Common.{◌≡◌, ℕ, zero, suc, ◌+◌, ◌-◌, ◌*◌, ◌/◌, ◌<◌, ◌≤◌, Bool, true, false, if◌then◌else◌, refl, sym, subst, arith}
+use Rattle.std.proofs.Common.{◌≡◌, ℕ, zero, suc, ◌+◌, ◌-◌, ◌*◌, ◌/◌, ◌<◌, ◌≤◌, ◌&&◌, ◌||◌, Bool, true, false, if◌then◌else◌, refl, sym, subst, arith}
 use Rattle.std.specs.Prelude.{max, nat_eq}
 use Rattle.std.proofs.Math.Nat.{le-max_left}
 use Rattle.fr_cluster.specs.Values.{Values, amount}
@@ -18,7 +18,7 @@ use Rattle.fr_coverage.specs.Decided.{setting_of}
 use Rattle.fr_precision.specs.Among.{spread_through_losses, LaterSpreadsAreLess}
 use Rattle.fr_promise.specs.SharpJoining.{all_heard, first_apart_by, first_lengths_by, second_apart_by, sharp_first_lengths, sharp_group_spread, GroupSpread}
 use Rattle.fr_promise.proofs.JoinBounds.{near_grows}
-use Rattle.fr_sharp.specs.JoinedLosses.{group_through_losses, heard_to_join, JoinedHistoriesKeepThroughLosses, RowsGoThroughLosses, TakesInJoining}
+use Rattle.fr_sharp.specs.JoinedLosses.{group_through_losses, heard_to_join, lists_meet_to_join, JoinedHistoriesKeepThroughLosses, RowsGoThroughLosses, TakesInJoining}
 use Rattle.fr_sharp.specs.JoinedLossStatement.{group_since, JoinedFilesKeepThroughLosses, LossyFilesGiveJoinedRuns}
 use Rattle.fr_sharp.specs.LossStatement.{without_losses}
 use Rattle.fr_sharp.specs.SharpStatement.{has_arbitrary}
@@ -43,12 +43,17 @@ lossy_files_give_joined_runs p d s from flutter reach h sane fits covered run =
 
 none_is_clean : (p : Values) (d : DriftView) (s : ScriptView) → has_arbitrary p s ≡ true → (double : ℕ) → heard_to_join (setting_of p d s) double ≡ Clean → ⊥
 none_is_clean p d s beside double clean =
-    some_is_not_none p s beside (only (all_linked (traffic_in p s) double) (nat_eq (arbitrary_count (traffic_in p s)) 0) clean)
+    let x = setting_of p d s in
+    let t = traffic_in p s in
+    some_is_not_none p s beside
+    (only (all_linked t double) (nat_eq (arbitrary_count t) 0) (all_linked t double || (lists_meet_to_join false x double && lists_meet_to_join true x double)) clean)
   where
-    only : (b few : Bool) → (if b then (if few then Clean else Meeting) else Poor) ≡ Clean → few ≡ true
-    only true true is = refl
-    only true false is = absurd (cc)
-    only false few is = absurd (cc)
+    only : (b few meets : Bool) → (if b && few then Clean else (if meets then Meeting else Poor)) ≡ Clean → few ≡ true
+    only true true meets is = refl
+    only true false true is = absurd (cc)
+    only true false false is = absurd (cc)
+    only false few true is = absurd (cc)
+    only false few false is = absurd (cc)
 
 -- ---- greater bounds go to greater ones
 
