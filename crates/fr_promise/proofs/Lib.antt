@@ -19,7 +19,6 @@ pub mod SharpListened
 pub mod SharpGrouped
 pub mod SharpFollowed
 pub mod FollowersSupplied
-pub mod HeardInPart
 pub mod SharpCatches
 pub mod JoinedDoubles
 pub mod JoinedMoves

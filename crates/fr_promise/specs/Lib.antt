@@ -4,7 +4,6 @@ pub mod Files
 -- of the sharper precision
 pub mod HeldWalks
 pub mod JoinedHistories
-pub mod RoundsInPart
 pub mod SharpFollowing
 pub mod SharpGroup
 pub mod SharpJoined

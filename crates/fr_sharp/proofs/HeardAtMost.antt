@@ -28,7 +28,7 @@ use Rattle.fr_sharp.specs.Traffic.{comes, has_value, is_deaf, may_reach, may_say
 use Rattle.fr_runs.proofs.KeyedCounts.{count_two, passes_at, passes_is}
 use Rattle.fr_sharp.proofs.HeardEvents.{may_come}
 use Rattle.fr_sharp.proofs.HeardSurely.{own_of, senders_counted, value_by}
-use Rattle.fr_promise.proofs.HeardInPart.{is_other, least_there, mean_there, others_counted}
+use Rattle.fr_sharp.proofs.HeardInPart.{is_other, least_there, mean_there, others_counted}
 use Rattle.fr_base.specs.Rows.{dev_in}
 use Rattle.fr_runs.specs.SteadyRuns.{is_silent}
 use Rattle.fr_runs.proofs.FramesCounted.{recorded_says}

@@ -12,7 +12,7 @@ use Rattle.fr_history.specs.Standing.{row_nodes}
 use Rattle.fr_runs.specs.Gathered.{round_at, row_hearer}
 use Rattle.fr_runs.proofs.Courses.{is_correct_row}
 use Rattle.fr_runs.proofs.Nodes.{correct_node}
-use Rattle.fr_promise.specs.RoundsInPart.{IsTrustedOf}
+use Rattle.fr_sharp.specs.RoundsInPart.{IsTrustedOf}
 use Rattle.fr_runs.specs.SteadyRuns.{AreRowsInReach}
 use Rattle.fr_sharp.specs.Traffic.{all_trusted, is_deaf, is_trusted, traffic_of, trusts}
 use Rattle.fr_runs.proofs.KeyedCounts.{all_pass}

@@ -38,10 +38,10 @@ use Rattle.fr_promise.specs.SharpJoining.{GroupSpread}
 use Rattle.fr_promise.proofs.FollowersSupplied.{follower_regular, pairs_steady as follower_pairs, receiving as follower_receiving}
 use Rattle.fr_promise.proofs.JoinedDoubles.{followers_in, rows_in}
 use Rattle.fr_sharp.specs.JoinedLosses.{has_begun, is_trusted_by, trusts_to_join, all_trusted_to_join, FollowedDoublesHearInPart}
-use Rattle.fr_promise.specs.RoundsInPart.{IsSuppliedInPart, IsTrustedOf}
+use Rattle.fr_sharp.specs.RoundsInPart.{IsSuppliedInPart, IsTrustedOf}
 use Rattle.fr_sharp.specs.Traffic.{traffic_of}
 use Rattle.fr_runs.proofs.KeyedCounts.{all_pass}
-use Rattle.fr_promise.proofs.HeardInPart.{computes_in_part, heard_some}
+use Rattle.fr_sharp.proofs.HeardInPart.{computes_in_part, heard_some}
 use Rattle.fr_sharp.proofs.HeardSurely.{follower_owns, trusted_so, value_by}
 use Rattle.fr_sharp.proofs.RowsInPart.{round_is, senders_among}
 use Rattle.std.specs.List.{list_all}
@@ -52,8 +52,8 @@ use Rattle.fr_history.proofs.Standing.{followers_have_no_row}
 use Rattle.fr_runs.specs.Group.{IsOf}
 use Rattle.fr_runs.proofs.Hearing.{RowsSend}
 use Rattle.fr_promise.specs.SharpGroup.{AnyTwoMeet}
-use Rattle.fr_promise.proofs.HeardInPart.{IsPlacedInPart}
-use Rattle.fr_sharp.specs.JoinedLosses.{cost_to_join, takes_part, lists_meet_to_join, meet_to_join, FollowedDoublesMeet}
+use Rattle.fr_sharp.proofs.HeardInPart.{IsPlacedInPart}
+use Rattle.fr_sharp.specs.JoinedLosses.{cost_to_join, correct_has_begun, lists_meet_to_join, meet_to_join, FollowedDoublesMeet}
 use Rattle.fr_sharp.specs.Traffic.{sender_count}
 use Rattle.fr_sharp.proofs.HeardInCommon.{enough_met, hear_in_common, row_receives, Enough, ReceivesOwn}
 use Rattle.fr_sharp.proofs.RowsInPart.{row_placed}
@@ -151,7 +151,7 @@ module _
         };
       }
 
-  asked : (kind : Bool) (node : NodeSpec) → IsBegun kind node → takes_part x double node ≡ true
+  asked : (kind : Bool) (node : NodeSpec) → IsBegun kind node → correct_has_begun x double node ≡ true
   asked kind node i = rw ((correct_node x node i.receives.is.correct).correct, i.begun) refl
 
   stay_has : (a : NodeSpec) → Contains (correct_nodes x) a → stays_on x a.id ≡ true → has_row x h a.id ≡ true
@@ -165,7 +165,7 @@ module _
         let there = (correct_node x node i.receives.is.correct).there in
         let offsets = is_trusted_by (stays_on x) false (traffic_of x) double node in
         let rates = is_trusted_by (stays_on x) true (traffic_of x) double node in
-        let both = and_parts offsets rates (right (takes_part x double node) (offsets && rates) (asked kind node i) (all_pass (trusts_to_join x double) x.params.nodes node trusted there)) in
+        let both = and_parts offsets rates (right (correct_has_begun x double node) (offsets && rates) (asked kind node i) (all_pass (trusts_to_join x double) x.params.nodes node trusted there)) in
         (of_kind false both.0, of_kind true both.1)
       where
         of_kind : (rate : Bool) → is_trusted_by (stays_on x) rate (traffic_of x) double node ≡ true → IsTrustedOf (round_at x h even odd) (value_by rate (hearer_from x (receivers kind) node.id))
@@ -232,11 +232,11 @@ module _
           → Enough (round_at x h even odd) (value_by rate (hearer_from x (receivers first) b.id)) (value_by rate (hearer_from x (receivers second) c.id))
       enough rate first second b c meet i j differ =
           let of_b =
-          all_pass (λ (b : NodeSpec). list_all (λ (c : NodeSpec). not (takes_part x double b && takes_part x double c) || (b.id == c.id || meet_to_join rate x double b c)) x.params.nodes) x.params.nodes b meet
+          all_pass (λ (b : NodeSpec). list_all (λ (c : NodeSpec). not (correct_has_begun x double b && correct_has_begun x double c) || (b.id == c.id || meet_to_join rate x double b c)) x.params.nodes) x.params.nodes b meet
           (correct_node x b i.receives.is.correct).there in
-          let of_c = all_pass (λ (c : NodeSpec). not (takes_part x double b && takes_part x double c) || (b.id == c.id || meet_to_join rate x double b c)) x.params.nodes c of_b (correct_node x c j.receives.is.correct).there in
-          let both : (takes_part x double b && takes_part x double c) ≡ true = rw (asked first b i, asked second c j) refl in
-          let either = right (takes_part x double b && takes_part x double c) (b.id == c.id || meet_to_join rate x double b c) both of_c in
+          let of_c = all_pass (λ (c : NodeSpec). not (correct_has_begun x double b && correct_has_begun x double c) || (b.id == c.id || meet_to_join rate x double b c)) x.params.nodes c of_b (correct_node x c j.receives.is.correct).there in
+          let both : (correct_has_begun x double b && correct_has_begun x double c) ≡ true = rw (asked first b i, asked second c j) refl in
+          let either = right (correct_has_begun x double b && correct_has_begun x double c) (b.id == c.id || meet_to_join rate x double b c) both of_c in
           let within =
           under (cost_to_join rate x double b + cost_to_join rate x double c) (sender_count (traffic_of x) (λ a. stays_on x a.id)) (other (b.id == c.id) (meet_to_join rate x double b c) differ either) in
           enough_met x h even odd double reach sends (stays_on x) stay_has (receivers first) (receivers second) b c i.receives j.receives rate within

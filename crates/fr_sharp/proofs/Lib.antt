@@ -4,6 +4,7 @@ pub mod LossLemmas
 pub mod LossNumbers
 pub mod LossRows
 pub mod MeetingNumbers
+pub mod HeardInPart
 pub mod GreatestCosts
 pub mod HeardEvents
 pub mod HeardSurely

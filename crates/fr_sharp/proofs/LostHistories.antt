@@ -76,7 +76,7 @@ use Rattle.fr_sharp.proofs.BearingRows.{bears_at, is_trusted_there, kept_member,
 use Rattle.fr_sharp.proofs.BearingStatus.{calm_outcome, limits_in_order, stands_on, stands_within, StandsBy}
 use Rattle.fr_runs.proofs.KeyedCounts.{all_pass}
 use Rattle.fr_sharp.proofs.HeardInCommon.{rows_meet}
-use Rattle.fr_promise.proofs.HeardInPart.{heard_some}
+use Rattle.fr_sharp.proofs.HeardInPart.{heard_some}
 use Rattle.fr_sharp.proofs.HeardKinds.{clean_is, meeting_is}
 use Rattle.fr_sharp.proofs.RowsInPart.{rows_compute_own}
 use Rattle.fr_promise.proofs.RunDoubles.{all_among, all_have, evens_are, followed_at, member_among, members_found, next_row, next_rows_are, none_early, none_late, odds_are, AllHave, IsCalm}

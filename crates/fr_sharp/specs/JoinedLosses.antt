@@ -50,13 +50,13 @@ has_begun None double = true
 has_begun (Some join) double = nat_lt join.double double
 
 -- a correct node that has begun
-abbrev pub takes_part : Setting → ℕ → NodeSpec → Bool
-takes_part x double b = not (x.is_arbitrary b.id) && has_begun (x.join b.id) double
+abbrev pub correct_has_begun : Setting → ℕ → NodeSpec → Bool
+correct_has_begun x double b = not (x.is_arbitrary b.id) && has_begun (x.join b.id) double
 
 -- both lists of each of them are trusted
 abbrev pub trusts_to_join : Setting → ℕ → NodeSpec → Bool
 trusts_to_join x double b =
-    not (takes_part x double b)
+    not (correct_has_begun x double b)
     || (is_trusted_by (stays_on x) false (traffic_of x) double b && is_trusted_by (stays_on x) true (traffic_of x) double b)
 
 abbrev pub all_trusted_to_join : Setting → ℕ → Bool
@@ -76,7 +76,7 @@ meet_to_join rate x double b c =
 abbrev pub lists_meet_to_join : Bool → Setting → ℕ → Bool
 lists_meet_to_join rate x double =
     list_all
-    (λ b. list_all (λ c. not (takes_part x double b && takes_part x double c) || (b.id == c.id || meet_to_join rate x double b c)) x.params.nodes)
+    (λ b. list_all (λ c. not (correct_has_begun x double b && correct_has_begun x double c) || (b.id == c.id || meet_to_join rate x double b c)) x.params.nodes)
     x.params.nodes
 
 -- ---- one double cycle

@@ -1,6 +1,6 @@
 ghost use Rattle.fr_sharp.specs.Bearing.{RowsBear, ThroughIsApart};
 ghost use Rattle.fr_sharp.specs.JoinedLosses.{FollowedDoublesHearInPart, FollowedDoublesMeet, JoinedHistoriesKeepThroughLosses, RowsGoThroughLosses};
-ghost use Rattle.fr_promise.specs.RoundsInPart.{RoundsInPartComputeOwn};
+ghost use Rattle.fr_sharp.specs.RoundsInPart.{RoundsInPartComputeOwn};
 ghost use Rattle.fr_sharp.specs.Losses.{HistoriesKeepThroughLosses, RowsComputeOwn, RowsMeet, SharpAfterTwoWhole};
 
 use fr_promise::{heard_numbers, losses_last};

@@ -1,6 +1,6 @@
 use Rattle.fr_sharp.proofs.BearingRows.{rows_bear}
 use Rattle.fr_sharp.proofs.HeardInCommon.{rows_meet}
-use Rattle.fr_promise.proofs.HeardInPart.{rounds_in_part_compute_own}
+use Rattle.fr_sharp.proofs.HeardInPart.{rounds_in_part_compute_own}
 use Rattle.fr_sharp.proofs.JoinedInPart.{followed_doubles_hear_in_part, followed_doubles_meet}
 use Rattle.fr_sharp.proofs.RowsInPart.{rows_compute_own}
 use Rattle.fr_sharp.proofs.losing.what_is_heard_suffices.Goals as goal
