@@ -12,7 +12,7 @@ use Rattle.fr_precision.specs.Among.{spread_through_losses}
 use Rattle.fr_sharp.specs.LossStatement.{run_apart}
 use Rattle.fr_sharp.specs.LossSteps.{heard_apart, LossDouble}
 use Rattle.fr_sharp.specs.SharpStatement.{has_arbitrary}
-use Rattle.fr_sharp.specs.Traffic.{heard_in, traffic_in}
+use Rattle.fr_traffic.specs.Traffic.{heard_in, traffic_in}
 use Rattle.fr_sharp.proofs.LossTold.{apart_on, spread_on}
 use Rattle.fr_series.specs.Basis.{basis_of}
 use Rattle.fr_series.specs.SharpLosses.{bound_of, bound_since, IsHeldBy}

@@ -2,7 +2,7 @@
 use Rattle.std.specs.Prelude.{◌≡◌, ◌↔◌, ◌+◌, ◌-◌, ◌<◌, ◌≤◌, ℕ, pos, Bool, true, false, List, ◌++◌, codes, Option, Some, None, if◌then◌else◌}
 use Rattle.std.specs.Fmt.{decimal}
 use Rattle.fr_cluster.specs.Values.{Values}
-use Rattle.fr_coverage.specs.Coverage.{gap_from}
+use Rattle.fr_coverage.specs.Coverage.{gap_from, some_join}
 use Rattle.fr_coverage.specs.Decided.{setting_of}
 use Rattle.fr_coverage.specs.Flutter.{flutter_from}
 use Rattle.fr_drift.specs.Questions.{doubles_of}
@@ -14,12 +14,17 @@ use Rattle.fr_bound.specs.declared.judging.Heard.TheVariants as heard
 use Rattle.fr_bound.specs.SharpBounds.{most_flutter}
 use Rattle.fr_sharp.specs.LossSteps.{LossDouble}
 use Rattle.fr_sharp.specs.Bearing.{KeepsThrough}
-use Rattle.fr_sharp.specs.LossRuns.{is_borne, is_through_losses, losses_of, AreLosses}
-use Rattle.fr_sharp.specs.LossStatement.{run_apart, run_spread, whole_in, IsCoveredThroughLosses}
+use Rattle.fr_sharp.specs.LossRuns.{is_borne_of, is_through_losses, losses_of, told_apart, told_near, AreLosses, IsThroughLosses}
+use Rattle.fr_sharp.specs.JoinedLosses.{StaysThrough}
+use Rattle.fr_promise.specs.JoinedHistories.{FirstRatesLast, KeepsJoined}
+use Rattle.fr_promise.specs.SharpTested.{IsUnfollowedSharpSyncAt}
+use Rattle.fr_sharp.specs.LossStatement.{spread_since}
+use Rattle.fr_traffic.specs.Reaching.{whole_in}
 use Rattle.fr_runs.specs.SharpHistories.{IsInSharpSyncAt}
 use Rattle.fr_precision.specs.SharpRun.{WalkLastsAfter}
 use Rattle.fr_sharp.specs.SharpStatement.{has_arbitrary}
-use Rattle.fr_sharp.specs.Traffic.{heard_in, none_lacks, traffic_in}
+use Rattle.fr_traffic.specs.JoinedTraffic.{heard_of}
+use Rattle.fr_traffic.specs.Traffic.{none_lacks, traffic_in}
 use Rattle.fr_series.specs.Basis.{basis_of}
 use Rattle.fr_series.specs.declared.basis.Basis.{Basis}
 use Rattle.fr_series.specs.declared.kept.Kept.{Kept}
@@ -34,13 +39,13 @@ bound_of through apart = if through then Some apart else None
 abbrev pub bound_since : Values → DriftView → ScriptView → Option ℕ → ℕ → Option ℕ
 bound_since p d s None double = None
 bound_since p d s (Some first) double =
-    bound_of (basis_of p d s first).through (run_apart p s first (flutter_from p d s first) double)
+    bound_of (basis_of p d s first).through (told_apart p s first (flutter_from p d s first) double)
 
 -- whether all is heard in a double cycle, what is heard in it, and its number
 abbrev pub kept_by : Values → DriftView → ScriptView → Option ℕ → ℕ → Kept
 kept_by p d s synced double = record {
   whole = whole_in p s double;
-  heard = heard_in (traffic_in p s) double;
+  heard = heard_of p s double;
   bound = bound_since p d s synced double;
 }
 
@@ -57,7 +62,7 @@ pub record IsHeldBy (p : Values) (d : DriftView) (s : ScriptView) (double : ℕ)
   pub most : basis.flutter ≤ most_flutter
   pub low : basis.from ≤ double
   pub passed : spread.passed ≡ double - basis.from
-  pub apart : spread.spread ≡ run_spread p s basis.from basis.flutter double
+  pub apart : spread.spread ≡ spread_since (has_arbitrary p s) p basis.from basis.flutter (heard_of p s) double
 
 abbrev pub IsHeldSince : Values → DriftView → ScriptView → ℕ → Option Basis → LossDouble → Type 0
 IsHeldSince p d s double None spread = Unit {0}
@@ -98,20 +103,33 @@ lost_text basis =
 
 -- ---- what they mean
 
--- of a run from a double cycle on, with its own flutter: what it loses means what it is called; a bound is told exactly where it is
--- covered through losses; and then, from each double cycle in sharp sync on in which no node lacks values and as long as the walk lasts,
--- no macroticks lie further apart than by the number of their double cycle, nor than the greatest of these, no term is cut, none is
--- missing but where a node has no value of its kind, and every correct node is active
+-- of a run from a double cycle on, with its own flutter: what it loses means what it is called; and a bound is told exactly where it is
+-- covered through losses. Where no correct node joins then, from each double cycle in sharp sync on in which no node lacks values and as
+-- long as the walk lasts, no macroticks lie further apart than by the number of their double cycle, nor than the greatest of these, no
+-- term is cut, none is missing but where a node has no value of its kind, and every correct node is active. Where one does so it is from
+-- each double cycle in sharp sync on in which no node follows and as long as first rates last, of nodes with rows; no term is missing,
+-- none of a node that follows is cut, and no follower is left behind
 pub record TellsLosses (p : Values) (d : DriftView) (s : ScriptView) (from : ℕ) (h : Cycles) : Type 0 where
   pub lost :
-      AreLosses (has_arbitrary p s) p from (flutter_from p d s from) (whole_in p s) (heard_in (traffic_in p s)) (is_borne p s from (flutter_from p d s from))
-      (doubles_of d) (losses_of p d s from (flutter_from p d s from))
+      AreLosses (has_arbitrary p s) p from (flutter_from p d s from) (whole_in p s) (heard_of p s) (is_borne_of p s from (flutter_from p d s from))
+      (told_near p s from (flutter_from p d s from)) (doubles_of d) (losses_of p d s from (flutter_from p d s from))
   pub through :
       is_through_losses p s (flutter_from p d s from) (gap_from p d s from) (losses_of p d s from (flutter_from p d s from)) ≡ true
-      ↔ IsCoveredThroughLosses p d s from (flutter_from p d s from) (losses_of p d s from (flutter_from p d s from)).reach
+      ↔ IsThroughLosses p d s from (flutter_from p d s from) (losses_of p d s from (flutter_from p d s from)).reach
   pub keeps :
-      IsCoveredThroughLosses p d s from (flutter_from p d s from) (losses_of p d s from (flutter_from p d s from)).reach → (double passed : ℕ)
+      some_join p s ≡ false → IsThroughLosses p d s from (flutter_from p d s from) (losses_of p d s from (flutter_from p d s from)).reach
+      → (double passed : ℕ)
       → from ≤ double → IsInSharpSyncAt (has_arbitrary p s) p (flutter_from p d s from) (pos 0) h double → none_lacks (traffic_in p s) double ≡ true
       → double + passed < doubles_of d → WalkLastsAfter p (flutter_from p d s from) passed
-      → KeepsThrough (setting_of p d s) h (double + passed) (run_apart p s from (flutter_from p d s from) (double + passed))
+      → KeepsThrough (setting_of p d s) h (double + passed) (told_apart p s from (flutter_from p d s from) (double + passed))
       × KeepsThrough (setting_of p d s) h (double + passed) (losses_of p d s from (flutter_from p d s from)).peak
+  pub joined :
+      some_join p s ≡ true → IsThroughLosses p d s from (flutter_from p d s from) (losses_of p d s from (flutter_from p d s from)).reach
+      → (double passed : ℕ)
+      → from ≤ double → IsUnfollowedSharpSyncAt (has_arbitrary p s) p (flutter_from p d s from) h double
+      → double + passed < doubles_of d → ((m : ℕ) → m < passed → FirstRatesLast p (flutter_from p d s from) m)
+      → StaysThrough (has_arbitrary p s) (setting_of p d s) (flutter_from p d s from) h double passed
+      × (FirstRatesLast p (flutter_from p d s from) passed
+      → KeepsJoined (setting_of p d s) h (double + passed) (told_apart p s from (flutter_from p d s from) (double + passed)))
+      × (FirstRatesLast p (flutter_from p d s from) passed
+      → KeepsJoined (setting_of p d s) h (double + passed) (losses_of p d s from (flutter_from p d s from)).peak)

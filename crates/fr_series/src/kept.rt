@@ -1,13 +1,14 @@
 ghost use Rattle.std.specs.Prelude.{◌≡◌, ◌≤◌, ◌<◌, ◌+◌, None, Some, IfSome};
-ghost use Rattle.fr_sharp.specs.LossStatement.{whole_in};
-ghost use Rattle.fr_sharp.specs.Traffic.{heard_in, traffic_in};
+ghost use Rattle.fr_traffic.specs.Reaching.{whole_in};
+ghost use Rattle.fr_traffic.specs.JoinedTraffic.{heard_of};
 ghost use Rattle.fr_series.specs.SharpLosses.{bound_of, bound_since, from_of, kept_by, IsHeldSince, IsHeldBy};
 
 use crate::basis::Basis;
 use fr_bound::Heard;
 use fr_cluster::Params;
 use fr_script::Script;
-use fr_sharp::{LossSpread, all_reach, heard_in};
+use fr_sharp::LossSpread;
+use fr_traffic::{all_reach, heard_of};
 use fr_world::World;
 
 /// What the nodes hear in a double cycle, and how far macroticks may lie apart in it.
@@ -71,7 +72,7 @@ pub(crate) fn next_kept(
     let params = world.params();
     let script = world.script();
     let whole = is_whole(params, script, double);
-    let heard = heard_in(params, script, double, whole);
+    let heard = heard_of(params, script, double, whole);
     Kept {
         whole,
         heard,
@@ -88,7 +89,7 @@ fn next_bound(
     spread: &mut LossSpread,
 ) -> Option<u128>
     requires double { double < 100_000 }
-    requires heard { heard ≡ heard_in (traffic_in world.now.params world.now.script) double }
+    requires heard { heard ≡ heard_of world.now.params world.now.script double }
     requires held { IsHeldSince world.now.params world.now.drift world.now.script double basis.now spread.old }
     ensures bound { result ≡
         bound_since world.now.params world.now.drift world.now.script (from_of basis.now) double }

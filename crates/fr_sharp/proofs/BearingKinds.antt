@@ -16,9 +16,9 @@ use Rattle.fr_cluster.proofs.Elements.{Contains-here, Contains-there}
 use Rattle.fr_coverage.specs.Links.{is_sync, shares}
 use Rattle.fr_midpoint.specs.Midpoint.{discarded}
 use Rattle.fr_precision.proofs.Counting.{count_cons, one_if}
-use Rattle.fr_sharp.specs.Traffic.{all_bear, all_trusted, bears, comes, costs_of, has_value, is_correct_sender, is_deaf, is_trusted, lacks_values, lists_meet, may_lack, may_reach, may_say, most_count, sender_count, trusts, trusts_or_lacks, value_on, Traffic, none_lacks, traffic_of}
+use Rattle.fr_traffic.specs.Traffic.{all_bear, all_trusted, bears, comes, costs_of, has_value, is_correct_sender, is_deaf, is_trusted, lacks_values, lists_meet, may_lack, may_reach, may_say, most_count, sender_count, trusts, trusts_or_lacks, value_on, Traffic, none_lacks, traffic_of}
 use Rattle.fr_runs.proofs.KeyedCounts.{all_pass}
-use Rattle.fr_sharp.proofs.GreatestCosts.{one_cost}
+use Rattle.fr_traffic.proofs.GreatestCosts.{one_cost}
 
 -- ---- what may not come surely does not
 

@@ -42,7 +42,7 @@ use Rattle.fr_runs.proofs.RowsSupplied.{odd_active, pairs_steady, row_regular, r
 use Rattle.fr_promise.proofs.RunDoubles.{all_have, AllHave}
 use Rattle.fr_sharp.specs.Bearing.{borne, borne_outcome, borne_term, borne_values, RowsBear}
 use Rattle.fr_sharp.specs.RoundsInPart.{heard_of, IsTrustedOf}
-use Rattle.fr_sharp.specs.Traffic.{bears, is_deaf, is_trusted, lacks_values, may_lack, none_lacks, some_keep, traffic_of, trusts_or_lacks}
+use Rattle.fr_traffic.specs.Traffic.{bears, is_deaf, is_trusted, lacks_values, may_lack, none_lacks, some_keep, traffic_of, trusts_or_lacks}
 use Rattle.fr_sharp.proofs.BearingKinds.{none_is_deaf_of}
 use Rattle.fr_runs.proofs.KeyedCounts.{all_pass}
 use Rattle.fr_sharp.proofs.HeardInPart.{all_heard, heard_some, offset_round, rate_round, IsPlacedInPart}

@@ -24,14 +24,15 @@ use Rattle.fr_precision.specs.Lengths.{strayed_after, walked_after, walked_throu
 use Rattle.fr_precision.specs.SharpRun.{WalkLastsAfter, WalkLastsUpTo}
 use Rattle.fr_promise.proofs.StrayLemmas.{later_strays_less}
 use Rattle.fr_sharp.specs.Losses.{HistoriesKeepThroughLosses}
-use Rattle.fr_sharp.specs.LossStatement.{run_strayed, spread_since, whole_in, without_losses, CoveredFilesAreAwake, CoveredFilesKeepThroughLosses, FilesKeepThroughLosses, LossyFilesGiveRuns}
-use Rattle.fr_sharp.specs.Traffic.{all_bear, all_linked, arbitrary_count, heard_in, lists_meet, none_lacks, some_keep, traffic_in, Traffic}
+use Rattle.fr_sharp.specs.LossStatement.{run_strayed, spread_since, without_losses, CoveredFilesAreAwake, CoveredFilesKeepThroughLosses, FilesKeepThroughLosses, LossyFilesGiveRuns}
+use Rattle.fr_traffic.specs.Reaching.{whole_in}
+use Rattle.fr_traffic.specs.Traffic.{all_bear, all_linked, arbitrary_count, heard_in, lists_meet, none_lacks, some_keep, traffic_in, Traffic}
 use Rattle.fr_bound.specs.SharpSpreads.{sharply_near_in}
 use Rattle.fr_sharp.specs.SharpStatement.{has_arbitrary}
 use Rattle.fr_runs.specs.SteadyRuns.{IsTimedFrom}
 use Rattle.fr_sharp.proofs.FromFiles.{arbitrary_is_told, files_are_steady}
 use Rattle.fr_promise.proofs.JoinBounds.{near_grows}
-use Rattle.fr_sharp.proofs.TrafficCounts.{some_counted}
+use Rattle.fr_traffic.proofs.TrafficCounts.{some_counted}
 
 -- what is stated of oscillators and delays does not speak of what is lost
 pub same_times : (p : Values) (d : DriftView) (s : ScriptView) (from flutter : ℕ) → IsTimedFrom (setting_of p d (without_losses s)) from flutter → IsTimedFrom (setting_of p d s) from flutter

@@ -24,9 +24,9 @@ use Rattle.fr_runs.specs.Gathered.{round_at}
 use Rattle.fr_runs.specs.Links.{Share, cycle_in}
 use Rattle.fr_runs.proofs.Nodes.{correct_node}
 use Rattle.fr_coverage.specs.Links.{is_sync, shares}
-use Rattle.fr_sharp.specs.Traffic.{comes, has_value, is_deaf, may_reach, may_say, most_count, is_correct_sender, traffic_of, value_on}
+use Rattle.fr_traffic.specs.Traffic.{comes, has_value, is_deaf, may_reach, may_say, most_count, is_correct_sender, traffic_of, value_on}
 use Rattle.fr_runs.proofs.KeyedCounts.{count_two, passes_at, passes_is}
-use Rattle.fr_sharp.proofs.HeardEvents.{may_come}
+use Rattle.fr_traffic.proofs.HeardEvents.{may_come}
 use Rattle.fr_sharp.proofs.HeardSurely.{own_of, senders_counted, value_by}
 use Rattle.fr_sharp.proofs.HeardInPart.{is_other, least_there, mean_there, others_counted}
 use Rattle.fr_base.specs.Rows.{dev_in}

@@ -37,9 +37,9 @@ use Rattle.fr_sharp.specs.Losses.{RowsMeet}
 use Rattle.fr_precision.specs.SharpRound.{as_member}
 use Rattle.fr_precision.specs.Steady.{PlacesEven}
 use Rattle.fr_runs.specs.SteadyRuns.{row_hearers, row_members, AreRowsInReach}
-use Rattle.fr_sharp.specs.Traffic.{all_trusted, costs_of, has_value, lists_meet, most_count, sender_count, is_correct_sender, traffic_of}
+use Rattle.fr_traffic.specs.Traffic.{all_trusted, costs_of, has_value, lists_meet, most_count, sender_count, is_correct_sender, traffic_of}
 use Rattle.fr_runs.proofs.KeyedCounts.{count_three, discards_more, is_passed, passes_at, passes_is, IsPassed}
-use Rattle.fr_sharp.proofs.GreatestCosts.{two_cost}
+use Rattle.fr_traffic.proofs.GreatestCosts.{two_cost}
 use Rattle.fr_sharp.proofs.HeardInPart.{offsets_heard, placed_of, rates_heard}
 use Rattle.fr_sharp.proofs.HeardAtMost.{most_values, row_owned}
 use Rattle.fr_sharp.proofs.HeardSurely.{row_owns, senders_counted, surely_heard, value_by, KeepsOwn}

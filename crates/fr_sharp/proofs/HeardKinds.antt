@@ -14,9 +14,9 @@ use Rattle.fr_coverage.specs.Links.{is_regular, shares}
 use Rattle.fr_runs.specs.Links.{IsCarried}
 use Rattle.fr_runs.proofs.Nodes.{correct_node}
 use Rattle.fr_runs.specs.SteadyRuns.{IsWhole, MayHaveArbitrary}
-use Rattle.fr_sharp.specs.Traffic.{all_linked, arbitrary_count, heard_in, bears_on, lists_meet, rate_on, traffic_of}
+use Rattle.fr_traffic.specs.Traffic.{all_linked, arbitrary_count, heard_in, bears_on, lists_meet, rate_on, traffic_of}
 use Rattle.fr_runs.proofs.KeyedCounts.{all_pass}
-use Rattle.fr_sharp.proofs.HeardEvents.{regular_of}
+use Rattle.fr_traffic.proofs.HeardEvents.{regular_of}
 use Rattle.fr_sharp.proofs.HeardSurely.{share_of}
 
 by_tests : Bool → Bool → Bool → Bool → Heard

@@ -32,9 +32,9 @@ use Rattle.fr_runs.proofs.Receivers.{is_correct_node}
 use Rattle.fr_coverage.specs.Links.{is_regular, is_sync, shares}
 use Rattle.fr_sharp.specs.JoinedLosses.{is_trusted_by, staying_count}
 use Rattle.fr_sharp.specs.RoundsInPart.{heard_at, heard_of, IsTrustedOf}
-use Rattle.fr_sharp.specs.Traffic.{arbitrary_count, has_value, is_correct_sender, traffic_of, value_on}
+use Rattle.fr_traffic.specs.Traffic.{arbitrary_count, has_value, is_correct_sender, traffic_of, value_on}
 use Rattle.fr_runs.proofs.KeyedCounts.{discards_more, is_passed, nodes_counted, passes_at}
-use Rattle.fr_sharp.proofs.HeardEvents.{regular_of}
+use Rattle.fr_traffic.proofs.HeardEvents.{regular_of}
 
 -- the values of one of both kinds, by key index
 abbrev pub value_by : Bool → Hearer → (ℕ → Option ℤ)

@@ -14,7 +14,7 @@ use Rattle.fr_runs.proofs.Courses.{is_correct_row}
 use Rattle.fr_runs.proofs.Nodes.{correct_node}
 use Rattle.fr_sharp.specs.RoundsInPart.{IsTrustedOf}
 use Rattle.fr_runs.specs.SteadyRuns.{AreRowsInReach}
-use Rattle.fr_sharp.specs.Traffic.{all_trusted, is_deaf, is_trusted, traffic_of, trusts}
+use Rattle.fr_traffic.specs.Traffic.{all_trusted, is_deaf, is_trusted, traffic_of, trusts}
 use Rattle.fr_runs.proofs.KeyedCounts.{all_pass}
 use Rattle.fr_sharp.proofs.HeardAtMost.{no_value as none_reaches, row_owned}
 use Rattle.fr_sharp.proofs.HeardSurely.{row_owns, trusted_so, value_by}

@@ -22,7 +22,7 @@ use Rattle.fr_sharp.specs.JoinedLosses.{group_through_losses, heard_to_join, lis
 use Rattle.fr_sharp.specs.JoinedLossStatement.{group_since, JoinedFilesKeepThroughLosses, LossyFilesGiveJoinedRuns}
 use Rattle.fr_sharp.specs.LossStatement.{without_losses}
 use Rattle.fr_sharp.specs.SharpStatement.{has_arbitrary}
-use Rattle.fr_sharp.specs.Traffic.{all_linked, arbitrary_count, traffic_in}
+use Rattle.fr_traffic.specs.Traffic.{all_linked, arbitrary_count, traffic_in}
 use Rattle.fr_sharp.proofs.FromFiles.{files_are_steady}
 use Rattle.fr_sharp.proofs.FromLossyFiles.{later_since, same_flutter, same_times, some_is_not_none}
 use Rattle.fr_sharp.proofs.JoinedFromFiles.{have_references, script_of_a_file_fits}

@@ -39,7 +39,7 @@ use Rattle.fr_promise.proofs.FollowersSupplied.{follower_regular, pairs_steady a
 use Rattle.fr_promise.proofs.JoinedDoubles.{followers_in, rows_in}
 use Rattle.fr_sharp.specs.JoinedLosses.{has_begun, is_trusted_by, trusts_to_join, all_trusted_to_join, FollowedDoublesHearInPart}
 use Rattle.fr_sharp.specs.RoundsInPart.{IsSuppliedInPart, IsTrustedOf}
-use Rattle.fr_sharp.specs.Traffic.{traffic_of}
+use Rattle.fr_traffic.specs.Traffic.{traffic_of}
 use Rattle.fr_runs.proofs.KeyedCounts.{all_pass}
 use Rattle.fr_sharp.proofs.HeardInPart.{computes_in_part, heard_some}
 use Rattle.fr_sharp.proofs.HeardSurely.{follower_owns, trusted_so, value_by}
@@ -54,7 +54,7 @@ use Rattle.fr_runs.proofs.Hearing.{RowsSend}
 use Rattle.fr_promise.specs.SharpGroup.{AnyTwoMeet}
 use Rattle.fr_sharp.proofs.HeardInPart.{IsPlacedInPart}
 use Rattle.fr_sharp.specs.JoinedLosses.{cost_to_join, correct_has_begun, lists_meet_to_join, meet_to_join, FollowedDoublesMeet}
-use Rattle.fr_sharp.specs.Traffic.{sender_count}
+use Rattle.fr_traffic.specs.Traffic.{sender_count}
 use Rattle.fr_sharp.proofs.HeardInCommon.{enough_met, hear_in_common, row_receives, Enough, ReceivesOwn}
 use Rattle.fr_sharp.proofs.RowsInPart.{row_placed}
 

@@ -41,7 +41,7 @@ use Rattle.fr_promise.proofs.JoinedDoubles.{followed_doubles_are_kept, followed_
 use Rattle.fr_promise.proofs.FollowedRuns.{followed, followed_joins, followed_keeps, IsFollowedRun}
 use Rattle.fr_promise.proofs.JoinedRuns.{unfollowed_in, within_range}
 use Rattle.fr_sharp.specs.JoinedLosses.{all_trusted_to_join, group_through_losses, heard_to_join, lists_meet_to_join, IsLossyJoinedFrom, JoinedHistoriesKeepThroughLosses, RowsGoThroughLosses, TakesInJoining}
-use Rattle.fr_sharp.specs.Traffic.{all_linked, arbitrary_count, traffic_of}
+use Rattle.fr_traffic.specs.Traffic.{all_linked, arbitrary_count, traffic_of}
 use Rattle.fr_sharp.proofs.HeardKinds.{all_carried, none_arbitrary}
 use Rattle.fr_sharp.proofs.JoinedInPart.{followed_doubles_hear_in_part, followed_doubles_meet}
 

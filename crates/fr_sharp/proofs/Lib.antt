@@ -1,12 +1,9 @@
-pub mod TrafficCounts
 pub mod DigitTexts
 pub mod LossLemmas
 pub mod LossNumbers
 pub mod LossRows
 pub mod MeetingNumbers
 pub mod HeardInPart
-pub mod GreatestCosts
-pub mod HeardEvents
 pub mod HeardSurely
 pub mod HeardAtMost
 pub mod HeardValues
@@ -18,7 +15,6 @@ pub mod JoinedInPart
 pub mod JoinedThrough
 pub mod BearingKinds
 pub mod BearingStatus
-pub mod BearingCounts
 pub mod LostHistories
 pub mod RunSettles
 pub mod RunStated

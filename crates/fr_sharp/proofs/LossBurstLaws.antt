@@ -17,10 +17,10 @@ use Rattle.fr_sharp.specs.Bearing.{KeepsThrough}
 use Rattle.fr_sharp.specs.LossBursts.{BurstsCostNoMore, BurstsKeepThePeak, IsInBurstFrom, LosesInBursts, LosesInBurstsFrom}
 use Rattle.fr_sharp.specs.LossCosts.{heard_behind}
 use Rattle.fr_sharp.specs.Losses.{lost_apart, HistoriesKeepThroughLosses}
-use Rattle.fr_sharp.specs.LossStatement.{whole_in}
+use Rattle.fr_traffic.specs.Reaching.{whole_in}
 use Rattle.fr_runs.specs.SharpHistories.{IsInSharpSyncAt}
 use Rattle.fr_sharp.specs.SharpStatement.{has_arbitrary}
-use Rattle.fr_sharp.specs.Traffic.{heard_in, traffic_in}
+use Rattle.fr_traffic.specs.Traffic.{heard_in, traffic_in}
 use Rattle.fr_bound.specs.SharpSpreads.{sharply_near_in}
 use Rattle.fr_promise.proofs.AmongNumbers.{heard_again, next_is}
 use Rattle.fr_sharp.proofs.FromLossyFiles.{covered_files_keep_through_losses, none_is_clean, whole_is_clean}

@@ -27,13 +27,15 @@ use Rattle.fr_bound.specs.declared.judging.Heard.TheVariants as heard
 use Rattle.fr_precision.specs.Among.{apart_through_losses, spread_through_losses, LaterSpreadsAreLess}
 use Rattle.fr_sharp.specs.LossCosts.{limits_hold}
 use Rattle.fr_sharp.specs.Losses.{HistoriesKeepThroughLosses}
-use Rattle.fr_sharp.specs.LossRuns.{all_reach, is_borne, is_link_at_most, is_through_losses, losses_by, losses_of, lost_before, next_losses, reaches, reaches_each, stray_fits, through_checks, through_nodes, AreLosses, IsLastLost, LossesAreTold, RunsKeepTheirBounds}
+use Rattle.fr_traffic.specs.Reaching.{all_reach, reaches, reaches_each}
+use Rattle.fr_sharp.specs.LossRuns.{is_borne, is_link_at_most, is_through_losses, losses_by, losses_of, lost_before, next_losses, stray_fits, through_checks, through_nodes, AreLosses, IsLastLost, LossesAreTold, RunsKeepTheirBounds}
 use Rattle.fr_sharp.specs.LossSteps.{heard_apart}
-use Rattle.fr_sharp.specs.LossStatement.{apart_since, run_strayed, whole_in, without_losses, IsCoveredThroughLosses}
+use Rattle.fr_sharp.specs.LossStatement.{apart_since, run_strayed, without_losses, IsCoveredThroughLosses}
+use Rattle.fr_traffic.specs.Reaching.{whole_in}
 use Rattle.fr_bound.specs.SharpChecks.{sharp_holds_of, SharpChecksHold}
 use Rattle.fr_bound.specs.SharpSpreads.{sharply_near_in}
 use Rattle.fr_sharp.specs.SharpStatement.{has_arbitrary}
-use Rattle.fr_sharp.specs.Traffic.{all_bear_from, heard_in, traffic_in}
+use Rattle.fr_traffic.specs.Traffic.{all_bear_from, heard_in, traffic_in}
 use Rattle.fr_sharp.specs.declared.losses_of_runs.RunLosses.{RunLosses}
 use Rattle.fr_sharp.proofs.FromLossyFiles.{covered_files_keep_through_losses, later_since, none_is_clean}
 use Rattle.fr_sharp.proofs.LossBurstLaws.{apart_below, keeps_wider}

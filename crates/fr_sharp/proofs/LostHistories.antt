@@ -66,7 +66,7 @@ use Rattle.fr_precision.specs.SharpRun.{AllUncut, AreActiveAfter, BeginSharp, Is
 use Rattle.fr_bound.specs.SharpSpreads.{sharply_near_in}
 use Rattle.fr_precision.specs.SharpStep.{ActInReach, AreSharp, ComputesSharply, IsInSharpSync, IsSharpDouble}
 use Rattle.fr_runs.specs.SteadyRuns.{row_members, AreRowsInReach}
-use Rattle.fr_sharp.specs.Traffic.{all_trusted, bears, heard_in, is_deaf, lacking_for, lacks_values, lists_meet, may_lack, none_lacks, some_keep, traffic_of, trusts_or_lacks}
+use Rattle.fr_traffic.specs.Traffic.{all_trusted, bears, heard_in, is_deaf, lacking_for, lacks_values, lists_meet, may_lack, none_lacks, some_keep, traffic_of, trusts_or_lacks}
 use Rattle.fr_promise.proofs.AmongNumbers.{heard_again}
 use Rattle.fr_precision.proofs.BoundLemmas.{key_slots_act_early, sharp_checks_suffice_lem}
 use Rattle.fr_precision.proofs.LastingLemmas.{earlier as earlier_walk, near_fits, up_to}

@@ -29,7 +29,7 @@ use Rattle.fr_precision.proofs.RoundLemmas.{contains_map, map_contains}
 use Rattle.fr_runs.proofs.RowsHeard.{RowLink}
 use Rattle.fr_sharp.specs.RoundsInPart.{IsRoundInPart, IsSuppliedInPart, IsTrustedOf}
 use Rattle.fr_sharp.specs.Losses.{RowsComputeOwn}
-use Rattle.fr_sharp.specs.Traffic.{all_trusted, traffic_of}
+use Rattle.fr_traffic.specs.Traffic.{all_trusted, traffic_of}
 use Rattle.fr_bound.specs.SharpBounds.{last_action}
 use Rattle.fr_precision.specs.Among.{ComputesOwn}
 use Rattle.fr_runs.specs.SteadyRuns.{row_hearers, row_members, AreRowsInReach, HearsSome, MayHaveArbitrary, NoneIsDeaf}

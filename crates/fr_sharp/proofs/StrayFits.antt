@@ -15,7 +15,7 @@ use Rattle.fr_precision.proofs.Figures.{nat_le-true}
 use Rattle.fr_promise.proofs.StrayLemmas.{none_strays}
 use Rattle.fr_sharp.specs.LossRuns.{walked_at_most, StrayFitsIsTold}
 use Rattle.fr_sharp.specs.LossStatement.{LimitFollows}
-use Rattle.fr_sharp.specs.Traffic.{none_lacks, some_keep, traffic_in}
+use Rattle.fr_traffic.specs.Traffic.{none_lacks, some_keep, traffic_in}
 
 -- of a walk that stops, or does not
 abbrev Lasts : ℤ → Bool → ℕ → Option ℕ

@@ -20,7 +20,7 @@ use Rattle.fr_runs.specs.Numbers.{offset_term_told, rate_term_told}
 use Rattle.fr_runs.specs.Rounds.{IsDoubleOf}
 use Rattle.fr_runs.specs.SteadyRuns.{row_members, AreRowsInReach, IsTimedPartFrom}
 use Rattle.fr_runs.specs.SharpHistories.{KeepsApart}
-use Rattle.fr_sharp.specs.Traffic.{all_bear, is_deaf, none_lacks, some_keep, traffic_of}
+use Rattle.fr_traffic.specs.Traffic.{all_bear, is_deaf, none_lacks, some_keep, traffic_of}
 
 -- a term that is missing, as one within its limit; and a node without offset values, as one with its own value alone
 abbrev pub borne_outcome : Outcome → Outcome

@@ -1,14 +1,14 @@
 -- What is promised of a run that nodes join and in which frames are lost, by its files. The words of it, from the top: `IsLawful` (what
--- a run is), `IsCoveredToJoinThroughLosses` (what is asked of the files), `heard_to_join`, `group_through_losses` (the numbers by what is
--- heard), `IsUnfollowedSharpSyncAt`, `FirstRatesLast`, `StaysThrough`.
-use Rattle.std.specs.Prelude.{◌≡◌, ◌+◌, ◌-◌, ◌<◌, ◌≤◌, ℕ, Bool, true, ◌||◌, List}
+-- a run is), `IsCoveredToJoinThroughLosses` (what is asked of the files), `heard_to_join`, `group_spread_through` (the numbers by what is
+-- heard), `IsUnfollowedSharpSyncAt`, `FirstRatesLast`, `KeepsJoinedThroughLosses`, `StaysThrough`.
+use Rattle.std.specs.Prelude.{◌≡◌, ◌+◌, ◌-◌, ◌<◌, ◌≤◌, ℕ, Bool, true, List}
 use Rattle.fr_cluster.specs.Sane.{IsSane}
 use Rattle.fr_cluster.specs.Values.{Values}
 use Rattle.fr_drift.specs.Files.{IsDriftFile}
 use Rattle.fr_drift.specs.Questions.{doubles_of}
 use Rattle.fr_drift.specs.View.{DriftView}
 use Rattle.fr_script.specs.Files.{IsScriptFile, ScriptFits}
-use Rattle.fr_script.specs.View.{ScriptView}
+use Rattle.fr_script.specs.View.{join_of, ScriptView}
 use Rattle.fr_bound.specs.SharpChecks.{SharpChecksHold}
 use Rattle.fr_bound.specs.declared.judging.Heard.{Heard}
 use Rattle.fr_coverage.specs.Decided.{setting_of}
@@ -16,20 +16,21 @@ use Rattle.fr_coverage.specs.Flutter.{flutter_from}
 use Rattle.fr_coverage.specs.Order.{HasNoGapFrom}
 use Rattle.fr_history.specs.Cycles.{Cycles}
 use Rattle.fr_promise.specs.JoinedHistories.{FirstRatesLast}
-use Rattle.fr_promise.specs.SharpJoining.{GroupSpread}
+use Rattle.fr_promise.specs.SharpJoining.{group_spread_through, GroupSpread}
 use Rattle.fr_promise.specs.SharpTested.{IsUnfollowedSharpSyncAt}
 use Rattle.fr_promise.specs.Statement.{IsRunOf}
-use Rattle.fr_sharp.specs.JoinedLosses.{all_trusted_to_join, group_through_losses, heard_to_join, IsLossyJoinedFrom, StaysThrough, TakesInJoining}
+use Rattle.fr_sharp.specs.JoinedLosses.{IsLossyJoinedFrom, StaysThrough, TakesInJoining}
 use Rattle.fr_sharp.specs.LossStatement.{without_losses}
 use Rattle.fr_sharp.specs.SharpStatement.{has_arbitrary}
-use Rattle.fr_sharp.specs.Traffic.{all_linked, traffic_in}
+use Rattle.fr_traffic.specs.JoinedTraffic.{heard_to_join, is_borne_to_join}
+use Rattle.fr_traffic.specs.Traffic.{traffic_in}
 
 -- the bounds of a double cycle by what was heard since an earlier one or since it; and so by what is heard in a run
 abbrev pub group_since : Bool → Values → ℕ → ℕ → (ℕ → Heard) → ℕ → GroupSpread
-group_since beside p from flutter what double = group_through_losses beside p flutter (λ m. what (from + m)) (double - from)
+group_since beside p from flutter what double = group_spread_through beside p flutter (λ m. what (from + m)) (double - from)
 
 abbrev pub run_group : Values → DriftView → ScriptView → ℕ → ℕ → ℕ → GroupSpread
-run_group p d s from flutter double = group_since (has_arbitrary p s) p from flutter (heard_to_join (setting_of p d s)) double
+run_group p d s from flutter double = group_since (has_arbitrary p s) p from flutter (heard_to_join (traffic_in p s) (join_of s)) double
 
 -- of the sharper checks those from 2 to 5 hold with a reach, in ticks, that takes in the nodes with rows of each double cycle from one on
 -- and those that may follow in it, by what was heard since; from that double cycle on the run would have no gap if nothing were lost,
@@ -44,7 +45,7 @@ pub record IsCoveredToJoinThroughLosses (p : Values) (d : DriftView) (s : Script
   pub flutters : flutter_from p d s from ≤ flutter
   pub hears :
       (double : ℕ) → from ≤ double → double < doubles_of d
-      → (all_linked (traffic_in p s) double || all_trusted_to_join (setting_of p d s) double) ≡ true
+      → is_borne_to_join p s double ≡ true
 
 -- such a drift and a script that fits give a run as the law of losses asks for
 abbrev pub LossyFilesGiveJoinedRuns : Type 0
@@ -53,13 +54,26 @@ LossyFilesGiveJoinedRuns =
     → IsSane p → ScriptFits p s → IsCoveredToJoinThroughLosses p d s from flutter reach → IsRunOf (setting_of p d s) h
     → IsLossyJoinedFrom (setting_of p d s) from flutter h
 
--- the promise: of three accepted files that are covered to join through losses from a double cycle on, from each one in sharp sync on
--- from there, in which no node follows: as long as first rates have lasted, the bounds by what was heard since hold, and no follower is
--- left behind
+-- what is kept from a double cycle on, as long as first rates have lasted, whatever frames are lost and whoever joins: the bounds by what
+-- was heard since hold, and no follower is left behind
+abbrev pub KeepsJoinedThroughLosses : Values → DriftView → ScriptView → ℕ → Cycles → ℕ → Type 0
+KeepsJoinedThroughLosses p d s flutter h double =
+    (passed : ℕ) → double + passed < doubles_of d → ((m : ℕ) → m < passed → FirstRatesLast p flutter m)
+    → StaysThrough (has_arbitrary p s) (setting_of p d s) flutter h double passed
+
+-- so it is of sane parameters, and of a drift and a script that fit them, that are covered to join through losses from a double cycle on,
+-- from each one in sharp sync on from there in which no node follows
+abbrev pub CoveredFilesKeepJoinedThroughLosses : Type 0
+CoveredFilesKeepJoinedThroughLosses =
+    (p : Values) (d : DriftView) (s : ScriptView) (from flutter reach : ℕ) (h : Cycles) (double : ℕ)
+    → IsSane p → ScriptFits p s → IsCoveredToJoinThroughLosses p d s from flutter reach
+    → IsRunOf (setting_of p d s) h → from ≤ double → IsUnfollowedSharpSyncAt (has_arbitrary p s) p flutter h double
+    → KeepsJoinedThroughLosses p d s flutter h double
+
+-- the promise: and of three accepted files
 abbrev pub JoinedFilesKeepThroughLosses : Type 0
 JoinedFilesKeepThroughLosses =
     (p : Values) (d : DriftView) (s : ScriptView) (drift script : List ℕ) (from flutter reach : ℕ) (h : Cycles) (double : ℕ)
     → IsSane p → IsDriftFile p d drift → IsScriptFile p s script → IsCoveredToJoinThroughLosses p d s from flutter reach
     → IsRunOf (setting_of p d s) h → from ≤ double → IsUnfollowedSharpSyncAt (has_arbitrary p s) p flutter h double
-    → (passed : ℕ) → double + passed < doubles_of d → ((m : ℕ) → m < passed → FirstRatesLast p flutter m)
-    → StaysThrough (has_arbitrary p s) (setting_of p d s) flutter h double passed
+    → KeepsJoinedThroughLosses p d s flutter h double

@@ -17,7 +17,6 @@ pub mod MeetingCosts
 pub mod SettlingHistories
 pub mod SharpFiles
 pub mod SharpStatement
-pub mod Traffic
 pub mod WayHistories
 pub mod WorkedRun
 pub mod SharpCovered

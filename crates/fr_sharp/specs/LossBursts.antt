@@ -13,11 +13,12 @@ use Rattle.fr_sharp.specs.declared.loss_costs.LossCost.{LossCost}
 use Rattle.fr_precision.specs.Among.{lost_spread}
 use Rattle.fr_sharp.specs.LossCosts.{IsLossCost}
 use Rattle.fr_sharp.specs.Losses.{lost_apart}
-use Rattle.fr_sharp.specs.LossStatement.{whole_in, IsCoveredThroughLosses}
+use Rattle.fr_traffic.specs.Reaching.{whole_in}
+use Rattle.fr_sharp.specs.LossStatement.{IsCoveredThroughLosses}
 use Rattle.fr_runs.specs.SharpHistories.{IsInSharpSyncAt}
 use Rattle.fr_sharp.specs.Bearing.{KeepsThrough}
 use Rattle.fr_sharp.specs.SharpStatement.{has_arbitrary}
-use Rattle.fr_sharp.specs.Traffic.{none_lacks, traffic_in}
+use Rattle.fr_traffic.specs.Traffic.{none_lacks, traffic_in}
 use Rattle.fr_precision.specs.SharpRun.{WalkLastsAfter}
 use Rattle.fr_bound.specs.SharpSpreads.{sharply_near_in}
 

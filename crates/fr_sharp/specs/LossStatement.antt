@@ -22,7 +22,7 @@ use Rattle.fr_bound.specs.declared.settling.Spread.{Spread}
 use Rattle.fr_precision.specs.Among.{apart_through_losses, spread_through_losses}
 use Rattle.fr_sharp.specs.Losses.{IsLossyRunFrom}
 use Rattle.fr_sharp.specs.Bearing.{KeepsThrough}
-use Rattle.fr_sharp.specs.Traffic.{all_bear_from, heard_in, none_lacks, some_keep, traffic_in}
+use Rattle.fr_traffic.specs.Traffic.{all_bear_from, heard_in, none_lacks, some_keep, traffic_in}
 use Rattle.fr_bound.specs.Bounds.{cycle_change}
 use Rattle.fr_bound.specs.Checks.{holds_of}
 use Rattle.fr_bound.specs.SharpChecks.{RateSuffices, SharpChecksHold}
@@ -35,10 +35,6 @@ use Rattle.fr_sharp.specs.SharpStatement.{has_arbitrary}
 -- the script of the same run if no frame were lost, damaged or said by another node
 abbrev pub without_losses : ScriptView → ScriptView
 without_losses s = record { arbitrary = s.arbitrary; joins = s.joins; on_a = []; on_b = [] }
-
--- whether all is heard in a double cycle: of any two nodes one channel carries the frames of both its cycles
-abbrev pub whole_in : Values → ScriptView → ℕ → Bool
-whole_in p s double = list_all (λ a. list_all (λ b. not (is_link s a b) || is_carried s a b double) p.nodes) p.nodes
 
 -- how far starts and even lengths may lie apart in a double cycle by what was heard since an earlier one or since it, and how far
 -- macroticks, in ticks

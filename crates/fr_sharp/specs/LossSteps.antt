@@ -6,6 +6,7 @@ use Rattle.fr_bound.specs.declared.settling.Spread.{Spread}
 use Rattle.fr_bound.specs.Judged.{heard_spread}
 use Rattle.fr_bound.specs.declared.judging.Heard.{Heard}
 use Rattle.fr_bound.specs.SharpBounds.{precision_by}
+use Rattle.fr_promise.specs.SharpJoining.{GroupSpread}
 
 -- how far starts and even lengths may lie apart
 abbrev pub spread_with : ℕ → ℕ → Spread
@@ -14,6 +15,11 @@ spread_with starts lengths = record { starts = starts; lengths = lengths }
 -- so far in a double cycle, and how many passed before it since one in sharp sync
 pub record LossDouble : Type 0 where
   pub spread : Spread
+  pub passed : ℕ
+
+-- the same of nodes that follow too
+pub record LossGroup : Type 0 where
+  pub spread : GroupSpread
   pub passed : ℕ
 
 -- no more may pass
@@ -25,6 +31,12 @@ pub record IsReckoned (starts lengths passed : ℕ) : Type 0 where
   pub few : passed ≤ 1_000_000
   pub starts_fit : starts ≤ 43_000_000_000 + passed * 30_000_000_000_000_000
   pub lengths_fit : lengths ≤ 13_000_000_000 + passed * 13_000_000_000
+
+-- nor those of nodes that follow
+pub record AreReckoned (seconds starts lengths passed : ℕ) : Type 0 where
+  pub seconds_fit : seconds ≤ 200_000_000_000 + passed * 30_000_000_000_000_000
+  pub starts_fit : starts ≤ 200_000_000_000 + passed * 30_000_000_000_000_000
+  pub lengths_fit : lengths ≤ 100_000_000_000 + passed * 13_000_000_000
 
 -- nothing lies further apart than this, in ticks, and no reach may be greater
 abbrev pub most_lost : ℕ

@@ -9,7 +9,7 @@ use Rattle.fr_history.specs.Cycles.{Cycle, Cycles, some_joins}
 use Rattle.fr_runs.specs.Rounds.{IsDoubleOf}
 use Rattle.fr_precision.specs.Among.{apart_through_losses, lost_spread, spread_through_losses, ComputesOwn, HearInCommon}
 use Rattle.fr_sharp.specs.Bearing.{KeepsThrough}
-use Rattle.fr_sharp.specs.Traffic.{all_bear, all_trusted, heard_in, lists_meet, none_lacks, some_keep, traffic_of}
+use Rattle.fr_traffic.specs.Traffic.{all_bear, all_trusted, heard_in, lists_meet, none_lacks, some_keep, traffic_of}
 use Rattle.fr_precision.specs.Lengths.{walked_through}
 use Rattle.fr_bound.specs.SharpBounds.{last_action, precision_by, sharp_precision}
 use Rattle.fr_bound.specs.SharpChecks.{RateSuffices, SharpChecksHold}

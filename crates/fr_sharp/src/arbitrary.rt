@@ -3,8 +3,9 @@ ghost use Rattle.fr_script.specs.View.{is_arbitrary};
 ghost use Rattle.fr_coverage.specs.Links.{is_sync};
 ghost use Rattle.fr_sharp.specs.SharpStatement.{has_arbitrary, has_arbitrary_in};
 
-use fr_cluster::{NodeList, NodeSpec, Params};
+use fr_cluster::{NodeList, Params};
 use fr_script::Script;
+use fr_traffic::is_arbitrary_sync;
 
 /// Whether some node with a key slot is arbitrary: then the bounds beside arbitrary nodes are those of the run, else those
 /// without.
@@ -30,10 +31,4 @@ fn some_arbitrary(nodes: &NodeList, script: &Script) -> bool
         }
     }
     found
-}
-
-pub(crate) fn is_arbitrary_sync(node: &NodeSpec, script: &Script) -> bool
-    ensures { result ≡ (is_sync node.now && is_arbitrary script.now node.now.id) }
-{
-    node.key.is_some() && script.arbitrary(node.id)
 }

@@ -1,5 +1,5 @@
 ghost use Rattle.fr_sharp.specs.JoinedFiles.{CoveredFilesKeepSharplyJoined, JoinedFilesKeepSharpPrecision};
-ghost use Rattle.fr_sharp.specs.JoinedLossStatement.{JoinedFilesKeepThroughLosses, LossyFilesGiveJoinedRuns};
+ghost use Rattle.fr_sharp.specs.JoinedLossStatement.{CoveredFilesKeepJoinedThroughLosses, JoinedFilesKeepThroughLosses, LossyFilesGiveJoinedRuns};
 
 use crate::losing::joined_histories_keep_through_losses;
 use fr_promise::heard_numbers;
@@ -25,6 +25,7 @@ pub fn covered_files_keep_sharply_joined()
 /// the rate limit holds the walk and suffices for first rates.
 pub fn joined_files_keep_through_losses()
     ensures keep { JoinedFilesKeepThroughLosses }
+    ensures covered { CoveredFilesKeepJoinedThroughLosses }
     ensures runs { LossyFilesGiveJoinedRuns }
 {
     joined_histories_keep_through_losses();

@@ -5,10 +5,9 @@
 #![tactic(auto)]
 
 mod arbitrary;
-mod bearing;
 mod digits;
 mod files;
-mod heard;
+mod group_losses;
 mod held;
 mod histories;
 mod joined_files;
@@ -24,15 +23,12 @@ mod meeting_costs;
 mod sharp_covered;
 mod strays;
 mod through;
-mod traffic;
 
 pub use arbitrary::has_arbitrary;
-pub use bearing::all_bear_from;
 pub use digits::Digits;
 pub use files::{
     covered_files_keep_sharply, files_are_steady, files_keep_sharp_precision, files_settle_sharply,
 };
-pub use heard::all_reach;
 pub use held::held_walks_keep_sharp_sync;
 pub use histories::{
     histories_come_into_sharp_sync, histories_keep_sharp_sync, histories_settle_sharply,
@@ -58,4 +54,3 @@ pub use meeting_costs::{MeetingCost, meeting_cost};
 pub use sharp_covered::first_sharp_gap;
 pub use strays::strays_are_told;
 pub use through::is_through;
-pub use traffic::{Costs, heard_in};

@@ -1,5 +1,5 @@
 ghost use Rattle.fr_sharp.specs.Bearing.{RowsBear, ThroughIsApart};
-ghost use Rattle.fr_sharp.specs.JoinedLosses.{FollowedDoublesHearInPart, FollowedDoublesMeet, JoinedHistoriesKeepThroughLosses, RowsGoThroughLosses};
+ghost use Rattle.fr_sharp.specs.JoinedLosses.{FollowedDoublesHearInPart, FollowedDoublesMeet, JoinedHistoriesKeepThroughLosses};
 ghost use Rattle.fr_sharp.specs.RoundsInPart.{RoundsInPartComputeOwn};
 ghost use Rattle.fr_sharp.specs.Losses.{HistoriesKeepThroughLosses, RowsComputeOwn, RowsMeet, SharpAfterTwoWhole};
 
@@ -38,8 +38,7 @@ pub fn histories_keep_through_losses()
 /// lost in whichever double cycles, as long as each correct node that has begun trusts what it has of the senders that do not
 /// join, macroticks of nodes with rows lie no further apart than the numbers by what was heard, in ticks, no term of them or of
 /// those that follow is cut or missing, and no follower is left behind, for as long as the rate limit holds the walk and
-/// suffices for first rates. The numbers of the nodes with rows are those of a run that no node joins.
+/// suffices for first rates.
 pub fn joined_histories_keep_through_losses()
-    ensures keep { JoinedHistoriesKeepThroughLosses }
-    ensures rows { RowsGoThroughLosses }
+    ensures { JoinedHistoriesKeepThroughLosses }
 {}

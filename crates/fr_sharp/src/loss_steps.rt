@@ -6,7 +6,7 @@ ghost use Rattle.fr_bound.specs.Judged.{heard_spread};
 ghost use Rattle.fr_bound.specs.declared.judging.Heard.{Heard};
 ghost use Rattle.fr_precision.specs.Among.{spread_through_losses};
 ghost use Rattle.fr_sharp.specs.LossSteps.{LossDouble, IsReckoned, heard_apart, most_lost, most_passed, spread_with};
-ghost use Rattle.fr_bound.specs.SharpBounds.{last_action, most_flutter, odd_spread, precision_by, steady_error};
+ghost use Rattle.fr_bound.specs.SharpBounds.{last_action, most_flutter, near_by, odd_spread, precision_by, steady_error};
 ghost use Rattle.fr_bound.specs.SharpSpreads.{sharply_near_in};
 
 use fr_bound::{
@@ -78,9 +78,30 @@ impl LossSpread {
         ensures value { result ≡ sharply_near_in params.now self.now.spread }
         ensures most { result ≤ most_lost }
     {
-        let odds = share(params, odd(params, self.lengths));
-        self.starts + self.lengths + odds + u128::from(longest_microtick(params))
+        near_by(params, self.starts, self.lengths)
     }
+
+    // How far starts and even lengths may lie apart.
+    pub(crate) fn both(&self) -> (u128, u128)
+        ensures starts { result.0 ≡ self.now.spread.starts }
+        ensures lengths { result.1 ≡ self.now.spread.lengths }
+        ensures starts_fit { result.0 ≤ 43_000_000_000 + self.now.passed * 30_000_000_000_000_000 }
+        ensures lengths_fit { result.1 ≤ 13_000_000_000 + self.now.passed * 13_000_000_000 }
+        ensures few { self.now.passed ≤ most_passed }
+    {
+        (self.starts, self.lengths)
+    }
+}
+
+// How far instants of the same action point may lie apart by starts and even lengths.
+pub(crate) fn near_by(params: &Params, starts: u128, lengths: u128) -> u128
+    requires starts { starts ≤ 31_000_000_000_000_000_000_000 }
+    requires lengths { lengths ≤ 14_000_000_000_000_000 }
+    ensures value { result ≡ near_by params.now starts lengths }
+    ensures most { result ≤ most_lost }
+{
+    let odds = share(params, odd(params, lengths));
+    starts + lengths + odds + u128::from(longest_microtick(params))
 }
 
 // The next starts and the next lengths.
@@ -121,7 +142,7 @@ fn lengthened(params: &Params, flutter: u64) -> u64
 }
 
 // How far the lengths of odd cycles may lie apart.
-fn odd(params: &Params, lengths: u128) -> u128
+pub(crate) fn odd(params: &Params, lengths: u128) -> u128
     requires { lengths ≤ 14_000_000_000_000_000 }
     ensures value { result ≡ odd_spread params.now lengths }
     ensures most { result ≤ lengths + 2_000_000_000 }

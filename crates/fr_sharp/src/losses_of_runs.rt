@@ -1,21 +1,21 @@
-ghost use Rattle.std.specs.Prelude.{◌≡◌, ◌≤◌, ◌<◌, ◌+◌, suc, nat_lt, None, Some, if◌then◌else◌};
-ghost use Rattle.fr_sharp.specs.LossRuns.{is_borne, losses_of, next_losses, no_losses, LossesAreTold, RunsKeepTheirBounds, ThroughLossesIsTold};
-ghost use Rattle.fr_sharp.specs.LossStatement.{run_strayed, whole_in};
+ghost use Rattle.std.specs.Prelude.{ℕ, ◌≡◌, ◌≤◌, ◌<◌, ◌+◌, suc, nat_lt, None, Some, if◌then◌else◌};
+ghost use Rattle.fr_sharp.specs.LossRuns.{is_borne, is_borne_of, losses_of, next_losses, no_losses, JoinedRunsKeepTheirBounds, LossesAreTold, NearIsTakenIn, RunsKeepTheirBounds, ThroughLossesIsTold};
+ghost use Rattle.fr_sharp.specs.LossStatement.{run_strayed};
+ghost use Rattle.fr_traffic.specs.Reaching.{whole_in};
 ghost use Rattle.fr_sharp.specs.LossSteps.{most_lost};
 ghost use Rattle.fr_bound.specs.SharpBounds.{most_flutter};
 
 use crate::arbitrary::has_arbitrary;
-use crate::bearing::{all_bear_from, none_lacks};
-use crate::heard::all_reach;
+use crate::group_losses::GroupLosses;
+use crate::joined_files::joined_files_keep_through_losses;
 use crate::losing::histories_keep_through_losses;
-use crate::loss_steps::LossSpread;
 use crate::strays::{stray_fits, strayed_on};
-use crate::traffic::heard_in;
 use fr_cluster::Params;
-use fr_coverage::found_gap_from_is_first;
+use fr_coverage::{found_gap_from_is_first, some_join};
 use fr_drift::Drift;
 use fr_promise::heard_numbers;
 use fr_script::Script;
+use fr_traffic::{all_bear_from, all_reach, heard_of, is_borne_to_join, none_lacks};
 
 /// What a run loses from a double cycle on, by its files, and how far apart that may take its clocks, from one in sharp sync
 /// on.
@@ -29,10 +29,11 @@ pub struct RunLosses {
     pub peak: u128,
     /// The first such double cycle.
     pub place: u32,
-    /// How far instants of the same action point may lie apart, in ticks.
+    /// How far instants of the same action point may lie apart, of nodes that follow too, in ticks.
     pub reach: u128,
     /// Whether each correct node bears each double cycle: it has values, and discards as many as there may be of arbitrary
-    /// nodes, or lacks some as it may; and the rate limit suffices for how far lengths then lie beyond their range.
+    /// nodes, or lacks some as it may; and the rate limit suffices for how far lengths then lie beyond their range. Where a
+    /// correct node joins: whether in each all is heard, or each that has begun has such values of senders that do not.
     pub trusted: bool,
 }
 
@@ -49,7 +50,7 @@ pub fn run_losses(
     ensures value { result ≡ losses_of params.now drift.now script.now from flutter }
     ensures most { result.reach ≤ most_lost }
 {
-    let mut spread = LossSpread::first(params, has_arbitrary(params, script), flutter);
+    let mut spread = GroupLosses::first(params, has_arbitrary(params, script), flutter);
     let mut losses = RunLosses::none(from);
     let mut strayed = 0;
     let count = drift.doubles().saturating_sub(from);
@@ -62,10 +63,12 @@ pub fn run_losses(
             !none_lacks(params, script, double),
             strayed,
         );
-        let trusted = is_borne(params, script, flutter, from, double, strayed);
-        let what = heard_in(params, script, double, whole);
+        let borne = is_borne(params, script, flutter, from, double, strayed);
+        let trusted = is_borne_of(params, script, double, whole, borne);
+        let what = heard_of(params, script, double, whole);
         let apart = spread.apart(params, flutter, what);
-        losses = losses.followed(double, whole, trusted, apart, spread.near(params));
+        let near = spread.near(params, script, double);
+        losses = losses.followed(double, whole, trusted, apart, near);
         spread.step(params, flutter, what);
     }
     losses
@@ -89,6 +92,20 @@ fn is_borne(
 {
     all_bear_from(params, script, from, double)
         && stray_fits(params, flutter, double + 1 - from, strayed)
+}
+
+// Where a correct node joins: all is heard in it, or each that has begun trusts what it has of those that do not join.
+fn is_borne_of(params: &Params, script: &Script, double: u32, whole: bool, borne: bool) -> bool
+    requires double { double ≤ 100_000 }
+    requires whole { whole ≡ whole_in params.now script.now double }
+    ensures { (from flutter : ℕ) → borne ≡ is_borne params.now script.now from flutter double
+        → result ≡ is_borne_of params.now script.now from flutter double }
+{
+    if some_join(&params.nodes, script) {
+        is_borne_to_join(params, script, double, whole)
+    } else {
+        borne
+    }
 }
 
 fn is_whole(params: &Params, script: &Script, double: u32) -> bool
@@ -157,12 +174,16 @@ impl RunLosses {
 
 /// A law: what a run loses from a double cycle on is what it is called; where it is said to be covered through losses from
 /// there on, and there alone, it is; and then no macroticks lie further apart, in ticks, than the number of their double
-/// cycle by what was heard since that one, from each double cycle in sharp sync on and as long as the walk lasts.
+/// cycle by what was heard since that one, from each double cycle in sharp sync on and as long as the walk lasts; where a
+/// correct node joins from each one in which no node follows, and as long as first rates last.
 pub fn losses_are_told()
     ensures figures { LossesAreTold }
     ensures covered { ThroughLossesIsTold }
     ensures keeps { RunsKeepTheirBounds }
+    ensures joined { JoinedRunsKeepTheirBounds }
+    ensures near { NearIsTakenIn }
 {
+    joined_files_keep_through_losses();
     found_gap_from_is_first();
     histories_keep_through_losses();
     heard_numbers();

@@ -4,9 +4,9 @@ ghost use Rattle.fr_midpoint.specs.Midpoint.{discarded};
 ghost use Rattle.fr_bound.specs.SharpBounds.{most_flutter};
 ghost use Rattle.fr_sharp.specs.MeetingCosts.{IsMeetingCost, IsMostMissed, may_miss};
 
-use crate::traffic::discarded_of;
 use fr_bound::{even_lambda, near_by, precision_by, sharp_pi};
 use fr_cluster::{NodeList, Params};
+use fr_traffic::discarded_of;
 
 /// What it costs, in ticks, where each node misses the frames of few other sync nodes in each double cycle for ever,
 /// without arbitrary sync nodes.

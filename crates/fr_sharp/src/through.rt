@@ -4,14 +4,14 @@ ghost use Rattle.fr_sharp.specs.LossRuns.{is_link_at_most, is_through_losses, th
 ghost use Rattle.fr_sharp.specs.LossSteps.{most_lost};
 ghost use Rattle.fr_bound.specs.SharpBounds.{most_flutter};
 
-use crate::heard::all_reach;
 use crate::loss_checks::{limits_hold, loss_side};
 use crate::losses_of_runs::RunLosses;
 use crate::sharp_covered::gap_from;
 use fr_cluster::Params;
-use fr_coverage::{Gap, some_join};
+use fr_coverage::Gap;
 use fr_drift::Drift;
 use fr_script::Script;
+use fr_traffic::all_reach;
 
 /// Whether a run is covered through what it loses, from a double cycle on, by its first gap from there on whatever the
 /// checks say.
@@ -44,9 +44,7 @@ fn through_checks(params: &Params, flutter: u64, reach: u128) -> bool
 fn through_nodes(params: &Params, script: &Script, gap: Option<Gap>) -> bool
     ensures { result ≡ through_nodes params.now script.now gap }
 {
-    !some_join(&params.nodes, script)
-        && is_link_at_most(gap)
-        && all_reach(&params.nodes, script, None)
+    is_link_at_most(gap) && all_reach(&params.nodes, script, None)
 }
 
 fn is_link_at_most(gap: Option<Gap>) -> bool

@@ -24,7 +24,7 @@ use Rattle.fr_sharp.specs.declared.meeting_costs.MeetingCost.{MeetingCost}
 use Rattle.fr_sharp.specs.LossStatement.{IsCoveredThroughLosses}
 use Rattle.fr_sharp.specs.MeetingCosts.{may_miss, sync_nodes, IsMeetingCost, IsMostMissed}
 use Rattle.fr_sharp.specs.SharpStatement.{has_arbitrary}
-use Rattle.fr_sharp.specs.Traffic.{arbitrary_count, has_value, is_correct_sender, lists_meet, none_lacks, sender_count, traffic_in, Traffic}
+use Rattle.fr_traffic.specs.Traffic.{arbitrary_count, has_value, is_correct_sender, lists_meet, none_lacks, sender_count, traffic_in, Traffic}
 
 -- in a double cycle each correct node has no value of so many correct senders at most, of each kind of values, and surely has one of
 -- each other: frames are lost and none is damaged

@@ -14,7 +14,8 @@ use Rattle.fr_script.specs.Events.{event_of}
 use Rattle.fr_script.specs.View.{deed_of, is_arbitrary, join_of}
 use Rattle.fr_precision.specs.Among.{apart_through_losses, spread_through_losses, LaterSpreadsAreLess}
 use Rattle.fr_sharp.specs.Losses.{HistoriesKeepThroughLosses}
-use Rattle.fr_sharp.specs.LossStatement.{run_spread, whole_in, without_losses, IsCoveredThroughLosses}
+use Rattle.fr_sharp.specs.LossStatement.{run_spread, without_losses, IsCoveredThroughLosses}
+use Rattle.fr_traffic.specs.Reaching.{whole_in}
 use Rattle.fr_sharp.specs.SettlingHistories.{AreStatedNear}
 use Rattle.fr_bound.specs.SharpBounds.{last_of, sharp_lambda, sharp_pi}
 use Rattle.fr_bound.specs.SharpChecks.{SharpChecksHold}
@@ -23,7 +24,7 @@ use Rattle.fr_precision.specs.SharpRun.{WalkLastsAfter}
 use Rattle.fr_bound.specs.SharpSpreads.{sharply_near_in}
 use Rattle.fr_sharp.specs.SharpStatement.{has_arbitrary}
 use Rattle.fr_sharp.proofs.StrayFits.{limit_follows}
-use Rattle.fr_sharp.specs.Traffic.{all_bear_from, costs_of, heard_in, lacking_for, none_lacks, traffic_in}
+use Rattle.fr_traffic.specs.Traffic.{all_bear_from, costs_of, heard_in, lacking_for, none_lacks, traffic_in}
 use Rattle.fr_worked.specs.WorkedFiles.{fluttering_drift}
 use Rattle.fr_worked.specs.WorkedLosses.{losing_script, LosingFilesAreCovered, LosingFilesKeep}
 use Rattle.fr_sharp.specs.WorkedRun.{steady_cluster}

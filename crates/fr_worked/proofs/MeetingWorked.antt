@@ -24,7 +24,7 @@ use Rattle.fr_precision.specs.SharpRun.{WalkLastsAfter}
 use Rattle.fr_bound.specs.SharpSpreads.{sharply_near_in}
 use Rattle.fr_sharp.specs.SharpStatement.{has_arbitrary}
 use Rattle.fr_sharp.proofs.StrayFits.{limit_follows}
-use Rattle.fr_sharp.specs.Traffic.{all_bear_from, costs_of, heard_in, lacking_for, none_lacks, traffic_in}
+use Rattle.fr_traffic.specs.Traffic.{all_bear_from, costs_of, heard_in, lacking_for, none_lacks, traffic_in}
 use Rattle.fr_worked.specs.WorkedFiles.{fluttering_drift, marking_script}
 use Rattle.fr_worked.specs.WorkedLosses.{missing_script, BesideFilesAreCovered, BesideFilesKeep, MissingFilesAreCovered, MissingFilesKeep}
 use Rattle.fr_sharp.specs.WorkedRun.{steady_cluster}

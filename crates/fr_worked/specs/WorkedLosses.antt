@@ -11,9 +11,10 @@ use Rattle.fr_script.specs.View.{ScriptView}
 use Rattle.fr_script.specs.declared.deeds.Deed.{Deed}
 use Rattle.fr_script.specs.declared.deeds.Deed.TheVariants as deed
 use Rattle.fr_script.specs.declared.deeds.Passage.{Passage}
-use Rattle.fr_sharp.specs.LossStatement.{whole_in, IsCoveredThroughLosses}
+use Rattle.fr_traffic.specs.Reaching.{whole_in}
+use Rattle.fr_sharp.specs.LossStatement.{IsCoveredThroughLosses}
 use Rattle.fr_runs.specs.SharpHistories.{IsInSharpSyncAt, KeepsApart}
-use Rattle.fr_sharp.specs.Traffic.{heard_in, traffic_in}
+use Rattle.fr_traffic.specs.Traffic.{heard_in, traffic_in}
 use Rattle.fr_worked.specs.WorkedFiles.{fluttering_drift, marking_script}
 use Rattle.fr_sharp.specs.WorkedRun.{steady_cluster}
 

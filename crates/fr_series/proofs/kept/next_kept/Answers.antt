@@ -1,7 +1,7 @@
 use Rattle.std.proofs.Common.{◌≡◌, ℕ, Bool, Option, ◌∙◌, ap, ap₂, refl}
 use Rattle.fr_bound.specs.declared.judging.Heard.{Heard}
-use Rattle.fr_sharp.specs.LossStatement.{whole_in}
-use Rattle.fr_sharp.specs.Traffic.{heard_in, traffic_in}
+use Rattle.fr_traffic.specs.Reaching.{whole_in}
+use Rattle.fr_traffic.specs.Traffic.{heard_in, traffic_in}
 use Rattle.fr_series.specs.declared.kept.Kept.{Kept}
 use Rattle.fr_series.proofs.kept.next_kept.Goals as goal
 

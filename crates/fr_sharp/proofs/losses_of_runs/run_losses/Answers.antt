@@ -4,11 +4,11 @@ use Rattle.fr_drift.specs.Questions.{doubles_of}
 use Rattle.fr_script.specs.View.{ScriptView}
 use Rattle.fr_precision.specs.Lengths.{strayed_after}
 use Rattle.fr_sharp.specs.LossRuns.{is_borne, losses_by}
-use Rattle.fr_sharp.specs.LossStatement.{whole_in}
+use Rattle.fr_traffic.specs.Reaching.{whole_in}
 use Rattle.fr_sharp.specs.LossSteps.{most_lost}
 use Rattle.fr_precision.specs.Among.{spread_through_losses}
 use Rattle.fr_sharp.specs.SharpStatement.{has_arbitrary}
-use Rattle.fr_sharp.specs.Traffic.{heard_in, some_keep, traffic_in}
+use Rattle.fr_traffic.specs.Traffic.{heard_in, some_keep, traffic_in}
 use Rattle.fr_sharp.specs.declared.losses_of_runs.RunLosses.{RunLosses}
 use Rattle.fr_sharp.proofs.LossTold.{losses_on, no_more_than_one, spread_on, widest}
 use Rattle.fr_sharp.proofs.StrayFits.{stray_on}

@@ -2,10 +2,10 @@ use Rattle.std.proofs.Common.{◌≡◌, ◌+◌, ◌*◌, ◌≤◌}
 use Rattle.fr_precision.specs.Among.{spread_through_losses}
 use Rattle.fr_precision.specs.Lengths.{strayed_after}
 use Rattle.fr_sharp.specs.LossRuns.{is_borne, losses_by}
-use Rattle.fr_sharp.specs.LossStatement.{whole_in}
+use Rattle.fr_traffic.specs.Reaching.{whole_in}
 use Rattle.fr_sharp.specs.LossSteps.{most_lost}
 use Rattle.fr_sharp.specs.SharpStatement.{has_arbitrary}
-use Rattle.fr_sharp.specs.Traffic.{heard_in, some_keep, traffic_in}
+use Rattle.fr_traffic.specs.Traffic.{heard_in, some_keep, traffic_in}
 use Rattle.fr_sharp.proofs.losses_of_runs.run_losses.Given as goal
 
 -- the spread of this double cycle by what was heard before it, and what was lost there

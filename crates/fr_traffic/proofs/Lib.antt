@@ -1,0 +1,4 @@
+pub mod TrafficCounts
+pub mod GreatestCosts
+pub mod HeardEvents
+pub mod BearingCounts

@@ -1,0 +1,240 @@
+ghost use Rattle.std.specs.Prelude.{ℕ, ◌≡◌, ◌≤◌, ◌||◌, ◌&&◌, not, false, nat_le, length, List};
+ghost use Rattle.std.specs.List.{list_all, list_any};
+ghost use Rattle.fr_base.specs.declared.channel.Channel.TheVariants as channel;
+ghost use Rattle.fr_cluster.specs.declared.nodes.NodeSpec.{NodeSpec};
+ghost use Rattle.fr_script.specs.View.{is_arbitrary};
+ghost use Rattle.fr_coverage.specs.Links.{is_sync};
+ghost use Rattle.fr_traffic.specs.Traffic.{all_bear, all_bear_from, arbitrary_count, bears, comes, is_deaf, lacking_for, lacks_values, may_lack, may_reach, may_say, none_lacks, traffic_in, traffic_with, trusts_or_lacks};
+
+use crate::traffic::{Asked, arbitrary_count, comes_even, comes_odd, has_value, is_trusted};
+use fr_base::Channel;
+use fr_cluster::{NodeList, NodeSpec, ParamName, Params};
+use fr_script::Script;
+
+/// Whether each correct node bears a double cycle, 0 to 100,000: it has an offset value and a rate value, and discards at
+/// each end as many of each as there may be of arbitrary nodes, or lacks some, not for so many in a row that it would be
+/// passive; in the double cycle from which it is asked none lacks any.
+pub fn all_bear_from(params: &Params, script: &Script, from: u32, double: u32) -> bool
+    requires { double ≤ 100_000 }
+    ensures { result ≡ all_bear_from params.now (traffic_in params.now script.now) from double }
+{
+    all_bear(params, script, double) && (double != from || none_lacks(params, script, double))
+}
+
+fn all_bear(params: &Params, script: &Script, double: u32) -> bool
+    requires { double ≤ 100_000 }
+    ensures { result ≡ all_bear params.now (traffic_in params.now script.now) double }
+{
+    let _few = params.value(ParamName::gMacroPerCycle);
+    let nodes = &params.nodes;
+    let arbitrary = arbitrary_count(nodes, script);
+    all_bear_in(params, nodes, script, double, arbitrary)
+}
+
+fn all_bear_in(
+    params: &Params,
+    nodes: &NodeList,
+    script: &Script,
+    double: u32,
+    arbitrary: u64,
+) -> bool
+    requires double { double ≤ 100_000 }
+    requires few { length params.now.nodes ≤ 64 }
+    requires arbitrary { arbitrary ≡ arbitrary_count (traffic_in params.now script.now) }
+    ensures { result ≡ list_all (bears params.now (traffic_in params.now script.now) double) nodes.now }
+{
+    for place in 0..nodes.len() {
+        match nodes.get(place) {
+            Some(node) => {
+                if !bears(params, script, double, arbitrary, node) {
+                    return false;
+                }
+            }
+            None => {}
+        }
+    }
+    true
+}
+
+fn bears(params: &Params, script: &Script, double: u32, arbitrary: u64, node: &NodeSpec) -> bool
+    requires double { double ≤ 100_000 }
+    requires few { length params.now.nodes ≤ 64 }
+    requires arbitrary { arbitrary ≡ arbitrary_count (traffic_in params.now script.now) }
+    ensures { result ≡ bears params.now (traffic_in params.now script.now) double node.now }
+{
+    let nodes = &params.nodes;
+    script.arbitrary(node.id)
+        || (trusts_or_lacks(nodes, script, (false, double), arbitrary, node)
+            && trusts_or_lacks(nodes, script, (true, double), arbitrary, node)
+            && (!lacks_values(nodes, script, double, node)
+                || may_lack(params, script, double, node)))
+}
+
+fn trusts_or_lacks(
+    nodes: &NodeList,
+    script: &Script,
+    kind: (bool, u32),
+    arbitrary: u64,
+    node: &NodeSpec,
+) -> bool
+    requires double { kind.1 ≤ 100_000 }
+    requires few { length nodes.now ≤ 64 }
+    requires arbitrary { arbitrary ≡ arbitrary_count (traffic_with nodes.now script.now) }
+    ensures { result ≡ trusts_or_lacks kind.0 (traffic_with nodes.now script.now) kind.1 node.now }
+{
+    let (rate, double) = kind;
+    let asked = Asked {
+        rate,
+        surely: true,
+        double,
+    };
+    is_deaf(nodes, script, rate, double, node) || is_trusted(nodes, script, asked, arbitrary, node)
+}
+
+/// Whether in a double cycle, 0 to 100,000, no correct node lacks values.
+pub fn none_lacks(params: &Params, script: &Script, double: u32) -> bool
+    requires { double ≤ 100_000 }
+    ensures { result ≡ none_lacks (traffic_in params.now script.now) double }
+{
+    let nodes = &params.nodes;
+    none_lacks_in(nodes, script, double)
+}
+
+fn none_lacks_in(nodes: &NodeList, script: &Script, double: u32) -> bool
+    requires { double ≤ 100_000 }
+    ensures { result ≡ none_lacks (traffic_with nodes.now script.now) double }
+{
+    for place in 0..nodes.len() {
+        match nodes.get(place) {
+            Some(node) => {
+                if !script.arbitrary(node.id) && lacks_values(nodes, script, double, node) {
+                    return false;
+                }
+            }
+            None => {}
+        }
+    }
+    true
+}
+
+// Not in so many double cycles in a row.
+fn may_lack(params: &Params, script: &Script, double: u32, node: &NodeSpec) -> bool
+    requires { double ≤ 100_000 }
+    ensures { result ≡ may_lack params.now (traffic_in params.now script.now) double node.now }
+{
+    let most = params.natural(ParamName::gMaxWithoutClockCorrectionPassive);
+    !lacks_for(&params.nodes, script, double, node, most)
+}
+
+// Whether a node has lacked values in so many double cycles in a row, up to one.
+fn lacks_for(nodes: &NodeList, script: &Script, double: u32, node: &NodeSpec, count: u64) -> bool
+    requires { double ≤ 100_000 }
+    ensures { result ≡ nat_le count (lacking_for (traffic_with nodes.now script.now) node.now double) }
+{
+    for back in 0..count {
+        if (double as u64) < back {
+            return false;
+        }
+        if !lacks_values(nodes, script, double - back as u32, node) {
+            return false;
+        }
+    }
+    true
+}
+
+fn lacks_values(nodes: &NodeList, script: &Script, double: u32, node: &NodeSpec) -> bool
+    requires { double ≤ 100_000 }
+    ensures { result ≡ lacks_values (traffic_with nodes.now script.now) double node.now }
+{
+    is_deaf(nodes, script, false, double, node) || is_deaf(nodes, script, true, double, node)
+}
+
+// A node without a key slot to which nothing can come of any sync node.
+fn is_deaf(nodes: &NodeList, script: &Script, rate: bool, double: u32, node: &NodeSpec) -> bool
+    requires { double ≤ 100_000 }
+    ensures { result ≡ is_deaf rate (traffic_with nodes.now script.now) double node.now }
+{
+    !node.key.is_some() && !is_reached(nodes, script, rate, double, node)
+}
+
+fn is_reached(
+    nodes: &NodeList,
+    script: &Script,
+    rate: bool,
+    double: u32,
+    receiver: &NodeSpec,
+) -> bool
+    requires { double ≤ 100_000 }
+    ensures { result ≡ list_any
+        (λ a. is_sync a && may_reach rate (traffic_with nodes.now script.now) double receiver.now a) nodes.now }
+{
+    for place in 0..nodes.len() {
+        match nodes.get(place) {
+            Some(node) => {
+                if may_come(script, rate, double, receiver, node) {
+                    return true;
+                }
+            }
+            None => {}
+        }
+    }
+    false
+}
+
+fn may_come(
+    script: &Script,
+    rate: bool,
+    double: u32,
+    receiver: &NodeSpec,
+    sender: &NodeSpec,
+) -> bool
+    requires { double ≤ 100_000 }
+    ensures { (nodes : List NodeSpec) → result ≡
+        (is_sync sender.now && may_reach rate (traffic_with nodes script.now) double receiver.now sender.now) }
+{
+    sender.key.is_some() && may_reach(script, rate, double, receiver, sender)
+}
+
+fn may_reach(
+    script: &Script,
+    rate: bool,
+    double: u32,
+    receiver: &NodeSpec,
+    sender: &NodeSpec,
+) -> bool
+    requires { double ≤ 100_000 }
+    ensures { (nodes : List NodeSpec) → result ≡
+        may_reach rate (traffic_with nodes script.now) double receiver.now sender.now }
+{
+    let asked = Asked {
+        rate,
+        surely: false,
+        double,
+    };
+    if script.arbitrary(sender.id) {
+        may_say(script, asked, sender, receiver, Channel::A)
+            || may_say(script, asked, sender, receiver, Channel::B)
+    } else {
+        has_value(script, asked, receiver, sender)
+    }
+}
+
+fn may_say(
+    script: &Script,
+    asked: Asked,
+    sender: &NodeSpec,
+    receiver: &NodeSpec,
+    channel: Channel,
+) -> bool
+    requires double { asked.double ≤ 100_000 }
+    requires surely { asked.surely ≡ false }
+    ensures { (nodes : List NodeSpec) → result ≡
+        may_say asked.rate (traffic_with nodes script.now) sender.now receiver.now asked.double channel }
+{
+    if asked.rate {
+        comes_even(script, asked, sender, receiver, channel)
+            && comes_odd(script, asked, sender, receiver, channel)
+    } else {
+        comes_odd(script, asked, sender, receiver, channel)
+    }
+}

@@ -1,0 +1,84 @@
+ghost use Rattle.std.specs.Prelude.{◌≡◌, ◌≤◌, ◌||◌, ◌&&◌, not, IfSome};
+ghost use Rattle.fr_coverage.specs.Links.{is_carried_on, is_free};
+ghost use Rattle.fr_traffic.specs.Reaching.{all_reach, reaches, reaches_each, reaches_on};
+
+use fr_base::Channel;
+use fr_cluster::{NodeList, NodeSpec};
+use fr_coverage::{is_link, shares};
+use fr_script::{Event, Script};
+
+/// Whether all is heard in a double cycle, 0 to 100,000: of any two nodes one channel carries the frames of both its cycles,
+/// where one counts on the other. Without a number: whether it would be if nothing were lost.
+pub fn all_reach(nodes: &NodeList, script: &Script, when: Option<u32>) -> bool
+    requires { IfSome when (λ double. double ≤ 100_000) }
+    ensures { result ≡ all_reach nodes.now script.now when }
+{
+    let mut all = true;
+    for place in 0..nodes.len() {
+        match nodes.get(place) {
+            Some(node) => all = all && reaches_each(nodes, script, node, when),
+            None => {}
+        }
+    }
+    all
+}
+
+fn reaches_each(nodes: &NodeList, script: &Script, sender: &NodeSpec, when: Option<u32>) -> bool
+    requires { IfSome when (λ double. double ≤ 100_000) }
+    ensures { result ≡ reaches_each nodes.now script.now when sender.now }
+{
+    let mut all = true;
+    for place in 0..nodes.len() {
+        match nodes.get(place) {
+            Some(node) => {
+                let free = !is_link(script, sender, node) || reaches(script, sender, node, when);
+                all = all && free;
+            }
+            None => {}
+        }
+    }
+    all
+}
+
+fn reaches(script: &Script, sender: &NodeSpec, receiver: &NodeSpec, when: Option<u32>) -> bool
+    requires { IfSome when (λ double. double ≤ 100_000) }
+    ensures { result ≡ reaches script.now sender.now receiver.now when }
+{
+    reaches_on(script, sender, receiver, when, Channel::A)
+        || reaches_on(script, sender, receiver, when, Channel::B)
+}
+
+fn reaches_on(
+    script: &Script,
+    sender: &NodeSpec,
+    receiver: &NodeSpec,
+    when: Option<u32>,
+    channel: Channel,
+) -> bool
+    requires { IfSome when (λ double. double ≤ 100_000) }
+    ensures { result ≡ reaches_on script.now sender.now receiver.now when channel }
+{
+    match when {
+        None => shares(sender, receiver, channel),
+        Some(double) => {
+            shares(sender, receiver, channel)
+                && is_free(script, sender, receiver, channel, 2 * double)
+                && is_free(script, sender, receiver, channel, 2 * double + 1)
+        }
+    }
+}
+
+fn is_free(
+    script: &Script,
+    sender: &NodeSpec,
+    receiver: &NodeSpec,
+    channel: Channel,
+    cycle: u32,
+) -> bool
+    ensures { result ≡ is_free script.now sender.now.id receiver.now.id channel cycle }
+{
+    matches!(
+        script.at(cycle, sender.id, receiver.id, channel),
+        Event::Regular
+    )
+}

@@ -1,0 +1,13 @@
+//! What comes of the frames of a run where frames are lost, by its script: of which correct sync nodes a receiver has values in a
+//! double cycle, which nodes have none, and what is heard in it, for nodes that take part and for nodes that join.
+#![tactic(auto)]
+
+mod bearing;
+mod heard;
+mod joining;
+mod traffic;
+
+pub use bearing::{all_bear_from, none_lacks};
+pub use heard::all_reach;
+pub use joining::{heard_of, is_borne_to_join};
+pub use traffic::{Costs, discarded_of, heard_in, is_arbitrary_sync};
