@@ -242,7 +242,8 @@ fn costs_with(
         (if not (correct_has_begun (traffic_with nodes.now script.now) (join_of script.now) asked.double node.now)
         then costs
         else with_cost
-        (cost_to_join asked.rate (traffic_with nodes.now script.now) (join_of script.now) asked.double node.now) costs) }
+        (cost_to_join asked.rate (traffic_with nodes.now script.now) (join_of script.now) asked.double node.now)
+        costs) }
     ensures most { result.most ≤ 100 }
     ensures second { result.second ≤ 100 }
 {
