@@ -1,11 +1,9 @@
-ghost use Rattle.std.specs.Prelude.{ℕ, ◌≡◌, ◌≤◌, ◌+◌, ◌&&◌, ◌||◌, true, not, nat_le, length, List, count_by, if◌then◌else◌};
-ghost use Rattle.std.specs.List.{list_all};
+ghost use Rattle.std.specs.Prelude.{◌≡◌, ◌≤◌, ◌&&◌, true, not, length, List, if◌then◌else◌};
 ghost use Rattle.fr_cluster.specs.declared.nodes.NodeSpec.{NodeSpec};
-ghost use Rattle.fr_script.specs.View.{is_arbitrary, join_of};
-ghost use Rattle.fr_midpoint.specs.Midpoint.{discarded};
+ghost use Rattle.fr_script.specs.View.{join_of};
 ghost use Rattle.fr_traffic.specs.JoinedTraffic.{all_trusted_to_join, correct_has_begun, cost_to_join, costs_to_join, has_begun, heard_of, heard_to_join, is_borne_to_join, is_trusted_by, lists_meet_to_join, stays, staying_count, trusts_to_join};
 ghost use Rattle.fr_traffic.specs.Reaching.{whole_in};
-ghost use Rattle.fr_traffic.specs.Traffic.{all_linked, arbitrary_count, has_value, is_correct_sender, sender_count, traffic_in, traffic_with, with_cost};
+ghost use Rattle.fr_traffic.specs.Traffic.{all_linked, arbitrary_count, has_value, is_correct_sender, sender_count, traffic_with, with_cost};
 
 use crate::traffic::{
     Asked, Costs, arbitrary_count, counted, discarded_of, has_value, heard_in, is_correct_sender,

@@ -1,9 +1,8 @@
-use Rattle.std.proofs.Common.{◌≡◌, ◌∙◌, ◌-◌, ℕ, Bool, not, ap, sym}
+use Rattle.std.proofs.Common.{◌∙◌, ℕ, Bool, not, ap, sym}
 use Rattle.std.specs.Prelude.{if◌then◌else◌}
 use Rattle.fr_script.specs.View.{join_of}
-use Rattle.fr_traffic.specs.JoinedTraffic.{correct_has_begun, cost_to_join}
+use Rattle.fr_traffic.specs.JoinedTraffic.{cost_to_join}
 use Rattle.fr_traffic.specs.Traffic.{traffic_with, with_cost}
-use Rattle.fr_traffic.specs.declared.traffic.Costs.{Costs}
 use Rattle.fr_traffic.proofs.joining.costs_with.Goals as goal
 
 pub returns-then-correct_has_begun-clause-value : goal.returns-then-correct_has_begun-clause-value
