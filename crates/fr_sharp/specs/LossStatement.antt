@@ -1,7 +1,7 @@
 -- What is promised of a run in which frames are lost, by its files. The words of it, from the top: `IsLawful` (what a run is),
 -- `IsCoveredThroughLosses` (what is asked of the files), `apart_through_losses` (by what is heard, `heard_in`), `IsInSharpSyncAt`, `walk_lasts`,
 -- `KeepsThrough`.
-use Rattle.std.specs.Prelude.{◌≡◌, ◌+◌, ◌-◌, ◌<◌, ◌≤◌, ◌+ℤ◌, ℕ, suc, pos, Bool, true, false, not, List, []}
+use Rattle.std.specs.Prelude.{◌≡◌, ◌+◌, ◌-◌, ◌<◌, ◌≤◌, ◌+ℤ◌, ℕ, suc, pos, Bool, true, false, List, []}
 use Rattle.fr_cluster.specs.Sane.{IsSane}
 use Rattle.fr_cluster.specs.Values.{Values}
 use Rattle.fr_drift.specs.Files.{IsDriftFile}
