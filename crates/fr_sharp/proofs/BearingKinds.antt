@@ -16,7 +16,7 @@ use Rattle.fr_cluster.proofs.Elements.{Contains-here, Contains-there}
 use Rattle.fr_coverage.specs.Links.{is_sync, shares}
 use Rattle.fr_midpoint.specs.Midpoint.{discarded}
 use Rattle.fr_precision.proofs.Counting.{count_cons, one_if}
-use Rattle.fr_traffic.specs.Traffic.{all_bear, all_trusted, bears, comes, costs_of, has_value, is_correct_sender, is_deaf, is_trusted, lacks_values, lists_meet, may_lack, may_reach, may_say, most_count, sender_count, trusts, trusts_or_lacks, value_on, Traffic, none_lacks, traffic_of}
+use Rattle.fr_traffic.specs.Traffic.{all_bear, all_trusted, bears, comes, costs_of, has_value, is_correct_sender, is_deaf, is_trusted, lacks_values, lists_meet, may_lack, may_reach, may_say, missed_or_discarded, most_count, sender_count, trusts, trusts_or_lacks, value_on, Traffic, none_lacks, traffic_of}
 use Rattle.fr_runs.proofs.KeyedCounts.{all_pass}
 use Rattle.fr_traffic.proofs.GreatestCosts.{one_cost}
 
@@ -83,7 +83,7 @@ none_is_deaf : (rate : Bool) (t : Traffic) (double : ℕ) (b : NodeSpec) → lis
 none_is_deaf rate t double b meet here correct deaf =
     let test : NodeSpec → Bool = λ a. is_sync a && may_reach rate t double b a in
     let none = not-true (list_any test t.nodes) (and_parts (not (is_sync b)) (not (list_any test t.nodes)) deaf).1 in
-    let most = one_cost rate t double b here correct in
+    let most = one_cost (λ (n : NodeSpec). t.is_arbitrary n.id) (missed_or_discarded rate t double) t.nodes b here correct in
     let all = misses rate t double b t.nodes none in
     never (costs_of rate t double t.nodes).most (costs_of rate t double t.nodes).second (sender_count t (λ (a : NodeSpec). true)) (sender_count t (λ (a : NodeSpec). not (has_value rate true t double b a)))
     (discarded (most_count rate t double b)) meet most all

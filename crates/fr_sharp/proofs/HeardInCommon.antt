@@ -37,7 +37,7 @@ use Rattle.fr_sharp.specs.Losses.{RowsMeet}
 use Rattle.fr_precision.specs.SharpRound.{as_member}
 use Rattle.fr_precision.specs.Steady.{PlacesEven}
 use Rattle.fr_runs.specs.SteadyRuns.{row_hearers, row_members, AreRowsInReach}
-use Rattle.fr_traffic.specs.Traffic.{all_trusted, costs_of, has_value, lists_meet, most_count, sender_count, is_correct_sender, traffic_of}
+use Rattle.fr_traffic.specs.Traffic.{all_trusted, costs_of, has_value, lists_meet, missed_or_discarded, most_count, sender_count, is_correct_sender, traffic_of}
 use Rattle.fr_runs.proofs.KeyedCounts.{count_three, discards_more, is_passed, passes_at, passes_is, IsPassed}
 use Rattle.fr_traffic.proofs.GreatestCosts.{two_cost}
 use Rattle.fr_sharp.proofs.HeardInPart.{offsets_heard, placed_of, rates_heard}
@@ -334,7 +334,7 @@ module _ (x : Setting) (flutter : ℕ) (h : Cycles) (even odd : Cycle) (double :
       let costs = costs_of rate t double x.params.nodes in
       let one = correct_node x b (is_correct_row x h b here) in
       let two = correct_node x c (is_correct_row x h c there) in
-      let cost = two_cost rate t double b c one.there two.there one.correct two.correct other in
+      let cost = two_cost (λ (n : NodeSpec). t.is_arbitrary n.id) (missed_or_discarded rate t double) t.nodes b c one.there two.there one.correct two.correct other in
       let within = less (costs.most + costs.second) (sender_count t (λ a. true)) meet in
       let rs = row_receivers x h even odd in
       let own =

@@ -30,8 +30,8 @@ use Rattle.fr_runs.proofs.Hearing.{hearer_from, looked, stored, IsReceiver, Rece
 use Rattle.fr_runs.proofs.Nodes.{node_there}
 use Rattle.fr_runs.proofs.Receivers.{is_correct_node}
 use Rattle.fr_coverage.specs.Links.{is_regular, is_sync, shares}
-use Rattle.fr_sharp.specs.JoinedLosses.{is_trusted_by, staying_count}
 use Rattle.fr_sharp.specs.RoundsInPart.{heard_at, heard_of, IsTrustedOf}
+use Rattle.fr_traffic.specs.JoinedTraffic.{is_trusted_by, staying_count}
 use Rattle.fr_traffic.specs.Traffic.{arbitrary_count, has_value, is_correct_sender, traffic_of, value_on}
 use Rattle.fr_runs.proofs.KeyedCounts.{discards_more, is_passed, nodes_counted, passes_at}
 use Rattle.fr_traffic.proofs.HeardEvents.{regular_of}

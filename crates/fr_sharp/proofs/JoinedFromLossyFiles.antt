@@ -7,7 +7,7 @@ use Rattle.fr_cluster.specs.Values.{Values, amount}
 use Rattle.fr_cluster.specs.declared.names.ParamName.TheVariants as name
 use Rattle.fr_drift.specs.Questions.{doubles_of}
 use Rattle.fr_drift.specs.View.{DriftView}
-use Rattle.fr_script.specs.View.{ScriptView}
+use Rattle.fr_script.specs.View.{join_of, ScriptView}
 use Rattle.fr_bound.specs.Bounds.{arrival_error, cycle_change, longest_micro}
 use Rattle.fr_bound.specs.Judged.{heard_spread}
 use Rattle.fr_bound.specs.SharpBounds.{near_by, sharp_lambda, sharp_pi, steady_error}
@@ -15,16 +15,18 @@ use Rattle.fr_bound.specs.declared.judging.Heard.{Heard}
 use Rattle.fr_bound.specs.declared.judging.Heard.TheVariants.{Clean, Meeting, Poor}
 use Rattle.fr_bound.specs.declared.settling.Spread.{Spread}
 use Rattle.fr_coverage.specs.Decided.{setting_of}
-use Rattle.fr_precision.specs.Among.{spread_through_losses, LaterSpreadsAreLess}
-use Rattle.fr_promise.specs.SharpJoining.{all_heard, first_apart_by, first_lengths_by, second_apart_by, sharp_first_lengths, sharp_group_spread, GroupSpread}
-use Rattle.fr_promise.proofs.JoinBounds.{near_grows}
-use Rattle.fr_sharp.specs.JoinedLosses.{group_through_losses, heard_to_join, lists_meet_to_join, JoinedHistoriesKeepThroughLosses, RowsGoThroughLosses, TakesInJoining}
-use Rattle.fr_sharp.specs.JoinedLossStatement.{group_since, JoinedFilesKeepThroughLosses, LossyFilesGiveJoinedRuns}
-use Rattle.fr_sharp.specs.LossStatement.{without_losses}
+use Rattle.fr_precision.specs.Among.{apart_through_losses, spread_through_losses, LaterSpreadsAreLess}
+use Rattle.fr_promise.specs.SharpJoining.{all_heard, first_apart_by, first_lengths_by, group_spread_through, second_apart_by, sharp_first_lengths, sharp_group_spread, GroupSpread}
+use Rattle.fr_promise.proofs.JoinBounds.{group_spreads_go, near_grows}
+use Rattle.fr_sharp.specs.JoinedLosses.{JoinedHistoriesKeepThroughLosses, TakesInJoining}
+use Rattle.fr_sharp.specs.JoinedLossStatement.{group_since, CoveredFilesKeepJoinedThroughLosses, JoinedFilesKeepThroughLosses, LossyFilesGiveJoinedRuns}
+use Rattle.fr_sharp.specs.LossStatement.{apart_since, without_losses}
 use Rattle.fr_sharp.specs.SharpStatement.{has_arbitrary}
-use Rattle.fr_traffic.specs.Traffic.{all_linked, arbitrary_count, traffic_in}
+use Rattle.fr_traffic.specs.JoinedTraffic.{heard_to_join, lists_meet_to_join}
+use Rattle.fr_traffic.specs.Traffic.{all_linked, arbitrary_count, traffic_in, Traffic}
 use Rattle.fr_sharp.proofs.FromFiles.{files_are_steady}
 use Rattle.fr_sharp.proofs.FromLossyFiles.{later_since, same_flutter, same_times, some_is_not_none}
+use Rattle.fr_sharp.proofs.LossBurstLaws.{apart_later}
 use Rattle.fr_sharp.proofs.JoinedFromFiles.{have_references, script_of_a_file_fits}
 
 pub lossy_files_give_joined_runs : LossyFilesGiveJoinedRuns
@@ -41,12 +43,11 @@ lossy_files_give_joined_runs p d s from flutter reach h sane fits covered run =
 
 -- ---- beside arbitrary nodes nothing is clean
 
-none_is_clean : (p : Values) (d : DriftView) (s : ScriptView) → has_arbitrary p s ≡ true → (double : ℕ) → heard_to_join (setting_of p d s) double ≡ Clean → ⊥
-none_is_clean p d s beside double clean =
-    let x = setting_of p d s in
-    let t = traffic_in p s in
+pub none_is_clean_to_join : (p : Values) (s : ScriptView) → has_arbitrary p s ≡ true → (double : ℕ) → heard_to_join (traffic_in p s) (join_of s) double ≡ Clean → ⊥
+none_is_clean_to_join p s beside double clean =
+    let t : Traffic = traffic_in p s in
     some_is_not_none p s beside
-    (only (all_linked t double) (nat_eq (arbitrary_count t) 0) (all_linked t double || (lists_meet_to_join false x double && lists_meet_to_join true x double)) clean)
+    (only (all_linked t double) (nat_eq (arbitrary_count t) 0) (all_linked t double || (lists_meet_to_join false t (join_of s) double && lists_meet_to_join true t (join_of s) double)) clean)
   where
     only : (b few meets : Bool) → (if b && few then Clean else (if meets then Meeting else Poor)) ≡ Clean → few ≡ true
     only true true meets is = refl
@@ -125,21 +126,21 @@ most_grow a b a' b' h k = grind arith
 
 -- ---- what was heard since a later double cycle says no more than what was heard since an earlier one
 
-module _ (later : LaterSpreadsAreLess) (rows_go : RowsGoThroughLosses) (beside : Bool) (p : Values) (from flutter : ℕ) (what : ℕ → Heard) (never : beside ≡ true → (m : ℕ) → what m ≡ Clean → ⊥) where
+module _ (later : LaterSpreadsAreLess) (beside : Bool) (p : Values) (from flutter : ℕ) (what : ℕ → Heard) (never : beside ≡ true → (m : ℕ) → what m ≡ Clean → ⊥) where
   rows_since : (double k n : ℕ) → from ≤ double → n ≡ (double + k) - from
-      → ((group_through_losses beside p flutter (λ m. what (double + m)) k).rows.starts ≤ (group_through_losses beside p flutter (λ m. what (from + m)) n).rows.starts)
-      × ((group_through_losses beside p flutter (λ m. what (double + m)) k).rows.lengths ≤ (group_through_losses beside p flutter (λ m. what (from + m)) n).rows.lengths)
+      → ((group_spread_through beside p flutter (λ m. what (double + m)) k).rows.starts ≤ (group_spread_through beside p flutter (λ m. what (from + m)) n).rows.starts)
+      × ((group_spread_through beside p flutter (λ m. what (double + m)) k).rows.lengths ≤ (group_spread_through beside p flutter (λ m. what (from + m)) n).rows.lengths)
   rows_since double k n late is =
       let now = spread_through_losses beside p flutter (λ m. what (double + m)) k in
       let Less : Spread → Spread → Type 0 = λ one other. (one.starts ≤ other.starts) × (one.lengths ≤ other.lengths) in
       let at : Less now (spread_through_losses beside p flutter (λ m. what (from + m)) n) =
       subst (λ (j : ℕ). Less now (spread_through_losses beside p flutter (λ m. what (from + m)) j)) (sym is) (later_since later beside p from flutter what double k late never) in
-      subst (λ (one : Spread). Less one (group_through_losses beside p flutter (λ m. what (from + m)) n).rows) (sym (rows_go beside p flutter (λ m. what (double + m)) k))
-      (subst (Less now) (sym (rows_go beside p flutter (λ m. what (from + m)) n)) at)
+      subst (λ (one : Spread). Less one (group_spread_through beside p flutter (λ m. what (from + m)) n).rows) (sym (group_spreads_go beside p flutter (λ m. what (double + m)) k).1)
+      (subst (Less now) (sym (group_spreads_go beside p flutter (λ m. what (from + m)) n).1) at)
 
   -- none of sharp sync is above those of any later double cycle
-  sharp_is_below : (n : ℕ) → IsBelow (sharp_group_spread beside p flutter) (group_through_losses beside p flutter (λ m. what (from + m)) n)
-  unfolding group_through_losses
+  sharp_is_below : (n : ℕ) → IsBelow (sharp_group_spread beside p flutter) (group_spread_through beside p flutter (λ m. what (from + m)) n)
+  unfolding group_spread_through
   sharp_is_below zero = record {
     starts = itself (sharp_group_spread beside p flutter).rows.starts;
     lengths = itself (sharp_group_spread beside p flutter).rows.lengths;
@@ -149,7 +150,7 @@ module _ (later : LaterSpreadsAreLess) (rows_go : RowsGoThroughLosses) (beside :
   }
   sharp_is_below (suc n) =
       let before = sharp_is_below n in
-      let s = group_through_losses beside p flutter (λ m. what (from + m)) n in
+      let s = group_spread_through beside p flutter (λ m. what (from + m)) n in
       let rows = rows_since (from + suc n) 0 (suc n) (omega arith) (omega arith) in
       record {
         starts = rows.0;
@@ -163,15 +164,15 @@ module _ (later : LaterSpreadsAreLess) (rows_go : RowsGoThroughLosses) (beside :
       }
 
   group_is_below : (double k n : ℕ) → from ≤ double → n ≡ (double + k) - from
-      → IsBelow (group_through_losses beside p flutter (λ m. what (double + m)) k) (group_through_losses beside p flutter (λ m. what (from + m)) n)
-  unfolding group_through_losses
+      → IsBelow (group_spread_through beside p flutter (λ m. what (double + m)) k) (group_spread_through beside p flutter (λ m. what (from + m)) n)
+  unfolding group_spread_through
   group_is_below double zero n late is = sharp_is_below n
   group_is_below double (suc k) zero late is = absurd (omega (arith, late, is))
   group_is_below double (suc k) (suc n) late is =
       let before = group_is_below double k n late (omega (arith, late, is)) in
       let rows = rows_since double (suc k) (suc n) late is in
-      let s = group_through_losses beside p flutter (λ m. what (double + m)) k in
-      let to = group_through_losses beside p flutter (λ m. what (from + m)) n in
+      let s = group_spread_through beside p flutter (λ m. what (double + m)) k in
+      let to = group_spread_through beside p flutter (λ m. what (from + m)) n in
       let same : double + k ≡ from + n = omega (arith, late, is) in
       let Second : ℕ → Type 0 = λ j. second_apart_by (what (double + k)) p s.rows.starts s.rows.lengths s.firsts.lengths ≤ second_apart_by (what j) p to.rows.starts to.rows.lengths to.firsts.lengths in
       record {
@@ -187,25 +188,32 @@ module _ (later : LaterSpreadsAreLess) (rows_go : RowsGoThroughLosses) (beside :
       }
 
   group_later : (double k : ℕ) → from ≤ double
-      → IsBelow (group_through_losses beside p flutter (λ m. what (double + m)) k) (group_since beside p from flutter what (double + k))
+      → IsBelow (group_spread_through beside p flutter (λ m. what (double + m)) k) (group_since beside p from flutter what (double + k))
   group_later double k late = group_is_below double k ((double + k) - from) late refl
+
+-- nor does the number of a double cycle
+pub joined_apart_later : LaterSpreadsAreLess → (p : Values) (s : ScriptView) (from flutter double passed : ℕ) → from ≤ double
+    → apart_through_losses (has_arbitrary p s) p flutter (λ m. heard_to_join (traffic_in p s) (join_of s) (double + m)) passed
+    ≤ apart_since (has_arbitrary p s) p from flutter (heard_to_join (traffic_in p s) (join_of s)) (double + passed)
+joined_apart_later later p s from flutter double passed late =
+    let what : ℕ → Heard = λ m. heard_to_join (traffic_in p s) (join_of s) m in
+    apart_later later (has_arbitrary p s) p from flutter what double passed late (none_is_clean_to_join p s)
 
 -- ---- the promise
 
-module _ (keep : JoinedHistoriesKeepThroughLosses) (rows_go : RowsGoThroughLosses) (later : LaterSpreadsAreLess) where
-  pub joined_files_keep_through_losses_lem : JoinedFilesKeepThroughLosses
-  joined_files_keep_through_losses_lem p d s drift script from flutter reach h double sane drift_file script_file covered run late sync passed within lasting =
-      keep (has_arbitrary p s) (setting_of p d s) from flutter h double reach (lossy_files_give_joined_runs p d s from flutter reach h sane (script_of_a_file_fits p s script script_file) covered run) late
-      covered.checks takes sync passed within lasting
+module _ (keep : JoinedHistoriesKeepThroughLosses) (later : LaterSpreadsAreLess) where
+  pub covered_files_keep_joined_through_losses : CoveredFilesKeepJoinedThroughLosses
+  covered_files_keep_joined_through_losses p d s from flutter reach h double sane fits covered run late sync passed within lasting =
+      keep (has_arbitrary p s) (setting_of p d s) from flutter h double reach (lossy_files_give_joined_runs p d s from flutter reach h sane fits covered run) late covered.checks takes sync passed within lasting
     where
       what : ℕ → Heard
-      what m = heard_to_join (setting_of p d s) m
+      what m = heard_to_join (traffic_in p s) (join_of s) m
 
       takes : (k : ℕ) → double + k < doubles_of d
-          → TakesInJoining (setting_of p d s) (group_through_losses (has_arbitrary p s) p flutter (λ m. heard_to_join (setting_of p d s) (double + m)) k) (double + k) reach
+          → TakesInJoining (setting_of p d s) (group_spread_through (has_arbitrary p s) p flutter (λ m. heard_to_join (traffic_in p s) (join_of s) (double + m)) k) (double + k) reach
       takes k short =
-          let below = group_later later rows_go (has_arbitrary p s) p from flutter what (none_is_clean p d s) double k late in
-          let now = group_through_losses (has_arbitrary p s) p flutter (λ m. heard_to_join (setting_of p d s) (double + m)) k in
+          let below = group_later later (has_arbitrary p s) p from flutter what (none_is_clean_to_join p s) double k late in
+          let now = group_spread_through (has_arbitrary p s) p flutter (λ m. heard_to_join (traffic_in p s) (join_of s) (double + m)) k in
           let all = group_since (has_arbitrary p s) p from flutter what (double + k) in
           let in_reach = covered.takes (double + k) (omega (arith, late)) short in
           record {
@@ -219,3 +227,7 @@ module _ (keep : JoinedHistoriesKeepThroughLosses) (rows_go : RowsGoThroughLosse
                 at_most (near_by p now.firsts.starts now.firsts.lengths) (near_by p all.firsts.starts all.firsts.lengths) reach
                 (near_grows p now.firsts.starts now.firsts.lengths all.firsts.starts all.firsts.lengths sane below.first_starts below.first_lengths) (in_reach.firsts node there listened);
           }
+
+  pub joined_files_keep_through_losses_lem : JoinedFilesKeepThroughLosses
+  joined_files_keep_through_losses_lem p d s drift script from flutter reach h double sane drift_file script_file covered run late sync passed within lasting =
+      covered_files_keep_joined_through_losses p d s from flutter reach h double sane (script_of_a_file_fits p s script script_file) covered run late sync passed within lasting

@@ -1,6 +1,6 @@
 -- A double cycle of a run that nodes join in which frames may be lost: each node with a row computes its terms from the values that it
 -- has, and so does each that follows.
-use Rattle.std.proofs.Common.{◌≡◌, ◌⊎◌, ℕ, ◌+◌, ◌==◌, Bool, true, false, ◌&&◌, ◌||◌, not, ℤ, pos, Option, None, Some, ◌∷◌, length, map, refl, ap, sym, ◌∙◌, subst, inl, inr, arith}
+use Rattle.std.proofs.Common.{◌≡◌, ◌≢◌, ◌⊎◌, ℕ, ◌+◌, ◌==◌, Bool, true, false, ◌&&◌, ◌||◌, not, ℤ, pos, Option, None, Some, ◌∷◌, length, map, refl, ap, sym, ◌∙◌, subst, inl, inr, arith}
 use Rattle.std.specs.Prelude.{Contains, ◌<◌, nat_lt}
 use Rattle.std.proofs.lemmas.Bool.{and_parts}
 use Rattle.std.proofs.lemmas.Bool.Decides.{nat_tests}
@@ -37,14 +37,15 @@ use Rattle.fr_promise.specs.SharpJoined.{IsFollowedDouble}
 use Rattle.fr_promise.specs.SharpJoining.{GroupSpread}
 use Rattle.fr_promise.proofs.FollowersSupplied.{follower_regular, pairs_steady as follower_pairs, receiving as follower_receiving}
 use Rattle.fr_promise.proofs.JoinedDoubles.{followers_in, rows_in}
-use Rattle.fr_sharp.specs.JoinedLosses.{has_begun, is_trusted_by, trusts_to_join, all_trusted_to_join, FollowedDoublesHearInPart}
+use Rattle.fr_sharp.specs.JoinedLosses.{FollowedDoublesHearInPart, FollowedDoublesMeet}
 use Rattle.fr_sharp.specs.RoundsInPart.{IsSuppliedInPart, IsTrustedOf}
-use Rattle.fr_traffic.specs.Traffic.{traffic_of}
+use Rattle.fr_traffic.specs.JoinedTraffic.{all_trusted_to_join, correct_has_begun, cost_to_join, costs_to_join, has_begun, is_trusted_by, lists_meet_to_join, trusts_to_join}
+use Rattle.fr_traffic.specs.Traffic.{sender_count, traffic_of}
+use Rattle.fr_traffic.proofs.GreatestCosts.{two_cost}
 use Rattle.fr_runs.proofs.KeyedCounts.{all_pass}
 use Rattle.fr_sharp.proofs.HeardInPart.{computes_in_part, heard_some}
 use Rattle.fr_sharp.proofs.HeardSurely.{follower_owns, trusted_so, value_by}
 use Rattle.fr_sharp.proofs.RowsInPart.{round_is, senders_among}
-use Rattle.std.specs.List.{list_all}
 use Rattle.std.proofs.lemmas.Bool.{eqb-true}
 use Rattle.fr_precision.specs.Among.{HearInCommon}
 use Rattle.fr_precision.specs.Round.{Round}
@@ -53,8 +54,6 @@ use Rattle.fr_runs.specs.Group.{IsOf}
 use Rattle.fr_runs.proofs.Hearing.{RowsSend}
 use Rattle.fr_promise.specs.SharpGroup.{AnyTwoMeet}
 use Rattle.fr_sharp.proofs.HeardInPart.{IsPlacedInPart}
-use Rattle.fr_sharp.specs.JoinedLosses.{cost_to_join, correct_has_begun, lists_meet_to_join, meet_to_join, FollowedDoublesMeet}
-use Rattle.fr_traffic.specs.Traffic.{sender_count}
 use Rattle.fr_sharp.proofs.HeardInCommon.{enough_met, hear_in_common, row_receives, Enough, ReceivesOwn}
 use Rattle.fr_sharp.proofs.RowsInPart.{row_placed}
 
@@ -76,6 +75,9 @@ module _
 
   less : (a b : ℕ) → a < b → nat_lt a b ≡ true
   less a b is = grind (arith, nat_tests)
+
+  unequal : (a b : ℕ) → (a == b) ≡ false → a ≢ b
+  unequal a b is = grind arith
 
   right : (a b : Bool) → a ≡ true → (not a || b) ≡ true → b ≡ true
   right true b is either = either
@@ -151,7 +153,7 @@ module _
         };
       }
 
-  asked : (kind : Bool) (node : NodeSpec) → IsBegun kind node → correct_has_begun x double node ≡ true
+  asked : (kind : Bool) (node : NodeSpec) → IsBegun kind node → correct_has_begun (traffic_of x) x.join double node ≡ true
   asked kind node i = rw ((correct_node x node i.receives.is.correct).correct, i.begun) refl
 
   stay_has : (a : NodeSpec) → Contains (correct_nodes x) a → stays_on x a.id ≡ true → has_row x h a.id ≡ true
@@ -159,13 +161,13 @@ module _
 
   -- ---- where each of them trusts its lists
 
-  module _ (trusted : all_trusted_to_join x double ≡ true) where
+  module _ (trusted : all_trusted_to_join (traffic_of x) x.join double ≡ true) where
     trusts : (kind : Bool) (node : NodeSpec) → IsBegun kind node → AreTrusted x h even odd (hearer_from x (receivers kind) node.id)
     trusts kind node i =
         let there = (correct_node x node i.receives.is.correct).there in
         let offsets = is_trusted_by (stays_on x) false (traffic_of x) double node in
         let rates = is_trusted_by (stays_on x) true (traffic_of x) double node in
-        let both = and_parts offsets rates (right (correct_has_begun x double node) (offsets && rates) (asked kind node i) (all_pass (trusts_to_join x double) x.params.nodes node trusted there)) in
+        let both = and_parts offsets rates (right (correct_has_begun (traffic_of x) x.join double node) (offsets && rates) (asked kind node i) (all_pass (trusts_to_join (traffic_of x) x.join double) x.params.nodes node trusted there)) in
         (of_kind false both.0, of_kind true both.1)
       where
         of_kind : (rate : Bool) → is_trusted_by (stays_on x) rate (traffic_of x) double node ≡ true → IsTrustedOf (round_at x h even odd) (value_by rate (hearer_from x (receivers kind) node.id))
@@ -224,26 +226,21 @@ module _
 
     -- ---- where lists meet
 
-    module _ (offsets_meet : lists_meet_to_join false x double ≡ true) (rates_meet : lists_meet_to_join true x double ≡ true) where
+    module _ (offsets_meet : lists_meet_to_join false (traffic_of x) x.join double ≡ true) (rates_meet : lists_meet_to_join true (traffic_of x) x.join double ≡ true) where
       under : (a b : ℕ) → nat_lt a b ≡ true → a < b
       under a b is = grind (arith, nat_tests)
 
-      enough : (rate first second : Bool) (b c : NodeSpec) → lists_meet_to_join rate x double ≡ true → (i : IsBegun first b) (j : IsBegun second c) → (b.id == c.id) ≡ false
+      enough : (rate first second : Bool) (b c : NodeSpec) → lists_meet_to_join rate (traffic_of x) x.join double ≡ true → (i : IsBegun first b) (j : IsBegun second c) → (b.id == c.id) ≡ false
           → Enough (round_at x h even odd) (value_by rate (hearer_from x (receivers first) b.id)) (value_by rate (hearer_from x (receivers second) c.id))
       enough rate first second b c meet i j differ =
-          let of_b =
-          all_pass (λ (b : NodeSpec). list_all (λ (c : NodeSpec). not (correct_has_begun x double b && correct_has_begun x double c) || (b.id == c.id || meet_to_join rate x double b c)) x.params.nodes) x.params.nodes b meet
-          (correct_node x b i.receives.is.correct).there in
-          let of_c = all_pass (λ (c : NodeSpec). not (correct_has_begun x double b && correct_has_begun x double c) || (b.id == c.id || meet_to_join rate x double b c)) x.params.nodes c of_b (correct_node x c j.receives.is.correct).there in
-          let both : (correct_has_begun x double b && correct_has_begun x double c) ≡ true = rw (asked first b i, asked second c j) refl in
-          let either = right (correct_has_begun x double b && correct_has_begun x double c) (b.id == c.id || meet_to_join rate x double b c) both of_c in
-          let within =
-          under (cost_to_join rate x double b + cost_to_join rate x double c) (sender_count (traffic_of x) (λ a. stays_on x a.id)) (other (b.id == c.id) (meet_to_join rate x double b c) differ either) in
-          enough_met x h even odd double reach sends (stays_on x) stay_has (receivers first) (receivers second) b c i.receives j.receives rate within
-        where
-          other : (a b : Bool) → a ≡ false → (a || b) ≡ true → b ≡ true
-          other false b is either = either
-          other true b is either = absurd (cc)
+          let t = traffic_of x in
+          let costs = costs_to_join rate t x.join double t.nodes in
+          let one = (correct_node x b i.receives.is.correct).there in
+          let two = (correct_node x c j.receives.is.correct).there in
+          let cost =
+          two_cost (λ (b : NodeSpec). not (correct_has_begun t x.join double b)) (cost_to_join rate t x.join double) t.nodes b c one two (ap not (asked first b i)) (ap not (asked second c j)) (unequal b.id c.id differ) in
+          let within = under (costs.most + costs.second) (sender_count t (λ a. stays_on x a.id)) meet in
+          enough_met x h even odd double reach sends (stays_on x) stay_has (receivers first) (receivers second) b c i.receives j.receives rate (omega (arith, cost, within))
 
       meets : (first second : Bool) (b c : NodeSpec) → IsBegun first b → IsBegun second c → (b.id == c.id) ≡ false
           → HearInCommon x.params flutter (row_members x h even odd) (pos (last_action x.params)) (member first b) (member second c)

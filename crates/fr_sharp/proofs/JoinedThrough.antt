@@ -10,7 +10,6 @@ use Rattle.fr_cluster.specs.Values.{Values}
 use Rattle.fr_cluster.specs.declared.nodes.NodeSpec.{NodeSpec}
 use Rattle.fr_bound.specs.Bounds.{longest_micro}
 use Rattle.fr_bound.specs.Checks.{holds_of}
-use Rattle.fr_bound.specs.Judged.{heard_spread}
 use Rattle.fr_bound.specs.SharpBounds.{near_by, precision_by, rate_walk}
 use Rattle.fr_bound.specs.SharpChecks.{SharpChecksHold}
 use Rattle.fr_bound.specs.declared.judging.Heard.{Heard}
@@ -34,46 +33,30 @@ use Rattle.fr_runs.proofs.Courses.{is_correct_follower}
 use Rattle.fr_promise.specs.JoinedHistories.{FirstRatesLast}
 use Rattle.fr_promise.specs.SharpGroup.{TakesInGroup}
 use Rattle.fr_promise.specs.SharpJoined.{IsFollowedDouble, IsFollowedHearing, IsFollowedKept}
-use Rattle.fr_promise.specs.SharpJoining.{sharp_group_spread, GroupGoesTo, GroupSpread}
+use Rattle.fr_promise.specs.SharpJoining.{group_spread_through, sharp_group_spread, GroupSpread}
 use Rattle.fr_promise.specs.SharpTested.{IsUnfollowedSharpSyncAt}
-use Rattle.fr_promise.proofs.JoinBounds.{lengths_nearer, next_group_spread_goes}
+use Rattle.fr_promise.proofs.JoinBounds.{group_spreads_go}
 use Rattle.fr_promise.proofs.JoinedDoubles.{followed_doubles_are_kept, followed_doubles_hear, unfollowed_is_followed}
 use Rattle.fr_promise.proofs.FollowedRuns.{followed, followed_joins, followed_keeps, IsFollowedRun}
 use Rattle.fr_promise.proofs.JoinedRuns.{unfollowed_in, within_range}
-use Rattle.fr_sharp.specs.JoinedLosses.{all_trusted_to_join, group_through_losses, heard_to_join, lists_meet_to_join, IsLossyJoinedFrom, JoinedHistoriesKeepThroughLosses, RowsGoThroughLosses, TakesInJoining}
+use Rattle.fr_sharp.specs.JoinedLosses.{IsLossyJoinedFrom, JoinedHistoriesKeepThroughLosses, TakesInJoining}
+use Rattle.fr_traffic.specs.JoinedTraffic.{all_trusted_to_join, heard_to_join, lists_meet_to_join}
 use Rattle.fr_traffic.specs.Traffic.{all_linked, arbitrary_count, traffic_of}
 use Rattle.fr_sharp.proofs.HeardKinds.{all_carried, none_arbitrary}
 use Rattle.fr_sharp.proofs.JoinedInPart.{followed_doubles_hear_in_part, followed_doubles_meet}
 
 -- ---- numbers
 
-pub rows_go_through_losses : RowsGoThroughLosses
-unfolding group_through_losses spread_through_losses
-rows_go_through_losses beside p flutter what zero = refl
-rows_go_through_losses beside p flutter what (suc k) = ap (heard_spread (what k) p flutter) (rows_go_through_losses beside p flutter what k)
-
--- first lengths lie no nearer than those of the nodes with rows
-wide : (beside : Bool) (p : Values) (flutter : ℕ) (what : ℕ → Heard) (k : ℕ)
-    → (group_through_losses beside p flutter what k).rows.lengths ≤ (group_through_losses beside p flutter what k).firsts.lengths
-unfolding group_through_losses
-wide beside p flutter what zero = lengths_nearer beside p flutter
-wide beside p flutter what (suc k) = (next_group_spread_goes (what k) p flutter (group_through_losses beside p flutter what k) (wide beside p flutter what k)).1
-
-goes : (beside : Bool) (p : Values) (flutter : ℕ) (what : ℕ → Heard) (k : ℕ)
-    → GroupGoesTo (what k) p flutter (group_through_losses beside p flutter what k) (group_through_losses beside p flutter what (suc k))
-unfolding group_through_losses
-goes beside p flutter what k = (next_group_spread_goes (what k) p flutter (group_through_losses beside p flutter what k) (wide beside p flutter what k)).0
-
 -- how far macroticks may lie apart is as far as both ends say
 apart_fits : (beside : Bool) (p : Values) (flutter : ℕ) (what : ℕ → Heard) (k : ℕ)
-    → (precision_by p (group_through_losses beside p flutter what k).rows.starts (group_through_losses beside p flutter what k).rows.lengths ≤ apart_through_losses beside p flutter what k)
-    × ((group_through_losses beside p flutter what (suc k)).rows.starts + longest_micro p ≤ apart_through_losses beside p flutter what k)
+    → (precision_by p (group_spread_through beside p flutter what k).rows.starts (group_spread_through beside p flutter what k).rows.lengths ≤ apart_through_losses beside p flutter what k)
+    × ((group_spread_through beside p flutter what (suc k)).rows.starts + longest_micro p ≤ apart_through_losses beside p flutter what k)
 apart_fits beside p flutter what k =
     let both = most (precision_by p (spread_through_losses beside p flutter what k).starts (spread_through_losses beside p flutter what k).lengths) ((spread_through_losses beside p flutter what (suc k)).starts + longest_micro p) in
     let apart = apart_through_losses beside p flutter what k in
     let Now : Spread → Type 0 = λ s. precision_by p s.starts s.lengths ≤ apart in
     let Next : Spread → Type 0 = λ s. s.starts + longest_micro p ≤ apart in
-    (subst Now (sym (rows_go_through_losses beside p flutter what k)) both.0, subst Next (sym (rows_go_through_losses beside p flutter what (suc k))) both.1)
+    (subst Now (sym (group_spreads_go beside p flutter what k).1) both.0, subst Next (sym (group_spreads_go beside p flutter what (suc k)).1) both.1)
   where
     most : (a b : ℕ) → (a ≤ max a b) × (b ≤ max a b)
     most a b = (grind arith, grind arith)
@@ -82,16 +65,16 @@ apart_fits beside p flutter what k =
 
 module _
     (beside : Bool) (x : Setting) (from flutter : ℕ) (h : Cycles) (double reach : ℕ) (w : IsLossyJoinedFrom x from flutter h) (late : from ≤ double) (checks : SharpChecksHold flutter reach x.params)
-    (fits : (k : ℕ) → double + k < x.doubles → TakesInJoining x (group_through_losses beside x.params flutter (λ m. heard_to_join x (double + m)) k) (double + k) reach)
+    (fits : (k : ℕ) → double + k < x.doubles → TakesInJoining x (group_spread_through beside x.params flutter (λ m. heard_to_join (traffic_of x) x.join (double + m)) k) (double + k) reach)
     (begin : IsUnfollowedSharpSyncAt beside x.params flutter h double) where
   abbrev on : ℕ → Heard
-  on k = heard_to_join x (double + k)
+  on k = heard_to_join (traffic_of x) x.join (double + k)
 
   abbrev spread : ℕ → GroupSpread
-  spread k = group_through_losses beside x.params flutter (λ m. heard_to_join x (double + m)) k
+  spread k = group_spread_through beside x.params flutter (λ m. heard_to_join (traffic_of x) x.join (double + m)) k
 
   abbrev apart : ℕ → ℕ
-  apart k = apart_through_losses beside x.params flutter (λ m. heard_to_join x (double + m)) k
+  apart k = apart_through_losses beside x.params flutter (λ m. heard_to_join (traffic_of x) x.join (double + m)) k
 
   abbrev beyond : ℕ → ℤ
   beyond k = walked_after x.params flutter k
@@ -117,7 +100,7 @@ module _
   -- ---- one double cycle
 
   module _ (k : ℕ) (within : double + k < x.doubles) (last : FirstRatesLast x.params flutter k) (earlier : Cycles) (even odd : Cycle) (d : IsDoubleOf h (double + k) earlier even odd)
-      (g : IsFollowedDouble x (group_through_losses beside x.params flutter (λ m. heard_to_join x (double + m)) k) (walked_after x.params flutter k) earlier even odd (double + k)) where
+      (g : IsFollowedDouble x (group_spread_through beside x.params flutter (λ m. heard_to_join (traffic_of x) x.join (double + m)) k) (walked_after x.params flutter k) earlier even odd (double + k)) where
     -- a node that follows listened before
     listened : (ago : ℕ) (node : Member) → Contains (map (member_from x.params) (map (λ (n : NodeSpec). follower_hearer x even odd n.id) (followers_since x earlier ago (double + k)))) node
         → (n : NodeSpec) × Contains (following_nodes x earlier) n × (listened_by (x.join n.id) ago (double + k) ≡ true)
@@ -146,15 +129,15 @@ module _
     walks : CanWalk x.params flutter (beyond k) (rate_walk x.params flutter)
     walks = (walk_is_held x.params flutter k sane second last.0).0
 
-    trusted : all_linked (traffic_of x) (double + k) ≡ false → all_trusted_to_join x (double + k) ≡ true
-    trusted linked = second_of (all_linked (traffic_of x) (double + k)) (all_trusted_to_join x (double + k)) linked (w.hears (double + k) (omega (arith, late)) within)
+    trusted : all_linked (traffic_of x) (double + k) ≡ false → all_trusted_to_join (traffic_of x) x.join (double + k) ≡ true
+    trusted linked = second_of (all_linked (traffic_of x) (double + k)) (all_trusted_to_join (traffic_of x) x.join (double + k)) linked (w.hears (double + k) (omega (arith, late)) within)
       where
         second_of : (a b : Bool) → a ≡ false → (a || b) ≡ true → b ≡ true
         second_of false b is either = either
         second_of true b is either = absurd (cc)
 
     heard_by : (linked none meet : Bool) → all_linked (traffic_of x) (double + k) ≡ linked → nat_eq (arbitrary_count (traffic_of x)) 0 ≡ none
-        → (lists_meet_to_join false x (double + k) && lists_meet_to_join true x (double + k)) ≡ meet
+        → (lists_meet_to_join false (traffic_of x) x.join (double + k) && lists_meet_to_join true (traffic_of x) x.join (double + k)) ≡ meet
         → IsFollowedHearing (if linked && none then Clean else (if linked || meet then Meeting else Poor)) x flutter earlier even odd (double + k)
     heard_by true true meet linked none lists =
         followed_doubles_hear false x from flutter h (double + k) earlier even odd (spread k) (pos reach) (beyond k) (rate_walk x.params flutter) part (omega (arith, late)) d (none_arbitrary x (double + k) none)
@@ -163,26 +146,26 @@ module _
         followed_doubles_hear true x from flutter h (double + k) earlier even odd (spread k) (pos reach) (beyond k) (rate_walk x.params flutter) part (omega (arith, late)) d tt (all_carried x (double + k) linked) walks
         room takes g
     heard_by false none true linked is lists =
-        let both = and_parts (lists_meet_to_join false x (double + k)) (lists_meet_to_join true x (double + k)) lists in
+        let both = and_parts (lists_meet_to_join false (traffic_of x) x.join (double + k)) (lists_meet_to_join true (traffic_of x) x.join (double + k)) lists in
         followed_doubles_meet x from flutter h (double + k) earlier even odd (spread k) (pos reach) (beyond k) part (omega (arith, late)) d (trusted linked) both.0 both.1 room takes g
     heard_by false none false linked is lists =
         followed_doubles_hear_in_part x from flutter h (double + k) earlier even odd (spread k) (pos reach) (beyond k) part (omega (arith, late)) d (trusted linked) room takes g
 
     hears : IsFollowedHearing (on k) x flutter earlier even odd (double + k)
     hears =
-        heard_by (all_linked (traffic_of x) (double + k)) (nat_eq (arbitrary_count (traffic_of x)) 0) (lists_meet_to_join false x (double + k) && lists_meet_to_join true x (double + k)) refl refl refl
+        heard_by (all_linked (traffic_of x) (double + k)) (nat_eq (arbitrary_count (traffic_of x)) 0) (lists_meet_to_join false (traffic_of x) x.join (double + k) && lists_meet_to_join true (traffic_of x) x.join (double + k)) refl refl refl
 
     kept : IsFollowedKept x flutter (spread (suc k)) (apart k) (pos reach) (beyond k) (beyond (suc k)) earlier even odd (double + k)
     kept =
         let held = walk_is_held x.params flutter k sane second last.0 in
         let both = apart_fits beside x.params flutter on k in
         followed_doubles_are_kept (on k) x from flutter h (double + k) earlier even odd (spread k) (spread (suc k)) (apart k) (pos reach) (beyond k) (rate_walk x.params flutter) (beyond (suc k)) part (omega (arith, late))
-        d held.0 held.1 held.2 takes hears (goes beside x.params flutter on k) both.0 both.1 g
+        d held.0 held.1 held.2 takes hears (group_spreads_go beside x.params flutter on k).0 both.0 both.1 g
 
   -- ---- from the first on
 
   first : (earlier : Cycles) (even odd : Cycle) → IsDoubleOf h double earlier even odd → IsFollowedDouble x (spread 0) (beyond 0) earlier even odd double
-  unfolding group_through_losses
+  unfolding group_spread_through
   first earlier even odd d =
       let at = unfollowed_in beside x flutter h double begin earlier even odd d in
       let At : ℤ → Type 0 = λ z. IsFollowedDouble x (sharp_group_spread beside x.params flutter) z earlier even odd double in
@@ -198,8 +181,8 @@ module _
 pub joined_histories_keep_through_losses : JoinedHistoriesKeepThroughLosses
 joined_histories_keep_through_losses beside x from flutter h double reach w late checks fits begin passed within lasting =
     let r = run beside x from flutter h double reach w late checks fits begin in
-    let on : ℕ → Heard = λ m. heard_to_join x (double + m) in
-    let spread : ℕ → GroupSpread = λ k. group_through_losses beside x.params flutter on k in
+    let on : ℕ → Heard = λ m. heard_to_join (traffic_of x) x.join (double + m) in
+    let spread : ℕ → GroupSpread = λ k. group_spread_through beside x.params flutter on k in
     let apart : ℕ → ℕ = λ k. apart_through_losses beside x.params flutter on k in
     record {
       followed = followed x from flutter h double spread apart (pos reach) r passed within lasting;

@@ -23,7 +23,8 @@ use Rattle.fr_sharp.specs.SharpStatement.{has_arbitrary}
 use Rattle.fr_traffic.specs.Traffic.{heard_in, traffic_in}
 use Rattle.fr_bound.specs.SharpSpreads.{sharply_near_in}
 use Rattle.fr_promise.proofs.AmongNumbers.{heard_again, next_is}
-use Rattle.fr_sharp.proofs.FromLossyFiles.{covered_files_keep_through_losses, none_is_clean, whole_is_clean}
+use Rattle.fr_sharp.specs.LossStatement.{apart_since}
+use Rattle.fr_sharp.proofs.FromLossyFiles.{covered_files_keep_through_losses, later_since, none_is_clean, whole_is_clean}
 use Rattle.fr_promise.proofs.JoinBounds.{near_grows}
 use Rattle.fr_sharp.proofs.LossLemmas.{apart_under, far_grows, far_within, Far}
 use Rattle.fr_sharp.proofs.LossNumbers.{never, never_rises, same_yet}
@@ -142,6 +143,18 @@ later_apart later beside p flutter what double k none =
     let At : ℕ → Type 0 = λ m. (spread_through_losses beside p flutter (λ m. what (double + m)) (suc k)).starts ≤ (spread_through_losses beside p flutter what m).starts in
     apart_below p (spread_through_losses beside p flutter (λ m. what (double + m)) k) (spread_through_losses beside p flutter what (double + k)) (spread_through_losses beside p flutter (λ m. what (double + m)) (suc k))
     (spread_through_losses beside p flutter what (suc (double + k))) (record { start = one.0; long = one.1 }) (subst At next two.0)
+
+-- so it is of two double cycles by their numbers
+pub apart_later : LaterSpreadsAreLess → (beside : Bool) (p : Values) (from flutter : ℕ) (what : ℕ → Heard) (double k : ℕ) → from ≤ double → (beside ≡ true → (m : ℕ) → what m ≡ heard.Clean → ⊥)
+    → apart_through_losses beside p flutter (λ m. what (double + m)) k ≤ apart_since beside p from flutter what (double + k)
+apart_later later beside p from flutter what double k late none =
+    let now = later_since later beside p from flutter what double k late none in
+    let next = later_since later beside p from flutter what double (suc k) late none in
+    let one : (double + suc k) - from ≡ suc ((double + k) - from) = omega (arith, late) in
+    let all : ℕ → Spread = λ n. spread_through_losses beside p flutter (λ m. what (from + m)) n in
+    let At : ℕ → Type 0 = λ n. (spread_through_losses beside p flutter (λ m. what (double + m)) (suc k)).starts ≤ (all n).starts in
+    apart_below p (spread_through_losses beside p flutter (λ m. what (double + m)) k) (all ((double + k) - from)) (spread_through_losses beside p flutter (λ m. what (double + m)) (suc k))
+    (all (suc ((double + k) - from))) (record { start = now.0; long = now.1 }) (subst At one next.0)
 
 -- nor than where nothing is asked of double cycles in which not all is heard
 below_lost : SpreadsAreBelowLost → (p : Values) (flutter : ℕ) (what : ℕ → Heard) (whole : ℕ → Bool) (k : ℕ) → ((m : ℕ) → whole m ≡ true → what m ≡ heard.Clean)

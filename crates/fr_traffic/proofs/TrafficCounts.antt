@@ -6,7 +6,7 @@ use Rattle.std.proofs.lemmas.List.{drop_all, drop_more}
 use Rattle.std.proofs.lemmas.List.Sums.{sum_by-cons}
 use Rattle.fr_cluster.specs.declared.nodes.NodeSpec.{NodeSpec}
 use Rattle.fr_midpoint.specs.Midpoint.{discarded}
-use Rattle.fr_traffic.specs.Traffic.{arbitrary_count, costs_of, has_value, is_trusted, missed_or_discarded, sender_count, is_correct_sender, with_cost, Traffic}
+use Rattle.fr_traffic.specs.Traffic.{arbitrary_count, costs_by, has_value, is_trusted, most_count, sender_count, is_correct_sender, with_cost, Traffic}
 
 module _ {X : Type 0} where
   cons : (p : X → Bool) (x : X) (xs : List X) → count_by p (x ∷ xs) ≡ cond (p x) 1 0 + count_by p xs
@@ -22,17 +22,23 @@ module _ {X : Type 0} where
       both true = refl
       both false = refl
 
-  -- those that pass and those that do not are all
-  pub parted : (p q : X → Bool) (xs : List X) → count_by (λ x. p x && not (q x)) xs + count_by (λ x. p x && q x) xs ≡ count_by p xs
-  parted p q [] = refl
-  parted p q (x ∷ xs) =
-      by (p x) (q x) (count_by (λ y. p y && not (q y)) (x ∷ xs)) (count_by (λ y. p y && q y) (x ∷ xs)) (count_by p (x ∷ xs)) (count_by (λ y. p y && not (q y)) xs)
-      (count_by (λ y. p y && q y) xs) (count_by p xs) (cons (λ y. p y && not (q y)) x xs) (cons (λ y. p y && q y) x xs) (cons p x xs) (parted p q xs)
+  -- among those of one kind, those that pass and those that do not are all
+  pub parted_among : (k p q : X → Bool) (xs : List X) → count_by (λ x. k x && (p x && not (q x))) xs + count_by (λ x. k x && (p x && q x)) xs ≡ count_by (λ x. k x && p x) xs
+  parted_among k p q [] = refl
+  parted_among k p q (x ∷ xs) =
+      by (k x) (p x) (q x) (count_by (λ y. k y && (p y && not (q y))) (x ∷ xs)) (count_by (λ y. k y && (p y && q y)) (x ∷ xs)) (count_by (λ y. k y && p y) (x ∷ xs))
+      (count_by (λ y. k y && (p y && not (q y))) xs) (count_by (λ y. k y && (p y && q y)) xs) (count_by (λ y. k y && p y) xs) (cons (λ y. k y && (p y && not (q y))) x xs)
+      (cons (λ y. k y && (p y && q y)) x xs) (cons (λ y. k y && p y) x xs) (parted_among k p q xs)
     where
-      by : (a b : Bool) (less more all l m n : ℕ) → less ≡ cond (a && not b) 1 0 + l → more ≡ cond (a && b) 1 0 + m → all ≡ cond a 1 0 + n → l + m ≡ n → less + more ≡ all
-      by true true less more all l m n x y z so = omega (arith, x, y, z, so)
-      by true false less more all l m n x y z so = omega (arith, x, y, z, so)
-      by false b less more all l m n x y z so = omega (arith, x, y, z, so)
+      by : (o a b : Bool) (less more all l m n : ℕ) → less ≡ cond (o && (a && not b)) 1 0 + l → more ≡ cond (o && (a && b)) 1 0 + m → all ≡ cond (o && a) 1 0 + n → l + m ≡ n
+          → less + more ≡ all
+      by true true true less more all l m n x y z so = omega (arith, x, y, z, so)
+      by true true false less more all l m n x y z so = omega (arith, x, y, z, so)
+      by true false b less more all l m n x y z so = omega (arith, x, y, z, so)
+      by false a b less more all l m n x y z so = omega (arith, x, y, z, so)
+
+  pub parted : (p q : X → Bool) (xs : List X) → count_by (λ x. p x && not (q x)) xs + count_by (λ x. p x && q x) xs ≡ count_by p xs
+  parted p q xs = parted_among (λ x. true) p q xs
 
   pub no_more : (p q : X → Bool) (xs : List X) → count_by (λ x. p x && q x) xs ≤ count_by p xs
   no_more p q xs = let all = parted p q xs in step (count_by (λ x. p x && not (q x)) xs) (count_by (λ x. p x && q x) xs) (count_by p xs) all
@@ -63,25 +69,30 @@ trusted_alone rate t double b none =
     both true = refl
     both false = refl
 
-pub cost_is : (rate : Bool) (t : Traffic) (double : ℕ) (b : NodeSpec) (missed sure most kept : ℕ) → sure ≡ sender_count t (has_value rate true t double b)
-    → most ≡ sender_count t (has_value rate false t double b) + arbitrary_count t
-    → missed + sure ≡ count_by (is_correct_sender t) t.nodes → kept ≡ discarded most → missed + kept ≡ missed_or_discarded rate t double b
-cost_is rate t double b missed sure most kept sure_is most_is missed_is kept_is =
-    let parts = parted (is_correct_sender t) (has_value rate true t double b) t.nodes in
-    let lacks : missed ≡ sender_count t (λ a. not (has_value rate true t double b a)) = left missed sure (sender_count t (λ a. not (has_value rate true t double b a))) (sender_count t (has_value rate true t double b)) (count_by (is_correct_sender t) t.nodes) sure_is missed_is parts in
-    ap (λ (n : ℕ). n + kept) lacks ∙ ap (λ (n : ℕ). sender_count t (λ a. not (has_value rate true t double b a)) + n) (kept_is ∙ ap discarded most_is)
+-- what a node may miss or discard of some of the senders, by their number and by that of those of whom it surely has a value
+pub cost_is : (among : NodeSpec → Bool) (rate : Bool) (t : Traffic) (double : ℕ) (b : NodeSpec) (missed sure most kept : ℕ)
+    → sure ≡ sender_count t (λ a. among a && has_value rate true t double b a) → most ≡ sender_count t (has_value rate false t double b) + arbitrary_count t
+    → missed + sure ≡ sender_count t among → kept ≡ discarded most
+    → missed + kept ≡ sender_count t (λ a. among a && not (has_value rate true t double b a)) + discarded (most_count rate t double b)
+cost_is among rate t double b missed sure most kept sure_is most_is missed_is kept_is =
+    let lacking = sender_count t (λ a. among a && not (has_value rate true t double b a)) in
+    let having = sender_count t (λ a. among a && has_value rate true t double b a) in
+    let parts = parted_among (is_correct_sender t) among (has_value rate true t double b) t.nodes in
+    let lacks : missed ≡ lacking = left missed sure lacking having (sender_count t among) sure_is missed_is parts in
+    ap (λ (n : ℕ). n + kept) lacks ∙ ap (λ (n : ℕ). lacking + n) (kept_is ∙ ap discarded most_is)
   where
     left : (a s b c n : ℕ) → s ≡ c → a + s ≡ n → b + c ≡ n → a ≡ b
     left a s b c n is one other = omega (arith, is, one, other)
 
 -- those of the nodes from a place on
-pub costs-none : (rate : Bool) (t : Traffic) (double n : ℕ) (nodes : List NodeSpec) → length nodes ≤ n → costs_of rate t double (drop n nodes) ≡ record { most = 0; second = 0 }
-unfolding costs_of
-costs-none rate t double n nodes le = ap (costs_of rate t double) (drop_all n nodes le)
+pub costs-none : (left_out : NodeSpec → Bool) (cost : NodeSpec → ℕ) (n : ℕ) (nodes : List NodeSpec) → length nodes ≤ n
+    → costs_by left_out cost (drop n nodes) ≡ record { most = 0; second = 0 }
+unfolding costs_by
+costs-none left_out cost n nodes le = ap (costs_by left_out cost) (drop_all n nodes le)
 
-pub costs-more : (rate : Bool) (t : Traffic) (double place : ℕ) (nodes : List NodeSpec) (b : NodeSpec) → place < length nodes
-    → costs_of rate t double (drop place nodes)
-    ≡ (if t.is_arbitrary (get_or nodes place b).id then costs_of rate t double (drop (place + 1) nodes)
-    else with_cost (missed_or_discarded rate t double (get_or nodes place b)) (costs_of rate t double (drop (place + 1) nodes)))
-unfolding costs_of
-costs-more rate t double place nodes b less = ap (costs_of rate t double) (drop_more nodes place b less)
+pub costs-more : (left_out : NodeSpec → Bool) (cost : NodeSpec → ℕ) (place : ℕ) (nodes : List NodeSpec) (b : NodeSpec) → place < length nodes
+    → costs_by left_out cost (drop place nodes)
+    ≡ (if left_out (get_or nodes place b) then costs_by left_out cost (drop (place + 1) nodes)
+    else with_cost (cost (get_or nodes place b)) (costs_by left_out cost (drop (place + 1) nodes)))
+unfolding costs_by
+costs-more left_out cost place nodes b less = ap (costs_by left_out cost) (drop_more nodes place b less)

@@ -1,6 +1,6 @@
-use Rattle.std.proofs.Common.{◌+◌, true, arith, ap₂}
+use Rattle.std.proofs.Common.{◌+◌, ◌∙◌, true, arith, ap₂, sym}
 use Rattle.fr_traffic.specs.Traffic.{has_value, is_correct_sender, traffic_with}
-use Rattle.fr_traffic.proofs.TrafficCounts.{cost_is, no_more}
+use Rattle.fr_traffic.proofs.TrafficCounts.{and_true, cost_is, no_more}
 use Rattle.fr_traffic.proofs.traffic.cost_of.Goals as goal
 
 pub missed-requires-clause-heard : goal.missed-requires-clause-heard
@@ -12,6 +12,6 @@ missed-requires-clause-heard c =
 
 pub returns-clause-value : goal.returns-clause-value
 returns-clause-value c =
-    cost_is c.args.asked.rate (traffic_with c.args.nodes.now c.args.script.now) c.args.asked.double c.args.node.now c.missed.result c.counted-sure.result
+    cost_is (λ a. true) c.args.asked.rate (traffic_with c.args.nodes.now c.args.script.now) c.args.asked.double c.args.node.now c.missed.result c.counted-sure.result
     (c.counted.result + c.arbitrary_count.result) c.discarded_of.result c.counted-sure.ensures.value
-    (ap₂ (λ a b. a + b) c.counted.ensures.value c.arbitrary_count.ensures.value) c.missed.ensures.value c.discarded_of.ensures.value
+    (ap₂ (λ a b. a + b) c.counted.ensures.value c.arbitrary_count.ensures.value) (c.missed.ensures.value ∙ sym (and_true (is_correct_sender (traffic_with c.args.nodes.now c.args.script.now)) c.args.nodes.now)) c.discarded_of.ensures.value
