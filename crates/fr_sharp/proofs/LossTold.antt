@@ -1,6 +1,6 @@
 -- What a run loses means what it is called, and where it is covered through losses it keeps to its bounds.
 use Rattle.std.proofs.Common.{◌≡◌, ◌⊎◌, ◌↔◌, ℕ, ℤ, zero, suc, pos, ◌+◌, ◌-◌, ◌*◌, ◌<◌, ◌≤◌, ◌≤ℤ◌, Bool, true, false, not, ◌&&◌, ◌||◌, Option, Some, None, List, [], ◌∷◌, inl, inr, refl, ap, ap₂, sym, ◌∙◌, subst, add-one, arith}
-use Rattle.std.specs.Prelude.{Contains, max, nat_eq, nat_lt, if◌then◌else◌}
+use Rattle.std.specs.Prelude.{Contains, max, nat_lt, if◌then◌else◌}
 use Rattle.std.specs.List.{list_all, list_any}
 use Rattle.std.proofs.lemmas.Bool.{and_parts, cases_Bool, cases_eq, not-true, or_cases}
 use Rattle.std.proofs.lemmas.Int.{ints}
@@ -26,7 +26,6 @@ use Rattle.fr_coverage.specs.declared.gap.Gap.TheVariants as gap
 use Rattle.fr_bound.specs.declared.settling.Spread.{Spread}
 use Rattle.fr_bound.specs.SharpBounds.{near_by}
 use Rattle.fr_bound.specs.declared.judging.Heard.{Heard}
-use Rattle.fr_bound.specs.declared.judging.Heard.TheVariants as heard
 use Rattle.fr_precision.specs.Among.{apart_through_losses, spread_through_losses, LaterSpreadsAreLess}
 use Rattle.fr_history.specs.Cycles.{Cycles}
 use Rattle.fr_runs.specs.Gathered.{listened_by}
@@ -45,11 +44,12 @@ use Rattle.fr_traffic.specs.Reaching.{whole_in}
 use Rattle.fr_bound.specs.SharpChecks.{sharp_holds_of, SharpChecksHold}
 use Rattle.fr_bound.specs.SharpSpreads.{sharply_near_in}
 use Rattle.fr_sharp.specs.SharpStatement.{has_arbitrary}
-use Rattle.fr_traffic.specs.JoinedTraffic.{heard_of, heard_to_join, is_borne_to_join, lists_meet_to_join}
-use Rattle.fr_traffic.specs.Traffic.{all_bear_from, all_linked, arbitrary_count, heard_in, traffic_in}
+use Rattle.fr_traffic.specs.JoinedTraffic.{heard_of, heard_to_join, is_borne_to_join}
+use Rattle.fr_traffic.specs.Traffic.{all_bear_from, heard_in, traffic_in}
 use Rattle.fr_sharp.specs.declared.losses_of_runs.RunLosses.{RunLosses}
-use Rattle.fr_sharp.proofs.FromLossyFiles.{covered_files_keep_through_losses, later_since, none_is_clean, some_is_not_none}
-use Rattle.fr_sharp.proofs.LossBurstLaws.{apart_below, keeps_wider}
+use Rattle.fr_sharp.proofs.FromLossyFiles.{covered_files_keep_through_losses, none_is_clean}
+use Rattle.fr_sharp.proofs.LossBurstLaws.{apart_later, keeps_wider}
+use Rattle.fr_sharp.proofs.JoinedFromLossyFiles.{joined_apart_later}
 use Rattle.fr_runs.proofs.KeyedCounts.{all_pass}
 use Rattle.fr_sharp.proofs.StrayFits.{stray_fits_is_told}
 
@@ -676,26 +676,6 @@ module _ (p : Values) (d : DriftView) (s : ScriptView) (from flutter : ℕ) (fin
 
 -- ---- what such a run keeps
 
--- the number of a double cycle by what was heard since a later one is no greater than by what was heard since an earlier one
-apart_later : LaterSpreadsAreLess → (beside : Bool) (p : Values) (from flutter : ℕ) (what : ℕ → Heard) (double k : ℕ) → from ≤ double → (beside ≡ true → (m : ℕ) → what m ≡ heard.Clean → ⊥)
-    → apart_through_losses beside p flutter (λ m. what (double + m)) k ≤ apart_since beside p from flutter what (double + k)
-apart_later later beside p from flutter what double k late none =
-    let now = later_since later beside p from flutter what double k late none in
-    let next = later_since later beside p from flutter what double (suc k) late none in
-    let one : (double + suc k) - from ≡ suc ((double + k) - from) = omega (arith, late) in
-    let all : ℕ → Spread = λ n. spread_through_losses beside p flutter (λ m. what (from + m)) n in
-    let At : ℕ → Type 0 = λ n. (spread_through_losses beside p flutter (λ m. what (double + m)) (suc k)).starts ≤ (all n).starts in
-    apart_below p (spread_through_losses beside p flutter (λ m. what (double + m)) k) (all ((double + k) - from)) (spread_through_losses beside p flutter (λ m. what (double + m)) (suc k))
-    (all (suc ((double + k) - from))) (record { start = now.0; long = now.1 }) (subst At one next.0)
-
--- by what is heard in a run that no node joins, and in one that some do
-told_later : LaterSpreadsAreLess → (p : Values) (s : ScriptView) (from flutter : ℕ) (what : ℕ → Heard) (double passed : ℕ) → heard_of p s ≡ what → from ≤ double
-    → (has_arbitrary p s ≡ true → (m : ℕ) → what m ≡ heard.Clean → ⊥)
-    → apart_through_losses (has_arbitrary p s) p flutter (λ m. what (double + m)) passed ≤ told_apart p s from flutter (double + passed)
-told_later later p s from flutter what double passed is late none =
-    let Less : (ℕ → Heard) → Type 0 = λ w. apart_through_losses (has_arbitrary p s) p flutter (λ m. what (double + m)) passed ≤ apart_since (has_arbitrary p s) p from flutter w (double + passed) in
-    subst Less (sym is) (apart_later later (has_arbitrary p s) p from flutter what double passed late none)
-
 pub runs_keep_their_bounds : HistoriesKeepThroughLosses → LaterSpreadsAreLess → RunsKeepTheirBounds
 runs_keep_their_bounds keep later p d s from flutter h double passed sane covered run late sync awake within lasts =
     let reach = (losses_of p d s from flutter).reach in
@@ -703,8 +683,9 @@ runs_keep_their_bounds keep later p d s from flutter h double passed sane covere
     let now = apart_through_losses (has_arbitrary p s) p flutter (λ m. heard_in (traffic_in p s) (double + m)) passed in
     let all = told_apart p s from flutter (double + passed) in
     let keeps = covered_files_keep_through_losses keep later p d s from flutter reach h double sane covered run late sync awake passed within lasts in
-    let is = heard_alone p s covered.none_joins in
-    let bound = keeps_wider (setting_of p d s) h (double + passed) now all (told_later later p s from flutter what double passed is late (none_is_clean p s)) keeps in
+    let Less : (ℕ → Heard) → Type 0 = λ w. now ≤ apart_since (has_arbitrary p s) p from flutter w (double + passed) in
+    let le = subst Less (sym (heard_alone p s covered.none_joins)) (apart_later later (has_arbitrary p s) p from flutter what double passed late (none_is_clean p s)) in
+    let bound = keeps_wider (setting_of p d s) h (double + passed) now all le keeps in
     let told = losses_are_told_lem p d s from flutter (omega (arith, late, within)) in
     let most = told.greatest (double + passed) (omega (arith, late)) within in
     (bound, keeps_wider (setting_of p d s) h (double + passed) all (losses_of p d s from flutter).peak most bound)
@@ -715,29 +696,15 @@ joined_wider x h double apart wide le keeps = record { skew = λ macrotick is_od
     further : (z : ℤ) → z ≤ℤ pos apart → z ≤ℤ pos wide
     further z below = omega (arith, ints, below, le)
 
--- beside arbitrary nodes nothing is clean
-pub none_is_clean_to_join : (p : Values) (s : ScriptView) → has_arbitrary p s ≡ true → (double : ℕ) → heard_to_join (traffic_in p s) (join_of s) double ≡ heard.Clean → ⊥
-none_is_clean_to_join p s beside double clean =
-    let t = traffic_in p s in
-    some_is_not_none p s beside
-    (only (all_linked t double) (nat_eq (arbitrary_count t) 0) (all_linked t double || (lists_meet_to_join false t (join_of s) double && lists_meet_to_join true t (join_of s) double)) clean)
-  where
-    only : (b few meets : Bool) → (if b && few then heard.Clean else (if meets then heard.Meeting else heard.Poor)) ≡ heard.Clean → few ≡ true
-    only true true meets is = refl
-    only true false true is = absurd (cc)
-    only true false false is = absurd (cc)
-    only false few true is = absurd (cc)
-    only false few false is = absurd (cc)
-
 pub joined_runs_keep_their_bounds : CoveredFilesKeepJoinedThroughLosses → LaterSpreadsAreLess → JoinedRunsKeepTheirBounds
 joined_runs_keep_their_bounds keep later p d s from flutter h double passed sane fits joins covered run late sync within lasting =
     let reach = (losses_of p d s from flutter).reach in
-    let what : ℕ → Heard = λ m. heard_to_join (traffic_in p s) (join_of s) m in
     let now = apart_through_losses (has_arbitrary p s) p flutter (λ m. heard_to_join (traffic_in p s) (join_of s) (double + m)) passed in
     let all = told_apart p s from flutter (double + passed) in
     let x = setting_of p d s in
     let stays = keep p d s from flutter reach h double sane fits covered run late sync passed within lasting in
-    let le = told_later later p s from flutter what double passed (heard_joined p s joins) late (none_is_clean_to_join p s) in
+    let Less : (ℕ → Heard) → Type 0 = λ w. now ≤ apart_since (has_arbitrary p s) p from flutter w (double + passed) in
+    let le = subst Less (sym (heard_joined p s joins)) (joined_apart_later later p s from flutter double passed late) in
     let told = losses_are_told_lem p d s from flutter (omega (arith, late, within)) in
     let most = told.greatest (double + passed) (omega (arith, late)) within in
     let bound : FirstRatesLast p flutter passed → KeepsJoined x h (double + passed) all = λ lasts. joined_wider x h (double + passed) now all le (stays.keeps lasts) in
