@@ -2,7 +2,7 @@
 use Rattle.std.proofs.Common.{◌≡◌, ◌⊎◌, ◌↔◌, ℕ, ℤ, zero, suc, pos, ◌+◌, ◌-◌, ◌*◌, ◌<◌, ◌≤◌, ◌≤ℤ◌, Bool, true, false, not, ◌&&◌, ◌||◌, Option, Some, None, List, [], ◌∷◌, inl, inr, refl, ap, ap₂, sym, ◌∙◌, subst, add-one, arith}
 use Rattle.std.specs.Prelude.{Contains, max, nat_lt, if◌then◌else◌}
 use Rattle.std.specs.List.{list_all, list_any}
-use Rattle.std.proofs.lemmas.Bool.{and_parts, cases_Bool, cases_eq, not-true, or_cases}
+use Rattle.std.proofs.lemmas.Bool.{and_parts, cases_Bool, cases_eq, cond-false, cond-true, not-true, or_cases}
 use Rattle.std.proofs.lemmas.Int.{ints}
 use Rattle.std.proofs.lemmas.List.Folds.{Any-from_list_any, list_any_at}
 use Rattle.fr_base.specs.declared.channel.Channel.{Channel}
@@ -52,13 +52,6 @@ use Rattle.fr_sharp.proofs.LossBurstLaws.{apart_later, keeps_wider}
 use Rattle.fr_sharp.proofs.JoinedFromLossyFiles.{joined_apart_later}
 use Rattle.fr_runs.proofs.KeyedCounts.{all_pass}
 use Rattle.fr_sharp.proofs.StrayFits.{stray_fits_is_told}
-
--- of a choice each side
-if_true : {X : Type 0} (b : Bool) (one other : X) → b ≡ true → (if b then one else other) ≡ one
-if_true b one other is = rw is refl
-
-if_false : {X : Type 0} (b : Bool) (one other : X) → b ≡ false → (if b then one else other) ≡ other
-if_false b one other is = rw is refl
 
 -- ---- the figures of the first so many double cycles
 
@@ -490,19 +483,16 @@ module _ (p : Values) (d : DriftView) (s : ScriptView) where
 
 -- ---- how far action points may lie apart, of the nodes that follow too
 
-any_there : (test : NodeSpec → Bool) (nodes : List NodeSpec) (node : NodeSpec) → Contains nodes node → test node ≡ true → list_any test nodes ≡ true
-any_there test nodes node there passes = list_any_at test nodes there.0 node there.1 (ap test there.2 ∙ passes)
-
 -- where some node passes, each that does is asked; else none is
 asked_of : (test : NodeSpec → Bool) (nodes : List NodeSpec) (near reach : ℕ)
     → ((node : NodeSpec) → Contains nodes node → test node ≡ true → near ≤ reach) ↔ ((if list_any test nodes then near else 0) ≤ reach)
-asked_of test nodes near reach = (all_in (cases_Bool (list_any test nodes)), λ small node there passes. subst (λ (n : ℕ). n ≤ reach) (if_true (list_any test nodes) near 0 (any_there test nodes node there passes)) small)
+asked_of test nodes near reach = (all_in (cases_Bool (list_any test nodes)), λ small node there passes. subst (λ (n : ℕ). n ≤ reach) (cond-true (list_any test nodes) near 0 (list_any_at test nodes there.0 node there.1 (ap test there.2 ∙ passes))) small)
   where
     all_in : (list_any test nodes ≡ true) ⊎ (list_any test nodes ≡ false) → ((node : NodeSpec) → Contains nodes node → test node ≡ true → near ≤ reach) → (if list_any test nodes then near else 0) ≤ reach
     all_in (inl some) each =
         let one = Any-from_list_any test nodes some in
-        subst (λ (n : ℕ). n ≤ reach) (sym (if_true (list_any test nodes) near 0 some)) (each one.1 (one.0, one.2, one.3) one.4)
-    all_in (inr none) each = subst (λ (n : ℕ). n ≤ reach) (sym (if_false (list_any test nodes) near 0 none)) (omega arith)
+        subst (λ (n : ℕ). n ≤ reach) (sym (cond-true (list_any test nodes) near 0 some)) (each one.1 (one.0, one.2, one.3) one.4)
+    all_in (inr none) each = subst (λ (n : ℕ). n ≤ reach) (sym (cond-false (list_any test nodes) near 0 none)) (omega arith)
 
 pub near_is_taken_in : NearIsTakenIn
 near_is_taken_in p d s double reach spread = (inside, outside)
@@ -572,16 +562,16 @@ hold_checks p flutter reach hold =
 
 -- what is heard where no correct node joins, and where one does
 heard_alone : (p : Values) (s : ScriptView) → some_join p s ≡ false → heard_of p s ≡ heard_in (traffic_in p s)
-heard_alone p s alone = λ i m. if_false (some_join p s) (heard_to_join (traffic_in p s) (join_of s) m) (heard_in (traffic_in p s) m) alone i
+heard_alone p s alone = λ i m. cond-false (some_join p s) (heard_to_join (traffic_in p s) (join_of s) m) (heard_in (traffic_in p s) m) alone i
 
 heard_joined : (p : Values) (s : ScriptView) → some_join p s ≡ true → heard_of p s ≡ heard_to_join (traffic_in p s) (join_of s)
-heard_joined p s joins = λ i m. if_true (some_join p s) (heard_to_join (traffic_in p s) (join_of s) m) (heard_in (traffic_in p s) m) joins i
+heard_joined p s joins = λ i m. cond-true (some_join p s) (heard_to_join (traffic_in p s) (join_of s) m) (heard_in (traffic_in p s) m) joins i
 
 borne_alone : (p : Values) (s : ScriptView) (from flutter double : ℕ) → some_join p s ≡ false → is_borne_of p s from flutter double ≡ is_borne p s from flutter double
-borne_alone p s from flutter double alone = if_false (some_join p s) (is_borne_to_join p s double) (is_borne p s from flutter double) alone
+borne_alone p s from flutter double alone = cond-false (some_join p s) (is_borne_to_join p s double) (is_borne p s from flutter double) alone
 
 borne_joined : (p : Values) (s : ScriptView) (from flutter double : ℕ) → some_join p s ≡ true → is_borne_of p s from flutter double ≡ is_borne_to_join p s double
-borne_joined p s from flutter double joins = if_true (some_join p s) (is_borne_to_join p s double) (is_borne p s from flutter double) joins
+borne_joined p s from flutter double joins = cond-true (some_join p s) (is_borne_to_join p s double) (is_borne p s from flutter double) joins
 
 module _ (p : Values) (d : DriftView) (s : ScriptView) (from flutter : ℕ) (finds : FindsGapFrom p d s from) (some : from < doubles_of d) where
   abbrev losses : RunLosses

@@ -1,8 +1,7 @@
 -- What is promised of a run in which frames are lost, by its files. The words of it, from the top: `IsLawful` (what a run is),
 -- `IsCoveredThroughLosses` (what is asked of the files), `apart_through_losses` (by what is heard, `heard_in`), `IsInSharpSyncAt`, `walk_lasts`,
 -- `KeepsThrough`.
-use Rattle.std.specs.Prelude.{◌≡◌, ◌+◌, ◌-◌, ◌<◌, ◌≤◌, ◌+ℤ◌, ℕ, suc, pos, Bool, true, false, not, ◌||◌, List, []}
-use Rattle.std.specs.List.{list_all}
+use Rattle.std.specs.Prelude.{◌≡◌, ◌+◌, ◌-◌, ◌<◌, ◌≤◌, ◌+ℤ◌, ℕ, suc, pos, Bool, true, false, List, []}
 use Rattle.fr_cluster.specs.Sane.{IsSane}
 use Rattle.fr_cluster.specs.Values.{Values}
 use Rattle.fr_drift.specs.Files.{IsDriftFile}
@@ -13,7 +12,6 @@ use Rattle.fr_script.specs.View.{ScriptView}
 use Rattle.fr_coverage.specs.Coverage.{some_join}
 use Rattle.fr_coverage.specs.Decided.{setting_of}
 use Rattle.fr_coverage.specs.Flutter.{flutter_from}
-use Rattle.fr_coverage.specs.Links.{is_carried, is_link}
 use Rattle.fr_coverage.specs.Order.{HasNoGapFrom}
 use Rattle.fr_history.specs.Cycles.{Cycles}
 use Rattle.fr_promise.specs.Statement.{IsRunOf}
