@@ -6,7 +6,6 @@ use Rattle.std.proofs.Math.Nat.{le-max_left}
 use Rattle.fr_cluster.specs.Values.{Values, amount}
 use Rattle.fr_cluster.specs.declared.names.ParamName.TheVariants as name
 use Rattle.fr_drift.specs.Questions.{doubles_of}
-use Rattle.fr_drift.specs.View.{DriftView}
 use Rattle.fr_script.specs.View.{join_of, ScriptView}
 use Rattle.fr_bound.specs.Bounds.{arrival_error, cycle_change, longest_micro}
 use Rattle.fr_bound.specs.Judged.{heard_spread}

@@ -133,18 +133,7 @@ apart_below p s t next other below le = both (Far p s) (Far p t) next.starts oth
     both : (a b s t q : ℕ) → a ≤ b → s ≤ t → max a (s + q) ≤ max b (t + q)
     both a b s t q h k = grind arith
 
--- the number from a later double cycle on is no greater than that from the first one on
-pub later_apart : LaterSpreadsAreLess → (beside : Bool) (p : Values) (flutter : ℕ) (what : ℕ → Heard) (double k : ℕ) → (beside ≡ true → (m : ℕ) → what m ≡ heard.Clean → ⊥)
-    → apart_through_losses beside p flutter (λ m. what (double + m)) k ≤ apart_through_losses beside p flutter what (double + k)
-later_apart later beside p flutter what double k none =
-    let one = later beside p flutter what double k none in
-    let two = later beside p flutter what double (suc k) none in
-    let next : double + suc k ≡ suc (double + k) = omega arith in
-    let At : ℕ → Type 0 = λ m. (spread_through_losses beside p flutter (λ m. what (double + m)) (suc k)).starts ≤ (spread_through_losses beside p flutter what m).starts in
-    apart_below p (spread_through_losses beside p flutter (λ m. what (double + m)) k) (spread_through_losses beside p flutter what (double + k)) (spread_through_losses beside p flutter (λ m. what (double + m)) (suc k))
-    (spread_through_losses beside p flutter what (suc (double + k))) (record { start = one.0; long = one.1 }) (subst At next two.0)
-
--- so it is of two double cycles by their numbers
+-- the number of a double cycle by what was heard since a later one is no greater than by what was heard since an earlier one
 pub apart_later : LaterSpreadsAreLess → (beside : Bool) (p : Values) (from flutter : ℕ) (what : ℕ → Heard) (double k : ℕ) → from ≤ double → (beside ≡ true → (m : ℕ) → what m ≡ heard.Clean → ⊥)
     → apart_through_losses beside p flutter (λ m. what (double + m)) k ≤ apart_since beside p from flutter what (double + k)
 apart_later later beside p from flutter what double k late none =
@@ -179,23 +168,20 @@ from_there whole from count bursts k late lost =
 
 pub bursts_keep_the_peak : HistoriesKeepThroughLosses → LaterSpreadsAreLess → SpreadsAreBelowLost → BurstsKeepThePeak
 bursts_keep_the_peak keep later below p d s from flutter count cost h double passed sane bursts is covered alone run late sync awake within lasts =
-    let j : ℕ = double - from in
+    let beside = has_arbitrary p s in
+    let n : ℕ = (double + passed) - from in
     let what : ℕ → Heard = λ m. heard_in (traffic_in p s) (from + m) in
     let whole : ℕ → Bool = λ m. whole_in p s (from + m) in
-    let since : ℕ → Heard = λ m. heard_in (traffic_in p s) (double + m) in
-    let place : (m : ℕ) → double + m ≡ from + (j + m) = λ m. omega (arith, late) in
-    let same_since : since ≡ (λ m. what (j + m)) = λ i m. heard_in (traffic_in p s) (place m i) in
-    let synced : IsInSharpSyncAt (has_arbitrary p s) p flutter (pos 0) h double = subst (λ (b : Bool). IsInSharpSyncAt b p flutter (pos 0) h double) (sym alone) sync in
+    let now = apart_through_losses beside p flutter (λ m. heard_in (traffic_in p s) (double + m)) passed in
+    let synced : IsInSharpSyncAt beside p flutter (pos 0) h double = subst (λ (b : Bool). IsInSharpSyncAt b p flutter (pos 0) h double) (sym alone) sync in
     let keeps = covered_files_keep_through_losses keep later p d s from flutter cost.reach h double sane covered run late synced awake passed within lasts in
-    let here : apart_through_losses (has_arbitrary p s) p flutter since passed ≡ apart_through_losses (has_arbitrary p s) p flutter (λ m. what (j + m)) passed = ap (λ (w : ℕ → Heard). apart_through_losses (has_arbitrary p s) p flutter w passed) same_since in
-    let one = later_apart later (has_arbitrary p s) p flutter what j passed (λ beside m. none_is_clean p s beside (from + m)) in
-    let same : apart_through_losses (has_arbitrary p s) p flutter what (j + passed) ≡ apart_through_losses false p flutter what (j + passed) = ap (λ (b : Bool). apart_through_losses b p flutter what (j + passed)) alone in
-    let other = below_lost below p flutter what whole (j + passed) (λ m. whole_is_clean p s alone (from + m)) in
-    let cost_is = (bursts_cost_no_more p flutter count whole cost (j + passed) sane (from_there (whole_in p s) from count bursts) is).0 in
-    keeps_wider (setting_of p d s) h (double + passed) (apart_through_losses (has_arbitrary p s) p flutter since passed) cost.peak
-    (up (apart_through_losses (has_arbitrary p s) p flutter since passed) (apart_through_losses (has_arbitrary p s) p flutter (λ m. what (j + m)) passed) (apart_through_losses (has_arbitrary p s) p flutter what (j + passed))
-    (apart_through_losses false p flutter what (j + passed)) (lost_apart p flutter whole (j + passed)) cost.peak here one same other cost_is)
+    let one = apart_later later beside p from flutter (λ m. heard_in (traffic_in p s) m) double passed late (none_is_clean p s) in
+    let same : apart_through_losses beside p flutter what n ≡ apart_through_losses false p flutter what n = ap (λ (b : Bool). apart_through_losses b p flutter what n) alone in
+    let other = below_lost below p flutter what whole n (λ m. whole_is_clean p s alone (from + m)) in
+    let cost_is = (bursts_cost_no_more p flutter count whole cost n sane (from_there (whole_in p s) from count bursts) is).0 in
+    keeps_wider (setting_of p d s) h (double + passed) now cost.peak
+    (up now (apart_through_losses beside p flutter what n) (apart_through_losses false p flutter what n) (lost_apart p flutter whole n) cost.peak one same other cost_is)
     keeps
   where
-    up : (z a b c d e : ℕ) → z ≡ a → a ≤ b → b ≡ c → c ≤ d → d ≤ e → z ≤ e
-    up z a b c d e first h is k m = omega (arith, first, h, is, k, m)
+    up : (a b c d e : ℕ) → a ≤ b → b ≡ c → c ≤ d → d ≤ e → a ≤ e
+    up a b c d e h is k m = omega (arith, h, is, k, m)
