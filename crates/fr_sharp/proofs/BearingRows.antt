@@ -41,7 +41,7 @@ use Rattle.fr_precision.proofs.RoundLemmas.{contains_map, map_contains}
 use Rattle.fr_runs.proofs.RowsSupplied.{odd_active, pairs_steady, row_regular, rows_heard_in_part, timed_rows_from, LawfulRows}
 use Rattle.fr_promise.proofs.RunDoubles.{all_have, AllHave}
 use Rattle.fr_sharp.specs.Bearing.{borne, borne_outcome, borne_term, borne_values, RowsBear}
-use Rattle.fr_sharp.specs.RoundsInPart.{heard_of, IsTrustedOf}
+use Rattle.fr_sharp.specs.RoundsInPart.{senders_heard, IsTrustedOf}
 use Rattle.fr_traffic.specs.Traffic.{bears, is_deaf, is_trusted, lacks_values, may_lack, none_lacks, some_keep, traffic_of, trusts_or_lacks}
 use Rattle.fr_sharp.proofs.BearingKinds.{none_is_deaf_of}
 use Rattle.fr_runs.proofs.KeyedCounts.{all_pass}
@@ -177,7 +177,7 @@ module _ (x : Setting) (flutter : ℕ) (h : Cycles) (even odd : Cycle) (double :
   offsets_there node among trusted =
       let p : Values = x.params in
       let n = row_hearer x even odd node.id in
-      let heard = heard_of (round_at x h even odd) (offset_at n.look n.own) in
+      let heard = senders_heard (round_at x h even odd) (offset_at n.look n.own) in
       let some = heard_some (round_at x h even odd) (offset_at n.look n.own) trusted.some in
       let own = offset_round (round_at x h even odd) flutter n (round_is x flutter h even odd double reach s r) (placed node among) trusted in
       let Values_are : List ℤ → Type 0 = λ values. IsOffsetRound p heard n.odd values (borne_term (offset_term_of p.offset_limit (offsets_of n))) in
@@ -243,7 +243,7 @@ module _ (x : Setting) (flutter : ℕ) (h : Cycles) (even odd : Cycle) (double :
   computes_rate node among has trusted =
       let p : Values = x.params in
       let n = row_hearer x even odd node.id in
-      let heard = heard_of (round_at x h even odd) (rate_at n.look n.own) in
+      let heard = senders_heard (round_at x h even odd) (rate_at n.look n.own) in
       let some = heard_some (round_at x h even odd) (rate_at n.look n.own) trusted.some in
       let own = rate_round (round_at x h even odd) flutter n (round_is x flutter h even odd double reach s r) (placed node among) trusted in
       let Term_is : Term → Type 0 = λ term. IsSteadyRound p flutter heard n.odd (rates_of n) term in

@@ -34,7 +34,7 @@ use Rattle.fr_precision.proofs.RoundSenders.{sender_found, sender_is, IsFrom}
 use Rattle.fr_precision.proofs.Values.{acts_before, change_from, other_of, other_value, own_value, own_is}
 use Rattle.fr_precision.specs.Among.{ComputesOwn}
 use Rattle.fr_precision.specs.Hearing.{AreSteadyPairs, IsHeardInPart}
-use Rattle.fr_sharp.specs.RoundsInPart.{heard_at, heard_of, IsSuppliedInPart, IsTrustedOf, RoundsInPartComputeOwn}
+use Rattle.fr_sharp.specs.RoundsInPart.{heard_at, senders_heard, IsSuppliedInPart, IsTrustedOf, RoundsInPartComputeOwn}
 use Rattle.fr_bound.specs.SharpBounds.{last_action}
 use Rattle.fr_precision.specs.SharpRound.{as_member}
 use Rattle.fr_precision.specs.Steady.{PlacesEven}
@@ -89,13 +89,13 @@ heard_found : (r : Round) (at : ℕ → Option ℤ) (index : ℕ) (v : ℤ) → 
 heard_found r at index v some = ap (λ (o : Option ℤ). if is_some o then sender_at r index else None) some
 
 -- what holds of each sender holds of each of those
-pub all_heard : (r : Round) (at : ℕ → Option ℤ) (P : Sender → Type 0) → ((index : ℕ) (sender : Sender) → IsFrom r index sender → P sender) → All P (heard_of r at)
+pub all_heard : (r : Round) (at : ℕ → Option ℤ) (P : Sender → Type 0) → ((index : ℕ) (sender : Sender) → IsFrom r index sender → P sender) → All P (senders_heard r at)
 all_heard r at P each =
     all_given (heard_at r at) P (range_with_len 0 15)
     (λ index sender some. each index sender (sender_is r index sender (heard_is r at index sender (at index) refl some).2))
 
 -- a list of values is not empty where some sender is heard
-pub heard_some : (r : Round) (at : ℕ → Option ℤ) → 1 ≤ length (heard_of r at) → 1 ≤ length (values_of at)
+pub heard_some : (r : Round) (at : ℕ → Option ℤ) → 1 ≤ length (senders_heard r at) → 1 ≤ length (values_of at)
 unfolding values_of
 heard_some r at some =
     let heard = filter_map_counts (heard_at r at) (range_with_len 0 15) in
@@ -166,7 +166,7 @@ module _ (r : Round) (n : Hearer) (is : IsRound r) (hears : IsHeardInPart r n) w
       other = λ index v no_one some. other index v some (sym (heard_found r at index v some) ∙ no_one);
     }
 
-    parts : IsParted Sender Says (heard_of r at) (values_of at) (count_by (is_other r) (range_with_len 0 15))
+    parts : IsParted Sender Says (senders_heard r at) (values_of at) (count_by (is_other r) (range_with_len 0 15))
     unfolding values_of
     parts = parted Sender Says (heard_at r at) at (is_other r) (range_with_len 0 15) told
 
@@ -176,14 +176,14 @@ module _ (r : Round) (n : Hearer) (is : IsRound r) (hears : IsHeardInPart r n) w
         let most = others_counted r is.sane in
         omega (arith, few, most)
 
-    as_many : length (heard_of r at) + length (parts.further) ≡ length (values_of at)
+    as_many : length (senders_heard r at) + length (parts.further) ≡ length (values_of at)
     as_many =
-        let long = AllZip-long Says (heard_of r at) parts.said parts.each in
+        let long = AllZip-long Says (senders_heard r at) parts.said parts.each in
         let size = length_permutation (parts.said ++ parts.further) (values_of at) parts.parts in
         let both = length-append parts.said parts.further in
         omega (arith, long, size, both)
 
-    pub hears_heard : IsTrustedOf r at → Hears Sender Says (heard_of r at) (values_of at)
+    pub hears_heard : IsTrustedOf r at → Hears Sender Says (senders_heard r at) (values_of at)
     hears_heard trusted =
         let At : ℕ → Type 0 = λ m. length (parts.further) ≤ discarded m in
         record {
@@ -192,7 +192,7 @@ module _ (r : Round) (n : Hearer) (is : IsRound r) (hears : IsHeardInPart r n) w
           parts = parts.parts;
           few =
               subst At as_many
-              (fewer_discarded (length (heard_of r at)) (length (parts.further)) (sync_count r.params r.is_arbitrary) few_further trusted.few);
+              (fewer_discarded (length (senders_heard r at)) (length (parts.further)) (sync_count r.params r.is_arbitrary) few_further trusted.few);
           each = parts.each;
         }
 
@@ -313,20 +313,20 @@ module _ (r : Round) (flutter : ℕ) (n : Hearer) (is : IsRound r) (s : IsPlaced
   abbrev rates : ℕ → Option ℤ
   rates = rate_at n.look n.own
 
-  pub offsets_heard : IsTrustedOf r offsets → Hears Sender (λ sender value. IsDeviation r.params true sender.action n.odd sender.odd value) (heard_of r offsets) (offsets_of n)
+  pub offsets_heard : IsTrustedOf r offsets → Hears Sender (λ sender value. IsDeviation r.params true sender.action n.odd sender.odd value) (senders_heard r offsets) (offsets_of n)
   unfolding Offset
   offsets_heard trusted =
       hears_heard r n is s.hears (λ sender value. IsDeviation r.params true sender.action n.odd sender.odd value) offsets
       (λ index sender v from some. offset_by index sender v (is_own n.own index) from refl some) (λ index v some no_sender. offset_other index v (is_own n.own index) refl some no_sender) trusted
 
-  pub rates_heard : IsTrustedOf r rates → Hears Sender (λ sender value. PlacesEven r.params flutter sender n.odd value) (heard_of r rates) (rates_of n)
+  pub rates_heard : IsTrustedOf r rates → Hears Sender (λ sender value. PlacesEven r.params flutter sender n.odd value) (senders_heard r rates) (rates_of n)
   unfolding Rate
   rates_heard trusted =
       hears_heard r n is s.hears (λ sender value. PlacesEven r.params flutter sender n.odd value) rates
       (λ index sender v from some. rate_by index sender v (is_own n.own index) from refl some) (λ index v some no_sender. rate_other index v (is_own n.own index) refl some no_sender) trusted
 
   -- its terms are then of them
-  pub offset_round : IsTrustedOf r offsets → IsOffsetRound r.params (heard_of r offsets) n.odd (offsets_of n) (offset_term_of r.params.offset_limit (offsets_of n))
+  pub offset_round : IsTrustedOf r offsets → IsOffsetRound r.params (senders_heard r offsets) n.odd (offsets_of n) (offset_term_of r.params.offset_limit (offsets_of n))
   offset_round trusted = record {
     micro = s.regular.odd_micro;
     hears = offsets_heard trusted;
@@ -335,7 +335,7 @@ module _ (r : Round) (flutter : ℕ) (n : Hearer) (is : IsRound r) (s : IsPlaced
   }
 
   pub rate_round : IsTrustedOf r rates
-      → IsSteadyRound r.params flutter (heard_of r rates) n.odd (rates_of n) (rate_term_of n.odd.rate r.params.damping r.params.rate_limit (rates_of n))
+      → IsSteadyRound r.params flutter (senders_heard r rates) n.odd (rates_of n) (rate_term_of n.odd.rate r.params.damping r.params.rate_limit (rates_of n))
   rate_round trusted = record {
     micro = s.regular.odd_micro;
     hears = rates_heard trusted;
@@ -369,8 +369,8 @@ computes_in_part r flutter rows n is have supplied trusted =
     let placed = placed_of r flutter n supplied in
     record {
       regular = supplied.regular;
-      offset_senders = heard_of r offsets;
-      rate_senders = heard_of r rates;
+      offset_senders = senders_heard r offsets;
+      rate_senders = senders_heard r rates;
       some_offsets = trusted.0.some;
       some_rates = trusted.1.some;
       offsets_among = all_heard r offsets (IsAmong nodes) (sender_among r rows have);

@@ -30,7 +30,7 @@ use Rattle.fr_runs.proofs.Hearing.{hearer_from, looked, stored, IsReceiver, Rece
 use Rattle.fr_runs.proofs.Nodes.{node_there}
 use Rattle.fr_runs.proofs.Receivers.{is_correct_node}
 use Rattle.fr_coverage.specs.Links.{is_regular, is_sync, shares}
-use Rattle.fr_sharp.specs.RoundsInPart.{heard_at, heard_of, IsTrustedOf}
+use Rattle.fr_sharp.specs.RoundsInPart.{heard_at, senders_heard, IsTrustedOf}
 use Rattle.fr_traffic.specs.JoinedTraffic.{is_trusted_by, staying_count}
 use Rattle.fr_traffic.specs.Traffic.{arbitrary_count, has_value, is_correct_sender, traffic_of, value_on}
 use Rattle.fr_runs.proofs.KeyedCounts.{discards_more, is_passed, nodes_counted, passes_at}
@@ -211,7 +211,7 @@ module _
           ap is_some (sender_found (round_at x h even odd) index of.slot of.node sending.sane from of.slot_is),
         )
 
-    heard_enough : (rate : Bool) → staying_count stays rate (traffic_of x) double node ≤ length (heard_of (round_at x h even odd) (value_by rate (hearer_from x s node.id)))
+    heard_enough : (rate : Bool) → staying_count stays rate (traffic_of x) double node ≤ length (senders_heard (round_at x h even odd) (value_by rate (hearer_from x s node.id)))
     heard_enough rate =
         let at = value_by rate (hearer_from x s node.id) in
         let counted = senders_counted x (λ (a : NodeSpec). stays a.id && has_value rate true (traffic_of x) double node a) sending.sane in
@@ -234,7 +234,7 @@ module _
         let both = and_parts (nat_le 1 count) (nat_le others (discarded (count + others))) is in
         let some = at_most 1 count both.0 in
         let few = at_most others (discarded (count + others)) both.1 in
-        let heard = length (heard_of (round_at x h even odd) (value_by rate (hearer_from x s node.id))) in
+        let heard = length (senders_heard (round_at x h even odd) (value_by rate (hearer_from x s node.id))) in
         let enough : count ≤ heard = heard_enough rate in
         let more = discards_more (count + others) (heard + others) (omega (arith, enough)) in
         record { few = omega (arith, few, more); some = omega (arith, some, enough) }

@@ -19,8 +19,8 @@ use Rattle.fr_precision.specs.SharpRound.{as_member}
 abbrev pub heard_at : Round → (ℕ → Option ℤ) → ℕ → Option Sender
 heard_at r at index = if is_some (at index) then sender_at r index else None
 
-abbrev pub heard_of : Round → (ℕ → Option ℤ) → List Sender
-heard_of r at = filter_map (heard_at r at) (range_with_len 0 15)
+abbrev pub senders_heard : Round → (ℕ → Option ℤ) → List Sender
+senders_heard r at = filter_map (heard_at r at) (range_with_len 0 15)
 
 -- a receiver with regular rows, whose clock applies the offset term of what came; it has at least one offset value and one rate value
 pub record IsSuppliedInPart (r : Round) (flutter : ℕ) (n : Hearer) : Type 0 where
@@ -33,8 +33,8 @@ pub record IsSuppliedInPart (r : Round) (flutter : ℕ) (n : Hearer) : Type 0 wh
 
 -- of a list by key index: a value is of a sender, and at each end as many are discarded as there may be of arbitrary nodes
 pub record IsTrustedOf (r : Round) (at : ℕ → Option ℤ) : Type 0 where
-  pub few : sync_count r.params r.is_arbitrary ≤ discarded (length (heard_of r at) + sync_count r.params r.is_arbitrary)
-  pub some : 1 ≤ length (heard_of r at)
+  pub few : sync_count r.params r.is_arbitrary ≤ discarded (length (senders_heard r at) + sync_count r.params r.is_arbitrary)
+  pub some : 1 ≤ length (senders_heard r at)
 
 -- a round in which each receiver is supplied so, and trusts both its lists
 pub record IsRoundInPart (r : Round) (flutter : ℕ) (rows : List Hearer) : Type 0 where

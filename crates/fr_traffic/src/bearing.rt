@@ -1,10 +1,9 @@
-ghost use Rattle.std.specs.Prelude.{ℕ, ◌≡◌, ◌≤◌, ◌||◌, ◌&&◌, not, false, nat_le, length, List};
+ghost use Rattle.std.specs.Prelude.{◌≡◌, ◌≤◌, ◌&&◌, false, nat_le, length, List};
 ghost use Rattle.std.specs.List.{list_all, list_any};
 ghost use Rattle.fr_base.specs.declared.channel.Channel.TheVariants as channel;
 ghost use Rattle.fr_cluster.specs.declared.nodes.NodeSpec.{NodeSpec};
-ghost use Rattle.fr_script.specs.View.{is_arbitrary};
 ghost use Rattle.fr_coverage.specs.Links.{is_sync};
-ghost use Rattle.fr_traffic.specs.Traffic.{all_bear, all_bear_from, arbitrary_count, bears, comes, is_deaf, lacking_for, lacks_values, may_lack, may_reach, may_say, none_lacks, traffic_in, traffic_with, trusts_or_lacks};
+ghost use Rattle.fr_traffic.specs.Traffic.{all_bear, all_bear_from, arbitrary_count, bears, is_deaf, lacking_for, lacks_values, may_lack, may_reach, may_say, none_lacks, traffic_in, traffic_with, trusts_or_lacks};
 
 use crate::traffic::{Asked, arbitrary_count, comes_even, comes_odd, has_value, is_trusted};
 use fr_base::Channel;

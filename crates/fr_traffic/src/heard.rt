@@ -1,5 +1,5 @@
-ghost use Rattle.std.specs.Prelude.{◌≡◌, ◌≤◌, ◌||◌, ◌&&◌, not, IfSome};
-ghost use Rattle.fr_coverage.specs.Links.{is_carried_on, is_free};
+ghost use Rattle.std.specs.Prelude.{◌≡◌, ◌≤◌, IfSome};
+ghost use Rattle.fr_coverage.specs.Links.{is_free};
 ghost use Rattle.fr_traffic.specs.Reaching.{all_reach, reaches, reaches_each, reaches_on};
 
 use fr_base::Channel;

@@ -1,11 +1,9 @@
-ghost use Rattle.std.specs.Prelude.{ℕ, ◌≡◌, ◌≤◌, ◌+◌, ◌&&◌, ◌||◌, true, not, nat_le, length, List, count_by, if◌then◌else◌};
-ghost use Rattle.std.specs.List.{list_all};
+ghost use Rattle.std.specs.Prelude.{◌≡◌, ◌≤◌, ◌&&◌, true, not, length, List, if◌then◌else◌};
 ghost use Rattle.fr_cluster.specs.declared.nodes.NodeSpec.{NodeSpec};
-ghost use Rattle.fr_script.specs.View.{is_arbitrary, join_of};
-ghost use Rattle.fr_midpoint.specs.Midpoint.{discarded};
+ghost use Rattle.fr_script.specs.View.{join_of};
 ghost use Rattle.fr_traffic.specs.JoinedTraffic.{all_trusted_to_join, correct_has_begun, cost_to_join, costs_to_join, has_begun, heard_of, heard_to_join, is_borne_to_join, is_trusted_by, lists_meet_to_join, stays, staying_count, trusts_to_join};
 ghost use Rattle.fr_traffic.specs.Reaching.{whole_in};
-ghost use Rattle.fr_traffic.specs.Traffic.{all_linked, arbitrary_count, is_correct_sender, sender_count, traffic_in, traffic_with, with_cost};
+ghost use Rattle.fr_traffic.specs.Traffic.{all_linked, arbitrary_count, has_value, is_correct_sender, sender_count, traffic_with, with_cost};
 
 use crate::traffic::{
     Asked, Costs, arbitrary_count, counted, discarded_of, has_value, heard_in, is_correct_sender,
@@ -89,36 +87,30 @@ fn trusts(nodes: &NodeList, script: &Script, double: u32, arbitrary: u64, node: 
     ensures { result ≡ trusts_to_join (traffic_with nodes.now script.now) (join_of script.now) double node.now }
 {
     !correct_has_begun(script, double, node)
-        || (is_trusted(nodes, script, asked(false, double), arbitrary, node)
-            && is_trusted(nodes, script, asked(true, double), arbitrary, node))
+        || (is_trusted(nodes, script, (false, double), arbitrary, node)
+            && is_trusted(nodes, script, (true, double), arbitrary, node))
 }
 
-fn asked(rate: bool, double: u32) -> Asked
-    ensures rate { result.rate ≡ rate }
-    ensures surely { result.surely ≡ true }
-    ensures double { result.double ≡ double }
-{
-    Asked {
-        rate,
-        surely: true,
-        double,
-    }
-}
-
+// Its list of a kind: for rate values or for offset values, of a double cycle.
 fn is_trusted(
     nodes: &NodeList,
     script: &Script,
-    asked: Asked,
+    kind: (bool, u32),
     arbitrary: u64,
     node: &NodeSpec,
 ) -> bool
-    requires double { asked.double ≤ 100_000 }
-    requires surely { asked.surely ≡ true }
+    requires double { kind.1 ≤ 100_000 }
     requires few { length nodes.now ≤ 64 }
     requires arbitrary { arbitrary ≡ arbitrary_count (traffic_with nodes.now script.now) }
-    ensures { result ≡ is_trusted_by (stays (join_of script.now)) asked.rate (traffic_with nodes.now script.now)
-        asked.double node.now }
+    ensures { result ≡ is_trusted_by (stays (join_of script.now)) kind.0 (traffic_with nodes.now script.now)
+        kind.1 node.now }
 {
+    let (rate, double) = kind;
+    let asked = Asked {
+        rate,
+        surely: true,
+        double,
+    };
     is_enough(staying(nodes, script, asked, node), arbitrary)
 }
 
@@ -152,7 +144,7 @@ fn staying(nodes: &NodeList, script: &Script, asked: Asked, receiver: &NodeSpec)
     for place in 0..nodes.len() {
         match nodes.get(place) {
             Some(node) => {
-                if is_staying(script, node) && has_value(script, asked, receiver, node) {
+                if is_relied_on(script, asked, receiver, node) {
                     count += 1;
                 }
             }
@@ -160,6 +152,16 @@ fn staying(nodes: &NodeList, script: &Script, asked: Asked, receiver: &NodeSpec)
         }
     }
     count
+}
+
+// A sender that does not join, of whom a receiver has such a value.
+fn is_relied_on(script: &Script, asked: Asked, receiver: &NodeSpec, sender: &NodeSpec) -> bool
+    requires { asked.double ≤ 100_000 }
+    ensures { (nodes : List NodeSpec) → result ≡ (is_correct_sender (traffic_with nodes script.now) sender.now
+        && (stays (join_of script.now) sender.now.id
+        && has_value asked.rate asked.surely (traffic_with nodes script.now) asked.double receiver.now sender.now)) }
+{
+    is_staying(script, sender) && has_value(script, asked, receiver, sender)
 }
 
 // How many senders do not join.
@@ -207,7 +209,11 @@ fn costs_to_join(nodes: &NodeList, script: &Script, rate: bool, double: u32) -> 
     ensures most { result.most ≤ 100 }
     ensures second { result.second ≤ 100 }
 {
-    let asked = asked(rate, double);
+    let asked = Asked {
+        rate,
+        surely: true,
+        double,
+    };
     let mut costs = Costs { most: 0, second: 0 };
     for place in (0..nodes.len()).rev() {
         match nodes.get(place) {
@@ -234,7 +240,8 @@ fn costs_with(
         (if not (correct_has_begun (traffic_with nodes.now script.now) (join_of script.now) asked.double node.now)
         then costs
         else with_cost
-        (cost_to_join asked.rate (traffic_with nodes.now script.now) (join_of script.now) asked.double node.now) costs) }
+        (cost_to_join asked.rate (traffic_with nodes.now script.now) (join_of script.now) asked.double node.now)
+        costs) }
     ensures most { result.most ≤ 100 }
     ensures second { result.second ≤ 100 }
 {
