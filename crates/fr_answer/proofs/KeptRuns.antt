@@ -26,7 +26,8 @@ pub record FilePromises : Type 0 where
   pub lost : CoveredFilesKeepThroughLosses
   pub joined_lost : CoveredFilesKeepJoinedThroughLosses
 
-pub kept_text : FilePromises → (p : Values) (d : DriftView) (s : ScriptView) (text : List ℕ) → IsSane p → DriftFits p d → ScriptFits p s → IsRunText p d s text
+-- it says this of the same run
+abbrev pub kept_text : FilePromises → (p : Values) (d : DriftView) (s : ScriptView) (text : List ℕ) → IsSane p → DriftFits p d → ScriptFits p s → IsRunText p d s text
     → IsKeptRunText p d s text
 kept_text promises p d s text sane drift_fits script_fits report = record {
   report = report;
