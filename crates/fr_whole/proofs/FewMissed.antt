@@ -33,7 +33,7 @@ use Rattle.fr_sharp.specs.SharpStatement.{has_arbitrary}
 use Rattle.fr_sharp.specs.Traffic.{all_linked, arbitrary_count, comes, costs_of, has_value, heard_in, is_correct_sender, lists_meet, missed_or_discarded, sender_count, traffic_in, value_on, with_cost, Traffic}
 use Rattle.fr_sharp.specs.declared.traffic.Costs.{Costs}
 use Rattle.fr_sharp.proofs.FromLossyFiles.{covered_files_keep_through_losses}
-use Rattle.fr_sharp.proofs.HeardCounts.{two_cost}
+use Rattle.fr_sharp.proofs.GreatestCosts.{two_cost}
 use Rattle.fr_sharp.proofs.LossBurstLaws.{keeps_wider}
 use Rattle.fr_sharp.proofs.MeetingNumbers.{keys_counted, missed_more}
 use Rattle.fr_sharp.proofs.TrafficCounts.{and_true, parted, some_counted}
