@@ -1,4 +1,4 @@
--- Losses in bursts cost no more than one burst alone.
+-- Losses in bursts cost no more than one burst alone, and those in every second double cycle what that costs.
 use Rattle.std.proofs.Common.{◌≡◌, ℕ, ℤ, zero, suc, ◌+◌, ◌-◌, ◌<◌, ◌≤◌, Bool, true, false, pos, inl, inr, refl, ap, sym, subst, arith}
 use Rattle.std.specs.Prelude.{◌≤ℤ◌, max}
 use Rattle.std.proofs.lemmas.Bool.{cases_Bool}
@@ -7,23 +7,29 @@ use Rattle.fr_cluster.specs.Setting.{Setting}
 use Rattle.fr_cluster.specs.Values.{Values}
 use Rattle.fr_bound.specs.Bounds.{longest_micro}
 use Rattle.fr_bound.specs.declared.settling.Spread.{Spread}
+use Rattle.fr_cluster.specs.Sane.{IsSane}
 use Rattle.fr_coverage.specs.Decided.{setting_of}
+use Rattle.fr_drift.specs.Questions.{doubles_of}
+use Rattle.fr_drift.specs.View.{DriftView}
 use Rattle.fr_history.specs.Cycles.{Cycles}
 use Rattle.fr_bound.specs.SharpSpreads.{next_lost_spread}
 use Rattle.fr_bound.specs.declared.judging.Heard.{Heard}
 use Rattle.fr_bound.specs.declared.judging.Heard.TheVariants as heard
 use Rattle.fr_precision.specs.Among.{apart_through_losses, lost_spread, spread_through_losses, LaterSpreadsAreLess, SpreadsAreBelowLost}
+use Rattle.fr_precision.specs.SharpRun.{WalkLastsAfter}
+use Rattle.fr_promise.specs.Statement.{IsRunOf}
+use Rattle.fr_script.specs.View.{ScriptView}
 use Rattle.fr_sharp.specs.Bearing.{KeepsThrough}
-use Rattle.fr_sharp.specs.LossBursts.{BurstsCostNoMore, BurstsKeepThePeak, IsInBurstFrom, LosesInBursts, LosesInBurstsFrom}
-use Rattle.fr_sharp.specs.LossCosts.{heard_behind}
+use Rattle.fr_sharp.specs.LossBursts.{BurstsCostNoMore, BurstsKeepThePeak, EverySecondCostsNoMore, EverySecondKeepsThePeak, IsInBurstFrom, LosesInBursts, LosesInBurstsFrom}
+use Rattle.fr_sharp.specs.LossCosts.{heard_behind, HearsEverySecond}
 use Rattle.fr_sharp.specs.Losses.{lost_apart, HistoriesKeepThroughLosses}
 use Rattle.fr_traffic.specs.Reaching.{whole_in}
 use Rattle.fr_runs.specs.SharpHistories.{IsInSharpSyncAt}
 use Rattle.fr_sharp.specs.SharpStatement.{has_arbitrary}
-use Rattle.fr_traffic.specs.Traffic.{heard_in, traffic_in}
+use Rattle.fr_traffic.specs.Traffic.{heard_in, none_lacks, traffic_in}
 use Rattle.fr_bound.specs.SharpSpreads.{sharply_near_in}
 use Rattle.fr_promise.proofs.AmongNumbers.{heard_again, next_is}
-use Rattle.fr_sharp.specs.LossStatement.{apart_since}
+use Rattle.fr_sharp.specs.LossStatement.{apart_since, IsCoveredThroughLosses}
 use Rattle.fr_sharp.proofs.FromLossyFiles.{covered_files_keep_through_losses, later_since, none_is_clean, whole_is_clean}
 use Rattle.fr_promise.proofs.JoinBounds.{near_grows}
 use Rattle.fr_sharp.proofs.LossLemmas.{apart_under, far_grows, far_within, Far}
@@ -166,22 +172,48 @@ from_there whole from count bursts k late lost =
       calm = λ earlier since less le. burst.calm (from + earlier) (omega arith) (omega (arith, less)) (omega (arith, less, le));
     }
 
-pub bursts_keep_the_peak : HistoriesKeepThroughLosses → LaterSpreadsAreLess → SpreadsAreBelowLost → BurstsKeepThePeak
-bursts_keep_the_peak keep later below p d s from flutter count cost h double passed sane bursts is covered alone run late sync awake within lasts =
+-- a run keeps within each number that what is lost from there on costs no more than
+within_costs : HistoriesKeepThroughLosses → LaterSpreadsAreLess → SpreadsAreBelowLost → (p : Values) (d : DriftView) (s : ScriptView) (from flutter reach peak : ℕ) (h : Cycles) (double passed : ℕ)
+    → IsSane p → IsCoveredThroughLosses p d s from flutter reach → has_arbitrary p s ≡ false → IsRunOf (setting_of p d s) h
+    → from ≤ double → IsInSharpSyncAt false p flutter (pos 0) h double → none_lacks (traffic_in p s) double ≡ true → double + passed < doubles_of d → WalkLastsAfter p flutter passed
+    → lost_apart p flutter (λ m. whole_in p s (from + m)) ((double + passed) - from) ≤ peak → KeepsThrough (setting_of p d s) h (double + passed) peak
+within_costs keep later below p d s from flutter reach peak h double passed sane covered alone run late sync awake within lasts cost_is =
     let beside = has_arbitrary p s in
     let n : ℕ = (double + passed) - from in
     let what : ℕ → Heard = λ m. heard_in (traffic_in p s) (from + m) in
     let whole : ℕ → Bool = λ m. whole_in p s (from + m) in
     let now = apart_through_losses beside p flutter (λ m. heard_in (traffic_in p s) (double + m)) passed in
     let synced : IsInSharpSyncAt beside p flutter (pos 0) h double = subst (λ (b : Bool). IsInSharpSyncAt b p flutter (pos 0) h double) (sym alone) sync in
-    let keeps = covered_files_keep_through_losses keep later p d s from flutter cost.reach h double sane covered run late synced awake passed within lasts in
+    let keeps = covered_files_keep_through_losses keep later p d s from flutter reach h double sane covered run late synced awake passed within lasts in
     let one = apart_later later beside p from flutter (λ m. heard_in (traffic_in p s) m) double passed late (none_is_clean p s) in
     let same : apart_through_losses beside p flutter what n ≡ apart_through_losses false p flutter what n = ap (λ (b : Bool). apart_through_losses b p flutter what n) alone in
     let other = below_lost below p flutter what whole n (λ m. whole_is_clean p s alone (from + m)) in
-    let cost_is = (bursts_cost_no_more p flutter count whole cost n sane (from_there (whole_in p s) from count bursts) is).0 in
-    keeps_wider (setting_of p d s) h (double + passed) now cost.peak
-    (up now (apart_through_losses beside p flutter what n) (apart_through_losses false p flutter what n) (lost_apart p flutter whole n) cost.peak one same other cost_is)
+    keeps_wider (setting_of p d s) h (double + passed) now peak
+    (up now (apart_through_losses beside p flutter what n) (apart_through_losses false p flutter what n) (lost_apart p flutter whole n) peak one same other cost_is)
     keeps
   where
     up : (a b c d e : ℕ) → a ≤ b → b ≡ c → c ≤ d → d ≤ e → a ≤ e
     up a b c d e h is k m = omega (arith, h, is, k, m)
+
+pub bursts_keep_the_peak : HistoriesKeepThroughLosses → LaterSpreadsAreLess → SpreadsAreBelowLost → BurstsKeepThePeak
+bursts_keep_the_peak keep later below p d s from flutter count cost h double passed sane bursts is covered alone run late sync awake within lasts =
+    let cost_is = bursts_cost_no_more p flutter count (λ m. whole_in p s (from + m)) cost ((double + passed) - from) sane (from_there (whole_in p s) from count bursts) is in
+    within_costs keep later below p d s from flutter cost.reach cost.peak h double passed sane covered alone run late sync awake within lasts cost_is.0
+
+-- ---- in every second double cycle
+
+pub every_second_costs_no_more : EverySecondCostsNoMore
+every_second_costs_no_more p from flutter whole cost passed every is = (is.peak.greatest (λ m. whole (from + m)) hears passed, is.reach.greatest (λ m. whole (from + m)) hears passed)
+  where
+    hears : HearsEverySecond (λ m. whole (from + m))
+    hears k = elim (cases_Bool (whole (from + k))) [
+      | inl heard ↦ inl heard
+      | inr lost ↦
+          let next : suc (from + k) ≡ from + suc k = omega arith in
+          inr (subst (λ (m : ℕ). whole m ≡ true) next (every (from + k) (omega arith) lost))
+    ]
+
+pub every_second_keeps_the_peak : HistoriesKeepThroughLosses → LaterSpreadsAreLess → SpreadsAreBelowLost → EverySecondKeepsThePeak
+every_second_keeps_the_peak keep later below p d s from flutter cost h double passed sane every is covered alone run late sync awake within lasts =
+    let cost_is = every_second_costs_no_more p from flutter (whole_in p s) cost ((double + passed) - from) every is in
+    within_costs keep later below p d s from flutter cost.reach cost.peak h double passed sane covered alone run late sync awake within lasts cost_is.0

@@ -1,6 +1,6 @@
 -- What a run keeps that loses frames in bursts: in no more than so many double cycles in a row, and before each burst two in which
--- all is heard.
-use Rattle.std.specs.Prelude.{◌≡◌, ◌+◌, ◌<◌, ◌≤◌, ℕ, pos, Bool, true, false}
+-- all is heard; or in no two in a row, for ever.
+use Rattle.std.specs.Prelude.{◌≡◌, ◌+◌, ◌<◌, ◌≤◌, ℕ, suc, pos, Bool, true, false}
 use Rattle.fr_cluster.specs.Sane.{IsSane}
 use Rattle.fr_cluster.specs.Values.{Values}
 use Rattle.fr_drift.specs.Questions.{doubles_of}
@@ -10,8 +10,9 @@ use Rattle.fr_coverage.specs.Decided.{setting_of}
 use Rattle.fr_history.specs.Cycles.{Cycles}
 use Rattle.fr_promise.specs.Statement.{IsRunOf}
 use Rattle.fr_sharp.specs.declared.loss_costs.LossCost.{LossCost}
+use Rattle.fr_sharp.specs.declared.loss_costs.SecondCost.{SecondCost}
 use Rattle.fr_precision.specs.Among.{lost_spread}
-use Rattle.fr_sharp.specs.LossCosts.{IsLossCost}
+use Rattle.fr_sharp.specs.LossCosts.{IsLossCost, IsSecondCost}
 use Rattle.fr_sharp.specs.Losses.{lost_apart}
 use Rattle.fr_traffic.specs.Reaching.{whole_in}
 use Rattle.fr_sharp.specs.LossStatement.{IsCoveredThroughLosses}
@@ -21,6 +22,8 @@ use Rattle.fr_sharp.specs.SharpStatement.{has_arbitrary}
 use Rattle.fr_traffic.specs.Traffic.{none_lacks, traffic_in}
 use Rattle.fr_precision.specs.SharpRun.{WalkLastsAfter}
 use Rattle.fr_bound.specs.SharpSpreads.{sharply_near_in}
+
+-- ---- in bursts
 
 -- of those from a double cycle on one is among so many in a row, and in the two before them all is heard, as far as these are there
 pub record IsInBurstFrom (whole : ℕ → Bool) (from count double : ℕ) : Type 0 where
@@ -50,6 +53,31 @@ abbrev pub BurstsKeepThePeak : Type 0
 BurstsKeepThePeak =
     (p : Values) (d : DriftView) (s : ScriptView) (from flutter count : ℕ) (cost : LossCost) (h : Cycles) (double passed : ℕ)
     → IsSane p → LosesInBurstsFrom (whole_in p s) from count → IsLossCost p flutter count cost
+    → IsCoveredThroughLosses p d s from flutter cost.reach → has_arbitrary p s ≡ false → IsRunOf (setting_of p d s) h
+    → from ≤ double → IsInSharpSyncAt false p flutter (pos 0) h double → none_lacks (traffic_in p s) double ≡ true
+    → double + passed < doubles_of d → WalkLastsAfter p flutter passed → KeepsThrough (setting_of p d s) h (double + passed) cost.peak
+
+-- ---- in every second double cycle
+
+-- of any two of those from a double cycle on that follow each other all is heard in one, whatever the pattern. Of the first of them nothing
+-- else is asked: it may lose frames whatever the one before it lost. So may the last one of a run, if the script loses none in the one behind
+abbrev pub LosesEverySecondFrom : (ℕ → Bool) → ℕ → Type 0
+LosesEverySecondFrom whole from = (double : ℕ) → from ≤ double → whole double ≡ false → whole (suc double) ≡ true
+
+-- then from the first of them, in sharp sync, on no macroticks and no action points may lie further apart than what that costs
+abbrev pub EverySecondCostsNoMore : Type 0
+EverySecondCostsNoMore =
+    (p : Values) (from flutter : ℕ) (whole : ℕ → Bool) (cost : SecondCost) (passed : ℕ)
+    → LosesEverySecondFrom whole from → IsSecondCost p flutter cost
+    → (lost_apart p flutter (λ m. whole (from + m)) passed ≤ cost.peak)
+    × (sharply_near_in p (lost_spread p flutter (λ m. whole (from + m)) passed) ≤ cost.reach)
+
+-- so a run of files that are covered through losses from a double cycle on, without arbitrary nodes, and loses frames in every second double
+-- cycle from there on keeps within that peak, as one that loses them in bursts does: what is lost before counts no more
+abbrev pub EverySecondKeepsThePeak : Type 0
+EverySecondKeepsThePeak =
+    (p : Values) (d : DriftView) (s : ScriptView) (from flutter : ℕ) (cost : SecondCost) (h : Cycles) (double passed : ℕ)
+    → IsSane p → LosesEverySecondFrom (whole_in p s) from → IsSecondCost p flutter cost
     → IsCoveredThroughLosses p d s from flutter cost.reach → has_arbitrary p s ≡ false → IsRunOf (setting_of p d s) h
     → from ≤ double → IsInSharpSyncAt false p flutter (pos 0) h double → none_lacks (traffic_in p s) double ≡ true
     → double + passed < doubles_of d → WalkLastsAfter p flutter passed → KeepsThrough (setting_of p d s) h (double + passed) cost.peak

@@ -43,7 +43,9 @@ pub use losing::{
     histories_keep_through_losses, joined_histories_keep_through_losses, what_is_heard_suffices,
 };
 pub use loss_checks::{LossSides, limits_hold, loss_side};
-pub use loss_cost_laws::{bursts_keep_the_peak, costs_are_one, costs_are_there};
+pub use loss_cost_laws::{
+    bursts_keep_the_peak, costs_are_one, costs_are_there, every_second_keeps_the_peak,
+};
 pub use loss_costs::{
     LossCost, SecondCost, every_second_cost, heard_behind, longest_loss, loss_cost,
 };

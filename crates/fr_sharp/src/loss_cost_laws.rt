@@ -1,4 +1,4 @@
-ghost use Rattle.fr_sharp.specs.LossBursts.{BurstsCostNoMore, BurstsKeepThePeak};
+ghost use Rattle.fr_sharp.specs.LossBursts.{BurstsCostNoMore, BurstsKeepThePeak, EverySecondCostsNoMore, EverySecondKeepsThePeak};
 ghost use Rattle.fr_sharp.specs.LossCosts.{EverySecondIsReached, OneLongest, OneLossCost, OneSecondCost, SomeLongest, SomeLossCost, SomeSecondCost};
 ghost use Rattle.fr_sharp.specs.MeetingCosts.{OneMeetingCost, SomeMeetingCost};
 
@@ -27,10 +27,23 @@ pub fn costs_are_there()
 /// heard: no macroticks lie further apart than the peak of so many in a row, in ticks, and no action points than their
 /// reach. So a run of files that are covered through losses from a double cycle on with that reach, without arbitrary sync
 /// nodes, and that from there on loses frames in bursts, keeps within that peak, from each double cycle in sharp sync from
-/// there on and as long as the walk lasts: no term is cut or missing, and every correct node is active.
+/// there on in which no node lacks values and as long as the walk lasts: no term is cut, none is missing but where a node has
+/// no value of its kind, and every correct node is active.
 pub fn bursts_keep_the_peak()
     ensures cost { BurstsCostNoMore }
     ensures keep { BurstsKeepThePeak }
+{
+    histories_keep_through_losses();
+    heard_numbers();
+}
+
+/// The promise where frames are lost in every second double cycle, for ever and whatever the pattern: of any two in a row
+/// all is heard in one. No macroticks lie further apart than the peak of that, in ticks, and no action points than its reach.
+/// So a run of files that are covered through losses from a double cycle on with that reach, without arbitrary sync nodes,
+/// and that from there on loses frames so, keeps within that peak, as one that loses them in bursts keeps within theirs.
+pub fn every_second_keeps_the_peak()
+    ensures cost { EverySecondCostsNoMore }
+    ensures keep { EverySecondKeepsThePeak }
 {
     histories_keep_through_losses();
     heard_numbers();
