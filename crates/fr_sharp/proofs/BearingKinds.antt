@@ -116,6 +116,21 @@ meeting_trusts p t double bear offsets rates = all_of (trusts t double) t.nodes 
         let other = trusted true b here is rates (is_deaf true t double b) refl two.1 in
         rw (is, one, other) refl
 
+-- where both kinds of lists meet none lacks values
+pub meeting_is_awake : (t : Traffic) (double : ℕ) → lists_meet false t double ≡ true → lists_meet true t double ≡ true → none_lacks t double ≡ true
+meeting_is_awake t double offsets rates = all_of (λ (b : NodeSpec). t.is_arbitrary b.id || not (lacks_values t double b)) t.nodes (λ b here. by b here (t.is_arbitrary b.id) refl)
+  where
+    not_so : (b : Bool) → (b ≡ true → ⊥) → b ≡ false
+    not_so true never = absurd (never refl)
+    not_so false never = refl
+
+    by : (b : NodeSpec) → Contains t.nodes b → (arbitrary : Bool) → t.is_arbitrary b.id ≡ arbitrary → (arbitrary || not (lacks_values t double b)) ≡ true
+    by b here true is = refl
+    by b here false is =
+        let one = not_so (is_deaf false t double b) (none_is_deaf false t double b offsets here is) in
+        let other = not_so (is_deaf true t double b) (none_is_deaf true t double b rates here is) in
+        rw (one, other) refl
+
 -- where none lacks values each has values of both kinds
 pub none_is_deaf_of : (x : Setting) (double : ℕ) (node : NodeSpec) → none_lacks (traffic_of x) double ≡ true → Contains (correct_nodes x) node
     → (is_deaf false (traffic_of x) double node ≡ false) × (is_deaf true (traffic_of x) double node ≡ false)

@@ -30,8 +30,9 @@ use Rattle.fr_script.specs.View.{is_arbitrary}
 use Rattle.fr_sharp.specs.Losses.{HistoriesKeepThroughLosses}
 use Rattle.fr_sharp.specs.MeetingCosts.{may_miss, sync_nodes}
 use Rattle.fr_sharp.specs.SharpStatement.{has_arbitrary}
-use Rattle.fr_traffic.specs.Traffic.{all_linked, arbitrary_count, comes, costs_by, costs_of, has_value, heard_in, is_correct_sender, lists_meet, missed_or_discarded, sender_count, traffic_in, value_on, with_cost, Traffic}
+use Rattle.fr_traffic.specs.Traffic.{all_linked, arbitrary_count, comes, costs_by, costs_of, has_value, heard_in, is_correct_sender, lists_meet, missed_or_discarded, none_lacks, sender_count, traffic_in, value_on, with_cost, Traffic}
 use Rattle.fr_traffic.specs.declared.traffic.Costs.{Costs}
+use Rattle.fr_sharp.proofs.BearingKinds.{meeting_is_awake, through_is_apart}
 use Rattle.fr_sharp.proofs.FromLossyFiles.{covered_files_keep_through_losses}
 use Rattle.fr_sharp.proofs.LossBurstLaws.{keeps_wider}
 use Rattle.fr_sharp.proofs.MeetingNumbers.{keys_counted, missed_more}
@@ -151,20 +152,26 @@ both_pass : (a b : Bool) → a ≡ true → b ≡ true → (a && b) ≡ true
 both_pass a b one other = rw (one, other) refl
 
 pub few_missed_keep_the_peak : HistoriesKeepThroughLosses → LaterSpreadsAreLess → FewMissedKeepThePeak
-few_missed_keep_the_peak keep later p d s from flutter cost h double passed sane is misses covered alone run late sync awake within lasts =
+few_missed_keep_the_peak keep later p d s from flutter cost h double passed sane is misses covered alone run late sync within lasts =
     let t : Traffic = traffic_in p s in
     let what : ℕ → Heard = λ m. heard_in t (double + m) in
     let none : arbitrary_count t ≡ 0 = no_count (arbitrary_count t) (some_counted (λ (a : NodeSpec). is_sync a && is_arbitrary s a.id) p.nodes ∙ alone) in
     let senders : sync_nodes p ≡ sender_count t (λ a. true) = keys_counted p.nodes ∙ sym (all_send t none) in
     let meets : may_miss (sender_count t (λ a. true)) cost.missed ≡ true = subst (λ (n : ℕ). may_miss n cost.missed ≡ true) senders is.missed.meets in
+    let both : (k : ℕ) → from ≤ k → (lists_meet false t k ≡ true) × (lists_meet true t k ≡ true) = λ k later_on. few_missed_meet t cost.missed k none (misses k later_on) meets in
+    let awake : (k : ℕ) → from ≤ k → none_lacks t k ≡ true = λ k later_on. let lists = both k later_on in meeting_is_awake t k lists.0 lists.1 in
     let never : (m : ℕ) → what m ≡ heard.Poor → ⊥ = λ m poor.
-    let lists = few_missed_meet t cost.missed (double + m) none (misses (double + m) (omega (arith, late))) meets in
+    let lists = both (double + m) (omega (arith, late)) in
     never_poor (all_linked t (double + m) && nat_eq (arbitrary_count t) 0) (lists_meet false t (double + m) && lists_meet true t (double + m)) (both_pass (lists_meet false t (double + m)) (lists_meet true t (double + m)) lists.0 lists.1) poor in
     let synced : IsInSharpSyncAt (has_arbitrary p s) p flutter (pos 0) h double = subst (λ (b : Bool). IsInSharpSyncAt b p flutter (pos 0) h double) (sym alone) sync in
-    let keeps = covered_files_keep_through_losses keep later p d s from flutter cost.reach h double sane covered run late synced awake passed within lasts in
+    let keeps = covered_files_keep_through_losses keep later p d s from flutter cost.reach h double sane covered run late synced (awake double late) passed within lasts in
     let same : apart_through_losses (has_arbitrary p s) p flutter what passed ≡ apart_through_losses false p flutter what passed = ap (λ (b : Bool). apart_through_losses b p flutter what passed) alone in
     let le = (meeting_costs_no_more p flutter what cost passed sane is never).0 in
+    through_is_apart (setting_of p d s) h (double + passed) cost.peak
+    (
     keeps_wider (setting_of p d s) h (double + passed) (apart_through_losses (has_arbitrary p s) p flutter what passed) cost.peak (up (apart_through_losses (has_arbitrary p s) p flutter what passed) (apart_through_losses false p flutter what passed) cost.peak same le) keeps
+    )
+    (awake (double + passed) (omega (arith, late)))
   where
     no_count : (n : ℕ) → nat_le 1 n ≡ false → n ≡ 0
     no_count n few = grind (arith, nat_tests)

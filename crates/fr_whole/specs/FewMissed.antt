@@ -17,14 +17,13 @@ use Rattle.fr_history.specs.Cycles.{Cycles}
 use Rattle.fr_precision.specs.Among.{apart_through_losses, spread_through_losses}
 use Rattle.fr_precision.specs.SharpRun.{WalkLastsAfter}
 use Rattle.fr_promise.specs.Statement.{IsRunOf}
-use Rattle.fr_runs.specs.SharpHistories.{IsInSharpSyncAt}
+use Rattle.fr_runs.specs.SharpHistories.{IsInSharpSyncAt, KeepsApart}
 use Rattle.fr_script.specs.View.{ScriptView}
-use Rattle.fr_sharp.specs.Bearing.{KeepsThrough}
 use Rattle.fr_sharp.specs.declared.meeting_costs.MeetingCost.{MeetingCost}
 use Rattle.fr_sharp.specs.LossStatement.{IsCoveredThroughLosses}
 use Rattle.fr_sharp.specs.MeetingCosts.{may_miss, sync_nodes, IsMeetingCost, IsMostMissed}
 use Rattle.fr_sharp.specs.SharpStatement.{has_arbitrary}
-use Rattle.fr_traffic.specs.Traffic.{arbitrary_count, has_value, is_correct_sender, lists_meet, none_lacks, sender_count, traffic_in, Traffic}
+use Rattle.fr_traffic.specs.Traffic.{arbitrary_count, has_value, is_correct_sender, lists_meet, sender_count, traffic_in, Traffic}
 
 -- in a double cycle each correct node has no value of so many correct senders at most, of each kind of values, and surely has one of
 -- each other: frames are lost and none is damaged
@@ -52,15 +51,15 @@ MeetingCostsNoMore =
     × (sharply_near_in p (spread_through_losses false p flutter what double) ≤ cost.reach)
 
 -- so a run of files that are covered through losses, without arbitrary nodes, keeps within that where each node misses so few in each
--- double cycle from one on: from each double cycle in sharp sync on in which no node lacks values and as long as the walk lasts; no term
--- is cut, none is missing but where a node has no value of its kind, and every correct node is active
+-- double cycle from one on: from each double cycle in sharp sync on and as long as the walk lasts. As these are fewer than all senders, no
+-- node lacks values in any of them: no term is cut, none is missing, and every correct node is active
 abbrev pub FewMissedKeepThePeak : Type 0
 FewMissedKeepThePeak =
     (p : Values) (d : DriftView) (s : ScriptView) (from flutter : ℕ) (cost : MeetingCost) (h : Cycles) (double passed : ℕ)
     → IsSane p → IsMeetingCost p flutter cost → ((k : ℕ) → from ≤ k → LosesFew (traffic_in p s) cost.missed k)
     → IsCoveredThroughLosses p d s from flutter cost.reach → has_arbitrary p s ≡ false → IsRunOf (setting_of p d s) h
-    → from ≤ double → IsInSharpSyncAt false p flutter (pos 0) h double → none_lacks (traffic_in p s) double ≡ true
-    → double + passed < doubles_of d → WalkLastsAfter p flutter passed → KeepsThrough (setting_of p d s) h (double + passed) cost.peak
+    → from ≤ double → IsInSharpSyncAt false p flutter (pos 0) h double
+    → double + passed < doubles_of d → WalkLastsAfter p flutter passed → KeepsApart (setting_of p d s) h (double + passed) cost.peak
 
 -- ---- why no more may be missed
 

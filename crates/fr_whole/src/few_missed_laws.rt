@@ -14,7 +14,7 @@ pub fn few_missed_meet()
 /// The promise where each node misses so few in each double cycle, for ever: no macroticks lie further apart, in ticks, than
 /// beside arbitrary sync nodes where all is heard, and no action points. So a run of files that are covered through losses
 /// with that reach, without arbitrary sync nodes, keeps within that, from each double cycle in sharp sync on and as long as
-/// the walk lasts: no term is cut or missing, and every correct node is active.
+/// the walk lasts. Each node has values in all of these: no term is cut or missing, and every correct node is active.
 pub fn few_missed_keep_the_peak()
     ensures cost { MeetingCostsNoMore }
     ensures keep { FewMissedKeepThePeak }
