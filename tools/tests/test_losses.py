@@ -183,6 +183,26 @@ class Losses(Bench):
                 told = self.series(params + nodes, DRIFT, script)
                 self.assertEqual([row["heard"] for row in told.cycles], ["all", "all", wanted, wanted])
 
+    def test_the_least_offset_limit_of_a_run_that_a_node_joins(self):
+        """Node 8 listens in double cycle 4. The reach that the limit has to suffice for is of its first double cycle, or, where frames are
+        lost in that, of its second one; or of the others alone, where it has not begun, or much is lost later."""
+        every, branch = list(itertools.permutations(EACH, 2)), [(one, two) for one, two in itertools.permutations(EACH, 2) if one > 4]
+        nodes, found = "".join(f"node,{node},{node},A,1\n" for node in EACH), []
+        for lost in ({}, {5: branch}, {3: every}, {3: every, 5: branch}, {5: branch, 6: branch, 7: branch}):
+            script = "join,4,8,1,,,\n" + "".join(f"lose,{cycle},{one},{two},A,,\n" for double in lost for cycle in (2 * double, 2 * double + 1)
+                                                 for one, two in lost[double])
+            heard = ["poor" if double in lost else "clean" for double in range(12)]
+            reaches = [losses_peer.Numbers(PRODUCTION, 8, 0).by(heard, listened)[1] for listened in ((), (4,))]
+            found.append(reaches[0] < reaches[1])
+            least = next(limit for limit in range(1, 1000)
+                         if losses_peer.Numbers({**PRODUCTION, "pOffsetCorrectionOut": limit}, 8, 0).hold(reaches[1]))
+            for limit, is_covered in ((least, True), (least - 1, False)):
+                params = "".join(f"param,{name},{value},,\n" for name, value in {**PRODUCTION, "pOffsetCorrectionOut": limit}.items())
+                with self.subTest(lost=list(lost), limit=limit):
+                    told = self.series(params + nodes, "doubles,12,,,,\n", script)
+                    self.assertEqual(told.lines["lost"][2] != "-", is_covered)
+        self.assertEqual(found, [True, True, True, True, False])
+
     def test_a_deaf_node_at_the_border(self):
         """Node 9 hears nobody in double cycles of a run whose oscillators change: of as many in a row as the rate limit follows the run is
         covered through losses, of one more it is not."""
