@@ -299,11 +299,11 @@ class Prose(Case):
 
     def test_lines(self):
         self.write("CHANGELOG.md", "\n" * 5539)
-        self.ends(0, "5,560 (at most 5,560)", "prose")
+        self.ends(0, "5,570 (at most 5,570)", "prose")
         self.write("examples/README.md", "\n" * 10)
-        self.ends(0, "5,560 (at most 5,560)", "prose")
+        self.ends(0, "5,570 (at most 5,570)", "prose")
         self.write("CONTRIBUTING.md", "\n")
-        self.ends(1, "5,561 lines, and at most 5,560 are allowed", "prose")
+        self.ends(1, "5,571 lines, and at most 5,570 are allowed", "prose")
 
 
 class Pictures(unittest.TestCase):
