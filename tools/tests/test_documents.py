@@ -298,7 +298,7 @@ class Prose(Case):
                 self.ends(0, "ONE.md", "prose")
 
     def test_lines(self):
-        self.write("CHANGELOG.md", "\n" * 5539)
+        self.write("CHANGELOG.md", "\n" * 5549)
         self.ends(0, "5,570 (at most 5,570)", "prose")
         self.write("examples/README.md", "\n" * 10)
         self.ends(0, "5,570 (at most 5,570)", "prose")
