@@ -25,9 +25,9 @@ pub mod FromFiles
 pub mod FromLossyFiles
 pub mod LossBurstLaws
 pub mod StrayFits
-pub mod LossTold
 pub mod JoinedFromFiles
 pub mod JoinedFromLossyFiles
+pub mod LossTold
 pub mod JudgedLaws
 pub mod JudgedCarried
 pub mod CheckGaps

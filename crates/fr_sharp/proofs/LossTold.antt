@@ -1,11 +1,14 @@
 -- What a run loses means what it is called, and where it is covered through losses it keeps to its bounds.
-use Rattle.std.proofs.Common.{◌≡◌, ◌⊎◌, ℕ, zero, suc, ◌+◌, ◌-◌, ◌*◌, ◌<◌, ◌≤◌, Bool, true, false, not, ◌&&◌, ◌||◌, Option, Some, None, List, [], ◌∷◌, inl, inr, refl, ap, ap₂, sym, ◌∙◌, subst, add-one, arith}
+use Rattle.std.proofs.Common.{◌≡◌, ◌⊎◌, ◌↔◌, ℕ, ℤ, zero, suc, pos, ◌+◌, ◌-◌, ◌*◌, ◌<◌, ◌≤◌, ◌≤ℤ◌, Bool, true, false, not, ◌&&◌, ◌||◌, Option, Some, None, List, [], ◌∷◌, inl, inr, refl, ap, ap₂, sym, ◌∙◌, subst, add-one, arith}
 use Rattle.std.specs.Prelude.{Contains, max, nat_lt, if◌then◌else◌}
-use Rattle.std.specs.List.{list_all}
-use Rattle.std.proofs.lemmas.Bool.{and_parts, cases_Bool, cases_eq, not-true, or_cases}
+use Rattle.std.specs.List.{list_all, list_any}
+use Rattle.std.proofs.lemmas.Bool.{and_parts, cases_Bool, cases_eq, cond-false, cond-true, not-true, or_cases}
+use Rattle.std.proofs.lemmas.Int.{ints}
+use Rattle.std.proofs.lemmas.List.Folds.{Any-from_list_any, list_any_at}
 use Rattle.fr_base.specs.declared.channel.Channel.{Channel}
 use Rattle.fr_base.specs.declared.channel.Channel.TheVariants as channel
-use Rattle.fr_cluster.proofs.Elements.{Contains-here, Contains-there}
+use Rattle.fr_cluster.proofs.Elements.{Contains-here, Contains-there, filtered, kept_filtered}
+use Rattle.fr_cluster.specs.Setting.{correct_nodes, Setting}
 use Rattle.fr_cluster.specs.Values.{Values}
 use Rattle.fr_cluster.specs.declared.nodes.NodeSpec.{NodeSpec}
 use Rattle.fr_drift.specs.Questions.{doubles_of}
@@ -21,24 +24,32 @@ use Rattle.fr_coverage.specs.Order.{FindsGapFrom, HasNoGapFrom, IsBehind, IsChan
 use Rattle.fr_coverage.specs.declared.gap.Gap.{Gap}
 use Rattle.fr_coverage.specs.declared.gap.Gap.TheVariants as gap
 use Rattle.fr_bound.specs.declared.settling.Spread.{Spread}
-use Rattle.fr_bound.specs.Judged.{heard_spread}
+use Rattle.fr_bound.specs.SharpBounds.{near_by}
 use Rattle.fr_bound.specs.declared.judging.Heard.{Heard}
-use Rattle.fr_bound.specs.declared.judging.Heard.TheVariants as heard
 use Rattle.fr_precision.specs.Among.{apart_through_losses, spread_through_losses, LaterSpreadsAreLess}
+use Rattle.fr_history.specs.Cycles.{Cycles}
+use Rattle.fr_runs.specs.Gathered.{listened_by}
+use Rattle.fr_promise.specs.JoinedHistories.{FirstRatesLast, KeepsJoined}
+use Rattle.fr_promise.specs.SharpJoining.{group_spread_through, next_group_spread, GroupSpread}
+use Rattle.fr_promise.proofs.JoinBounds.{group_spreads_go}
+use Rattle.fr_sharp.specs.JoinedLosses.{TakesInJoining}
+use Rattle.fr_sharp.specs.JoinedLossStatement.{group_since, run_group, CoveredFilesKeepJoinedThroughLosses}
 use Rattle.fr_sharp.specs.LossCosts.{limits_hold}
 use Rattle.fr_sharp.specs.Losses.{HistoriesKeepThroughLosses}
 use Rattle.fr_traffic.specs.Reaching.{all_reach, reaches, reaches_each}
-use Rattle.fr_sharp.specs.LossRuns.{is_borne, is_link_at_most, is_through_losses, losses_by, losses_of, lost_before, next_losses, stray_fits, through_checks, through_nodes, AreLosses, IsLastLost, LossesAreTold, RunsKeepTheirBounds}
+use Rattle.fr_sharp.specs.LossRuns.{is_borne, is_borne_of, is_link_at_most, is_through_losses, losses_by, losses_of, lost_before, near_in_group, near_passed, next_losses, some_listened, stray_fits, through_checks, through_nodes, told_apart, told_near, AreLosses, IsLastLost, IsThroughLosses, JoinedRunsKeepTheirBounds, LossesAreTold, NearIsTakenIn, RunsKeepTheirBounds}
 use Rattle.fr_sharp.specs.LossSteps.{heard_apart}
-use Rattle.fr_sharp.specs.LossStatement.{apart_since, run_strayed, without_losses, IsCoveredThroughLosses}
+use Rattle.fr_sharp.specs.LossStatement.{apart_since, run_spread, run_strayed, spread_since, without_losses}
 use Rattle.fr_traffic.specs.Reaching.{whole_in}
 use Rattle.fr_bound.specs.SharpChecks.{sharp_holds_of, SharpChecksHold}
 use Rattle.fr_bound.specs.SharpSpreads.{sharply_near_in}
 use Rattle.fr_sharp.specs.SharpStatement.{has_arbitrary}
+use Rattle.fr_traffic.specs.JoinedTraffic.{heard_of, heard_to_join, is_borne_to_join}
 use Rattle.fr_traffic.specs.Traffic.{all_bear_from, heard_in, traffic_in}
 use Rattle.fr_sharp.specs.declared.losses_of_runs.RunLosses.{RunLosses}
-use Rattle.fr_sharp.proofs.FromLossyFiles.{covered_files_keep_through_losses, later_since, none_is_clean}
-use Rattle.fr_sharp.proofs.LossBurstLaws.{apart_below, keeps_wider}
+use Rattle.fr_sharp.proofs.FromLossyFiles.{covered_files_keep_through_losses, none_is_clean}
+use Rattle.fr_sharp.proofs.LossBurstLaws.{apart_later, keeps_wider}
+use Rattle.fr_sharp.proofs.JoinedFromLossyFiles.{joined_apart_later}
 use Rattle.fr_runs.proofs.KeyedCounts.{all_pass}
 use Rattle.fr_sharp.proofs.StrayFits.{stray_fits_is_told}
 
@@ -108,15 +119,12 @@ last_next whole from n true behind is (Some last) before =
     by k later (inr earlier) = before.3 k later earlier
 last_next whole from n false behind is o before = (behind, omega arith, is, λ k later less. absurd (omega (arith, later, less)))
 
-module _ (beside : Bool) (p : Values) (from flutter : ℕ) (whole : ℕ → Bool) (what : ℕ → Heard) (trusted : ℕ → Bool) where
+module _ (beside : Bool) (p : Values) (from flutter : ℕ) (whole : ℕ → Bool) (what : ℕ → Heard) (trusted : ℕ → Bool) (near : ℕ → ℕ) where
   abbrev at : ℕ → RunLosses
-  at n = losses_by beside p from flutter whole what trusted n
+  at n = losses_by beside p from flutter whole what trusted near n
 
   abbrev apart : ℕ → ℕ
   apart n = apart_through_losses beside p flutter (λ m. what (from + m)) n
-
-  abbrev near : ℕ → ℕ
-  near n = sharply_near_in p (spread_through_losses beside p flutter (λ m. what (from + m)) n)
 
   counted : (n : ℕ) → (at n).doubles ≡ lost_before (λ m. whole (from + m)) n
   unfolding losses_by lost_before
@@ -184,8 +192,10 @@ module _ (beside : Bool) (p : Values) (from flutter : ℕ) (whole : ℕ → Bool
   trust zero each = refl
   trust (suc n) each = both_true (at n).trusted (trusted (from + n)) (trust n (λ k less. each k (omega (arith, less)))) (each n (omega arith))
 
-  pub are_losses : (doubles : ℕ) → from < doubles → AreLosses beside p from flutter whole what trusted doubles (at (doubles - from))
-  are_losses doubles some =
+  -- the numbers of action points by double cycle, where they are those by how many passed
+  pub are_losses : (near_in : ℕ → ℕ) → ((k : ℕ) → from ≤ k → near_in k ≡ near (k - from)) → (doubles : ℕ) → from < doubles
+      → AreLosses beside p from flutter whole what trusted near_in doubles (at (doubles - from))
+  are_losses near_in same doubles some =
       let n : ℕ = doubles - from in
       let end : from + n ≡ doubles = omega (arith, some) in
       let Last : ℕ → Type 0 = λ m. IsLastLost whole from m (at n).last in
@@ -199,12 +209,12 @@ module _ (beside : Bool) (p : Values) (from flutter : ℕ) (whole : ℕ → Bool
         place = omega (arith, within, end);
         reached = place.2;
         first = λ k late less. place.3 (k - from) (omega (arith, late, less));
-        near = λ k late less. nearest n (k - from) (omega (arith, late, less));
+        near = λ k late less. subst (λ (m : ℕ). m ≤ (at n).reach) (sym (same k late)) (nearest n (k - from) (omega (arith, late, less)));
         least = λ reach most.
             least n reach
             (λ k less.
             let here : (from + k) - from ≡ k = omega arith in
-            subst (λ (m : ℕ). near m ≤ reach) here (most (from + k) (omega arith) (omega (arith, less))));
+            subst (λ (m : ℕ). m ≤ reach) (same (from + k) (omega arith) ∙ ap near here) (most (from + k) (omega arith) (omega (arith, less))));
         always_trusted = λ is k late less.
             let here : from + (k - from) ≡ k = omega (arith, late) in
             subst (λ (m : ℕ). trusted m ≡ true) here (all_trust n is (k - from) (omega (arith, late, less)));
@@ -217,53 +227,59 @@ pub no_more_than_one : (heard : Bool) (count n : ℕ) → count ≤ n → (if he
 no_more_than_one true count n few = omega (arith, few)
 no_more_than_one false count n few = omega (arith, few)
 
-next_spread : (beside : Bool) (p : Values) (flutter : ℕ) (what : ℕ → Heard) (n : ℕ) → heard_spread (what n) p flutter (spread_through_losses beside p flutter what n) ≡ spread_through_losses beside p flutter what (suc n)
-unfolding spread_through_losses
-next_spread beside p flutter what n = refl
+next_group : (beside : Bool) (p : Values) (flutter : ℕ) (what : ℕ → Heard) (n : ℕ) → next_group_spread (what n) p flutter (group_spread_through beside p flutter what n) ≡ group_spread_through beside p flutter what (suc n)
+unfolding group_spread_through
+next_group beside p flutter what n = refl
+
+pub group_on : (beside : Bool) (p : Values) (flutter : ℕ) (what : ℕ → Heard) (n : ℕ) (hears : Heard) (now next : GroupSpread) → hears ≡ what n → now ≡ group_spread_through beside p flutter what n
+    → next ≡ next_group_spread hears p flutter now → next ≡ group_spread_through beside p flutter what (n + 1)
+group_on beside p flutter what n hears now next is now_is goes =
+    goes ∙ ap (λ (h : Heard). next_group_spread h p flutter now) is ∙ ap (next_group_spread (what n) p flutter) now_is ∙ next_group beside p flutter what n
+    ∙ ap (group_spread_through beside p flutter what) (sym (add-one n))
 
 here_apart : (beside : Bool) (p : Values) (flutter : ℕ) (what : ℕ → Heard) (n : ℕ) → heard_apart (what n) p flutter (spread_through_losses beside p flutter what n) ≡ apart_through_losses beside p flutter what n
 unfolding spread_through_losses
 here_apart beside p flutter what n = refl
 
-pub spread_on : (beside : Bool) (p : Values) (flutter : ℕ) (what : ℕ → Heard) (n : ℕ) (hears : Heard) (now next : Spread) → hears ≡ what n → now ≡ spread_through_losses beside p flutter what n
-    → next ≡ heard_spread hears p flutter now → next ≡ spread_through_losses beside p flutter what (n + 1)
-spread_on beside p flutter what n hears now next is now_is goes =
-    goes ∙ ap (λ (h : Heard). heard_spread h p flutter now) is ∙ ap (heard_spread (what n) p flutter) now_is ∙ next_spread beside p flutter what n
-    ∙ ap (spread_through_losses beside p flutter what) (sym (add-one n))
+-- of the nodes with rows they are those of a run that no node joins
+rows_are : (beside : Bool) (p : Values) (flutter : ℕ) (what : ℕ → Heard) (n : ℕ) → (group_spread_through beside p flutter what n).rows ≡ spread_through_losses beside p flutter what n
+rows_are beside p flutter what n = (group_spreads_go beside p flutter what n).1
 
-pub apart_on : (beside : Bool) (p : Values) (flutter : ℕ) (what : ℕ → Heard) (n : ℕ) (hears : Heard) (now : Spread) (apart : ℕ) → hears ≡ what n → now ≡ spread_through_losses beside p flutter what n
-    → apart ≡ heard_apart hears p flutter now → apart ≡ apart_through_losses beside p flutter what n
+apart_on : (beside : Bool) (p : Values) (flutter : ℕ) (what : ℕ → Heard) (n : ℕ) (hears : Heard) (now : GroupSpread) (apart : ℕ) → hears ≡ what n → now ≡ group_spread_through beside p flutter what n
+    → apart ≡ heard_apart hears p flutter now.rows → apart ≡ apart_through_losses beside p flutter what n
 apart_on beside p flutter what n hears now apart is now_is far =
-    far ∙ ap (λ (h : Heard). heard_apart h p flutter now) is ∙ ap (heard_apart (what n) p flutter) now_is ∙ here_apart beside p flutter what n
+    far ∙ ap (λ (h : Heard). heard_apart h p flutter now.rows) is ∙ ap (λ (s : GroupSpread). heard_apart (what n) p flutter s.rows) now_is
+    ∙ ap (heard_apart (what n) p flutter) (rows_are beside p flutter what n) ∙ here_apart beside p flutter what n
 
-next_by : (beside : Bool) (p : Values) (from flutter : ℕ) (whole : ℕ → Bool) (what : ℕ → Heard) (trusted : ℕ → Bool) (k : ℕ)
-    → next_losses (whole (from + k)) (trusted (from + k)) (from + k) (apart_through_losses beside p flutter (λ m. what (from + m)) k)
-    (sharply_near_in p (spread_through_losses beside p flutter (λ m. what (from + m)) k)) (losses_by beside p from flutter whole what trusted k)
-    ≡ losses_by beside p from flutter whole what trusted (suc k)
-unfolding losses_by
-next_by beside p from flutter whole what trusted k = refl
+module _ (beside : Bool) (p : Values) (from flutter : ℕ) (whole : ℕ → Bool) (what : ℕ → Heard) (trusted : ℕ → Bool) (near : ℕ → ℕ) where
+  next_by : (k : ℕ)
+      → next_losses (whole (from + k)) (trusted (from + k)) (from + k) (apart_through_losses beside p flutter (λ m. what (from + m)) k) (near k)
+      (losses_by beside p from flutter whole what trusted near k)
+      ≡ losses_by beside p from flutter whole what trusted near (suc k)
+  unfolding losses_by
+  next_by k = refl
 
-module _ (beside : Bool) (p : Values) (from flutter : ℕ) (whole : ℕ → Bool) (what : ℕ → Heard) (trusted : ℕ → Bool) where
-  abbrev since : ℕ → Heard
-  since m = what (from + m)
-
-  pub losses_on : (n : ℕ) (all trust : Bool) (hears : Heard) (apart near : ℕ) (now : Spread) (was : RunLosses) → all ≡ whole (from + n) → trust ≡ trusted (from + n) → hears ≡ what (from + n)
-      → now ≡ spread_through_losses beside p flutter (λ m. what (from + m)) n → apart ≡ heard_apart hears p flutter now → near ≡ sharply_near_in p now
-      → was ≡ losses_by beside p from flutter whole what trusted n → next_losses all trust (from + n) apart near was ≡ losses_by beside p from flutter whole what trusted (n + 1)
-  losses_on n all trust hears apart near now was all_is trust_is is now_is apart_is near_is was_is =
+  pub losses_on : (n : ℕ) (all trust : Bool) (hears : Heard) (apart close : ℕ) (now : GroupSpread) (was : RunLosses) → all ≡ whole (from + n) → trust ≡ trusted (from + n) → hears ≡ what (from + n)
+      → now ≡ group_spread_through beside p flutter (λ m. what (from + m)) n → apart ≡ heard_apart hears p flutter now.rows → close ≡ near n
+      → was ≡ losses_by beside p from flutter whole what trusted near n → next_losses all trust (from + n) apart close was ≡ losses_by beside p from flutter whole what trusted near (n + 1)
+  losses_on n all trust hears apart close now was all_is trust_is is now_is apart_is close_is was_is =
       let double : ℕ = from + n in
+      let since : ℕ → Heard = λ m. what (from + m) in
       let far : apart ≡ apart_through_losses beside p flutter since n = apart_on beside p flutter since n hears now apart is now_is apart_is in
-      let close : near ≡ sharply_near_in p (spread_through_losses beside p flutter since n) = near_is ∙ ap (sharply_near_in p) now_is in
-      ap (λ (b : Bool). next_losses b trust double apart near was) all_is ∙ ap (λ (b : Bool). next_losses (whole double) b double apart near was) trust_is
-      ∙ ap (λ (a : ℕ). next_losses (whole double) (trusted double) double a near was) far
-      ∙ ap (λ (a : ℕ). next_losses (whole double) (trusted double) double (apart_through_losses beside p flutter since n) a was) close
-      ∙ ap (next_losses (whole double) (trusted double) double (apart_through_losses beside p flutter since n) (sharply_near_in p (spread_through_losses beside p flutter since n))) was_is
-      ∙ next_by beside p from flutter whole what trusted n
-      ∙ ap (losses_by beside p from flutter whole what trusted) (sym (add-one n))
+      ap (λ (b : Bool). next_losses b trust double apart close was) all_is ∙ ap (λ (b : Bool). next_losses (whole double) b double apart close was) trust_is
+      ∙ ap (λ (a : ℕ). next_losses (whole double) (trusted double) double a close was) far
+      ∙ ap (λ (a : ℕ). next_losses (whole double) (trusted double) double (apart_through_losses beside p flutter since n) a was) close_is
+      ∙ ap (next_losses (whole double) (trusted double) double (apart_through_losses beside p flutter since n) (near n)) was_is ∙ next_by n
+      ∙ ap (losses_by beside p from flutter whole what trusted near) (sym (add-one n))
 
 pub losses_are_told_lem : LossesAreTold
 losses_are_told_lem p d s from flutter some =
-    are_losses (has_arbitrary p s) p from flutter (whole_in p s) (heard_in (traffic_in p s)) (is_borne p s from flutter) (doubles_of d) some
+    are_losses (has_arbitrary p s) p from flutter (whole_in p s) (heard_of p s) (is_borne_of p s from flutter) (near_passed p s from flutter) (told_near p s from flutter) same (doubles_of d) some
+  where
+    same : (k : ℕ) → from ≤ k → told_near p s from flutter k ≡ near_passed p s from flutter (k - from)
+    same k late =
+        let here : k ≡ from + (k - from) = omega (arith, late) in
+        ap (λ (n : ℕ). near_in_group p s n (group_since (has_arbitrary p s) p from flutter (heard_of p s) k)) here
 
 -- ---- the run without what it loses
 
@@ -465,6 +481,61 @@ module _ (p : Values) (d : DriftView) (s : ScriptView) where
             told = refl;
           }))))) (omega arith))
 
+-- ---- how far action points may lie apart, of the nodes that follow too
+
+-- where some node passes, each that does is asked; else none is
+asked_of : (test : NodeSpec → Bool) (nodes : List NodeSpec) (near reach : ℕ)
+    → ((node : NodeSpec) → Contains nodes node → test node ≡ true → near ≤ reach) ↔ ((if list_any test nodes then near else 0) ≤ reach)
+asked_of test nodes near reach = (all_in (cases_Bool (list_any test nodes)), λ small node there passes. subst (λ (n : ℕ). n ≤ reach) (cond-true (list_any test nodes) near 0 (list_any_at test nodes there.0 node there.1 (ap test there.2 ∙ passes))) small)
+  where
+    all_in : (list_any test nodes ≡ true) ⊎ (list_any test nodes ≡ false) → ((node : NodeSpec) → Contains nodes node → test node ≡ true → near ≤ reach) → (if list_any test nodes then near else 0) ≤ reach
+    all_in (inl some) each =
+        let one = Any-from_list_any test nodes some in
+        subst (λ (n : ℕ). n ≤ reach) (sym (cond-true (list_any test nodes) near 0 some)) (each one.1 (one.0, one.2, one.3) one.4)
+    all_in (inr none) each = subst (λ (n : ℕ). n ≤ reach) (sym (cond-false (list_any test nodes) near 0 none)) (omega arith)
+
+pub near_is_taken_in : NearIsTakenIn
+near_is_taken_in p d s double reach spread = (inside, outside)
+  where
+    x : Setting
+    x = setting_of p d s
+
+    correct : NodeSpec → Bool
+    correct node = not (is_arbitrary s node.id)
+
+    follower : ℕ → NodeSpec → Bool
+    follower ago node = listened_by (join_of s node.id) ago double
+
+    of_followers : ℕ → ℕ → ℕ
+    of_followers ago near = if some_listened p.nodes s ago double then near else 0
+
+    -- each correct node that listened then, and each node that is correct and did
+    each : (ago near : ℕ)
+        → ((node : NodeSpec) → Contains (correct_nodes x) node → follower ago node ≡ true → near ≤ reach) ↔ (of_followers ago near ≤ reach)
+    each ago near =
+        let asked = asked_of (λ node. correct node && follower ago node) p.nodes near reach in (
+          λ one. asked.0 (λ node there passes. let both = and_parts (correct node) (follower ago node) passes in one node (kept_filtered correct p.nodes node there both.0) both.1),
+          λ small node there listened. let both = filtered correct p.nodes node there in asked.1 small node both.0 (both_true (correct node) (follower ago node) both.1 listened),
+        )
+
+    inside : TakesInJoining x spread double reach → near_in_group p s double spread ≤ reach
+    inside takes =
+        widest (near_by p spread.rows.starts spread.rows.lengths) (max (of_followers 2 (near_by p spread.seconds spread.rows.lengths)) (of_followers 1 (near_by p spread.firsts.starts spread.firsts.lengths))) reach takes.rows
+        (widest (of_followers 2 (near_by p spread.seconds spread.rows.lengths)) (of_followers 1 (near_by p spread.firsts.starts spread.firsts.lengths)) reach
+        ((each 2 (near_by p spread.seconds spread.rows.lengths)).0 takes.seconds) ((each 1 (near_by p spread.firsts.starts spread.firsts.lengths)).0 takes.firsts))
+
+    outside : near_in_group p s double spread ≤ reach → TakesInJoining x spread double reach
+    outside small =
+        let seconds = of_followers 2 (near_by p spread.seconds spread.rows.lengths) in
+        let firsts = of_followers 1 (near_by p spread.firsts.starts spread.firsts.lengths) in
+        let all = wider (near_by p spread.rows.starts spread.rows.lengths) (max seconds firsts) in
+        let followers = wider seconds firsts in
+        record {
+          rows = no_more (near_by p spread.rows.starts spread.rows.lengths) (near_in_group p s double spread) reach all.0 small;
+          seconds = (each 2 (near_by p spread.seconds spread.rows.lengths)).1 (no_more seconds (max seconds firsts) reach followers.0 (no_more (max seconds firsts) (near_in_group p s double spread) reach all.1 small));
+          firsts = (each 1 (near_by p spread.firsts.starts spread.firsts.lengths)).1 (no_more firsts (max seconds firsts) reach followers.1 (no_more (max seconds firsts) (near_in_group p s double spread) reach all.1 small));
+        }
+
 -- ---- covered through losses
 
 four_hold : (holds : ℕ → Bool) → holds 2 ≡ true → holds 3 ≡ true → holds 4 ≡ true → holds 5 ≡ true → (k : ℕ) → 2 ≤ k → k ≤ 5 → holds k ≡ true
@@ -489,14 +560,24 @@ hold_checks p flutter reach hold =
     (both_true (sharp_holds_of 3 flutter reach p) (sharp_holds_of 4 flutter reach p && sharp_holds_of 5 flutter reach p) (hold 3 (omega arith) (omega arith))
     (both_true (sharp_holds_of 4 flutter reach p) (sharp_holds_of 5 flutter reach p) (hold 4 (omega arith) (omega arith)) (hold 5 (omega arith) (omega arith))))
 
-not_false : (a : Bool) → a ≡ false → not a ≡ true
-not_false a is = rw is refl
+-- what is heard where no correct node joins, and where one does
+heard_alone : (p : Values) (s : ScriptView) → some_join p s ≡ false → heard_of p s ≡ heard_in (traffic_in p s)
+heard_alone p s alone = λ i m. cond-false (some_join p s) (heard_to_join (traffic_in p s) (join_of s) m) (heard_in (traffic_in p s) m) alone i
+
+heard_joined : (p : Values) (s : ScriptView) → some_join p s ≡ true → heard_of p s ≡ heard_to_join (traffic_in p s) (join_of s)
+heard_joined p s joins = λ i m. cond-true (some_join p s) (heard_to_join (traffic_in p s) (join_of s) m) (heard_in (traffic_in p s) m) joins i
+
+borne_alone : (p : Values) (s : ScriptView) (from flutter double : ℕ) → some_join p s ≡ false → is_borne_of p s from flutter double ≡ is_borne p s from flutter double
+borne_alone p s from flutter double alone = cond-false (some_join p s) (is_borne_to_join p s double) (is_borne p s from flutter double) alone
+
+borne_joined : (p : Values) (s : ScriptView) (from flutter double : ℕ) → some_join p s ≡ true → is_borne_of p s from flutter double ≡ is_borne_to_join p s double
+borne_joined p s from flutter double joins = cond-true (some_join p s) (is_borne_to_join p s double) (is_borne p s from flutter double) joins
 
 module _ (p : Values) (d : DriftView) (s : ScriptView) (from flutter : ℕ) (finds : FindsGapFrom p d s from) (some : from < doubles_of d) where
   abbrev losses : RunLosses
   losses = losses_of p d s from flutter
 
-  told : AreLosses (has_arbitrary p s) p from flutter (whole_in p s) (heard_in (traffic_in p s)) (is_borne p s from flutter) (doubles_of d) losses
+  told : AreLosses (has_arbitrary p s) p from flutter (whole_in p s) (heard_of p s) (is_borne_of p s from flutter) (told_near p s from flutter) (doubles_of d) losses
   told = losses_are_told_lem p d s from flutter some
 
   -- what it is to be borne, and the second check
@@ -504,56 +585,117 @@ module _ (p : Values) (d : DriftView) (s : ScriptView) (from flutter : ℕ) (fin
       → (all_bear_from p (traffic_in p s) from double ≡ true) × (stray_fits p flutter (suc double - from) (run_strayed p s from flutter (suc double)) ≡ true)
   parts double is = and_parts (all_bear_from p (traffic_in p s) from double) (stray_fits p flutter (suc double - from) (run_strayed p s from flutter (suc double))) is
 
-  pub through_is_covered : flutter_from p d s from ≤ flutter → is_through_losses p s flutter (gap_from p d s from) losses ≡ true → IsCoveredThroughLosses p d s from flutter losses.reach
-  through_is_covered flutters is =
-      let first = and_parts losses.trusted (through_checks p flutter losses.reach && through_nodes p s (gap_from p d s from)) is in
-      let second = and_parts (through_checks p flutter losses.reach) (through_nodes p s (gap_from p d s from)) first.1 in
-      let fourth = and_parts (not (some_join p s)) (is_link_at_most (gap_from p d s from) && all_reach p.nodes s None) second.1 in
-      let fifth = and_parts (is_link_at_most (gap_from p d s from)) (all_reach p.nodes s None) fourth.1 in
-      record {
-        checks = checks_hold p flutter losses.reach second.0;
-        near = told.near;
-        none_joins = not-true (some_join p s) fourth.0;
-        none = bare p d s from finds fifth.0 fifth.1;
-        flutters = flutters;
-        borne = λ double late less. (parts double (told.always_trusted first.0 double late less)).0;
-        limit = λ double passed late less few lasts.
-            (stray_fits_is_told p flutter (suc double - from) (run_strayed p s from flutter (suc double)) ((checks_hold p flutter losses.reach second.0) 2 (omega arith) (omega arith))).0 (parts double (told.always_trusted first.0 double late less)).1 passed few lasts;
-      }
+  -- the nodes with rows lie as near as in a run that no node joins
+  near_alone : some_join p s ≡ false → (double : ℕ) → from ≤ double → double < doubles_of d → sharply_near_in p (run_spread p s from flutter double) ≤ losses.reach
+  near_alone alone double late less =
+      let taken = (near_is_taken_in p d s double losses.reach (group_since (has_arbitrary p s) p from flutter (heard_of p s) double)).1 (told.near double late less) in
+      let Near : Spread → Type 0 = λ rows. sharply_near_in p rows ≤ losses.reach in
+      let Heard : (ℕ → Heard) → Type 0 = λ what. sharply_near_in p (spread_since (has_arbitrary p s) p from flutter what double) ≤ losses.reach in
+      subst Heard (heard_alone p s alone) (subst Near (rows_are (has_arbitrary p s) p flutter (λ m. heard_of p s (from + m)) (double - from)) taken.rows)
 
-  pub covered_is_through : IsCoveredThroughLosses p d s from flutter losses.reach → is_through_losses p s flutter (gap_from p d s from) losses ≡ true
-  covered_is_through covered =
-      both_true losses.trusted (through_checks p flutter losses.reach && through_nodes p s (gap_from p d s from))
-      (told.all_are_trusted (λ double late less.
-      both_true (all_bear_from p (traffic_in p s) from double) (stray_fits p flutter (suc double - from) (run_strayed p s from flutter (suc double))) (covered.borne double late less)
-      ((stray_fits_is_told p flutter (suc double - from) (run_strayed p s from flutter (suc double)) (covered.checks 2 (omega arith) (omega arith))).1 (λ passed few lasts. covered.limit double passed late less few lasts))))
-      (both_true (through_checks p flutter losses.reach) (through_nodes p s (gap_from p d s from)) (hold_checks p flutter losses.reach covered.checks)
-      (both_true (not (some_join p s)) (is_link_at_most (gap_from p d s from) && all_reach p.nodes s None) (not_false (some_join p s) covered.none_joins)
-      (both_true (is_link_at_most (gap_from p d s from)) (all_reach p.nodes s None) (at_most_link p d s from finds covered.none (gap_from p d s from) refl) (all_share p d s from some covered.none))))
+  -- what is heard, and each node that may follow, is taken in
+  near_joined : some_join p s ≡ true → (double : ℕ) → from ≤ double → double < doubles_of d → TakesInJoining (setting_of p d s) (run_group p d s from flutter double) double losses.reach
+  near_joined joins double late less =
+      let Takes : (ℕ → Heard) → Type 0 = λ what. TakesInJoining (setting_of p d s) (group_since (has_arbitrary p s) p from flutter what double) double losses.reach in
+      subst Takes (heard_joined p s joins)
+      ((near_is_taken_in p d s double losses.reach (group_since (has_arbitrary p s) p from flutter (heard_of p s) double)).1 (told.near double late less))
+
+  pub through_is_covered : flutter_from p d s from ≤ flutter → is_through_losses p s flutter (gap_from p d s from) losses ≡ true → IsThroughLosses p d s from flutter losses.reach
+  through_is_covered flutters is = record {
+    alone = λ alone. record {
+      checks = checks;
+      near = near_alone alone;
+      none_joins = alone;
+      none = none;
+      flutters = flutters;
+      borne = λ double late less. (borne alone double late less).0;
+      limit = λ double passed late less few lasts.
+          (stray_fits_is_told p flutter (suc double - from) (run_strayed p s from flutter (suc double)) (checks 2 (omega arith) (omega arith))).0 (borne alone double late less).1 passed few lasts;
+    };
+    joined = λ joins. record {
+      checks = checks;
+      takes = near_joined joins;
+      none = none;
+      flutters = flutters;
+      hears = λ double late less. sym (borne_joined p s from flutter double joins) ∙ told.always_trusted first.0 double late less;
+    };
+  }
+    where
+      first : (losses.trusted ≡ true) × ((through_checks p flutter losses.reach && through_nodes p s (gap_from p d s from)) ≡ true)
+      first = and_parts losses.trusted (through_checks p flutter losses.reach && through_nodes p s (gap_from p d s from)) is
+
+      second : (through_checks p flutter losses.reach ≡ true) × (through_nodes p s (gap_from p d s from) ≡ true)
+      second = and_parts (through_checks p flutter losses.reach) (through_nodes p s (gap_from p d s from)) first.1
+
+      checks : SharpChecksHold flutter losses.reach p
+      checks = checks_hold p flutter losses.reach second.0
+
+      none : HasNoGapFrom p d (without_losses s) from
+      none =
+          let nodes = and_parts (is_link_at_most (gap_from p d s from)) (all_reach p.nodes s None) second.1 in
+          bare p d s from finds nodes.0 nodes.1
+
+      borne : some_join p s ≡ false → (double : ℕ) → from ≤ double → double < doubles_of d
+          → (all_bear_from p (traffic_in p s) from double ≡ true) × (stray_fits p flutter (suc double - from) (run_strayed p s from flutter (suc double)) ≡ true)
+      borne alone double late less = parts double (sym (borne_alone p s from flutter double alone) ∙ told.always_trusted first.0 double late less)
+
+  -- each double cycle is borne, and the checks and the gaps are as they are said to be
+  all_through : ((double : ℕ) → from ≤ double → double < doubles_of d → is_borne_of p s from flutter double ≡ true) → SharpChecksHold flutter losses.reach p → HasNoGapFrom p d (without_losses s) from
+      → is_through_losses p s flutter (gap_from p d s from) losses ≡ true
+  all_through borne checks none =
+      both_true losses.trusted (through_checks p flutter losses.reach && through_nodes p s (gap_from p d s from)) (told.all_are_trusted borne)
+      (both_true (through_checks p flutter losses.reach) (through_nodes p s (gap_from p d s from)) (hold_checks p flutter losses.reach checks)
+      (both_true (is_link_at_most (gap_from p d s from)) (all_reach p.nodes s None) (at_most_link p d s from finds none (gap_from p d s from) refl) (all_share p d s from some none)))
+
+  pub covered_is_through : IsThroughLosses p d s from flutter losses.reach → is_through_losses p s flutter (gap_from p d s from) losses ≡ true
+  covered_is_through covered = by (cases_Bool (some_join p s))
+    where
+      borne : (alone : some_join p s ≡ false) (double : ℕ) → from ≤ double → double < doubles_of d → is_borne p s from flutter double ≡ true
+      borne alone double late less =
+          let c = covered.alone alone in
+          both_true (all_bear_from p (traffic_in p s) from double) (stray_fits p flutter (suc double - from) (run_strayed p s from flutter (suc double))) (c.borne double late less)
+          ((stray_fits_is_told p flutter (suc double - from) (run_strayed p s from flutter (suc double)) (c.checks 2 (omega arith) (omega arith))).1 (λ passed few lasts. c.limit double passed late less few lasts))
+
+      by : (some_join p s ≡ true) ⊎ (some_join p s ≡ false) → is_through_losses p s flutter (gap_from p d s from) losses ≡ true
+      by (inl joins) =
+          let c = covered.joined joins in
+          all_through (λ double late less. borne_joined p s from flutter double joins ∙ c.hears double late less) c.checks c.none
+      by (inr alone) =
+          let c = covered.alone alone in
+          all_through (λ double late less. borne_alone p s from flutter double alone ∙ borne alone double late less) c.checks c.none
 
 -- ---- what such a run keeps
-
--- the number of a double cycle by what was heard since a later one is no greater than by what was heard since an earlier one
-apart_later : LaterSpreadsAreLess → (beside : Bool) (p : Values) (from flutter : ℕ) (what : ℕ → Heard) (double k : ℕ) → from ≤ double → (beside ≡ true → (m : ℕ) → what m ≡ heard.Clean → ⊥)
-    → apart_through_losses beside p flutter (λ m. what (double + m)) k ≤ apart_since beside p from flutter what (double + k)
-apart_later later beside p from flutter what double k late none =
-    let now = later_since later beside p from flutter what double k late none in
-    let next = later_since later beside p from flutter what double (suc k) late none in
-    let one : (double + suc k) - from ≡ suc ((double + k) - from) = omega (arith, late) in
-    let all : ℕ → Spread = λ n. spread_through_losses beside p flutter (λ m. what (from + m)) n in
-    let At : ℕ → Type 0 = λ n. (spread_through_losses beside p flutter (λ m. what (double + m)) (suc k)).starts ≤ (all n).starts in
-    apart_below p (spread_through_losses beside p flutter (λ m. what (double + m)) k) (all ((double + k) - from)) (spread_through_losses beside p flutter (λ m. what (double + m)) (suc k))
-    (all (suc ((double + k) - from))) (record { start = now.0; long = now.1 }) (subst At one next.0)
 
 pub runs_keep_their_bounds : HistoriesKeepThroughLosses → LaterSpreadsAreLess → RunsKeepTheirBounds
 runs_keep_their_bounds keep later p d s from flutter h double passed sane covered run late sync awake within lasts =
     let reach = (losses_of p d s from flutter).reach in
-    let beside = has_arbitrary p s in
     let what : ℕ → Heard = λ m. heard_in (traffic_in p s) m in
-    let now = apart_through_losses beside p flutter (λ m. heard_in (traffic_in p s) (double + m)) passed in
-    let all = apart_since beside p from flutter what (double + passed) in
+    let now = apart_through_losses (has_arbitrary p s) p flutter (λ m. heard_in (traffic_in p s) (double + m)) passed in
+    let all = told_apart p s from flutter (double + passed) in
     let keeps = covered_files_keep_through_losses keep later p d s from flutter reach h double sane covered run late sync awake passed within lasts in
-    let bound = keeps_wider (setting_of p d s) h (double + passed) now all (apart_later later beside p from flutter what double passed late (none_is_clean p s)) keeps in
+    let Less : (ℕ → Heard) → Type 0 = λ w. now ≤ apart_since (has_arbitrary p s) p from flutter w (double + passed) in
+    let le = subst Less (sym (heard_alone p s covered.none_joins)) (apart_later later (has_arbitrary p s) p from flutter what double passed late (none_is_clean p s)) in
+    let bound = keeps_wider (setting_of p d s) h (double + passed) now all le keeps in
     let told = losses_are_told_lem p d s from flutter (omega (arith, late, within)) in
     let most = told.greatest (double + passed) (omega (arith, late)) within in
     (bound, keeps_wider (setting_of p d s) h (double + passed) all (losses_of p d s from flutter).peak most bound)
+
+joined_wider : (x : Setting) (h : Cycles) (double apart wide : ℕ) → apart ≤ wide → KeepsJoined x h double apart → KeepsJoined x h double wide
+joined_wider x h double apart wide le keeps = record { skew = λ macrotick is_odd less. further _ (keeps.skew macrotick is_odd less); ends = keeps.ends }
+  where
+    further : (z : ℤ) → z ≤ℤ pos apart → z ≤ℤ pos wide
+    further z below = omega (arith, ints, below, le)
+
+pub joined_runs_keep_their_bounds : CoveredFilesKeepJoinedThroughLosses → LaterSpreadsAreLess → JoinedRunsKeepTheirBounds
+joined_runs_keep_their_bounds keep later p d s from flutter h double passed sane fits joins covered run late sync within lasting =
+    let reach = (losses_of p d s from flutter).reach in
+    let now = apart_through_losses (has_arbitrary p s) p flutter (λ m. heard_to_join (traffic_in p s) (join_of s) (double + m)) passed in
+    let all = told_apart p s from flutter (double + passed) in
+    let x = setting_of p d s in
+    let stays = keep p d s from flutter reach h double sane fits covered run late sync passed within lasting in
+    let Less : (ℕ → Heard) → Type 0 = λ w. now ≤ apart_since (has_arbitrary p s) p from flutter w (double + passed) in
+    let le = subst Less (sym (heard_joined p s joins)) (joined_apart_later later p s from flutter double passed late) in
+    let told = losses_are_told_lem p d s from flutter (omega (arith, late, within)) in
+    let most = told.greatest (double + passed) (omega (arith, late)) within in
+    let bound : FirstRatesLast p flutter passed → KeepsJoined x h (double + passed) all = λ lasts. joined_wider x h (double + passed) now all le (stays.keeps lasts) in
+    (stays, bound, λ lasts. joined_wider x h (double + passed) all (losses_of p d s from flutter).peak most (bound lasts))

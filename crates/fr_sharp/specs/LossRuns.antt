@@ -1,10 +1,8 @@
 -- What a run loses, by its files: in how many double cycles, how far macroticks may then lie apart in each, whether each correct node
 -- bears each, and whether the run is covered through losses.
-use Rattle.std.specs.Prelude.{◌≡◌, ◌↔◌, ◌+◌, ◌-◌, ◌*◌, ◌<◌, ◌≤◌, ◌+ℤ◌, ℕ, zero, suc, pos, max, min, nat_le, nat_lt, Bool, true, false, not, ◌&&◌, ◌||◌, if◌then◌else◌, List, Option, Some, None}
+use Rattle.std.specs.Prelude.{◌≡◌, ◌↔◌, ◌+◌, ◌-◌, ◌*◌, ◌<◌, ◌≤◌, ◌+ℤ◌, ℕ, zero, suc, pos, max, min, nat_le, nat_lt, Bool, true, false, not, ◌&&◌, if◌then◌else◌, List, Option, Some, None}
 use Rattle.std.specs.List.{list_any}
 use Rattle.std.specs.Option.{option_map_or}
-use Rattle.fr_base.specs.declared.channel.Channel.{Channel}
-use Rattle.fr_base.specs.declared.channel.Channel.TheVariants as channel
 use Rattle.fr_cluster.specs.Sane.{IsSane}
 use Rattle.fr_cluster.specs.Values.{Values}
 use Rattle.fr_cluster.specs.declared.nodes.NodeSpec.{NodeSpec}
@@ -24,25 +22,23 @@ use Rattle.fr_script.specs.View.{is_arbitrary, join_of, ScriptView}
 use Rattle.fr_coverage.specs.Coverage.{gap_from, some_join}
 use Rattle.fr_coverage.specs.Decided.{setting_of}
 use Rattle.fr_coverage.specs.Flutter.{flutter_from}
-use Rattle.fr_coverage.specs.Links.{is_carried_on, is_link, shares}
 use Rattle.fr_coverage.specs.declared.gap.Gap.{Gap}
 use Rattle.fr_coverage.specs.declared.gap.Gap.TheVariants as gap
 use Rattle.fr_history.specs.Cycles.{Cycles}
 use Rattle.fr_promise.specs.Statement.{IsRunOf}
 use Rattle.fr_bound.specs.declared.judging.Heard.{Heard}
-use Rattle.fr_precision.specs.Among.{apart_through_losses, spread_through_losses}
+use Rattle.fr_precision.specs.Among.{apart_through_losses}
 use Rattle.fr_sharp.specs.Bearing.{KeepsThrough}
 use Rattle.fr_sharp.specs.LossCosts.{limits_hold}
-use Rattle.fr_sharp.specs.LossStatement.{apart_since, run_apart, run_strayed, spread_since, IsCoveredThroughLosses}
+use Rattle.fr_sharp.specs.LossStatement.{apart_since, run_strayed, IsCoveredThroughLosses}
 use Rattle.fr_traffic.specs.Reaching.{whole_in}
-use Rattle.fr_traffic.specs.Traffic.{all_bear_from, heard_in, none_lacks, traffic_in}
+use Rattle.fr_traffic.specs.Traffic.{all_bear_from, none_lacks, traffic_in}
 use Rattle.fr_bound.specs.Checks.{holds_of}
 use Rattle.fr_bound.specs.SharpBounds.{rate_room, walk_lasts}
 use Rattle.fr_bound.specs.SharpChecks.{sharp_holds_of, RateSuffices}
 use Rattle.fr_runs.specs.SharpHistories.{IsInSharpSyncAt}
 use Rattle.fr_precision.specs.Lengths.{walk_on, walked_after}
 use Rattle.fr_precision.specs.SharpRun.{WalkLastsAfter, WalkLastsUpTo}
-use Rattle.fr_bound.specs.SharpSpreads.{sharply_near_in}
 use Rattle.fr_sharp.specs.SharpStatement.{has_arbitrary}
 use Rattle.fr_sharp.specs.declared.losses_of_runs.RunLosses.{RunLosses}
 

@@ -1,4 +1,4 @@
-use Rattle.fr_sharp.proofs.LossTold.{covered_is_through, losses_are_told_lem, runs_keep_their_bounds, through_is_covered}
+use Rattle.fr_sharp.proofs.LossTold.{covered_is_through, joined_runs_keep_their_bounds, losses_are_told_lem, near_is_taken_in, runs_keep_their_bounds, through_is_covered}
 use Rattle.fr_sharp.proofs.losses_of_runs.losses_are_told.Goals as goal
 
 pub returns-clause-figures : goal.returns-clause-figures
@@ -11,3 +11,9 @@ returns-clause-covered c = λ p d s from flutter sane some flutters.
 
 pub returns-clause-keeps : goal.returns-clause-keeps
 returns-clause-keeps c = runs_keep_their_bounds c.histories_keep_through_losses.ensures.keep c.heard_numbers.ensures.later
+
+pub returns-clause-joined : goal.returns-clause-joined
+returns-clause-joined c = joined_runs_keep_their_bounds c.joined_files_keep_through_losses.ensures.covered c.heard_numbers.ensures.later
+
+pub returns-clause-near : goal.returns-clause-near
+returns-clause-near c = near_is_taken_in

@@ -3,14 +3,15 @@ use Rattle.fr_cluster.specs.Values.{Values}
 use Rattle.fr_drift.specs.Questions.{doubles_of}
 use Rattle.fr_script.specs.View.{ScriptView}
 use Rattle.fr_precision.specs.Lengths.{strayed_after}
-use Rattle.fr_sharp.specs.LossRuns.{is_borne, losses_by}
+use Rattle.fr_sharp.specs.LossRuns.{is_borne_of, losses_by, near_in_group, near_passed}
 use Rattle.fr_traffic.specs.Reaching.{whole_in}
 use Rattle.fr_sharp.specs.LossSteps.{most_lost}
-use Rattle.fr_precision.specs.Among.{spread_through_losses}
+use Rattle.fr_promise.specs.SharpJoining.{group_spread_through}
 use Rattle.fr_sharp.specs.SharpStatement.{has_arbitrary}
-use Rattle.fr_traffic.specs.Traffic.{heard_in, some_keep, traffic_in}
+use Rattle.fr_traffic.specs.JoinedTraffic.{heard_of}
+use Rattle.fr_traffic.specs.Traffic.{some_keep, traffic_in}
 use Rattle.fr_sharp.specs.declared.losses_of_runs.RunLosses.{RunLosses}
-use Rattle.fr_sharp.proofs.LossTold.{losses_on, no_more_than_one, spread_on, widest}
+use Rattle.fr_sharp.proofs.LossTold.{group_on, losses_on, no_more_than_one, widest}
 use Rattle.fr_sharp.proofs.StrayFits.{stray_on}
 use Rattle.fr_sharp.proofs.losses_of_runs.run_losses.Goals as goal
 
@@ -21,8 +22,8 @@ loop-passed-init c =
     let near : c.none-losses.result.reach ≡ 0 = ap (λ (l : RunLosses). l.reach) c.none-losses.ensures in
     record {
       spread =
-          c.first-spread.ensures.spread (λ m. heard_in (traffic_in c.args.params.now c.args.script.now) (c.args.from + m))
-          ∙ ap (λ (b : Bool). spread_through_losses b c.args.params.now c.args.flutter (λ m. heard_in (traffic_in c.args.params.now c.args.script.now) (c.args.from + m)) 0) c.has_arbitrary.ensures;
+          c.first-spread.ensures.spread (λ m. heard_of c.args.params.now c.args.script.now (c.args.from + m))
+          ∙ ap (λ (b : Bool). group_spread_through b c.args.params.now c.args.flutter (λ m. heard_of c.args.params.now c.args.script.now (c.args.from + m)) 0) c.has_arbitrary.ensures;
       passed = c.first-spread.ensures.passed;
       losses = c.none-losses.ensures;
       strayed = refl;
@@ -44,15 +45,15 @@ loop-passed-preserved c =
     let count = ap (λ (l : RunLosses). l.doubles) c.followed-losses.ensures in
     let few = no_more_than_one whole c.loop-passed.losses.doubles n was.few in
     let far = ap (λ (l : RunLosses). l.reach) c.followed-losses.ensures in
-    let most = widest c.loop-passed.losses.reach c.near.result most_lost was.most c.near.ensures.most in
+    let most = widest c.loop-passed.losses.reach c.near-near.result most_lost was.most c.near-near.ensures.most in
     record {
-      spread = spread_on beside p t (λ m. heard_in (traffic_in p s) (from + m)) n c.heard_in-what.result c.loop-passed.spread.spread c.step.new.self.spread c.heard_in-what.ensures was.spread c.step.ensures.spread;
+      spread = group_on beside p t (λ m. heard_of p s (from + m)) n c.heard_of-what.result c.loop-passed.spread.spread c.step.new.self.spread c.heard_of-what.ensures was.spread c.step.ensures.spread;
       passed = omega (arith, c.step.ensures.passed, was.passed);
       losses =
           c.followed-losses.ensures
-          ∙ losses_on beside p from t (whole_in p s) (heard_in (traffic_in p s)) (is_borne p s from t) n whole c.is_borne-trusted.result c.heard_in-what.result c.apart-apart.result c.near.result
-          c.loop-passed.spread.spread c.loop-passed.losses c.is_whole-whole.ensures c.is_borne-trusted.ensures c.heard_in-what.ensures was.spread c.apart-apart.ensures.value
-          c.near.ensures.value was.losses;
+          ∙ losses_on beside p from t (whole_in p s) (heard_of p s) (is_borne_of p s from t) (near_passed p s from t) n whole c.is_borne_of-trusted.result c.heard_of-what.result c.apart-apart.result c.near-near.result
+          c.loop-passed.spread.spread c.loop-passed.losses c.is_whole-whole.ensures (c.is_borne_of-trusted.ensures from t c.is_borne-borne.ensures) c.heard_of-what.ensures was.spread c.apart-apart.ensures.value
+          (c.near-near.ensures.value ∙ ap (near_in_group p s (from + n)) was.spread) was.losses;
       strayed =
           stray_on p t (λ m. some_keep (traffic_in p s) (from + m)) n (not c.none_lacks.result) c.loop-passed.strayed c.strayed_on-strayed.result (ap not c.none_lacks.ensures) was.strayed c.strayed_on-strayed.ensures.value;
       little = (let more = c.strayed_on-strayed.ensures.most in let before = was.little in omega (arith, more, before));
@@ -68,10 +69,10 @@ returns-clause-value c =
     let count = c.saturating_sub-count.ensures in
     let end : c.loop-passed.passed ≡ doubles_of c.args.drift.now - c.args.from = omega (arith, value, count, c.loop-passed.auto.passed-end, c.loop-passed-test.false) in
     c.loop-passed.invariant.losses
-    ∙ ap (λ (n : ℕ). losses_by (has_arbitrary p s) p c.args.from c.args.flutter (whole_in p s) (heard_in (traffic_in p s)) (is_borne p s c.args.from c.args.flutter) n) end
+    ∙ ap (λ (n : ℕ). losses_by (has_arbitrary p s) p c.args.from c.args.flutter (whole_in p s) (heard_of p s) (is_borne_of p s c.args.from c.args.flutter) (near_passed p s c.args.from c.args.flutter) n) end
 
-pub is_borne-trusted-requires-clause-strayed : goal.is_borne-trusted-requires-clause-strayed
-is_borne-trusted-requires-clause-strayed c =
+pub is_borne-borne-requires-clause-strayed : goal.is_borne-borne-requires-clause-strayed
+is_borne-borne-requires-clause-strayed c =
     let p : Values = c.args.params.now in
     let s : ScriptView = c.args.script.now in
     let n = c.loop-passed.passed in
