@@ -14,23 +14,14 @@ use Rattle.fr_text.specs.Defined.{DefinesOneStatus}
 use Rattle.fr_text.specs.Kind.{HasOneAnswer, HasSomeAnswer}
 use Rattle.fr_text.proofs.Defining.{one_status, some_status}
 use Rattle.fr_report.specs.RunText.{IsRunText}
-use Rattle.fr_sharp.specs.JoinedFiles.{CoveredFilesKeepSharplyJoined}
-use Rattle.fr_sharp.specs.LossStatement.{CoveredFilesKeepThroughLosses}
-use Rattle.fr_sharp.specs.SharpFiles.{CoveredFilesKeepSharply}
 use Rattle.fr_answer.specs.RunAnswer.{IsKeptRunText}
+use Rattle.fr_answer.proofs.KeptRuns.{kept_text, FilePromises}
 use Rattle.fr_report.proofs.RunStatus.{IsDefinedText}
 
--- the report with the sharper promise, and that of losses
-pub kept_defined : CoveredFilesKeepSharply → CoveredFilesKeepSharplyJoined → CoveredFilesKeepThroughLosses → (shown : Values → DriftView → ScriptView → List ℕ) → IsDefinedText IsRunText shown → IsDefinedText IsKeptRunText shown
-kept_defined keep joined lost shown defined p d s sane fits script proper =
-    let report = defined p d s sane fits script proper in
-    record {
-      report = report;
-      sharply = λ from flutter double covered low synced. keep p d s from flutter report.cycles double sane covered report.run low synced;
-      joined = λ from flutter double covered low synced. joined p d s from flutter report.cycles double sane fits script covered report.run low synced;
-      through_losses = λ from flutter reach double covered low synced awake.
-          lost p d s from flutter reach report.cycles double sane covered report.run low synced awake;
-    }
+-- the report with the sharper promises, and those of losses
+pub kept_defined : FilePromises → (shown : Values → DriftView → ScriptView → List ℕ) → IsDefinedText IsRunText shown → IsDefinedText IsKeptRunText shown
+kept_defined promises shown defined p d s sane fits script proper =
+    kept_text promises p d s (shown p d s) sane fits script (defined p d s sane fits script proper)
 
 -- ---- a startup
 

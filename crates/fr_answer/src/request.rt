@@ -43,8 +43,7 @@ pub enum Request<'a> {
         file: &'a str,
         flutter: u64,
     },
-    /// Print what it costs where any frames may be lost in so many double cycles in a row, 1 to 1000, and delays flutter by
-    /// no more than so many ticks.
+    /// Print what losses cost: of any frames in so many double cycles in a row, 1 to 1000, with so many ticks of flutter.
     BoundLost {
         file: &'a str,
         flutter: u64,

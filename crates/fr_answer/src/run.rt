@@ -9,14 +9,15 @@ use fr_base::{Shelf, Sink};
 use fr_program::Failure;
 use fr_report::{RunFiles, answer_run};
 use fr_sharp::{
-    covered_files_keep_sharply, covered_files_keep_sharply_joined, lossy_files_give_runs,
+    covered_files_keep_sharply, covered_files_keep_sharply_joined,
+    joined_files_keep_through_losses, lossy_files_give_runs,
 };
 use std::alloc::Global;
 
 /// The report of a run, as `fr_report` answers it; of the same run it says what the sharper promise says, where the files
-/// are sharply covered, or sharply covered to join. Each file is loaded once, and only where those before it are
-/// accepted. A failure comes where a file can't be loaded, is not accepted, or memory runs out (`Stopped`), or where the
-/// sink counted a fault (`WriteFault`).
+/// are sharply covered, or covered through losses, whoever joins. Each file is loaded once, and only where those before
+/// it are accepted. A failure comes where a file can't be loaded, is not accepted, or memory runs out (`Stopped`), or where
+/// the sink counted a fault (`WriteFault`).
 pub fn answer_kept_run<S: Shelf, O: Sink>(
     alloc: Global,
     files: RunFiles<'_>,
@@ -30,5 +31,6 @@ pub fn answer_kept_run<S: Shelf, O: Sink>(
     covered_files_keep_sharply();
     covered_files_keep_sharply_joined();
     lossy_files_give_runs();
+    joined_files_keep_through_losses();
     answer_run(alloc, files, shelf, out)
 }

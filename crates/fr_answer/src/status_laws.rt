@@ -22,7 +22,7 @@ use fr_params::{accepted_are_sane, files_are_upgraded};
 use fr_report::{a_made_run_has_one_status, a_run_is_lawful, a_trace_has_one_status};
 use fr_sharp::{
     costs_are_there, covered_files_keep_sharply, covered_files_keep_sharply_joined,
-    lossy_files_give_runs,
+    joined_files_keep_through_losses, lossy_files_give_runs,
 };
 use fr_verdict::a_passing_trace_keeps_its_precision;
 
@@ -50,8 +50,7 @@ pub fn settlings_have_one_status()
     fr_params::some_answer();
 }
 
-/// A law: so do those of a request for what losses cost, with a flutter in ticks and a number of double cycles that is
-/// not 0.
+/// A law: so do those of a request for what losses cost, with a flutter in ticks and a number of double cycles but 0.
 pub fn losses_have_one_status()
     ensures { (flutter count : ℕ) → 1 ≤ count → DefinesOneStatus (loss_files flutter count) 1 }
 {
@@ -94,8 +93,7 @@ pub fn vectors_have_one_status()
     fr_nm::some_answer();
 }
 
-/// A law: the bytes of the three files of a run define one status of a request for its report, with what the promises
-/// say of it.
+/// A law: the bytes of the three files of a run define one status of a request for its report, with what is promised.
 pub fn a_run_has_one_status()
     ensures { DefinesOneStatus (run_files IsKeptRunText) 3 }
 {
@@ -110,6 +108,7 @@ pub fn a_run_has_one_status()
     covered_files_keep_sharply();
     covered_files_keep_sharply_joined();
     lossy_files_give_runs();
+    joined_files_keep_through_losses();
 }
 
 /// A law: the bytes of the two files of a startup define one status.

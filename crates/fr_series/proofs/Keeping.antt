@@ -1,18 +1,16 @@
 -- What a double cycle hears and keeps, by what was heard since the first one in sharp sync.
-use Rattle.std.proofs.Common.{◌≡◌, ◌∙◌, ℕ, suc, ◌+◌, ◌-◌, ◌≤◌, Option, Some, ap, ap₂, sym, arith}
+use Rattle.std.proofs.Common.{◌≡◌, ◌∙◌, ℕ, ◌+◌, ◌-◌, ◌≤◌, Option, Some, ap, ap₂, sym, arith}
 use Rattle.fr_cluster.specs.Values.{Values}
-use Rattle.fr_coverage.specs.Flutter.{flutter_from}
 use Rattle.fr_drift.specs.View.{DriftView}
 use Rattle.fr_script.specs.View.{ScriptView}
 use Rattle.fr_bound.specs.SharpBounds.{most_flutter}
 use Rattle.fr_bound.specs.Judged.{heard_spread}
 use Rattle.fr_bound.specs.declared.judging.Heard.{Heard}
-use Rattle.fr_bound.specs.declared.settling.Spread.{Spread}
 use Rattle.fr_precision.specs.Among.{spread_through_losses}
-use Rattle.fr_sharp.specs.LossStatement.{run_apart}
+use Rattle.fr_sharp.specs.LossRuns.{told_apart}
 use Rattle.fr_sharp.specs.LossSteps.{heard_apart, LossDouble}
 use Rattle.fr_sharp.specs.SharpStatement.{has_arbitrary}
-use Rattle.fr_traffic.specs.Traffic.{heard_in, traffic_in}
+use Rattle.fr_traffic.specs.JoinedTraffic.{heard_of}
 use Rattle.fr_sharp.proofs.LossTold.{apart_on, spread_on}
 use Rattle.fr_series.specs.Basis.{basis_of}
 use Rattle.fr_series.specs.SharpLosses.{bound_of, bound_since, IsHeldBy}
@@ -31,24 +29,24 @@ module _ (p : Values) (d : DriftView) (s : ScriptView) where
         low = omega (arith, from);
         passed = passed ∙ none;
         apart =
-            begins (λ m. heard_in (traffic_in p s) (basis.from + m))
-            ∙ ap (λ b. spread_through_losses b p basis.flutter (λ m. heard_in (traffic_in p s) (basis.from + m)) 0) (ap (λ (b : Basis). b.beside) is)
-            ∙ ap (spread_through_losses (has_arbitrary p s) p basis.flutter (λ m. heard_in (traffic_in p s) (basis.from + m))) none;
+            begins (λ m. heard_of p s (basis.from + m))
+            ∙ ap (λ b. spread_through_losses b p basis.flutter (λ m. heard_of p s (basis.from + m)) 0) (ap (λ (b : Basis). b.beside) is)
+            ∙ ap (spread_through_losses (has_arbitrary p s) p basis.flutter (λ m. heard_of p s (basis.from + m))) none;
       }
 
-  module _ (n : ℕ) (basis : Basis) (now : LossDouble) (hears : Heard) (held : IsHeldBy p d s n basis now) (is : hears ≡ heard_in (traffic_in p s) n) where
-    here : hears ≡ heard_in (traffic_in p s) (basis.from + (n - basis.from))
-    here = let low = held.low in let same : n ≡ basis.from + (n - basis.from) = omega arith in is ∙ ap (heard_in (traffic_in p s)) same
+  module _ (n : ℕ) (basis : Basis) (now : LossDouble) (hears : Heard) (held : IsHeldBy p d s n basis now) (is : hears ≡ heard_of p s n) where
+    here : hears ≡ heard_of p s (basis.from + (n - basis.from))
+    here = let low = held.low in let same : n ≡ basis.from + (n - basis.from) = omega arith in is ∙ ap (heard_of p s) same
 
     -- its number
     pub held_bound : (apart : ℕ) (bound : Option ℕ) → apart ≡ heard_apart hears p basis.flutter now.spread → bound ≡ bound_of basis.through apart
         → bound ≡ bound_since p d s (Some basis.from) n
     held_bound apart bound far told =
-        let by : apart ≡ run_apart p s basis.from basis.flutter n =
-        apart_on (has_arbitrary p s) p basis.flutter (λ m. heard_in (traffic_in p s) (basis.from + m)) (n - basis.from) hears now.spread apart here held.apart far in
+        let by : apart ≡ told_apart p s basis.from basis.flutter n =
+        apart_on (has_arbitrary p s) p basis.flutter (λ m. heard_of p s (basis.from + m)) (n - basis.from) hears now.spread apart here held.apart far in
         told
         ∙ ap₂ (λ b t. bound_of b t) (ap (λ (b : Basis). b.through) held.is)
-        (by ∙ ap (λ (t : ℕ). run_apart p s basis.from t n) (ap (λ (b : Basis). b.flutter) held.is))
+        (by ∙ ap (λ (t : ℕ). told_apart p s basis.from t n) (ap (λ (b : Basis). b.flutter) held.is))
 
     -- and that of the next double cycle
     pub held_more : (next : LossDouble) → next.passed ≡ now.passed + 1 → next.spread ≡ heard_spread hears p basis.flutter now.spread → IsHeldBy p d s (n + 1) basis next
@@ -62,6 +60,6 @@ module _ (p : Values) (d : DriftView) (s : ScriptView) where
           low = omega arith;
           passed = passed ∙ ap (λ (m : ℕ). m + 1) was ∙ more;
           apart =
-              spread_on (has_arbitrary p s) p basis.flutter (λ m. heard_in (traffic_in p s) (basis.from + m)) (n - basis.from) hears now.spread next.spread here held.apart goes
-              ∙ ap (spread_through_losses (has_arbitrary p s) p basis.flutter (λ m. heard_in (traffic_in p s) (basis.from + m))) more;
+              spread_on (has_arbitrary p s) p basis.flutter (λ m. heard_of p s (basis.from + m)) (n - basis.from) hears now.spread next.spread here held.apart goes
+              ∙ ap (spread_through_losses (has_arbitrary p s) p basis.flutter (λ m. heard_of p s (basis.from + m))) more;
         }

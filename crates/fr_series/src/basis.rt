@@ -32,7 +32,7 @@ pub struct Basis {
     pub lost: u32,
     /// The last of them, if there is one.
     pub last_lost: Option<u32>,
-    /// Whether it is covered through losses.
+    /// Whether it is covered through losses, and where a correct node joins, to join through losses.
     pub through: bool,
     /// How far macroticks may then lie apart in the double cycle in which they may lie furthest, in ticks.
     pub peak: u128,

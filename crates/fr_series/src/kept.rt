@@ -16,10 +16,11 @@ use fr_world::World;
 pub struct Kept {
     /// Whether all is heard in it: between any two nodes one channel carries the frames of both its cycles.
     pub whole: bool,
-    /// What is heard in it: all of all, without arbitrary sync nodes; of any two nodes enough in common; or what there is.
+    /// What is heard in it: all of all, without arbitrary sync nodes; of any two nodes enough in common; or what there is. Of
+    /// nodes that join nothing is counted on.
     pub heard: Heard,
     /// How far macroticks may lie apart in it, in ticks, from the first double cycle in sharp sync on, where the run is
-    /// covered through losses from there on.
+    /// covered through losses from there on, whoever joins.
     pub bound: Option<u128>,
 }
 

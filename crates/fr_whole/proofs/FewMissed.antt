@@ -30,12 +30,12 @@ use Rattle.fr_script.specs.View.{is_arbitrary}
 use Rattle.fr_sharp.specs.Losses.{HistoriesKeepThroughLosses}
 use Rattle.fr_sharp.specs.MeetingCosts.{may_miss, sync_nodes}
 use Rattle.fr_sharp.specs.SharpStatement.{has_arbitrary}
-use Rattle.fr_traffic.specs.Traffic.{all_linked, arbitrary_count, comes, costs_of, has_value, heard_in, is_correct_sender, lists_meet, missed_or_discarded, sender_count, traffic_in, value_on, with_cost, Traffic}
+use Rattle.fr_traffic.specs.Traffic.{all_linked, arbitrary_count, comes, costs_by, costs_of, has_value, heard_in, is_correct_sender, lists_meet, missed_or_discarded, sender_count, traffic_in, value_on, with_cost, Traffic}
 use Rattle.fr_traffic.specs.declared.traffic.Costs.{Costs}
 use Rattle.fr_sharp.proofs.FromLossyFiles.{covered_files_keep_through_losses}
-use Rattle.fr_sharp.proofs.HeardCounts.{two_cost}
 use Rattle.fr_sharp.proofs.LossBurstLaws.{keeps_wider}
 use Rattle.fr_sharp.proofs.MeetingNumbers.{keys_counted, missed_more}
+use Rattle.fr_traffic.proofs.GreatestCosts.{two_cost}
 use Rattle.fr_traffic.proofs.TrafficCounts.{and_true, parted, some_counted}
 use Rattle.fr_whole.specs.FewMissed.{traffic_losing, AllShare, FewMissedKeepThePeak, FewMissedMeet, LosesFew, MeetingCostsNoMore, OneMoreMayPart}
 
@@ -90,7 +90,7 @@ with_below bound cost was le most second = by (nat_lt was.most cost) (nat_lt was
 
 costs_below : (rate : Bool) (t : Traffic) (double bound : ℕ) (nodes : List NodeSpec) → ((b : NodeSpec) → Contains nodes b → t.is_arbitrary b.id ≡ false → missed_or_discarded rate t double b ≤ bound)
     → ((costs_of rate t double nodes).most ≤ bound) × ((costs_of rate t double nodes).second ≤ bound)
-unfolding costs_of
+unfolding costs_by
 costs_below rate t double bound [] all = (omega arith, omega arith)
 costs_below rate t double bound (b ∷ nodes) all = by (t.is_arbitrary b.id) refl (costs_below rate t double bound nodes (λ c among. all c (Contains-there b nodes c among)))
   where
@@ -351,7 +351,7 @@ module _ (nodes : List NodeSpec) (k double : ℕ) (apart : Ascend nodes) (share 
   part rate fails some =
       let t : Traffic = traffic_losing nodes losing in
       let two = two_nodes nodes apart some in
-      let most = two_cost rate t double two.0 two.1 two.2 two.3 refl refl two.4 in
+      let most = two_cost (λ b. t.is_arbitrary b.id) (missed_or_discarded rate t double) nodes two.0 two.1 two.2 two.3 refl refl two.4 in
       let one = cost_is rate two.0 two.2 in
       let other = cost_is rate two.1 two.3 in
       let all = all_send t (none_is_arbitrary nodes losing share double) in

@@ -26,9 +26,7 @@ use Rattle.fr_coverage.specs.Kinds.{gaps_by_kind, AreFirstGaps}
 use Rattle.fr_whole.proofs.GapsInOrder.{sharp_gaps_are}
 use Rattle.fr_whole.specs.SharpReport.{sharp_lines_by, sharp_report_text}
 use Rattle.fr_whole.specs.SharpReportAnswer.{IsSharpRunText, IsToldSharply}
-use Rattle.fr_sharp.specs.JoinedFiles.{CoveredFilesKeepSharplyJoined}
-use Rattle.fr_sharp.specs.LossStatement.{CoveredFilesKeepThroughLosses}
-use Rattle.fr_sharp.specs.SharpFiles.{CoveredFilesKeepSharply}
+use Rattle.fr_answer.proofs.KeptRuns.{kept_text, FilePromises}
 use Rattle.fr_whole.specs.SharpReportAnswer.{IsSharpReportText, sharp_report_command}
 
 -- the first gaps of each kind, from each double cycle on
@@ -66,43 +64,37 @@ same_sharp_report one p d s text again found more =
 
 -- ---- what is kept of the run
 
-pub kept_report : CoveredFilesKeepSharply → CoveredFilesKeepSharplyJoined → CoveredFilesKeepThroughLosses → (p : Values) (d : DriftView) (s : ScriptView) (text : List ℕ) → IsSane p → DriftFits p d → ScriptFits p s → IsSharpRunText p d s text
+pub kept_report : FilePromises → (p : Values) (d : DriftView) (s : ScriptView) (text : List ℕ) → IsSane p → DriftFits p d → ScriptFits p s → IsSharpRunText p d s text
     → IsSharpReportText p d s text
-kept_report keep joined lost p d s text sane drift_fits script_fits written = record {
+kept_report promises p d s text sane drift_fits script_fits written = record {
   sharp = written.sharp;
   report = written.report;
   shown = written.shown;
-  kept = record {
-    report = written.run;
-    sharply = λ from flutter double covered low synced. keep p d s from flutter written.run.cycles double sane covered written.run.run low synced;
-    joined = λ from flutter double covered low synced. joined p d s from flutter written.run.cycles double sane drift_fits script_fits covered written.run.run low synced;
-    through_losses = λ from flutter reach double covered low synced awake.
-        lost p d s from flutter reach written.run.cycles double sane covered written.run.run low synced awake;
-  };
+  kept = kept_text promises p d s written.report sane drift_fits script_fits written.run;
   told = written.told;
 }
 
-kept_written : CoveredFilesKeepSharply → CoveredFilesKeepSharplyJoined → CoveredFilesKeepThroughLosses → (names : RunNames) (before after : Shelved) (text : List ℕ)
+kept_written : FilePromises → (names : RunNames) (before after : Shelved) (text : List ℕ)
     → IsCommandText (run_command IsSharpRunText names) before after text → IsCommandText (sharp_report_command names) before after text
-kept_written keep joined lost names before after text written =
+kept_written promises names before after text written =
     let w = written.is_text in
     let p = w.0 in let d = w.2.0 in let s = w.2.2.0 in record {
-      is_text = (p, w.1, (d, w.2.1, (s, w.2.2.1, kept_report keep joined lost p d s text w.1.sound w.2.1.sound w.2.2.1.sound.fits w.2.2.2)));
+      is_text = (p, w.1, (d, w.2.1, (s, w.2.2.1, kept_report promises p d s text w.1.sound w.2.1.sound w.2.2.1.sound.fits w.2.2.2)));
       asked = written.asked;
     }
 
-pub kept_report_ends : CoveredFilesKeepSharply → CoveredFilesKeepSharplyJoined → CoveredFilesKeepThroughLosses → (names : RunNames) (around : Around) (ending : Ending)
+pub kept_report_ends : FilePromises → (names : RunNames) (around : Around) (ending : Ending)
     → CommandEnds (run_command IsSharpRunText names) around ending → CommandEnds (sharp_report_command names) around ending
-kept_report_ends keep joined lost names around (Ok done) ends = record {
+kept_report_ends promises names around (Ok done) ends = record {
   text = ends.text;
-  defined = kept_written keep joined lost names around.shelf_before around.shelf_after ends.text ends.defined;
+  defined = kept_written promises names around.shelf_before around.shelf_after ends.text ends.defined;
   put = ends.put;
 }
-kept_report_ends keep joined lost names around (Err Usage) ends = absurd ends
-kept_report_ends keep joined lost names around (Err (Stopped why)) ends = ends
-kept_report_ends keep joined lost names around (Err WriteFault) ends = record {
+kept_report_ends promises names around (Err Usage) ends = absurd ends
+kept_report_ends promises names around (Err (Stopped why)) ends = ends
+kept_report_ends promises names around (Err WriteFault) ends = record {
   text = ends.text;
-  defined = kept_written keep joined lost names around.shelf_before around.shelf_after ends.text ends.defined;
+  defined = kept_written promises names around.shelf_before around.shelf_after ends.text ends.defined;
   put = ends.put;
 }
 

@@ -13,7 +13,8 @@ use fr_base::{PutFault, Shelf, Sink};
 use fr_program::Failure;
 use fr_report::{RunFiles, RunWriter, answer_world, world_of};
 use fr_sharp::{
-    covered_files_keep_sharply, covered_files_keep_sharply_joined, lossy_files_give_runs,
+    covered_files_keep_sharply, covered_files_keep_sharply_joined,
+    joined_files_keep_through_losses, lossy_files_give_runs,
 };
 use fr_world::{World, files_decide_one_run};
 use std::alloc::Global;
@@ -65,6 +66,7 @@ pub fn answer_sharp_run<S: Shelf, O: Sink>(
     covered_files_keep_sharply();
     covered_files_keep_sharply_joined();
     lossy_files_give_runs();
+    joined_files_keep_through_losses();
     answer_sharp_report(alloc, files, shelf, out)
 }
 

@@ -14,7 +14,8 @@ use crate::sharp_report_laws::a_sharp_report_is_lawful;
 use fr_answer::each_request_has_one_status;
 use fr_params::accepted_are_sane;
 use fr_sharp::{
-    covered_files_keep_sharply, covered_files_keep_sharply_joined, lossy_files_give_runs,
+    covered_files_keep_sharply, covered_files_keep_sharply_joined,
+    joined_files_keep_through_losses, lossy_files_give_runs,
 };
 use fr_verdict::other_gaps_are_found;
 
@@ -44,6 +45,7 @@ pub fn a_sharp_report_has_one_status()
     covered_files_keep_sharply();
     covered_files_keep_sharply_joined();
     lossy_files_give_runs();
+    joined_files_keep_through_losses();
 }
 
 /// A law: the bytes of the two files of a request for a check by the sharper bounds define one status.

@@ -24,7 +24,7 @@ use Rattle.fr_precision.specs.SharpRun.{WalkLastsAfter}
 use Rattle.fr_bound.specs.SharpSpreads.{sharply_near_in}
 use Rattle.fr_sharp.specs.SharpStatement.{has_arbitrary}
 use Rattle.fr_sharp.proofs.StrayFits.{limit_follows}
-use Rattle.fr_traffic.specs.Traffic.{all_bear_from, costs_of, heard_in, lacking_for, none_lacks, traffic_in}
+use Rattle.fr_traffic.specs.Traffic.{all_bear_from, costs_by, heard_in, lacking_for, none_lacks, traffic_in}
 use Rattle.fr_worked.specs.WorkedFiles.{fluttering_drift}
 use Rattle.fr_worked.specs.WorkedLosses.{losing_script, LosingFilesAreCovered, LosingFilesKeep}
 use Rattle.fr_sharp.specs.WorkedRun.{steady_cluster}
@@ -88,11 +88,11 @@ unfolding spread_through_losses last_of is_arbitrary
 near_0 = lit≤ tt
 
 near_1 : near_at 1 ≤ 61_281_165
-unfolding spread_through_losses costs_of last_of is_arbitrary deed_of deed_in event_of
+unfolding spread_through_losses costs_by last_of is_arbitrary deed_of deed_in event_of
 near_1 = lit≤ tt
 
 near_2 : near_at 2 ≤ 61_281_165
-unfolding spread_through_losses costs_of last_of is_arbitrary deed_of deed_in event_of
+unfolding spread_through_losses costs_by last_of is_arbitrary deed_of deed_in event_of
 near_2 = lit≤ tt
 
 near_in : (double : ℕ) → 0 ≤ double → double < doubles_of fluttering_drift → near_at double ≤ 61_281_165
@@ -140,15 +140,15 @@ abbrev apart_at : ℕ → ℕ
 apart_at passed = apart_through_losses (has_arbitrary steady_cluster losing_script) steady_cluster 250 (λ m. heard_in (traffic_in steady_cluster losing_script) (0 + m)) passed
 
 apart_0 : apart_at 0 ≡ 36_005_494
-unfolding spread_through_losses costs_of is_arbitrary deed_of deed_in event_of
+unfolding spread_through_losses costs_by is_arbitrary deed_of deed_in event_of
 apart_0 = refl
 
 apart_1 : apart_at 1 ≡ 48_007_094
-unfolding spread_through_losses costs_of is_arbitrary deed_of deed_in event_of
+unfolding spread_through_losses costs_by is_arbitrary deed_of deed_in event_of
 apart_1 = refl
 
 apart_2 : apart_at 2 ≡ 75_011_786
-unfolding spread_through_losses costs_of is_arbitrary deed_of deed_in event_of
+unfolding spread_through_losses costs_by is_arbitrary deed_of deed_in event_of
 apart_2 = refl
 
 three : doubles_of fluttering_drift ≡ 3

@@ -24,7 +24,7 @@ use Rattle.fr_precision.specs.SharpRun.{WalkLastsAfter}
 use Rattle.fr_bound.specs.SharpSpreads.{sharply_near_in}
 use Rattle.fr_sharp.specs.SharpStatement.{has_arbitrary}
 use Rattle.fr_sharp.proofs.StrayFits.{limit_follows}
-use Rattle.fr_traffic.specs.Traffic.{all_bear_from, costs_of, heard_in, lacking_for, none_lacks, traffic_in}
+use Rattle.fr_traffic.specs.Traffic.{all_bear_from, costs_by, heard_in, lacking_for, none_lacks, traffic_in}
 use Rattle.fr_worked.specs.WorkedFiles.{fluttering_drift, marking_script}
 use Rattle.fr_worked.specs.WorkedLosses.{missing_script, BesideFilesAreCovered, BesideFilesKeep, MissingFilesAreCovered, MissingFilesKeep}
 use Rattle.fr_sharp.specs.WorkedRun.{steady_cluster}
@@ -37,15 +37,15 @@ use Rattle.fr_promise.proofs.SharpWorked.{is_sane}
 -- ---- one frame at one node
 
 clean_0 : heard_in (traffic_in steady_cluster missing_script) 0 ≡ heard.Clean
-unfolding costs_of is_arbitrary deed_of deed_in event_of
+unfolding costs_by is_arbitrary deed_of deed_in event_of
 clean_0 = refl
 
 meeting_1 : heard_in (traffic_in steady_cluster missing_script) 1 ≡ heard.Meeting
-unfolding costs_of is_arbitrary deed_of deed_in event_of
+unfolding costs_by is_arbitrary deed_of deed_in event_of
 meeting_1 = refl
 
 clean_2 : heard_in (traffic_in steady_cluster missing_script) 2 ≡ heard.Clean
-unfolding costs_of is_arbitrary deed_of deed_in event_of
+unfolding costs_by is_arbitrary deed_of deed_in event_of
 clean_2 = refl
 
 no_gap : gap_of_run steady_cluster fluttering_drift (without_losses missing_script) ≡ None
@@ -78,7 +78,7 @@ abbrev near_at : ScriptView → ℕ → ℕ
 near_at s double = sharply_near_in steady_cluster (run_spread steady_cluster s 0 250 double)
 
 missing_near : (double : ℕ) → 0 ≤ double → double < doubles_of fluttering_drift → near_at missing_script double ≤ 45_726_402
-unfolding doubles_of spread_through_losses costs_of last_of is_arbitrary deed_of deed_in event_of
+unfolding doubles_of spread_through_losses costs_by last_of is_arbitrary deed_of deed_in event_of
 missing_near zero late less = lit≤ tt
 missing_near (suc zero) late less = lit≤ tt
 missing_near (suc (suc zero)) late less = lit≤ tt
@@ -119,15 +119,15 @@ abbrev apart_at : ScriptView → ℕ → ℕ
 apart_at s passed = apart_through_losses (has_arbitrary steady_cluster s) steady_cluster 250 (λ m. heard_in (traffic_in steady_cluster s) (0 + m)) passed
 
 apart_0 : apart_at missing_script 0 ≡ 36_005_494
-unfolding spread_through_losses costs_of is_arbitrary deed_of deed_in event_of
+unfolding spread_through_losses costs_by is_arbitrary deed_of deed_in event_of
 apart_0 = refl
 
 apart_1 : apart_at missing_script 1 ≡ 36_005_494
-unfolding spread_through_losses costs_of is_arbitrary deed_of deed_in event_of
+unfolding spread_through_losses costs_by is_arbitrary deed_of deed_in event_of
 apart_1 = refl
 
 apart_2 : apart_at missing_script 2 ≡ 57_008_790
-unfolding spread_through_losses costs_of is_arbitrary deed_of deed_in event_of
+unfolding spread_through_losses costs_by is_arbitrary deed_of deed_in event_of
 apart_2 = refl
 
 three : doubles_of fluttering_drift ≡ 3
@@ -165,7 +165,7 @@ abbrev beside_script : ScriptView
 beside_script = marking_script true
 
 meeting : (double : ℕ) → double < 3 → heard_in (traffic_in steady_cluster (marking_script true)) double ≡ heard.Meeting
-unfolding costs_of is_arbitrary deed_of deed_in event_of
+unfolding costs_by is_arbitrary deed_of deed_in event_of
 meeting zero less = refl
 meeting (suc zero) less = refl
 meeting (suc (suc zero)) less = refl
@@ -182,7 +182,7 @@ beside_checks (suc (suc (suc (suc (suc zero))))) from to = refl
 beside_checks (suc (suc (suc (suc (suc (suc k)))))) from to = absurd (omega (arith, to))
 
 beside_near : (double : ℕ) → 0 ≤ double → double < doubles_of fluttering_drift → near_at (marking_script true) double ≤ 84_305_863
-unfolding doubles_of spread_through_losses costs_of last_of is_arbitrary deed_of deed_in event_of
+unfolding doubles_of spread_through_losses costs_by last_of is_arbitrary deed_of deed_in event_of
 beside_near zero late less = lit≤ tt
 beside_near (suc zero) late less = lit≤ tt
 beside_near (suc (suc zero)) late less = lit≤ tt
@@ -212,7 +212,7 @@ pub beside_files_are_covered : BesideFilesAreCovered
 beside_files_are_covered = (meeting, beside_covered)
 
 beside_apart : (double : ℕ) → double < 3 → apart_at (marking_script true) double ≡ 99_015_680
-unfolding spread_through_losses costs_of is_arbitrary deed_of deed_in event_of
+unfolding spread_through_losses costs_by is_arbitrary deed_of deed_in event_of
 beside_apart zero less = refl
 beside_apart (suc zero) less = refl
 beside_apart (suc (suc zero)) less = refl

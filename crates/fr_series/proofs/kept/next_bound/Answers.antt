@@ -1,4 +1,4 @@
-use Rattle.std.proofs.Common.{◌≡◌, ℕ, Option, Some, ◌+◌, ◌∙◌, ap, sym, subst}
+use Rattle.std.proofs.Common.{◌≡◌, Option, ◌+◌, ◌∙◌, ap, sym, subst}
 use Rattle.fr_cluster.specs.Values.{Values}
 use Rattle.fr_bound.specs.Judged.{heard_spread}
 use Rattle.fr_sharp.specs.LossSteps.{heard_apart}

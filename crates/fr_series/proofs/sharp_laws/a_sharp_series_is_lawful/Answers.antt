@@ -53,8 +53,10 @@ returns c = λ p d s sane fits proper.
             record {
               lost = c.losses_are_told.ensures.figures p d s from flutter within;
               through = c.losses_are_told.ensures.covered p d s from flutter sane within (omega arith);
-              keeps = λ covered double passed low sync inside lasts.
-                  c.losses_are_told.ensures.keeps p d s from flutter h double passed sane covered (record { lawful = lawful; whole = whole }) low sync inside lasts;
+              keeps = λ none covered double passed low sync.
+                  c.losses_are_told.ensures.keeps p d s from flutter h double passed sane (covered.alone none) (record { lawful = lawful; whole = whole }) low sync;
+              joined = λ some covered double passed.
+                  c.losses_are_told.ensures.joined p d s from flutter h double passed sane (fits some).1 some (covered.joined some) (record { lawful = lawful; whole = whole });
             };
       };
     }

@@ -6,4 +6,4 @@ use Rattle.fr_whole.proofs.sharp_report.answer_sharp_run.Goals as goal
 pub returns-clause-ends : goal.returns-clause-ends
 returns-clause-ends g c =
     let around : Around = around_of (g.S.Shelf.state c.args.shelf.now) (g.S.Shelf.state c.answer_sharp_report.new.shelf) (g.O.Sink.state c.args.out.now) (g.O.Sink.state c.answer_sharp_report.new.out) in
-    kept_report_ends c.covered_files_keep_sharply.ensures.keep c.covered_files_keep_sharply_joined.ensures c.lossy_files_give_runs.ensures.keep (run_names_of c.args.files) around c.answer_sharp_report.result c.answer_sharp_report.ensures.ends
+    kept_report_ends (record { sharply = c.covered_files_keep_sharply.ensures.keep; joined = c.covered_files_keep_sharply_joined.ensures; lost = c.lossy_files_give_runs.ensures.keep; joined_lost = c.joined_files_keep_through_losses.ensures.covered }) (run_names_of c.args.files) around c.answer_sharp_report.result c.answer_sharp_report.ensures.ends
