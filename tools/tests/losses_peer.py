@@ -3,7 +3,7 @@ plain Python and whole numbers from the files alone: `bench/losses` and `test_lo
 
 A run is of production shape, but that macroticks may be longer: a cycle of 5 ms at a microtick of 25 ns, 2 to 10 correct nodes with a key
 slot that begin near each other, delays around the compensation, frames that are lost or damaged in some double cycles, and up to two
-arbitrary nodes that are early for some and late for others, or say anything.
+arbitrary nodes that are early for some and late for others, or say anything. One or two nodes may join it.
 """
 from typing import NamedTuple
 
@@ -31,7 +31,7 @@ class Numbers:
     held."""
 
     def __init__(self, values, last_slot, flutter, beside=False):
-        self.values, self.flutter = values, flutter
+        self.values, self.flutter, self.beside = values, flutter, beside
         v, bound = values, values["xRateBound"]
         self.longest, self.shortest = MILLION + bound, MILLION - bound
         self.arrival = v["xDelayError"] + v["pDelayCompensation"] * bound
@@ -39,8 +39,8 @@ class Numbers:
         self.change = (v["pMicroPerCycle"] + v["pRateCorrectionOut"]) * change
         later = (v["pMicroPerCycle"] + v["pRateCorrectionOut"] + v["pOffsetCorrectionOut"] + 1) * change
         damping = v["pClusterDriftDamping"]
-        value = flutter + self.longest - 1 + later
-        self.alone = 2 * value + self.longest + 2 * damping * self.longest + 2 * self.change
+        self.value = flutter + self.longest - 1 + later
+        self.alone = 2 * self.value + self.longest + 2 * damping * self.longest + 2 * self.change
         self.lengths, self.starts = self.alone, self.alone + 2 * self.change + 2 * self.arrival + 3 * self.longest
         if beside:
             self.lengths = 2 * self.alone
@@ -79,14 +79,27 @@ class Numbers:
     def near(self, starts, lengths):
         return starts + lengths + self.action * (lengths + 2 * self.change) // self.values["gMacroPerCycle"] + self.longest
 
-    def by(self, heard):
-        """The number of each double cycle by what is heard from the first one on, and the reach."""
-        spread, apart, reach = (self.starts, self.lengths), [], 0
-        for what in heard:
+    def by(self, heard, listened=()):
+        """The number of each double cycle by what is heard from the first one on, and the reach, which takes in whoever follows; nodes
+        listen in so manieth double cycles, those before the first one below 0."""
+        spread, follow = (self.starts, self.lengths), Follow(self, MEETING if self.beside else CLEAN, self.starts, self.lengths)
+        apart, reach = [], 0
+        for double, what in enumerate(heard):
             later = self.behind(what, *spread)
             apart.append(max(self.apart(*spread), later[0] + self.longest))
-            reach, spread = max(reach, self.near(*spread)), later
+            near = [self.near(*spread)]
+            near += [self.near(*follow.first)] if double - 1 in listened else []
+            near += [self.near(follow.second, spread[1])] if double - 2 in listened else []
+            reach = max(reach, *near)
+            follow.go_on(what, spread, later)
+            spread = later
         return apart, reach
+
+    @property
+    def first_rates(self):
+        """For how many double cycles the rate limit suffices for first rates, None for on and on."""
+        spare = self.room - self.flutter - self.change - self.longest
+        return 0 if spare < 0 else None if self.walk <= 0 else min(self.lasts, spare // self.walk + 1)
 
     def hold(self, reach):
         """Whether the checks 2 to 5 hold with a reach."""
@@ -102,9 +115,39 @@ class Numbers:
                 and front(v["gdStaticSlot"] - v["gdActionPointOffset"]) > macros * (late + v["pDelayCompensation"] * MILLION))
 
 
+class Follow:
+    """How far the clocks of nodes that follow may lie from the others in a double cycle: starts and lengths of those in their first one,
+    and starts of those in their second one."""
+
+    def __init__(self, numbers, heard, starts, lengths):
+        self.numbers = numbers
+        self.first = self.begun(starts, lengths)
+        self.second = self.nearer(heard, starts, lengths)
+
+    def begun(self, starts, lengths):
+        """Behind a double cycle whose nodes with rows lie so far apart: what was counted from two frames, and where it begins."""
+        n = self.numbers
+        rate = lengths + 2 * n.value + n.values["pClusterDriftDamping"] * n.longest + 4 * n.change
+        return starts + 2 * lengths + 4 * n.change + 2 * n.arrival + n.flutter + 4 * n.longest, rate
+
+    def nearer(self, heard, starts, lengths):
+        """Behind its first double cycle: as near as what it heard brings it."""
+        n, odd = self.numbers, self.first[1] + 2 * self.numbers.change
+        if heard == MEETING:
+            return (starts + lengths + 2 * odd + 4 * n.arrival + 7 * n.longest) // 2
+        own = odd + 2 * n.arrival + 3 * n.longest
+        return own if heard == CLEAN else own + starts + lengths
+
+    def go_on(self, heard, rows, later):
+        """To the next double cycle, by what is heard in this one, and starts and lengths of the nodes with rows in both."""
+        self.second = self.nearer(heard, *rows)
+        starts, lengths = self.begun(*rows)
+        self.first = starts, max(lengths, later[1])
+
+
 class Heard(NamedTuple):
     """What is heard in a double cycle: the word of its column, how its numbers go on, and whether each correct node trusts its lists, or
-    nothing at all can reach it."""
+    nothing at all can reach it. Where nodes join, whether all is heard, or each that has begun trusts its lists."""
     word: str
     what: str
     is_trusted: bool
@@ -116,14 +159,16 @@ def lists_of(double):
 
 
 class Traffic:
-    """What becomes of the frames of correct nodes: of each node its key slot, if it has one, and its channels; which are arbitrary; and
-    the passages (cycle, sender, receiver, channel) that are lost, or come damaged, or in which an arbitrary node says something."""
+    """What becomes of the frames of correct nodes: of each node its key slot, if it has one, and its channels; which are arbitrary;
+    the passages (cycle, sender, receiver, channel) that are lost, or come damaged, or in which an arbitrary node says something; and of
+    correct nodes that join the double cycle in which each listens."""
 
-    def __init__(self, nodes, arbitrary=(), lost=(), damaged=(), said=()):
+    def __init__(self, nodes, arbitrary=(), lost=(), damaged=(), said=(), joins=()):
         self.nodes, self.arbitrary, self.lost, self.damaged = nodes, frozenset(arbitrary), set(lost), set(damaged)
         self.said = set(said)
         self.receivers = [node for node in nodes if node not in self.arbitrary]
         self.senders = [node for node in self.receivers if nodes[node][0]]
+        self.joins = dict(joins)
 
     def has(self, surely, cycles, one, two):
         """Whether a receiver has a value of a sender, surely or perhaps, from one channel in each of these cycles."""
@@ -151,7 +196,9 @@ class Traffic:
 
     def bears(self, since):
         """Whether each correct node trusts its lists in each double cycle from one on, or is deaf: not in that one, and in fewer double
-        cycles in a row than make it passive."""
+        cycles in a row than make it passive. Where nodes join none may be deaf."""
+        if self.joins:
+            return all(self.heard(double).is_trusted for double in range(since, self.doubles))
         lacking = {}
         for double in range(self.doubles):
             lacking = {node: lacking.get(node, 0) + 1 for node in self.lacking(double)}
@@ -165,6 +212,8 @@ class Traffic:
 
     def heard(self, double):
         """An offset value is of the odd cycle, a rate value of both."""
+        if self.joins:
+            return self.heard_to_join(double)
         lists = [self.counts(cycles) for cycles in lists_of(double)]
         liars, senders = len(self.arbitrary), len(self.senders)
         is_whole = all(sure == senders for sure, _ in lists[1])
@@ -176,15 +225,36 @@ class Traffic:
                      all(sure and liars <= discarded(sure + liars) or self.is_deaf(cycles, two)
                          for cycles, counts in zip(lists_of(double), lists) for two, (sure, _) in zip(self.receivers, counts)))
 
+    @property
+    def staying(self):
+        """The correct senders that do not join."""
+        return [node for node in self.senders if node not in self.joins]
+
+    def heard_to_join(self, double):
+        """The same where nodes join. Who listened before takes part or follows: it has to trust what it has of the senders that do not
+        join. What it may have of others makes its list longer, so that it discards more."""
+        begun = [node for node in self.receivers if node not in self.joins or self.joins[node] < double]
+        liars, counts = sum(bool(self.nodes[node][0]) for node in self.arbitrary), len(self.staying)
+        is_whole = all(self.has(True, lists_of(double)[1], one, two) for one in self.senders for two in self.receivers)
+        meets = trusts = True
+        for cycles in lists_of(double):
+            sure = [sum(self.has(True, cycles, one, two) for one in self.staying) for two in begun]
+            perhaps = [sum(self.has(False, cycles, one, two) for one in self.senders) for two in begun]
+            costs = sorted((counts - one + discarded(most + liars) for one, most in zip(sure, perhaps)), reverse=True)
+            meets = meets and sum(costs[:2]) < counts
+            trusts = trusts and all(one > 0 and discarded(one + liars) >= liars for one in sure)
+        what = CLEAN if is_whole and not liars else MEETING if is_whole or meets else POOR
+        return Heard("all" if is_whole else "most" if meets else "any", what, is_whole or trusts)
+
     def outweighs(self):
-        """Whether the correct senders are enough for the arbitrary ones."""
-        return len(self.arbitrary) < 3 and len(self.senders) >= (1, 3, 6)[len(self.arbitrary)]
+        """Whether the correct senders that do not join are enough for the arbitrary ones."""
+        return len(self.arbitrary) < 3 and len(self.staying) >= (1, 3, 6)[len(self.arbitrary)]
 
 
 class Run(Traffic):
-    """A random run; `kind` says what is lost."""
+    """A random run; `kind` says what is lost, and `joining` how many nodes join at most."""
 
-    def __init__(self, draw, kind, most_doubles=12, liars=None):
+    def __init__(self, draw, kind, most_doubles=12, liars=None, joining=0):
         self.draw, self.kind = draw, kind
         compensation, error = draw.choice([(7, 5), (7, 5), (4, 2), (3, 1)])
         bound, change = draw.choice([(100, 0), (100, 1), (300, 0), (50, 0)]) if kind != "deaf" else (100, draw.choice([1, 1, 2, 3]))
@@ -203,17 +273,31 @@ class Run(Traffic):
             # Where all frames of a sender are lost, nobody trusts what is left beside an arbitrary node.
             liars = 0 if kind == "deaf" else draw.choice([0, 0, 0, 0, 0, 0, 1, 2] if KINDS[kind] > 0.1 else [0, 0, 1, 1, 1, 2])
         self.doubles, count = draw.randrange(6, most_doubles + 1), draw.randrange(*((2, 9), (2, 9), (5, 11))[liars]) + liars
+        if joining:
+            # What follows lies further apart: with room for it, as a rule, and others enough beside it.
+            count = min(12, count + draw.choice([1, 2, 2, 3]))
+            self.values["gdActionPointOffset"] = action + more if action < slot - 2 - more else action
+            self.values["pOffsetCorrectionOut"] = draw.choice([127, 200, 300, 300, 450])
         channels = draw.choice(["A", "AB", "AB", "mixed"]) if kind != "crossed" else draw.choice(["AB", "AB", "AB", "mixed"])
         slots = sorted(draw.sample(range(1, 20), count))
         # Of each node its key slot and its channels; all share channel A.
         nodes = {node: (slots[node - 1] if node <= count else None, draw.choice(["A", "AB"]) if channels == "mixed" else channels)
                  for node in range(1, count + 1 + (draw.choice([1, 1, 2]) if kind == "deaf" else draw.random() < 0.3))}
         super().__init__(nodes, draw.sample(range(1, count + 1), liars))
+        self.references = self.draw_joins(joining)
         self.links = [link for one in self.senders for link in self.links_of(one)]
         # Of each double cycle how far a delay differs in it, at most.
         self.differs = [0] * self.doubles
         self.clocks(change)
         self.losses()
+
+    def draw_joins(self, most):
+        """Nodes that join, early or late, as long as others stay that outweigh the arbitrary ones; of each its reference."""
+        draw = self.draw
+        for node in draw.sample(self.receivers, min(len(self.receivers), draw.randint(1, most))) if most else ():
+            if node not in self.senders or len(self.staying) > (1, 3, 6)[len(self.arbitrary)]:
+                self.joins[node] = draw.choice([draw.randrange(self.doubles), draw.randrange(self.doubles - 4)])
+        return {node: draw.choice(self.staying) for node in sorted(self.joins)}
 
     def flutter(self, since):
         """That of the double cycles from one on."""
@@ -234,23 +318,29 @@ class Run(Traffic):
     def clocks(self, change):
         """The drift: oscillators, and delays that may differ in the cycles of a double cycle."""
         draw, values, lines = self.draw, self.values, [f"doubles,{self.doubles},,,,\n"]
+        # Of each node its microticks, and of each link its delays: of cycle 0, and of others that have another one.
+        self.lengths, self.delays = {}, {}
         bound, micros = values["xRateBound"], values["pMicroPerCycle"]
         apart, is_settled = draw.choice([1, 8, 40]) * MILLION, draw.random() < 0.7
         for node in self.receivers:
             length = MILLION + draw.choice([-bound, bound, draw.randint(-bound, bound)])
             rate = -round(micros * (length - MILLION) / length) if is_settled else 0
-            lines.append(f"start,{node},{draw.randrange(apart)},{rate},,\n")
+            start = draw.randrange(apart)
+            lines += [f"start,{node},{start},{rate},,\n"] if node not in self.joins else []
             for cycle in range(2 * self.doubles if change else 1):
                 lines.append(f"length,{node},{cycle},{length},,\n")
+                self.lengths.setdefault(node, []).append(length)
                 length = max(MILLION - bound, min(MILLION + bound, length + draw.randint(-change, change)))
         middle, error = values["pDelayCompensation"] * MILLION, values["xDelayError"]
         most = draw.choice([0, 0, 0, 100_000, 900_000])
         for one, two, channel in self.links:
             delay = max(0, middle + draw.choice([-error, error, draw.randint(-error, error)]))
             lines.append(f"delay,{one},{two},{channel},0,{delay}\n")
+            self.delays[one, two, channel] = {0: delay}
             for double in range(self.doubles) if most and draw.random() < 0.3 else ():
                 other = max(0, middle - error, min(middle + error, delay + draw.randint(-most, most)))
                 self.differs[double] = max(self.differs[double], abs(other - delay))
+                self.delays[one, two, channel][2 * double + 1] = other
                 lines += [f"delay,{one},{two},{channel},{2 * double + 1},{other}\n"]
                 lines += [f"delay,{one},{two},{channel},{2 * double + 2},{delay}\n"] if double + 1 < self.doubles else []
         self.drift = "".join(lines)
@@ -258,12 +348,15 @@ class Run(Traffic):
     def losses(self):
         """The script: what arbitrary nodes say, and which frames are lost, or come damaged."""
         draw = self.draw
+        # Whoever takes part by joining trusts nothing where all is lost: mostly that is before.
+        last = min(self.joins.values()) if self.joins and KINDS[self.kind] > 0.1 and draw.random() < 0.8 else self.doubles
         for double in self.with_losses():
-            self.lost |= set(self.lost_in(double))
+            self.lost |= set(self.lost_in(double)) if double <= last else set()
         rows = sorted(self.lost)
         share = draw.choice([0, 0.1, 0.1, 0.5]) if self.kind != "deaf" else 0
         self.damaged = {at for at in rows if draw.random() < share}
         self.script = "".join(f"arbitrary,{node},,,,,\n" for node in sorted(self.arbitrary))
+        self.script += "".join(f"join,{self.joins[node]},{node},{reference},,,\n" for node, reference in self.references.items())
         self.script += "".join(
             f"{DAMAGED},{cycle},{one},{two},{channel},{draw.randrange(64)},\n" if (cycle, one, two, channel) in self.damaged
             else f"lose,{cycle},{one},{two},{channel},,\n" for cycle, one, two, channel in rows)
@@ -351,26 +444,58 @@ class Series:
 
 
 def rows_of(run, trace):
-    """The rows of `flexray trace` by cycle: start, length, rate and offset term, and state, of each node."""
-    rows = [[] for _ in range(2 * run.doubles)]
+    """The rows of `flexray trace` by cycle and node: start, length, rate and offset term, and state."""
+    rows = [{} for _ in range(2 * run.doubles)]
     for line in trace.splitlines():
         kind, *fields = line.split(",")
         if kind == "cycle":
-            rows[int(fields[0])].append((*map(int, fields[2:6]), fields[6]))
+            rows[int(fields[0])][int(fields[1])] = *map(int, fields[2:6]), fields[6]
     return rows
 
 
-def first_in_sharp_sync(run, rows):
-    """The first double cycle in sharp sync by the numbers for the flutter from it on, or None; no node follows in these runs."""
+def in_sharp_sync(run, rows):
+    """The double cycles in sharp sync by the numbers for the flutter from each on."""
     micros, bound = run.values["pMicroPerCycle"], run.values["xRateBound"]
     for double in range(run.doubles):
-        numbers, (even, odd) = run.numbers(double), rows[2 * double:2 * double + 2]
+        numbers, (even, odd) = run.numbers(double), [list(of_cycle.values()) for of_cycle in rows[2 * double:2 * double + 2]]
         starts, lengths = [row[0] for row in even], [(micros + row[2]) * row[1] for row in even]
         if (all(row[4] == "active" for row in even + odd) and max(starts) - min(starts) <= numbers.starts
                 and max(lengths) - min(lengths) <= numbers.lengths
                 and all(abs(length - micros * MILLION) <= micros * bound for length in lengths)):
-            return double
-    return None
+            yield double
+
+
+def begins(run, rows, node):
+    """Whether a node that joins begins to follow: by two frames of its reference on one channel, with a first rate in its limit and a
+    first start that is not below 0."""
+    v, double, reference = run.values, run.joins[node], run.references[node]
+    cycles, slot = (2 * double, 2 * double + 1), run.nodes[reference][0]
+    macrotick, wait = (slot - 1) * v["gdStaticSlot"] + v["gdActionPointOffset"], v["pDelayCompensation"]
+
+    def passed(rate):
+        return macrotick * (v["pMicroPerCycle"] + rate) // v["gMacroPerCycle"]
+
+    for channel in "AB":
+        delays = run.delays.get((reference, node, channel))
+        if delays and not any((cycle, reference, node, channel) in run.lost for cycle in cycles):
+            came = [start + passed(rate) * length + delays.get(cycle, delays[0])
+                    for cycle in cycles for start, length, rate, _, _ in [rows[cycle][reference]]]
+            even, odd = (run.lengths[node][min(cycle, len(run.lengths[node]) - 1)] for cycle in cycles)
+            rate = (came[1] - came[0]) // even - v["pMicroPerCycle"]
+            return abs(rate) <= v["pRateCorrectionOut"] and came[1] + (v["pMicroPerCycle"] + rate - passed(rate) - wait) * odd >= 0
+    return False
+
+
+def following(run, rows):
+    """The double cycles in which a node that joins follows; and those in which one perhaps does, as it never has a row, and may have
+    stopped in its first one already."""
+    surely, perhaps = set(), set()
+    for node, double in run.joins.items():
+        if double < run.doubles and begins(run, rows, node):
+            surely.add(double + 1)
+            is_seen = double + 3 < run.doubles and node in rows[2 * double + 6]
+            (surely if is_seen else perhaps).add(double + 2)
+    return surely, perhaps - surely
 
 
 def exact_skews(run, rows):
@@ -379,7 +504,7 @@ def exact_skews(run, rows):
     found = []
     for cycle, nodes in enumerate(rows):
         instants = []
-        for start, length, rate, offset, state in nodes:
+        for start, length, rate, offset, state in nodes.values():
             if state == "halt":
                 continue
             long, last = micros + rate, turn if cycle % 2 else macros - 1
@@ -396,12 +521,15 @@ def hold(run, series, trace, is_exact=False):
     Hands back whether the run is covered through losses, how many double cycles were held, in how many of them frames are lost, and the
     greatest share of its number that a skew had."""
     rows, heard = rows_of(run, trace), [run.heard(double) for double in range(run.doubles)]
-    first = first_in_sharp_sync(run, rows)
-    assert series.synced == first, (series.synced, first)
+    surely, perhaps = following(run, rows)
+    synced = [double for double in in_sharp_sync(run, rows) if double not in surely]
+    first = series.synced
+    before = [double for double in synced if first is None or double < first]
+    assert perhaps.issuperset(before) and (first is None or first in synced), (first, synced, perhaps)
     since = first or 0
     numbers, later = run.numbers(since), heard[since:]
-    apart, reach = numbers.by([one.what for one in later])
-    deaf = [bool(run.lacking(double)) for double in range(since, run.doubles)]
+    apart, reach = numbers.by([one.what for one in later], [double - since for double in run.joins.values()])
+    deaf = [bool(run.lacking(double)) and not run.joins for double in range(since, run.doubles)]
     is_covered = run.outweighs() and run.bears(since) and numbers.follows(deaf) and numbers.hold(reach)
     lost = [double for double, one in enumerate(later, since) if one.word != "all"]
     told = series.lines["lost"]
@@ -419,12 +547,15 @@ def hold(run, series, trace, is_exact=False):
     count = losing = 0
     share = 0.0
     if is_covered and first is not None:
-        lasts = None if numbers.is_held and not lost else numbers.lasts
+        lasts = numbers.first_rates if run.joins else None if numbers.is_held and not lost else numbers.lasts
         assert series.lines["sharp synced"][1] == ("on" if lasts is None else str(lasts)), series.lines["sharp synced"]
         end = run.doubles if lasts is None else min(run.doubles, first + lasts)
         share = keep(series, first, apart[:end - first])
         count, losing = end - first, sum(one.word != "all" for one in heard[first:end])
-        assert end < run.doubles or all(row[4] == "active" for cycle in rows[2 * first:] for row in cycle), "a node is not active"
+        assert end < run.doubles or all(row[4] == "active" for cycle in rows[2 * first:] for row in cycle.values()), "a node is not active"
+        left = [node for node, double in run.joins.items() if first <= double < min(end - 2, run.doubles - 3)
+                and node not in rows[2 * double + 6] and begins(run, rows, node)]
+        assert not left, f"nodes that began to follow were left behind: {left}"
     return is_covered, count, losing, share
 
 

@@ -7,7 +7,7 @@ DOUBLE is the first double cycle in which no node follows that is in sharp sync 
 the double cycles from k on. All that is told is of the double cycles from DOUBLE on, and of all where there is none.
 """
 from clocks_peer import CHANGE, PRODUCTION
-from losses_peer import DAMAGED, MILLION, Numbers, Traffic
+from losses_peer import CLEAN, DAMAGED, Follow, MEETING, MILLION, Numbers, Traffic
 
 CHANNELS = "AB"
 
@@ -30,7 +30,7 @@ class Files(Traffic):
         gone = {word: {(int(row[1]), int(row[2]), int(row[3]), row[4]) for row in rows[2] if row[0] == word} for word in ("lose", DAMAGED, "say")}
         super().__init__(nodes, (int(row[1]) for row in rows[2] if row[0] == "arbitrary"), gone["lose"] | gone[DAMAGED],
                          gone[DAMAGED], gone["say"])
-        self.joins = {int(row[2]): int(row[1]) for row in rows[2] if row[0] == "join" and int(row[2]) not in self.arbitrary}
+        self.joins.update((int(row[2]), int(row[1])) for row in rows[2] if row[0] == "join" and int(row[2]) not in self.arbitrary)
         self.beside = any(self.nodes[node][0] for node in self.arbitrary)
 
     def length(self, node, cycle):
@@ -92,16 +92,9 @@ class Sharp(Numbers):
 
     def __init__(self, files, flutter):
         super().__init__(files.values, max(slot for slot, _ in files.nodes.values() if slot), flutter, files.beside)
-        v, macros = self.values, self.values["gMacroPerCycle"]
-        value = flutter + self.longest - 1 + (v["pMicroPerCycle"] + v["pRateCorrectionOut"] + v["pOffsetCorrectionOut"] + 1) * v[CHANGE]
-        first = self.lengths + 2 * value + v["pClusterDriftDamping"] * self.longest + 4 * self.change
-        begins = self.starts + 2 * self.lengths + 4 * self.change + 2 * self.arrival + flutter + 4 * self.longest
-        self.reach = begins + first + self.action * (first + 2 * self.change) // macros + self.longest
-        self.room = v["pRateCorrectionOut"] * self.shortest
+        v = self.values
+        self.reach = self.near(*Follow(self, MEETING if files.beside else CLEAN, self.starts, self.lengths).first)
         self.drift, self.first_rate = 2 * v["pMicroPerCycle"] * v["xRateBound"], flutter + self.change + self.longest
-        later = (v["pMicroPerCycle"] + v["pRateCorrectionOut"] + v["pOffsetCorrectionOut"] + 1) * v[CHANGE]
-        damping = v["pClusterDriftDamping"]
-        self.walk = flutter + self.change + later - 1 + (self.longest if damping == 0 else -(damping - 1) * self.shortest)
 
     def slots(self, number, apart):
         """Three checks from a number on, by how far action points lie apart: (number, left, right)."""
@@ -114,16 +107,11 @@ class Sharp(Numbers):
 
     def failing(self, joins):
         """The checks from 2 on that fail, as words."""
-        asked = [(2, self.room, self.drift), *self.slots(3, self.near(self.starts, self.lengths))]
+        limit = self.values["pRateCorrectionOut"] * self.shortest
+        asked = [(2, limit, self.drift), *self.slots(3, self.near(self.starts, self.lengths))]
         if joins:
-            asked += [(6, self.room, self.drift + self.first_rate), *self.slots(7, self.reach)]
+            asked += [(6, limit, self.drift + self.first_rate), *self.slots(7, self.reach)]
         return [f"check {number} {left} {right}" for number, left, right in asked if left < right or number in (5, 9) and left == right]
-
-    @property
-    def first_rates(self):
-        """For how many double cycles the rate limit suffices for first rates, None for on and on."""
-        spare = self.room - self.drift - self.first_rate
-        return 0 if spare < 0 else None if self.walk <= 0 else min(self.lasts, spare // self.walk + 1)
 
 
 class Rows:
@@ -180,9 +168,8 @@ class Texts:
         self.gaps = self.numbers.failing(bool(files.joins)) + gaps
         self.heard = [files.heard(double) for double in self.doubles]
         later = self.heard[self.since:]
-        apart, reach = self.numbers.by([one.what for one in later])
-        is_through = (not files.joins and files.bears(self.since) and self.numbers.hold(reach)
-                      and all(gap.startswith("link") for gap in gaps))
+        apart, reach = self.numbers.by([one.what for one in later], [double - self.since for double in files.joins.values()])
+        is_through = files.bears(self.since) and self.numbers.hold(reach) and all(gap.startswith("link") for gap in gaps)
         self.bounds = apart if is_through else []
         self.skews = [self.rows.skews(cycle) for cycle in range(2 * files.doubles)]
         self.older = older_numbers(files.values)

@@ -167,7 +167,7 @@ class Statement(Case):
 
 class House(Case):
     def test_within_its_limits(self):
-        self.ends(0, "crates 2 (at most 58)", "house")
+        self.ends(0, "crates 2 (at most 59)", "house")
 
     def test_a_crate_that_is_not_cited(self):
         self.change("crates/fr_high/src/thing.rt", "use fr_low::a_law;\n", "")
@@ -298,12 +298,12 @@ class Prose(Case):
                 self.ends(0, "ONE.md", "prose")
 
     def test_lines(self):
-        self.write("CHANGELOG.md", "\n" * 5539)
-        self.ends(0, "5,560 (at most 5,560)", "prose")
+        self.write("CHANGELOG.md", "\n" * 5549)
+        self.ends(0, "5,570 (at most 5,570)", "prose")
         self.write("examples/README.md", "\n" * 10)
-        self.ends(0, "5,560 (at most 5,560)", "prose")
+        self.ends(0, "5,570 (at most 5,570)", "prose")
         self.write("CONTRIBUTING.md", "\n")
-        self.ends(1, "5,561 lines, and at most 5,560 are allowed", "prose")
+        self.ends(1, "5,571 lines, and at most 5,570 are allowed", "prose")
 
 
 class Pictures(unittest.TestCase):

@@ -1,5 +1,6 @@
 """Runs that lose frames keep within the number of each double cycle, which is reckoned by another program from their files alone.
 `bench/losses` tries as many as one likes; FLEXRAY_LOSS_RUNS is how many are tried here (14)."""
+import itertools
 import os
 import random
 import subprocess
@@ -14,6 +15,11 @@ RUNS = int(os.environ.get("FLEXRAY_LOSS_RUNS", "14"))
 DRIFT = "doubles,2,,,,\n"
 CHANGING = {CHANGE: 1, "pRateCorrectionOut": 41, "pOffsetCorrectionOut": 300, "gdActionPointOffset": 9}
 EACH = range(1, 9)
+
+
+def missed(shares):
+    """The pairs (sender, receiver) by which each of these receivers misses so many of the first others."""
+    return [(one, two) for two, share in shares.items() for one in [one for one in EACH if one != two][:share]]
 
 
 class Bordering(Bench):
@@ -70,6 +76,40 @@ class Bordering(Bench):
                 self.assertEqual(what, wanted)
 
 
+    def test_where_nodes_join(self):
+        """Eight nodes, of which 8 joins; and 9, without a key slot, which joins too. Who has begun needs a value of one that does not."""
+        every = list(itertools.permutations(range(1, 10), 2))
+        for joins, lost, liars, wanted in (
+                # Before it has begun nobody need hear it, nor it anybody.
+                ({8: 1}, [], 0, ("all", "clean", True)), ({8: 0}, every, 0, ("any", "poor", True)), ({8: 0, 9: 0}, every, 0, ("any", "poor", True)),
+                # Behind that its own value does not count.
+                ({8: -1}, every, 0, ("any", "poor", False)), ({8: -1}, [pair for pair in every if pair != (1, 8)], 0, ("any", "poor", True)),
+                ({9: -1}, [pair for pair in every if pair != (1, 9)], 0, ("any", "poor", True)), ({9: -1}, every, 0, ("any", "poor", False)),
+                # Of the seven that stay two lists together may miss and discard six.
+                ({8: 0}, [(8, 1), (8, 2)], 0, ("most", "meeting", True)), ({8: 0}, missed({1: 2, 2: 2}), 0, ("most", "meeting", True)),
+                ({8: 0}, missed({1: 3, 2: 2}), 0, ("any", "poor", True)), ({8: 0}, missed({1: 3, 8: 3}), 0, ("most", "meeting", True)),
+                ({8: -1}, missed({1: 3, 8: 3}), 0, ("any", "poor", True)),
+                # Beside an arbitrary node all is heard as where lists meet, however few stay.
+                ({8: 0, 4: 0, 3: 0}, [], 1, ("all", "meeting", True)), ({8: 0}, missed({1: 2}), 1, ("most", "meeting", True)),
+                ({8: 0}, missed({1: 4}), 1, ("any", "poor", True)), ({8: 0}, missed({1: 5}), 1, ("any", "poor", False)),
+                ({8: 0}, missed({8: 7}), 1, ("most", "meeting", True))):
+            traffic = losses_peer.Traffic({node: (node if node < 9 else None, "A") for node in range(1, 10 if 9 in joins else 9)},
+                                          [7] * liars, joins=joins)
+            traffic.lost = {(cycle, *pair, "A") for cycle in (0, 1) for pair in lost}
+            with self.subTest(joins=joins, lost=lost, liars=liars):
+                self.assertEqual(traffic.heard(0), wanted)
+
+    def test_a_reach_takes_in_whoever_follows(self):
+        """By the numbers of the first double cycle behind the one in which a node listens, and of the second."""
+        numbers = losses_peer.Numbers(PRODUCTION, 8, 0)
+        alone = numbers.by(["clean"] * 4)
+        reaches = [numbers.by(["clean"] * 4, [listened])[1] for listened in (-3, -2, -1, 0, 2, 3)]
+        self.assertEqual(reaches[0], alone[1])
+        self.assertEqual(reaches[5], alone[1])
+        self.assertEqual(reaches[2:5], [max(reaches)] * 3)
+        self.assertTrue(alone[1] < reaches[1] < reaches[2])
+        self.assertEqual(numbers.by(["clean"] * 4, [0])[0], alone[0])
+
     def test_how_long_a_node_may_be_deaf(self):
         """A microtick changes by a tick in each cycle. The limit has 995,900 ticks beyond the range; a deaf double cycle takes 400,082 of them,
         and each other one gives 599,518 back. Without damping all walk further than by changes, and nothing comes back."""
@@ -112,6 +152,22 @@ class Losses(Bench):
         self.assertGreater(losing, RUNS // 2)
         self.assertGreater(beside, RUNS // 15)
 
+    def test_each_double_cycle_of_a_run_that_nodes_join_keeps_its_number(self):
+        covered = losing = 0
+        kinds = [kind for kind in losses_peer.KINDS if kind != "deaf"]
+        for seed in range(RUNS):
+            run = losses_peer.Run(random.Random(seed), kinds[seed % len(kinds)], 12, joining=2)
+            with self.subTest(seed=seed):
+                told = self.series(run.params(), run.drift, run.script)
+                found = losses_peer.hold(run, told, self.flexray_of_run("trace"), seed % 5 == 0)
+                count, last, bound, place = told.lines["lost"]
+                self.assertIn(f"\nsharp lost {count} last {last} bound {bound}{'' if bound == '-' else f' double {place}'}\n",
+                              self.flexray_of_run("run", "sharp"))
+                covered, losing = covered + found[0], losing + found[2]
+        self.assertGreater(covered, RUNS // 5)
+        self.assertLess(covered, RUNS)
+        self.assertGreater(losing, RUNS // 2)
+
     def test_words_at_the_border(self):
         """What the program says of losses that are as many as may be, and of one more."""
         params = "".join(f"param,{name},{value},,\n" for name, value in PRODUCTION.items())
@@ -126,6 +182,26 @@ class Losses(Bench):
             with self.subTest(count=count, liar=liar, missed=missed):
                 told = self.series(params + nodes, DRIFT, script)
                 self.assertEqual([row["heard"] for row in told.cycles], ["all", "all", wanted, wanted])
+
+    def test_the_least_offset_limit_of_a_run_that_a_node_joins(self):
+        """Node 8 listens in double cycle 4. The reach that the limit has to suffice for is of its first double cycle, or, where frames are
+        lost in that, of its second one; or of the others alone, where it has not begun, or much is lost later."""
+        every, branch = list(itertools.permutations(EACH, 2)), [(one, two) for one, two in itertools.permutations(EACH, 2) if one > 4]
+        nodes, found = "".join(f"node,{node},{node},A,1\n" for node in EACH), []
+        for lost in ({}, {5: branch}, {3: every}, {3: every, 5: branch}, {5: branch, 6: branch, 7: branch}):
+            script = "join,4,8,1,,,\n" + "".join(f"lose,{cycle},{one},{two},A,,\n" for double in lost for cycle in (2 * double, 2 * double + 1)
+                                                 for one, two in lost[double])
+            heard = ["poor" if double in lost else "clean" for double in range(12)]
+            reaches = [losses_peer.Numbers(PRODUCTION, 8, 0).by(heard, listened)[1] for listened in ((), (4,))]
+            found.append(reaches[0] < reaches[1])
+            least = next(limit for limit in range(1, 1000)
+                         if losses_peer.Numbers({**PRODUCTION, "pOffsetCorrectionOut": limit}, 8, 0).hold(reaches[1]))
+            for limit, is_covered in ((least, True), (least - 1, False)):
+                params = "".join(f"param,{name},{value},,\n" for name, value in {**PRODUCTION, "pOffsetCorrectionOut": limit}.items())
+                with self.subTest(lost=list(lost), limit=limit):
+                    told = self.series(params + nodes, "doubles,12,,,,\n", script)
+                    self.assertEqual(told.lines["lost"][2] != "-", is_covered)
+        self.assertEqual(found, [True, True, True, True, False])
 
     def test_a_deaf_node_at_the_border(self):
         """Node 9 hears nobody in double cycles of a run whose oscillators change: of as many in a row as the rate limit follows the run is

@@ -222,6 +222,20 @@ class HeldWalks(Case):
         self.assertEqual((found["covered"], found["lasts_double_cycles"]), (False, 1402))
 
     @needs_series
+    def test_where_frames_are_lost_and_a_node_joins(self):
+        """Node 7 listens in double cycle 5. Before it has begun all may be lost, and behind that two frames, but not all; and it is promised
+        for as long as the rate limit suffices for first rates."""
+        everything, two = '[[lose]]\nfrom = "all"\nto = "all"\ncycles = "{}"\n', '[[lose]]\nfrom = 1\nto = 2\ncycles = "20-23"\n'
+        covered = "covered through losses: from double cycle 2 on, to the end, the clocks of nodes that take part lie no further apart than"
+        limit = ("pRateCorrectionOut = 601", "pRateCorrectionOut = 41")
+        for changes, lost, told in (((), everything.format("10-11"), f"{covered} 1.875 us, the number of double cycle 6"),
+                                    ((), two, f"{covered} 1.819 us, the number of double cycle 12"),
+                                    ((), everything.format("20-21"), "nothing is proved of this run through losses"),
+                                    ((limit,), two, "covered through losses, but C6 fails: the rate limit does not suffice for the first")):
+            with self.subTest(changes=changes, lost=lost):
+                self.assertIn(told, self.page(produced(SHORT, *changes) + JOINS + lost))
+
+    @needs_series
     def test_ways_are_those_of_a_held_walk(self):
         page = self.page(produced(SHORT, ("Damping = 2", "Damping = 0")) + self.DELAYS)
         self.assertIn("C1 asks for 2 at least; or let delays flutter less", page)

@@ -36,7 +36,7 @@ kept_text promises p d s text sane drift_fits script_fits report = record {
   through_losses = λ from flutter reach double covered low synced awake.
       promises.lost p d s from flutter reach report.cycles double sane covered report.run low synced awake;
   joined_through_losses = λ from flutter reach double covered low synced.
-      promises.joined_lost p d s from flutter reach report.cycles double sane script_fits covered report.run low synced;
+      promises.joined_lost p d s from flutter reach report.cycles double sane drift_fits script_fits covered report.run low synced;
 }
 
 kept_written : FilePromises → (names : RunNames) (before after : Shelved) (text : List ℕ)

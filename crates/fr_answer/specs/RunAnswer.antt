@@ -21,7 +21,7 @@ use Rattle.fr_promise.specs.SharpTested.{IsUnfollowedSharpSyncAt}
 -- does where they are sharply covered to join, whoever joins, from each one in which no node follows; and where they are covered through
 -- losses, with any reach in ticks, it keeps to the numbers by what is heard, whatever frames are lost, from each double cycle in sharp
 -- sync on in which no node lacks values; where they are covered to join through losses, so it does whoever joins, from each one in which
--- no node follows
+-- no node follows, and whoever listens where its reference's frames come to it joins
 pub record IsKeptRunText (params : Values) (drift : DriftView) (script : ScriptView) (text : List ℕ) : Type 0 where
   pub report : IsRunText params drift script text
   pub sharply :

@@ -77,7 +77,7 @@ module _ (beside : Bool) (x : Setting) (from flutter : ℕ) (h : Cycles) (w : Is
   second = (sharp_join_checks_suffice_lem beside x.params flutter w.covered.timed.sane w.checks).3 2 (omega arith) (omega arith)
 
   -- the numbers of a double cycle while first rates last
-  pub numbers : (passed : ℕ) → FirstRatesLast x.params flutter passed
+  numbers : (passed : ℕ) → FirstRatesLast x.params flutter passed
       → WalksJoined beside x flutter (walked_after x.params flutter passed) (rate_walk x.params flutter) (walked_after x.params flutter (suc passed))
   numbers passed last =
       let held = walk_is_held x.params flutter passed w.covered.timed.sane second last.0 in

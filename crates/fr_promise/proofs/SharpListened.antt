@@ -1,14 +1,13 @@
 -- What a node counts from one frame of its reference to the next, where delays flutter little.
 use Rattle.std.proofs.Common.{◌≡◌, ℕ, ◌+◌, ◌-◌, ◌*◌, ◌<◌, ◌≤◌, Bool, true, false, ℤ, pos, refl, ap, ◌∙◌, arith}
-use Rattle.std.specs.Prelude.{neg_ℤ, ◌+ℤ◌, ◌-ℤ◌, ◌*ℤ◌, ◌≤ℤ◌, ◌<ℤ◌, int_le}
+use Rattle.std.specs.Prelude.{neg_ℤ, ◌+ℤ◌, ◌-ℤ◌, ◌*ℤ◌, ◌≤ℤ◌, ◌<ℤ◌, int_le, nat_abs}
 use Rattle.std.proofs.lemmas.Int.{ints}
-use Rattle.std.proofs.Math.Nat.{mul-add, mul-le-mul_left, mul_comm}
+use Rattle.std.proofs.Math.Nat.{mul-add, mul-le-mul_left, mul-le-mul_right, mul_comm}
 use Rattle.fr_base.specs.Within.{IsBetween, IsWithin}
 use Rattle.fr_base.specs.declared.node_row.NodeRow.{NodeRow}
 use Rattle.fr_base.specs.declared.state.State.TheVariants.{Active}
-use Rattle.fr_cluster.specs.Values.{Values, amount}
+use Rattle.fr_cluster.specs.Values.{Values, amount, figure}
 use Rattle.fr_cluster.specs.Sane.{IsSane}
-use Rattle.fr_cluster.specs.Constraints.{correction_macros, least_micros}
 use Rattle.fr_cluster.specs.Questions.{compensation_of}
 use Rattle.fr_cluster.specs.declared.names.ParamName.TheVariants as name
 use Rattle.fr_midpoint.proofs.Products.{mulz-addz, mulz-subz, mulz_within, subz-mulz}
@@ -16,22 +15,19 @@ use Rattle.fr_time.specs.Position.{even_position, grid_for}
 use Rattle.fr_time.specs.Instant.{instant_of}
 use Rattle.fr_time.specs.Slots.{action_point_of, slot_end_of}
 use Rattle.fr_time.proofs.Lines.{lines_end, rest_of}
-use Rattle.fr_time.proofs.Placing.{action_point_lt, is_grid_lem}
+use Rattle.fr_time.proofs.Placing.{action_point_lt, can_place, is_grid_lem}
 use Rattle.fr_reception.specs.Listening.{Caught, caught_micros, caught_position, first_rate_of, first_start_of}
 use Rattle.fr_bound.specs.Bounds.{arrival_error, cycle_change, longest_micro, nominal, shortest_micro, widest}
 use Rattle.fr_bound.specs.Checks.{left_of, right_of}
 use Rattle.fr_bound.specs.Sync.{cycle_length_of}
-use Rattle.fr_bound.proofs.Uncut.{uncut_lem}
 use Rattle.fr_precision.specs.Rows.{longest_cycle, shortest_cycle, HasProperMicro}
 use Rattle.fr_precision.proofs.DeviationLaws.{compensation_within, micro_within}
 use Rattle.fr_precision.proofs.Figures.{natural}
 use Rattle.fr_precision.proofs.InstantLaws.{early_on_line, even_on_line, odd_start_is}
 use Rattle.fr_precision.proofs.OffsetLaws.{micro_lasts}
-use Rattle.fr_precision.proofs.PlacementLaws.{limit_below}
 use Rattle.fr_precision.proofs.ReceptionLaws.{ends_before}
 use Rattle.fr_runs.proofs.Listened.{first_length_is, no_less}
-use Rattle.fr_bound.specs.SharpBounds.{sharp_lambda, sharp_pi}
-use Rattle.fr_promise.specs.SharpJoining.{counted_error, sharp_first_lengths, sharp_reach}
+use Rattle.fr_promise.specs.SharpJoining.{counted_error}
 use Rattle.fr_promise.specs.SharpListening.{CountedLengthIsNear, IsCaughtSharply, SharpCatchesSuffice, SharpFirstLengthIsNear, SharpFirstRateIsWithin, SharpFirstStartIsNear}
 use Rattle.fr_precision.proofs.RateRange.{rate_in_limit}
 use Rattle.fr_precision.proofs.Signed.{signed_of}
@@ -263,44 +259,62 @@ sharp_first_start_is_near p flutter beyond c even odd sane suffices is =
 
 -- ---- it suffices to begin with
 
--- both limits together are at most the microticks of a cycle
-limits_below : (p : Values) → IsSane p → left_of 3 p + left_of 2 p ≤ shortest_cycle p
-limits_below p sane =
-    let f = amount p in
+-- the shortest cycle has at least ten microticks
+ten_micros : (p : Values) → IsSane p → amount p name.pRateCorrectionOut + 10 ≤ amount p name.pMicroPerCycle
+ten_micros p sane =
     let macros = sane.ranges name.gMacroPerCycle in
-    let uncut = uncut_lem p sane in
-    let below : f name.pOffsetCorrectionOut ≤ least_micros f =
-    limit_below (f name.gMacroPerCycle) (correction_macros f) (f name.pOffsetCorrectionOut) (least_micros f) (omega (arith, ints, macros.0)) (omega arith) sane.constraints.leaves_microticks in
-    let both = sum (f name.pOffsetCorrectionOut) (f name.pRateCorrectionOut) (f name.pMicroPerCycle) below uncut.cycle in
-    turned (f name.pOffsetCorrectionOut) (f name.pRateCorrectionOut) (f name.pMicroPerCycle) (shortest_micro p) both
+    let micros = sane.ranges name.pMicroPerCycle in
+    let rate = sane.ranges name.pRateCorrectionOut in
+    step p.macros p.micros p.rate_limit macros.0 micros.0 rate.0 ((can_place p sane).early (neg_ℤ p.rate_limit) (least p.rate_limit rate.0)).micros_from
   where
-    sum : (o r n : ℕ) → o ≤ n - r → r ≤ n → o + r ≤ n
-    sum o r n le also = omega (arith, le, also)
+    least : (r : ℤ) → pos 1 ≤ℤ r → IsWithin r (neg_ℤ r)
+    least r from = record { low = omega (arith, ints); high = omega (arith, ints) }
 
-    turned : (o r n q : ℕ) → o + r ≤ n → o * q + r * q ≤ n * q
-    turned o r n q le =
-        let more : q * (o + r) ≤ q * n = mul-le-mul_left q le in
-        omega (arith, more, mul-add q o r, mul_comm q o, mul_comm q r, mul_comm q n)
+    step : (g n r : ℤ) → pos 10 ≤ℤ g → pos 10 ≤ℤ n → pos 1 ≤ℤ r → g ≤ℤ (n +ℤ neg_ℤ r) → nat_abs r + 10 ≤ nat_abs n
+    step g n r a b c d = omega (arith, ints, a, b, c, d)
 
-reach_from : (beside : Bool) (p : Values) (flutter : ℕ) → flutter + longest_micro p + 3 * cycle_change p ≤ sharp_reach beside p flutter
-reach_from beside p flutter = step (sharp_pi beside p flutter) (sharp_lambda beside p flutter) (cycle_change p) (arrival_error p) flutter (longest_micro p) (sharp_first_lengths beside p flutter) _
+-- so twice its length takes in twice the rate limit, a change and the error of an arrival
+shortest_takes_in : (p : Values) → IsSane p → 2 * left_of 2 p + cycle_change p + arrival_error p ≤ 2 * shortest_cycle p
+shortest_takes_in p sane =
+    let rate = sane.ranges name.pRateCorrectionOut in
+    let bound = sane.ranges name.xRateBound in
+    let change = sane.ranges name.xChangeBound in
+    let delay = sane.ranges name.xDelayError in
+    let wide = sane.ranges name.pDelayCompensation in
+    step (amount p name.pMicroPerCycle) (amount p name.pRateCorrectionOut) (amount p name.xRateBound) (amount p name.xChangeBound) (amount p name.xDelayError) (widest p) (ten_micros p sane)
+    (most p.rate_limit 2000 (above p.rate_limit rate.0) rate.1) (most p.rate_bound 1500 bound.0 bound.1) (most p.change_bound 1500 change.0 change.1) (most p.delay_error 10_000_000 delay.0 delay.1)
+    (most (figure p name.pDelayCompensation) 200 wide.0 wide.1)
   where
-    step : (pi l j e t q first share : ℕ) → t + q + 3 * j ≤ (pi + 2 * l + 4 * j + 2 * e + t + 4 * q) + first + share + q
-    step pi l j e t q first share = omega arith
+    above : (z : ℤ) → pos 1 ≤ℤ z → pos 0 ≤ℤ z
+    above z from = omega (arith, ints, from)
+
+    most : (z : ℤ) (n : ℕ) → pos 0 ≤ℤ z → z ≤ℤ pos n → nat_abs z ≤ n
+    most z n from to = omega (arith, ints, from, to)
+
+    step : (n r rate change delay wide : ℕ) → r + 10 ≤ n → r ≤ 2000 → rate ≤ 1500 → change ≤ 1500 → delay ≤ 10_000_000 → wide ≤ 200
+        → 2 * (r * (1_000_000 - rate)) + (n + r) * change + (delay + wide * rate) ≤ 2 * (n * (1_000_000 - rate))
+    step n r rate change delay wide ten few low slow early narrow =
+        let micro = 1_000_000 - rate in
+        let whole : r + (n - r) ≡ n = omega (arith, ten) in
+        let parts : micro * (r + (n - r)) ≡ micro * r + micro * (n - r) = mul-add micro r (n - r) in
+        let all : micro * (r + (n - r)) ≡ micro * n = ap (λ (k : ℕ). micro * k) whole in
+        let longer : 998_500 * (n - r) ≤ micro * (n - r) = mul-le-mul_right (n - r) (omega (arith, low)) in
+        let changes : (n + r) * change ≤ (n + r) * 1500 = mul-le-mul_left (n + r) slow in
+        let errs : wide * rate ≤ wide * 1500 = mul-le-mul_left wide low in
+        omega (arith, ten, few, early, narrow, parts, all, longer, changes, errs, mul_comm micro n, mul_comm micro r)
 
 le_tested : (a b : ℤ) → a ≤ℤ b → int_le a b ≡ true
 le_tested a b le = grind (arith, ints)
 
 pub sharp_catches_suffice : SharpCatchesSuffice
-sharp_catches_suffice beside p flutter beyond c even odd sane suffices limit is from =
+sharp_catches_suffice p flutter beyond c even odd sane suffices is from =
     let rate = sharp_first_rate_is_within p flutter beyond c even odd sane suffices is in
     let near = sharp_first_start_is_near p flutter beyond c even odd sane suffices is in
-    let natural = step (first_start_of p c) even.start odd.start (cycle_length_of p even) (cycle_length_of p odd) beyond (shortest_cycle p) (longest_cycle p) (left_of 3 p) (left_of 2 p) (right_of 2 p) (sharp_reach beside p flutter)
+    let natural = step (first_start_of p c) even.start odd.start (cycle_length_of p even) (cycle_length_of p odd) beyond (shortest_cycle p) (longest_cycle p) (left_of 2 p) (right_of 2 p)
     (arrival_error p) (longest_micro p) flutter (cycle_change p)
-    (odd_start_is p even odd is.regular.double) from is.about (reference_of p flutter beyond c even odd sane is).changes near.low limit suffices (reach_from beside p flutter) (limits_below p sane) in
+    (odd_start_is p even odd is.regular.double) from is.about (reference_of p flutter beyond c even odd sane is).changes near.low suffices (shortest_takes_in p sane) in
     rw (le_tested (neg_ℤ p.rate_limit) (first_rate_of p c) rate.low, le_tested (first_rate_of p c) p.rate_limit rate.high, le_tested (pos 0) (first_start_of p c) natural) refl
   where
-    step : (s x y l m beyond : ℤ) (short long offset rate drift reach e q f j : ℕ) → y ≡ x +ℤ l → pos 0 ≤ℤ x → IsBetween (pos short -ℤ beyond) (pos long +ℤ beyond) l → IsWithin (pos j) (m -ℤ l)
-        → neg_ℤ (pos (e + f + 2 * q + 2 * j)) ≤ℤ (s -ℤ (y +ℤ m)) → (pos reach +ℤ pos e +ℤ pos q) ≤ℤ pos offset → (pos drift +ℤ (beyond +ℤ pos (f + j + q))) ≤ℤ pos rate
-        → f + q + 3 * j ≤ reach → offset + rate ≤ short → pos 0 ≤ℤ s
-    step s x y l m beyond short long offset rate drift reach e q f j a b lies near d g h i k = omega (arith, ints, a, b, lies.low, near.low, d, g, h, i, k)
+    step : (s x y l m beyond : ℤ) (short long rate drift e q f j : ℕ) → y ≡ x +ℤ l → pos 0 ≤ℤ x → IsBetween (pos short -ℤ beyond) (pos long +ℤ beyond) l → IsWithin (pos j) (m -ℤ l)
+        → neg_ℤ (pos (e + f + 2 * q + 2 * j)) ≤ℤ (s -ℤ (y +ℤ m)) → (pos drift +ℤ (beyond +ℤ pos (f + j + q))) ≤ℤ pos rate → 2 * rate + j + e ≤ 2 * short → pos 0 ≤ℤ s
+    step s x y l m beyond short long rate drift e q f j a b lies near d h k = omega (arith, ints, a, b, lies.low, near.low, d, h, k)

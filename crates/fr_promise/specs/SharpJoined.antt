@@ -19,7 +19,8 @@ use Rattle.fr_history.specs.Standing.{following_nodes, has_row, row_nodes}
 use Rattle.fr_history.specs.Terms.{outcomes_in}
 use Rattle.fr_runs.specs.Gathered.{followers_since, hearers_of, round_at}
 use Rattle.fr_runs.specs.Hearers.{group_of}
-use Rattle.fr_runs.specs.References.{HaveReferences}
+use Rattle.fr_runs.specs.Links.{IsCarried}
+use Rattle.fr_runs.specs.References.{HaveReferences, IsReference}
 use Rattle.fr_runs.specs.Rounds.{IsDoubleOf}
 use Rattle.fr_precision.specs.Lengths.{CanWalk}
 use Rattle.fr_bound.specs.SharpChecks.{RateSuffices}
@@ -121,6 +122,20 @@ SteadyFollowersJoin =
     (x : Setting) (from flutter : ℕ) (h : Cycles) (double : ℕ) (earlier : Cycles) (even odd : Cycle) (to : GroupSpread) (apart : ℕ) (reach beyond next : ℤ)
     → IsTimedPartFrom x from flutter h → from ≤ double → IsDoubleOf h double earlier even odd
     → IsFollowedKept x flutter to apart reach beyond next earlier even odd double → NoneIsLeftBehind x double earlier even odd
+
+-- of the reference of a node that joins the frames of a double cycle come to it over one channel
+abbrev pub IsReferenceCarried : Setting → NodeSpec → Join → ℕ → Type 0
+IsReferenceCarried x node join double = (r : IsReference x node join) → IsCarried x r.reference node double
+
+-- where they do a node that listens in such a double cycle begins to follow behind it, whatever else is lost, where its reference's
+-- start is not below 0
+abbrev pub FollowedListenersBegin : Type 0
+FollowedListenersBegin =
+    (x : Setting) (from flutter : ℕ) (h : Cycles) (double : ℕ) (earlier : Cycles) (even odd : Cycle) (s : GroupSpread) (beyond : ℤ) (node : NodeSpec) (join : Join)
+    → IsTimedPartFrom x from flutter h → HaveReferences x → from ≤ double → IsDoubleOf h double earlier even odd → RateTakesIn x.params flutter beyond
+    → IsFollowedDouble x s beyond earlier even odd double → Contains (correct_nodes x) node → x.join node.id ≡ Some join
+    → join.double ≡ double → IsReferenceCarried x node join double → pos 0 ≤ℤ (row_for even.told.rows join.reference).start
+    → IsSome (begins_with x (odd ∷ even ∷ earlier) node.id join)
 
 -- ---- as near as in sharp sync
 

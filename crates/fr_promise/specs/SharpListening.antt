@@ -12,14 +12,13 @@ use Rattle.fr_time.specs.Slots.{action_point_of}
 use Rattle.fr_reception.specs.Listening.{Caught, caught_micros, first_rate_of, first_start_of, suffices}
 use Rattle.fr_bound.specs.Bounds.{arrival_error, cycle_change, longest_micro, shortest_micro}
 use Rattle.fr_bound.specs.Sync.{cycle_length_of}
-use Rattle.fr_precision.specs.Offsets.{LimitSuffices}
 use Rattle.fr_precision.specs.Placement.{IsRegular}
 use Rattle.fr_precision.specs.Reception.{IsDelay}
 use Rattle.fr_precision.specs.Rows.{end_of}
 use Rattle.fr_runs.specs.Listening.{BeginsAt}
 use Rattle.fr_precision.specs.Lengths.{IsAboutCycle}
 use Rattle.fr_bound.specs.SharpChecks.{RateSuffices}
-use Rattle.fr_promise.specs.SharpJoining.{counted_error, first_error, sharp_reach}
+use Rattle.fr_promise.specs.SharpJoining.{counted_error, first_error}
 
 -- the delay of the even frame, and that of the odd one
 abbrev pub early_delay_of : Values → Caught → NodeRow → ℤ
@@ -82,10 +81,9 @@ SharpFirstStartIsNear =
     → IsSane p → RateTakesIn p flutter beyond → IsCaughtSharply p flutter beyond c even odd
     → IsWithin (pos (start_error p flutter)) (first_start_of p c -ℤ end_of p odd)
 
--- it is not negative where the reference's start is not, and the offset limit suffices for the reach; so what is caught suffices to
--- begin with
+-- it is not negative where the reference's start is not; so what is caught suffices to begin with
 abbrev pub SharpCatchesSuffice : Type 0
 SharpCatchesSuffice =
-    (beside : Bool) (p : Values) (flutter : ℕ) (beyond : ℤ) (c : Caught) (even odd : NodeRow)
-    → IsSane p → RateTakesIn p flutter beyond → LimitSuffices p (pos (sharp_reach beside p flutter))
-    → IsCaughtSharply p flutter beyond c even odd → pos 0 ≤ℤ even.start → suffices p c ≡ true
+    (p : Values) (flutter : ℕ) (beyond : ℤ) (c : Caught) (even odd : NodeRow)
+    → IsSane p → RateTakesIn p flutter beyond → IsCaughtSharply p flutter beyond c even odd → pos 0 ≤ℤ even.start
+    → suffices p c ≡ true

@@ -14,9 +14,7 @@ use Rattle.fr_bound.specs.declared.judging.Heard.TheVariants as heard
 use Rattle.fr_bound.specs.SharpBounds.{most_flutter}
 use Rattle.fr_sharp.specs.LossSteps.{LossDouble}
 use Rattle.fr_sharp.specs.Bearing.{KeepsThrough}
-use Rattle.fr_sharp.specs.LossRuns.{is_borne_of, is_through_losses, losses_of, told_apart, told_near, AreLosses, IsThroughLosses}
-use Rattle.fr_sharp.specs.JoinedLosses.{StaysThrough}
-use Rattle.fr_promise.specs.JoinedHistories.{FirstRatesLast, KeepsJoined}
+use Rattle.fr_sharp.specs.LossRuns.{is_borne_of, is_through_losses, losses_of, told_apart, told_near, AreLosses, IsThroughLosses, KeepsJoinedAsTold}
 use Rattle.fr_promise.specs.SharpTested.{IsUnfollowedSharpSyncAt}
 use Rattle.fr_sharp.specs.LossStatement.{spread_since}
 use Rattle.fr_traffic.specs.Reaching.{whole_in}
@@ -108,7 +106,7 @@ lost_text basis =
 -- long as the walk lasts, no macroticks lie further apart than by the number of their double cycle, nor than the greatest of these, no
 -- term is cut, none is missing but where a node has no value of its kind, and every correct node is active. Where one does so it is from
 -- each double cycle in sharp sync on in which no node follows and as long as first rates last, of nodes with rows; no term is missing,
--- none of a node that follows is cut, and no follower is left behind
+-- none of a node that follows is cut, no follower is left behind, and whoever listens where its reference's frames come to it joins
 pub record TellsLosses (p : Values) (d : DriftView) (s : ScriptView) (from : ℕ) (h : Cycles) : Type 0 where
   pub lost :
       AreLosses (has_arbitrary p s) p from (flutter_from p d s from) (whole_in p s) (heard_of p s) (is_borne_of p s from (flutter_from p d s from))
@@ -125,11 +123,5 @@ pub record TellsLosses (p : Values) (d : DriftView) (s : ScriptView) (from : ℕ
       × KeepsThrough (setting_of p d s) h (double + passed) (losses_of p d s from (flutter_from p d s from)).peak
   pub joined :
       some_join p s ≡ true → IsThroughLosses p d s from (flutter_from p d s from) (losses_of p d s from (flutter_from p d s from)).reach
-      → (double passed : ℕ)
-      → from ≤ double → IsUnfollowedSharpSyncAt (has_arbitrary p s) p (flutter_from p d s from) h double
-      → double + passed < doubles_of d → ((m : ℕ) → m < passed → FirstRatesLast p (flutter_from p d s from) m)
-      → StaysThrough (has_arbitrary p s) (setting_of p d s) (flutter_from p d s from) h double passed
-      × (FirstRatesLast p (flutter_from p d s from) passed
-      → KeepsJoined (setting_of p d s) h (double + passed) (told_apart p s from (flutter_from p d s from) (double + passed)))
-      × (FirstRatesLast p (flutter_from p d s from) passed
-      → KeepsJoined (setting_of p d s) h (double + passed) (losses_of p d s from (flutter_from p d s from)).peak)
+      → (double : ℕ) → from ≤ double → IsUnfollowedSharpSyncAt (has_arbitrary p s) p (flutter_from p d s from) h double
+      → KeepsJoinedAsTold p d s from (flutter_from p d s from) h double

@@ -17,6 +17,7 @@ use Rattle.fr_runs.specs.SteadyRuns.{IsWhole, MayHaveArbitrary}
 use Rattle.fr_traffic.specs.Traffic.{all_linked, arbitrary_count, heard_in, bears_on, lists_meet, rate_on, traffic_of}
 use Rattle.fr_runs.proofs.KeyedCounts.{all_pass}
 use Rattle.fr_traffic.proofs.HeardEvents.{regular_of}
+use Rattle.fr_sharp.specs.JoinedLossStatement.{comes_in_both}
 use Rattle.fr_sharp.proofs.HeardSurely.{share_of}
 
 by_tests : Bool → Bool → Bool → Bool → Heard
@@ -58,19 +59,22 @@ module _ (x : Setting) (double : ℕ) where
         odd = ap (λ (c : ℕ). x.event c sender.id receiver.id channel) number ∙ regular_of (x.event (2 * double + 1) sender.id receiver.id channel) both.1;
       }
 
+  pub carried_in_both : (sender receiver : NodeSpec) → comes_in_both (traffic_of x) sender receiver double ≡ true → IsCarried x sender receiver double
+  carried_in_both sender receiver comes =
+      elim (or_cases (rate_on true (traffic_of x) sender receiver double A) (rate_on true (traffic_of x) sender receiver double B) comes) [
+        | inl a ↦ carried_on sender receiver A a
+        | inr b ↦ carried_on sender receiver B b
+      ]
+
   pub all_carried : all_linked (traffic_of x) double ≡ true → IsWhole x double
   all_carried all sender receiver slot link =
       let t = traffic_of x in
       let from = correct_node x sender link.sends in
       let to = correct_node x receiver link.hears in
-      let carries = λ (b : NodeSpec). rate_on true t sender b double A || rate_on true t sender b double B in
-      let of_sender = all_pass (λ (a : NodeSpec). list_all (λ (b : NodeSpec). not (bears_on t a b) || (rate_on true t a b double A || rate_on true t a b double B)) t.nodes) t.nodes sender all from.there in
-      let either = all_pass (λ (b : NodeSpec). not (bears_on t sender b) || carries b) t.nodes receiver of_sender to.there in
+      let of_sender = all_pass (λ (a : NodeSpec). list_all (λ (b : NodeSpec). not (bears_on t a b) || comes_in_both t a b double) t.nodes) t.nodes sender all from.there in
+      let either = all_pass (λ (b : NodeSpec). not (bears_on t sender b) || comes_in_both t sender b double) t.nodes receiver of_sender to.there in
       let linked : bears_on t sender receiver ≡ true = rw (link.key, from.correct, to.correct, ne_eqb sender.id receiver.id link.other) refl in
-      elim (or_cases (rate_on true t sender receiver double A) (rate_on true t sender receiver double B) (right (bears_on t sender receiver) (carries receiver) linked either)) [
-        | inl a ↦ carried_on sender receiver A a
-        | inr b ↦ carried_on sender receiver B b
-      ]
+      carried_in_both sender receiver (right (bears_on t sender receiver) (comes_in_both t sender receiver double) linked either)
     where
       right : (a b : Bool) → a ≡ true → (not a || b) ≡ true → b ≡ true
       right true b is either = either

@@ -15,6 +15,7 @@ use Rattle.fr_script.proofs.Joining.{fits-join}
 use Rattle.fr_coverage.specs.Decided.{setting_of}
 use Rattle.fr_history.specs.Cycles.{Cycle, Cycles}
 use Rattle.fr_history.specs.History.{row_for}
+use Rattle.fr_history.specs.Lawful.{IsLawful}
 use Rattle.fr_history.specs.Standing.{has_row, has_row_by, row_nodes}
 use Rattle.fr_promise.specs.Statement.{IsRunOf}
 use Rattle.fr_promise.proofs.Drifts.{drift_of_a_file_fits}
@@ -59,13 +60,13 @@ joined_run p d s from flutter h sane fits covered run =
     }
 
 -- a reference has started no earlier than at 0
-reference_starts : (p : Values) (d : DriftView) (s : ScriptView) (from flutter : ℕ) (h : Cycles) → IsSane p → DriftFits p d → IsSteadyJoinedFrom (has_arbitrary p s) (setting_of p d s) from flutter h
+pub reference_starts : (p : Values) (d : DriftView) (s : ScriptView) (h : Cycles) → IsSane p → DriftFits p d → ScriptFits p s → IsLawful (setting_of p d s) h
     → (node : NodeSpec) (join : Join) → Contains (correct_nodes (setting_of p d s)) node → join_of s node.id ≡ Some join
     → (earlier : Cycles) (even odd : Cycle) → IsDoubleOf h join.double earlier even odd → pos 0 ≤ℤ (row_for even.told.rows join.reference).start
-reference_starts p d s from flutter h sane fits w node join there at earlier even odd part =
+reference_starts p d s h sane fits script_fits lawful node join there at earlier even odd part =
     let x = setting_of p d s in
-    let r = w.referenced node join there at in
-    let runs = double_runs x h join.double earlier even odd part (lawful_cycles_run x h w.lawful) in
+    let r = have_references p d s script_fits node join there at in
+    let runs = double_runs x h join.double earlier even odd part (lawful_cycles_run x h lawful) in
     let all = (starts_are_natural x earlier even sane (λ node cycle correct less. lengths_are_natural p d node.id cycle fits) (rates_begin p d s sane fits) (starts_begin p d s fits) runs.1).0 in
     let has : has_row x earlier r.reference.id ≡ true = ap (has_row_by x earlier r.reference.id) r.stays in
     let among = kept_filtered (λ (n : NodeSpec). has_row x earlier n.id) (correct_nodes x) r.reference r.correct has in
@@ -92,11 +93,11 @@ covered_files_keep_sharply_joined p d s from flutter h double sane drift_fits sc
       joins_up_to =
           λ passed within last node join there at after.
           joined_listeners_join_up_to beside x from flutter h double passed node join w late sync within last there at after
-          (reference_starts p d s from flutter h sane drift_fits w node join there at);
+          (reference_starts p d s h sane drift_fits script_fits run.lawful node join there at);
       joins =
           λ last node join there at after.
           joined_listeners_join beside x from flutter h double node join w late sync last there at after
-          (reference_starts p d s from flutter h sane drift_fits w node join there at);
+          (reference_starts p d s h sane drift_fits script_fits run.lawful node join there at);
     }
 
 pub joined_files_keep_sharp_precision : JoinedFilesKeepSharpPrecision

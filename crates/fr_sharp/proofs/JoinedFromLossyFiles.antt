@@ -1,11 +1,21 @@
 -- The run that files decide where nodes join and frames are lost: it is as the law of losses asks for, so it keeps to the bounds by what
 -- is heard.
-use Rattle.std.proofs.Common.{◌≡◌, ℕ, zero, suc, ◌+◌, ◌-◌, ◌*◌, ◌/◌, ◌<◌, ◌≤◌, ◌&&◌, ◌||◌, Bool, true, false, if◌then◌else◌, refl, sym, subst, arith}
-use Rattle.std.specs.Prelude.{max, nat_eq}
+use Rattle.std.proofs.Common.{◌≡◌, ℕ, zero, suc, ◌+◌, ◌-◌, ◌*◌, ◌/◌, ◌<◌, ◌≤◌, ◌&&◌, ◌||◌, Bool, true, false, if◌then◌else◌, Some, refl, ap, sym, ◌∙◌, subst, arith}
+use Rattle.std.specs.Prelude.{max, nat_eq, Contains}
 use Rattle.std.proofs.Math.Nat.{le-max_left}
+use Rattle.fr_cluster.specs.Questions.{node_of}
+use Rattle.fr_cluster.specs.Sane.{IsSane}
+use Rattle.fr_cluster.specs.Setting.{correct_nodes, Setting}
 use Rattle.fr_cluster.specs.Values.{Values, amount}
+use Rattle.fr_cluster.specs.declared.join.Join.{Join}
+use Rattle.fr_cluster.specs.declared.nodes.NodeSpec.{NodeSpec}
 use Rattle.fr_cluster.specs.declared.names.ParamName.TheVariants as name
 use Rattle.fr_drift.specs.Questions.{doubles_of}
+use Rattle.fr_drift.specs.View.{DriftView}
+use Rattle.fr_history.specs.Cycles.{Cycles}
+use Rattle.fr_runs.specs.Links.{IsCarried}
+use Rattle.fr_runs.proofs.Nodes.{correct_node, node_there}
+use Rattle.fr_script.specs.Files.{ScriptFits}
 use Rattle.fr_script.specs.View.{join_of, ScriptView}
 use Rattle.fr_bound.specs.Bounds.{arrival_error, cycle_change, longest_micro}
 use Rattle.fr_bound.specs.Judged.{heard_spread}
@@ -15,18 +25,25 @@ use Rattle.fr_bound.specs.declared.judging.Heard.TheVariants.{Clean, Meeting, Po
 use Rattle.fr_bound.specs.declared.settling.Spread.{Spread}
 use Rattle.fr_coverage.specs.Decided.{setting_of}
 use Rattle.fr_precision.specs.Among.{apart_through_losses, spread_through_losses, LaterSpreadsAreLess}
+use Rattle.fr_promise.specs.JoinedHistories.{FirstRatesLast, IsJoinedUpTo}
+use Rattle.fr_promise.specs.SharpJoined.{IsReferenceCarried}
+use Rattle.fr_promise.specs.SharpTested.{IsUnfollowedSharpSyncAt}
+use Rattle.fr_promise.specs.Statement.{IsRunOf}
 use Rattle.fr_promise.specs.SharpJoining.{all_heard, first_apart_by, first_lengths_by, group_spread_through, second_apart_by, sharp_first_lengths, sharp_group_spread, GroupSpread}
+use Rattle.fr_promise.proofs.Drifts.{drift_of_a_file_fits}
+use Rattle.fr_promise.proofs.JoinedListeners.{listener_joins_up_to, IsListenedRun}
 use Rattle.fr_promise.proofs.JoinBounds.{group_spreads_go, near_grows}
-use Rattle.fr_sharp.specs.JoinedLosses.{JoinedHistoriesKeepThroughLosses, TakesInJoining}
-use Rattle.fr_sharp.specs.JoinedLossStatement.{group_since, CoveredFilesKeepJoinedThroughLosses, JoinedFilesKeepThroughLosses, LossyFilesGiveJoinedRuns}
+use Rattle.fr_sharp.specs.JoinedLosses.{IsLossyJoinedFrom, JoinedHistoriesKeepThroughLosses, StaysThrough, TakesInJoining}
+use Rattle.fr_sharp.specs.JoinedLossStatement.{comes_in_both, group_since, CoveredFilesKeepJoinedThroughLosses, IsCoveredToJoinThroughLosses, JoinedFilesKeepThroughLosses, LossyFilesGiveJoinedRuns}
 use Rattle.fr_sharp.specs.LossStatement.{apart_since, without_losses}
 use Rattle.fr_sharp.specs.SharpStatement.{has_arbitrary}
 use Rattle.fr_traffic.specs.JoinedTraffic.{heard_to_join, lists_meet_to_join}
 use Rattle.fr_traffic.specs.Traffic.{all_linked, arbitrary_count, traffic_in, Traffic}
 use Rattle.fr_sharp.proofs.FromFiles.{files_are_steady}
+use Rattle.fr_sharp.proofs.HeardKinds.{carried_in_both}
 use Rattle.fr_sharp.proofs.FromLossyFiles.{later_since, same_flutter, same_times, some_is_not_none}
 use Rattle.fr_sharp.proofs.LossBurstLaws.{apart_later}
-use Rattle.fr_sharp.proofs.JoinedFromFiles.{have_references, script_of_a_file_fits}
+use Rattle.fr_sharp.proofs.JoinedFromFiles.{have_references, reference_starts, script_of_a_file_fits}
 
 pub lossy_files_give_joined_runs : LossyFilesGiveJoinedRuns
 lossy_files_give_joined_runs p d s from flutter reach h sane fits covered run =
@@ -200,9 +217,24 @@ joined_apart_later later p s from flutter double passed late =
 
 -- ---- the promise
 
+-- the frames of the reference of a node come to it, where those of the one node with its number do
+carried_reference : (p : Values) (d : DriftView) (s : ScriptView) (node reference : NodeSpec) (join : Join) → IsSane p → Contains p.nodes reference → reference.id ≡ join.reference
+    → comes_in_both (traffic_in p s) reference node join.double ≡ true → IsReferenceCarried (setting_of p d s) node join join.double
+carried_reference p d s node reference join sane there named comes r =
+    let x = setting_of p d s in
+    let of_named : node_of p r.reference.id ≡ Some reference = ap (node_of p) (r.named ∙ sym named) ∙ node_there p reference sane there in
+    let one : Some r.reference ≡ Some reference = sym (node_there p r.reference sane (correct_node x r.reference r.correct).there) ∙ of_named in
+    let same : r.reference ≡ reference = cc in
+    let At : NodeSpec → Type 0 = λ n. IsCarried x n node join.double in
+    subst At (sym same) (carried_in_both x join.double reference node comes)
+
 module _ (keep : JoinedHistoriesKeepThroughLosses) (later : LaterSpreadsAreLess) where
-  pub covered_files_keep_joined_through_losses : CoveredFilesKeepJoinedThroughLosses
-  covered_files_keep_joined_through_losses p d s from flutter reach h double sane fits covered run late sync passed within lasting =
+  stays_through : (p : Values) (d : DriftView) (s : ScriptView) (from flutter reach : ℕ) (h : Cycles) (double : ℕ)
+      → IsSane p → ScriptFits p s → IsCoveredToJoinThroughLosses p d s from flutter reach
+      → IsRunOf (setting_of p d s) h → from ≤ double → IsUnfollowedSharpSyncAt (has_arbitrary p s) p flutter h double
+      → (passed : ℕ) → double + passed < doubles_of d → ((m : ℕ) → m < passed → FirstRatesLast p flutter m)
+      → StaysThrough (has_arbitrary p s) (setting_of p d s) flutter h double passed
+  stays_through p d s from flutter reach h double sane fits covered run late sync passed within lasting =
       keep (has_arbitrary p s) (setting_of p d s) from flutter h double reach (lossy_files_give_joined_runs p d s from flutter reach h sane fits covered run) late covered.checks takes sync passed within lasting
     where
       what : ℕ → Heard
@@ -227,6 +259,50 @@ module _ (keep : JoinedHistoriesKeepThroughLosses) (later : LaterSpreadsAreLess)
                 (near_grows p now.firsts.starts now.firsts.lengths all.firsts.starts all.firsts.lengths sane below.first_starts below.first_lengths) (in_reach.firsts node there listened);
           }
 
+  pub covered_files_keep_joined_through_losses : CoveredFilesKeepJoinedThroughLosses
+  covered_files_keep_joined_through_losses p d s from flutter reach h double sane drift_fits fits covered run late sync =
+      record { stays = stays; joins_up_to = joins }
+    where
+      x : Setting
+      x = setting_of p d s
+
+      spread : ℕ → GroupSpread
+      spread k = group_spread_through (has_arbitrary p s) p flutter (λ m. heard_to_join (traffic_in p s) (join_of s) (double + m)) k
+
+      lossy : IsLossyJoinedFrom (setting_of p d s) from flutter h
+      lossy = lossy_files_give_joined_runs p d s from flutter reach h sane fits covered run
+
+      stays : (passed : ℕ) → double + passed < doubles_of d → ((m : ℕ) → m < passed → FirstRatesLast p flutter m)
+          → StaysThrough (has_arbitrary p s) (setting_of p d s) flutter h double passed
+      stays passed within lasting = stays_through p d s from flutter reach h double sane fits covered run late sync passed within lasting
+
+      joins : (passed : ℕ) → double + passed < doubles_of d → ((m : ℕ) → m < passed → FirstRatesLast p flutter m) → (node reference : NodeSpec) (join : Join)
+          → Contains (correct_nodes (setting_of p d s)) node → join_of s node.id ≡ Some join → double ≤ join.double
+          → Contains p.nodes reference → reference.id ≡ join.reference → comes_in_both (traffic_in p s) reference node join.double ≡ true
+          → IsJoinedUpTo h node.id join (2 * suc (double + passed))
+      joins passed within lasting node reference join there at behind known named comes =
+          let listened : IsListenedRun (setting_of p d s) from flutter h double (double + passed) spread = record {
+            part = record { covered = lossy.covered; lawful = run.lawful; within = (let whole = run.whole in omega (arith, whole)) };
+            whole = run.whole;
+            referenced = lossy.referenced;
+            late = late;
+            inside = omega (arith, within);
+            lasting = λ m less. lasting m (omega (arith, less));
+            near = λ m less. (stays m (omega (arith, within, less)) (λ j few. lasting j (omega (arith, few, less)))).followed;
+            joins = λ m less. (stays m (omega (arith, within, less)) (λ j few. lasting j (omega (arith, few, less)))).joins (lasting m (omega (arith, less)));
+          } in
+          listener_joins_up_to x from flutter h double (double + passed) spread node join listened
+          (
+          record {
+            there = there;
+            at = at;
+            behind = behind;
+            carried = λ short. carried_reference p d s node reference join sane known named comes;
+            starts = reference_starts p d s h sane drift_fits fits run.lawful node join there at;
+          }
+          )
+          within
+
   pub joined_files_keep_through_losses_lem : JoinedFilesKeepThroughLosses
-  joined_files_keep_through_losses_lem p d s drift script from flutter reach h double sane drift_file script_file covered run late sync passed within lasting =
-      covered_files_keep_joined_through_losses p d s from flutter reach h double sane (script_of_a_file_fits p s script script_file) covered run late sync passed within lasting
+  joined_files_keep_through_losses_lem p d s drift script from flutter reach h double sane drift_file script_file covered run late sync =
+      covered_files_keep_joined_through_losses p d s from flutter reach h double sane (drift_of_a_file_fits p d drift drift_file) (script_of_a_file_fits p s script script_file) covered run late sync

@@ -33,7 +33,7 @@ use Rattle.fr_promise.specs.JoinedHistories.{FirstRatesLast, KeepsJoined}
 use Rattle.fr_promise.specs.SharpJoining.{group_spread_through, next_group_spread, GroupSpread}
 use Rattle.fr_promise.proofs.JoinBounds.{group_spreads_go}
 use Rattle.fr_sharp.specs.JoinedLosses.{TakesInJoining}
-use Rattle.fr_sharp.specs.JoinedLossStatement.{group_since, run_group, CoveredFilesKeepJoinedThroughLosses}
+use Rattle.fr_sharp.specs.JoinedLossStatement.{group_since, run_group, CoveredFilesKeepJoinedThroughLosses, KeepsJoinedThroughLosses}
 use Rattle.fr_sharp.specs.LossCosts.{limits_hold}
 use Rattle.fr_sharp.specs.Losses.{HistoriesKeepThroughLosses}
 use Rattle.fr_traffic.specs.Reaching.{all_reach, reaches, reaches_each}
@@ -687,15 +687,23 @@ joined_wider x h double apart wide le keeps = record { skew = λ macrotick is_od
     further z below = omega (arith, ints, below, le)
 
 pub joined_runs_keep_their_bounds : CoveredFilesKeepJoinedThroughLosses → LaterSpreadsAreLess → JoinedRunsKeepTheirBounds
-joined_runs_keep_their_bounds keep later p d s from flutter h double passed sane fits joins covered run late sync within lasting =
-    let reach = (losses_of p d s from flutter).reach in
-    let now = apart_through_losses (has_arbitrary p s) p flutter (λ m. heard_to_join (traffic_in p s) (join_of s) (double + m)) passed in
-    let all = told_apart p s from flutter (double + passed) in
-    let x = setting_of p d s in
-    let stays = keep p d s from flutter reach h double sane fits covered run late sync passed within lasting in
-    let Less : (ℕ → Heard) → Type 0 = λ w. now ≤ apart_since (has_arbitrary p s) p from flutter w (double + passed) in
-    let le = subst Less (sym (heard_joined p s joins)) (joined_apart_later later p s from flutter double passed late) in
-    let told = losses_are_told_lem p d s from flutter (omega (arith, late, within)) in
-    let most = told.greatest (double + passed) (omega (arith, late)) within in
-    let bound : FirstRatesLast p flutter passed → KeepsJoined x h (double + passed) all = λ lasts. joined_wider x h (double + passed) now all le (stays.keeps lasts) in
-    (stays, bound, λ lasts. joined_wider x h (double + passed) all (losses_of p d s from flutter).peak most (bound lasts))
+joined_runs_keep_their_bounds keep later p d s from flutter h double sane drift_fits fits joins covered run late sync =
+    record {
+      promise = promise;
+      bound = bound;
+      peak = λ passed within lasting.
+          let told = losses_are_told_lem p d s from flutter (omega (arith, late, within)) in
+          let most = told.greatest (double + passed) (omega (arith, late)) within in
+          joined_wider (setting_of p d s) h (double + passed) (told_apart p s from flutter (double + passed)) (losses_of p d s from flutter).peak most (bound passed within lasting);
+    }
+  where
+    promise : KeepsJoinedThroughLosses p d s flutter h double
+    promise = keep p d s from flutter (losses_of p d s from flutter).reach h double sane drift_fits fits covered run late sync
+
+    bound : (passed : ℕ) → double + passed < doubles_of d → ((m : ℕ) → m ≤ passed → FirstRatesLast p flutter m) → KeepsJoined (setting_of p d s) h (double + passed) (told_apart p s from flutter (double + passed))
+    bound passed within lasting =
+        let now = apart_through_losses (has_arbitrary p s) p flutter (λ m. heard_to_join (traffic_in p s) (join_of s) (double + m)) passed in
+        let stays = promise.stays passed within (λ m less. lasting m (omega (arith, less))) in
+        let Less : (ℕ → Heard) → Type 0 = λ w. now ≤ apart_since (has_arbitrary p s) p from flutter w (double + passed) in
+        let le = subst Less (sym (heard_joined p s joins)) (joined_apart_later later p s from flutter double passed late) in
+        joined_wider (setting_of p d s) h (double + passed) now (told_apart p s from flutter (double + passed)) le (stays.keeps (lasting passed (omega arith)))

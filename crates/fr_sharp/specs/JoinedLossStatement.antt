@@ -1,10 +1,15 @@
 -- What is promised of a run that nodes join and in which frames are lost, by its files. The words of it, from the top: `IsLawful` (what
 -- a run is), `IsCoveredToJoinThroughLosses` (what is asked of the files), `heard_to_join`, `group_spread_through` (the numbers by what is
--- heard), `IsUnfollowedSharpSyncAt`, `FirstRatesLast`, `KeepsJoinedThroughLosses`, `StaysThrough`.
-use Rattle.std.specs.Prelude.{◌≡◌, ◌+◌, ◌-◌, ◌<◌, ◌≤◌, ℕ, Bool, true, List}
+-- heard), `IsUnfollowedSharpSyncAt`, `FirstRatesLast`, `KeepsJoinedThroughLosses`, `StaysThrough`,
+-- `comes_in_both`, `IsJoinedUpTo`.
+use Rattle.std.specs.Prelude.{◌≡◌, ◌+◌, ◌-◌, ◌*◌, ◌<◌, ◌≤◌, ◌||◌, ℕ, suc, Bool, true, List, Contains, Some}
+use Rattle.fr_base.specs.declared.channel.Channel.TheVariants as channel
 use Rattle.fr_cluster.specs.Sane.{IsSane}
+use Rattle.fr_cluster.specs.Setting.{correct_nodes}
 use Rattle.fr_cluster.specs.Values.{Values}
-use Rattle.fr_drift.specs.Files.{IsDriftFile}
+use Rattle.fr_cluster.specs.declared.join.Join.{Join}
+use Rattle.fr_cluster.specs.declared.nodes.NodeSpec.{NodeSpec}
+use Rattle.fr_drift.specs.Files.{DriftFits, IsDriftFile}
 use Rattle.fr_drift.specs.Questions.{doubles_of}
 use Rattle.fr_drift.specs.View.{DriftView}
 use Rattle.fr_script.specs.Files.{IsScriptFile, ScriptFits}
@@ -15,7 +20,7 @@ use Rattle.fr_coverage.specs.Decided.{setting_of}
 use Rattle.fr_coverage.specs.Flutter.{flutter_from}
 use Rattle.fr_coverage.specs.Order.{HasNoGapFrom}
 use Rattle.fr_history.specs.Cycles.{Cycles}
-use Rattle.fr_promise.specs.JoinedHistories.{FirstRatesLast}
+use Rattle.fr_promise.specs.JoinedHistories.{FirstRatesLast, IsJoinedUpTo}
 use Rattle.fr_promise.specs.SharpJoining.{group_spread_through, GroupSpread}
 use Rattle.fr_promise.specs.SharpTested.{IsUnfollowedSharpSyncAt}
 use Rattle.fr_promise.specs.Statement.{IsRunOf}
@@ -23,7 +28,7 @@ use Rattle.fr_sharp.specs.JoinedLosses.{IsLossyJoinedFrom, StaysThrough, TakesIn
 use Rattle.fr_sharp.specs.LossStatement.{without_losses}
 use Rattle.fr_sharp.specs.SharpStatement.{has_arbitrary}
 use Rattle.fr_traffic.specs.JoinedTraffic.{heard_to_join, is_borne_to_join}
-use Rattle.fr_traffic.specs.Traffic.{traffic_in}
+use Rattle.fr_traffic.specs.Traffic.{rate_on, traffic_in, Traffic}
 
 -- the bounds of a double cycle by what was heard since an earlier one or since it; and so by what is heard in a run
 abbrev pub group_since : Bool → Values → ℕ → ℕ → (ℕ → Heard) → ℕ → GroupSpread
@@ -54,19 +59,32 @@ LossyFilesGiveJoinedRuns =
     → IsSane p → ScriptFits p s → IsCoveredToJoinThroughLosses p d s from flutter reach → IsRunOf (setting_of p d s) h
     → IsLossyJoinedFrom (setting_of p d s) from flutter h
 
--- what is kept from a double cycle on, as long as first rates have lasted, whatever frames are lost and whoever joins: the bounds by what
--- was heard since hold, and no follower is left behind
-abbrev pub KeepsJoinedThroughLosses : Values → DriftView → ScriptView → ℕ → Cycles → ℕ → Type 0
-KeepsJoinedThroughLosses p d s flutter h double =
-    (passed : ℕ) → double + passed < doubles_of d → ((m : ℕ) → m < passed → FirstRatesLast p flutter m)
-    → StaysThrough (has_arbitrary p s) (setting_of p d s) flutter h double passed
+-- of one node at another the frames of both cycles of a double cycle come over one channel
+abbrev pub comes_in_both : Traffic → NodeSpec → NodeSpec → ℕ → Bool
+comes_in_both t a b double = rate_on true t a b double channel.A || rate_on true t a b double channel.B
+
+-- what is kept from a double cycle on, whatever frames are lost and whoever joins
+pub record KeepsJoinedThroughLosses (p : Values) (d : DriftView) (s : ScriptView) (flutter : ℕ) (h : Cycles) (double : ℕ) : Type 0 where
+  -- as long as first rates have lasted the bounds by what was heard since hold, and no follower is left behind
+  pub stays :
+      (passed : ℕ) → double + passed < doubles_of d → ((m : ℕ) → m < passed → FirstRatesLast p flutter m)
+      → StaysThrough (has_arbitrary p s) (setting_of p d s) flutter h double passed
+  -- whoever listens in a double cycle e from this one on, in which its reference's frames of both cycles come to it over one channel,
+  -- follows in cycles 2 e + 2 to 2 e + 5, and takes part from 2 e + 6 on, as far as to the last double cycle before which first rates have
+  -- lasted
+  pub joins_up_to :
+      (passed : ℕ) → double + passed < doubles_of d → ((m : ℕ) → m < passed → FirstRatesLast p flutter m)
+      → (node reference : NodeSpec) (join : Join)
+      → Contains (correct_nodes (setting_of p d s)) node → join_of s node.id ≡ Some join → double ≤ join.double
+      → Contains p.nodes reference → reference.id ≡ join.reference → comes_in_both (traffic_in p s) reference node join.double ≡ true
+      → IsJoinedUpTo h node.id join (2 * suc (double + passed))
 
 -- so it is of sane parameters, and of a drift and a script that fit them, that are covered to join through losses from a double cycle on,
 -- from each one in sharp sync on from there in which no node follows
 abbrev pub CoveredFilesKeepJoinedThroughLosses : Type 0
 CoveredFilesKeepJoinedThroughLosses =
     (p : Values) (d : DriftView) (s : ScriptView) (from flutter reach : ℕ) (h : Cycles) (double : ℕ)
-    → IsSane p → ScriptFits p s → IsCoveredToJoinThroughLosses p d s from flutter reach
+    → IsSane p → DriftFits p d → ScriptFits p s → IsCoveredToJoinThroughLosses p d s from flutter reach
     → IsRunOf (setting_of p d s) h → from ≤ double → IsUnfollowedSharpSyncAt (has_arbitrary p s) p flutter h double
     → KeepsJoinedThroughLosses p d s flutter h double
 

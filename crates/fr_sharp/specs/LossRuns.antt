@@ -6,14 +6,15 @@ use Rattle.std.specs.Option.{option_map_or}
 use Rattle.fr_cluster.specs.Sane.{IsSane}
 use Rattle.fr_cluster.specs.Values.{Values}
 use Rattle.fr_cluster.specs.declared.nodes.NodeSpec.{NodeSpec}
+use Rattle.fr_drift.specs.Files.{DriftFits}
 use Rattle.fr_script.specs.Files.{ScriptFits}
 use Rattle.fr_runs.specs.Gathered.{listened_by}
 use Rattle.fr_bound.specs.SharpBounds.{near_by}
 use Rattle.fr_promise.specs.JoinedHistories.{FirstRatesLast, KeepsJoined}
 use Rattle.fr_promise.specs.SharpJoining.{group_spread_through, GroupSpread}
 use Rattle.fr_promise.specs.SharpTested.{IsUnfollowedSharpSyncAt}
-use Rattle.fr_sharp.specs.JoinedLosses.{StaysThrough, TakesInJoining}
-use Rattle.fr_sharp.specs.JoinedLossStatement.{group_since, IsCoveredToJoinThroughLosses}
+use Rattle.fr_sharp.specs.JoinedLosses.{TakesInJoining}
+use Rattle.fr_sharp.specs.JoinedLossStatement.{group_since, IsCoveredToJoinThroughLosses, KeepsJoinedThroughLosses}
 use Rattle.fr_traffic.specs.JoinedTraffic.{heard_of, is_borne_to_join}
 use Rattle.fr_traffic.specs.Reaching.{all_reach}
 use Rattle.fr_drift.specs.Questions.{doubles_of}
@@ -218,15 +219,22 @@ RunsKeepTheirBounds =
     → KeepsThrough (setting_of p d s) h (double + passed) (told_apart p s from flutter (double + passed))
     × KeepsThrough (setting_of p d s) h (double + passed) (losses_of p d s from flutter).peak
 
--- so it is where a correct node joins, from a double cycle in sharp sync on in which no node follows and as long as first rates last; no
--- term of a node that follows is cut or missing either, and no follower is left behind
+-- what a run that a correct node joins keeps from a double cycle on: its promise; and as long as first rates last no macroticks of nodes
+-- with rows lie further apart than by the number of their double cycle, which is no greater than the greatest, and no term of them or of
+-- a node that follows is cut or missing
+pub record KeepsJoinedAsTold (p : Values) (d : DriftView) (s : ScriptView) (from flutter : ℕ) (h : Cycles) (double : ℕ) : Type 0 where
+  pub promise : KeepsJoinedThroughLosses p d s flutter h double
+  pub bound :
+      (passed : ℕ) → double + passed < doubles_of d → ((m : ℕ) → m ≤ passed → FirstRatesLast p flutter m)
+      → KeepsJoined (setting_of p d s) h (double + passed) (told_apart p s from flutter (double + passed))
+  pub peak :
+      (passed : ℕ) → double + passed < doubles_of d → ((m : ℕ) → m ≤ passed → FirstRatesLast p flutter m)
+      → KeepsJoined (setting_of p d s) h (double + passed) (losses_of p d s from flutter).peak
+
+-- so it does from a double cycle in sharp sync on in which no node follows
 abbrev pub JoinedRunsKeepTheirBounds : Type 0
 JoinedRunsKeepTheirBounds =
-    (p : Values) (d : DriftView) (s : ScriptView) (from flutter : ℕ) (h : Cycles) (double passed : ℕ)
-    → IsSane p → ScriptFits p s → some_join p s ≡ true
+    (p : Values) (d : DriftView) (s : ScriptView) (from flutter : ℕ) (h : Cycles) (double : ℕ)
+    → IsSane p → DriftFits p d → ScriptFits p s → some_join p s ≡ true
     → IsCoveredToJoinThroughLosses p d s from flutter (losses_of p d s from flutter).reach → IsRunOf (setting_of p d s) h
-    → from ≤ double → IsUnfollowedSharpSyncAt (has_arbitrary p s) p flutter h double
-    → double + passed < doubles_of d → ((m : ℕ) → m < passed → FirstRatesLast p flutter m)
-    → StaysThrough (has_arbitrary p s) (setting_of p d s) flutter h double passed
-    × (FirstRatesLast p flutter passed → KeepsJoined (setting_of p d s) h (double + passed) (told_apart p s from flutter (double + passed)))
-    × (FirstRatesLast p flutter passed → KeepsJoined (setting_of p d s) h (double + passed) (losses_of p d s from flutter).peak)
+    → from ≤ double → IsUnfollowedSharpSyncAt (has_arbitrary p s) p flutter h double → KeepsJoinedAsTold p d s from flutter h double

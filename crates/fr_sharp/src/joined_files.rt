@@ -21,8 +21,9 @@ pub fn covered_files_keep_sharply_joined()
 
 /// The promise of the files of a run that nodes join and that loses frames: where they are covered to join through losses,
 /// from each double cycle in sharp sync on in which no node follows, nodes with rows keep to the numbers by what was heard
-/// since, in ticks, no term of them or of those that follow is cut or missing, and no follower is left behind, for as long as
-/// the rate limit holds the walk and suffices for first rates.
+/// since, in ticks, no term of them or of those that follow is cut or missing, no follower is left behind, and whoever
+/// listens in a double cycle in which its reference's frames come to it takes part from the third one behind it on, for as
+/// long as the rate limit holds the walk and suffices for first rates.
 pub fn joined_files_keep_through_losses()
     ensures keep { JoinedFilesKeepThroughLosses }
     ensures covered { CoveredFilesKeepJoinedThroughLosses }

@@ -123,10 +123,13 @@ def losses_lines(run: Run, field: Lines) -> list[str]:
     if losses.bound is None:
         return field("Losses", where, "nothing is proved of this run through losses")
     if first is None or lasts == 0:
-        why = "never in sync" if first is None else "C1 fails, and the rate limit holds the walk for no double cycle"
+        limit = ("C6 fails: the rate limit does not suffice for the first rate of a node that joins" if cluster.joins else
+                 "C1 fails, and the rate limit holds the walk for no double cycle")
+        why = "never in sync" if first is None else limit
         return field("Losses", where, f"covered through losses, but {why}: nothing is promised")
     span = "to the end" if lasts is None else f"for {lasts} double cycles"
-    return field("Losses", where, f"covered through losses: from double cycle {first} on, {span}, the clocks lie no further apart than "
+    whose = "the clocks of nodes that take part" if cluster.joins else "the clocks"
+    return field("Losses", where, f"covered through losses: from double cycle {first} on, {span}, {whose} lie no further apart than "
                                   f"{microseconds(losses.bound, cluster.microtick_ns)}, the number of double cycle {losses.double}")
 
 

@@ -1,3 +1,4 @@
+use Rattle.fr_promise.proofs.JoinedBeginning.{followed_listeners_begin}
 use Rattle.fr_promise.proofs.JoinedDoubles.{followed_doubles_are_kept, followed_doubles_hear, unfollowed_is_followed}
 use Rattle.fr_promise.proofs.JoinedFollowers.{steady_followers_join}
 use Rattle.fr_promise.proofs.JoinedNext.{followed_doubles_go_on}
@@ -17,3 +18,6 @@ returns-clause-next c = followed_doubles_go_on
 
 pub returns-clause-join : goal.returns-clause-join
 returns-clause-join c = steady_followers_join
+
+pub returns-clause-listen : goal.returns-clause-listen
+returns-clause-listen c = followed_listeners_begin

@@ -55,8 +55,8 @@ returns c = λ p d s sane fits proper.
               through = c.losses_are_told.ensures.covered p d s from flutter sane within (omega arith);
               keeps = λ none covered double passed low sync.
                   c.losses_are_told.ensures.keeps p d s from flutter h double passed sane (covered.alone none) (record { lawful = lawful; whole = whole }) low sync;
-              joined = λ some covered double passed.
-                  c.losses_are_told.ensures.joined p d s from flutter h double passed sane (fits some).1 some (covered.joined some) (record { lawful = lawful; whole = whole });
+              joined = λ some covered double.
+                  c.losses_are_told.ensures.joined p d s from flutter h double sane (fits some).0 (fits some).1 some (covered.joined some) (record { lawful = lawful; whole = whole });
             };
       };
     }
