@@ -1,4 +1,4 @@
--- A run that nodes join: what follows a double cycle at each node that had a row in it, followed or listened.
+-- A run that nodes join: a double cycle and the next one, as a step in which no term is cut.
 use Rattle.std.proofs.Common.{ℕ, suc, ℤ, ◌∷◌, length, arith}
 use Rattle.fr_base.specs.declared.node_row.NodeRow.{NodeRow}
 use Rattle.fr_cluster.specs.Setting.{Setting}
@@ -31,6 +31,7 @@ next_even_of p n even odd is = record { rate = is.next.even_rate; micro = is.nex
 module _
     (x : Setting) (flutter : ℕ) (now to : GroupSpread) (apart : ℕ) (reach beyond next : ℤ) (h : Cycles) (even odd even2 odd2 : Cycle) (double : ℕ)
     (s : IsFollowedStep x flutter now to apart reach beyond next h even odd even2 odd2 double) where
+  -- clocks run by their laws
   micros : MicrosFit x double
   micros =
       let more = s.later.within in
