@@ -14,6 +14,7 @@ use Rattle.fr_bound.specs.Bounds.{lambda_of, longest_micro, pi_of}
 use Rattle.fr_bound.specs.Sync.{cycle_length_of}
 use Rattle.fr_precision.specs.Rows.{corrected_end_of, end_of, Lasts, IsDoubleCycle}
 use Rattle.fr_precision.specs.Instants.{ActionsStayNear, gap_of, LieNear, MacroticksLieBetween, MacroticksLieWithin, MacroticksStayNear, PrecisionHolds, row_in, Runs}
+use Rattle.fr_precision.specs.Nearness.{MacroticksLieInReach}
 use Rattle.fr_time.proofs.Lines.{lines_between, lines_near, on_line, OnLine}
 
 -- up to the offset correction the rule of even cycles places a macrotick
@@ -165,25 +166,30 @@ actions_stay_near p starts lengths reach action is_odd even odd other_even other
     actions_in_reach p starts lengths reach action is_odd even odd other_even other_odd near fits
     (both.0 (within_cycle action p.correction p.macros to grid.correction_to)) (both.1 to)
 
--- from the offset correction on
-late_within : (p : Values) (starts lengths ends reach macrotick : ℤ) (even odd other_even other_odd : NodeRow)
-    → IsSane p → Runs p even odd → Runs p other_even other_odd → LieNear p starts lengths lengths even odd other_even other_odd
+-- ---- macroticks, where starts, even and odd lengths lie so far apart
+
+pub bound_from : (bound x : ℤ) → IsWithin bound x → pos 0 ≤ℤ bound
+bound_from bound x near = omega (arith, ints, near.low, near.high)
+
+-- from the offset correction on they lie on the way to the corrected end
+late_in_reach : (p : Values) (starts evens odds ends reach macrotick : ℤ) (even odd other_even other_odd : NodeRow)
+    → IsSane p → Runs p even odd → Runs p other_even other_odd → LieNear p starts evens odds even odd other_even other_odd
     → IsWithin ends (corrected_end_of p odd -ℤ corrected_end_of p other_odd)
-    → (starts +ℤ (pos 2 *ℤ lengths) +ℤ (pos 2 *ℤ pos (longest_micro p))) ≤ℤ reach → (ends +ℤ pos (longest_micro p)) ≤ℤ reach
+    → (starts +ℤ evens +ℤ odds +ℤ (pos 2 *ℤ pos (longest_micro p))) ≤ℤ reach → (ends +ℤ pos (longest_micro p)) ≤ℤ reach
     → p.correction <ℤ macrotick → macrotick ≤ℤ p.macros
     → IsWithin reach (gap_of p true macrotick odd other_odd)
-late_within p starts lengths ends reach macrotick even odd other_even other_odd sane runs other_runs near by_end fits ends_fit from to =
+late_in_reach p starts evens odds ends reach macrotick even odd other_even other_odd sane runs other_runs near by_end fits ends_fit from to =
     let grid = is_grid_lem p sane in
     let most = pos (longest_micro p) in
     let bound = reach -ℤ most in
     let o_from : pos 0 ≤ℤ p.correction = omega (arith, ints, grid.correction_from) in
-    let early = (macroticks_stay_near_lem p starts lengths lengths p.correction even odd other_even other_odd sane runs other_runs near o_from).1 (itself p.correction) in
+    let early = (macroticks_stay_near_lem p starts evens odds p.correction even odd other_even other_odd sane runs other_runs near o_from).1 (itself p.correction) in
     let start = instant_of (grid_for p) odd true p.correction in
     let other_start = instant_of (grid_for p) other_odd true p.correction in
     let rest = corrected_micros (grid_for p) odd.rate odd.offset *ℤ odd.length in
     let other_rest = corrected_micros (grid_for p) other_odd.rate other_odd.offset *ℤ other_odd.length in
     let begin : IsWithin bound (start -ℤ other_start) =
-    wider (starts +ℤ lengths +ℤ lengths +ℤ most) bound (gap_of p true p.correction odd other_odd) (takes_in starts lengths most reach fits) early in
+    wider (starts +ℤ evens +ℤ odds +ℤ most) bound (gap_of p true p.correction odd other_odd) (takes_in starts evens odds most reach fits) early in
     let close : IsWithin bound ((start +ℤ rest) -ℤ (other_start +ℤ other_rest)) =
     at_ends ends bound (start +ℤ rest) (corrected_end_of p odd) (other_start +ℤ other_rest) (corrected_end_of p other_odd) (corrected_end_is p odd) (corrected_end_is p other_odd)
     (less_one ends most reach ends_fit) by_end in
@@ -208,8 +214,8 @@ late_within p starts lengths ends reach macrotick even odd other_even other_odd 
     no_more : (m o g : ℤ) → m ≤ℤ g → (m -ℤ o) ≤ℤ (g -ℤ o)
     no_more m o g le = omega (arith, ints)
 
-    takes_in : (s l q r : ℤ) → (s +ℤ (pos 2 *ℤ l) +ℤ (pos 2 *ℤ q)) ≤ℤ r → (s +ℤ l +ℤ l +ℤ q) ≤ℤ (r -ℤ q)
-    takes_in s l q r le = omega (arith, ints)
+    takes_in : (s l k q r : ℤ) → (s +ℤ l +ℤ k +ℤ (pos 2 *ℤ q)) ≤ℤ r → (s +ℤ l +ℤ k +ℤ q) ≤ℤ (r -ℤ q)
+    takes_in s l k q r le = omega (arith, ints)
 
     less_one : (e q r : ℤ) → (e +ℤ q) ≤ℤ r → e ≤ℤ (r -ℤ q)
     less_one e q r le = omega (arith, ints)
@@ -220,24 +226,33 @@ late_within p starts lengths ends reach macrotick even odd other_even other_odd 
     at_ends : (s b x x' y y' : ℤ) → x ≡ x' → y ≡ y' → s ≤ℤ b → IsWithin s (x' -ℤ y') → IsWithin b (x -ℤ y)
     at_ends s b x x' y y' e g le within = record { low = omega (arith, ints, within.low); high = omega (arith, ints, within.high) }
 
-pub macroticks_lie_within : MacroticksLieWithin
-macroticks_lie_within p starts lengths ends reach macrotick false even odd other_even other_odd sane runs other_runs near by_end fits ends_fit from to =
-    wider (starts +ℤ lengths +ℤ pos (longest_micro p)) reach (gap_of p false macrotick even other_even)
-    (more starts lengths reach (longest_micro p) (cycle_length_of p even -ℤ cycle_length_of p other_even) near.by_even fits)
-    ((macroticks_stay_near_lem p starts lengths lengths macrotick even odd other_even other_odd sane runs other_runs near from).0 to)
+-- no macrotick of both cycles lies further apart than the reach
+pub macroticks_lie_in_reach : MacroticksLieInReach
+macroticks_lie_in_reach p starts evens odds ends reach macrotick false even odd other_even other_odd sane runs other_runs near by_end fits ends_fit from to =
+    wider (starts +ℤ evens +ℤ pos (longest_micro p)) reach (gap_of p false macrotick even other_even)
+    (more starts evens odds reach (longest_micro p) (bound_from odds (cycle_length_of p odd -ℤ cycle_length_of p other_odd) near.by_odd) fits)
+    ((macroticks_stay_near_lem p starts evens odds macrotick even odd other_even other_odd sane runs other_runs near from).0 to)
   where
-    more : (s l r : ℤ) (q : ℕ) (x : ℤ) → IsWithin l x → (s +ℤ (pos 2 *ℤ l) +ℤ (pos 2 *ℤ pos q)) ≤ℤ r → (s +ℤ l +ℤ pos q) ≤ℤ r
-    more s l r q x within le = omega (arith, ints, within.low, within.high)
-macroticks_lie_within p starts lengths ends reach macrotick true even odd other_even other_odd sane runs other_runs near by_end fits ends_fit from to =
+    more : (s l k r : ℤ) (q : ℕ) → pos 0 ≤ℤ k → (s +ℤ l +ℤ k +ℤ (pos 2 *ℤ pos q)) ≤ℤ r → (s +ℤ l +ℤ pos q) ≤ℤ r
+    more s l k r q from le = omega (arith, ints)
+macroticks_lie_in_reach p starts evens odds ends reach macrotick true even odd other_even other_odd sane runs other_runs near by_end fits ends_fit from to =
     by_lt_z p.correction macrotick
-    (λ late. late_within p starts lengths ends reach macrotick even odd other_even other_odd sane runs other_runs near by_end fits ends_fit late to)
+    (λ late. late_in_reach p starts evens odds ends reach macrotick even odd other_even other_odd sane runs other_runs near by_end fits ends_fit late to)
     (λ early.
-    wider (starts +ℤ lengths +ℤ lengths +ℤ pos (longest_micro p)) reach (gap_of p true macrotick odd other_odd)
-    (more starts lengths reach (longest_micro p) fits)
-    ((macroticks_stay_near_lem p starts lengths lengths macrotick even odd other_even other_odd sane runs other_runs near from).1 early))
+    wider (starts +ℤ evens +ℤ odds +ℤ pos (longest_micro p)) reach (gap_of p true macrotick odd other_odd)
+    (more starts evens odds reach (longest_micro p) fits)
+    ((macroticks_stay_near_lem p starts evens odds macrotick even odd other_even other_odd sane runs other_runs near from).1 early))
   where
-    more : (s l r : ℤ) (q : ℕ) → (s +ℤ (pos 2 *ℤ l) +ℤ (pos 2 *ℤ pos q)) ≤ℤ r → (s +ℤ l +ℤ l +ℤ pos q) ≤ℤ r
-    more s l r q le = omega (arith, ints)
+    more : (s l k r : ℤ) (q : ℕ) → (s +ℤ l +ℤ k +ℤ (pos 2 *ℤ pos q)) ≤ℤ r → (s +ℤ l +ℤ k +ℤ pos q) ≤ℤ r
+    more s l k r q le = omega (arith, ints)
+
+-- with one bound for lengths
+pub macroticks_lie_within : MacroticksLieWithin
+macroticks_lie_within p starts lengths ends reach macrotick is_odd even odd other_even other_odd sane runs other_runs near by_end fits =
+    macroticks_lie_in_reach p starts lengths lengths ends reach macrotick is_odd even odd other_even other_odd sane runs other_runs near by_end (each starts lengths reach (longest_micro p) fits)
+  where
+    each : (s l r : ℤ) (q : ℕ) → (s +ℤ (pos 2 *ℤ l) +ℤ (pos 2 *ℤ pos q)) ≤ℤ r → (s +ℤ l +ℤ l +ℤ (pos 2 *ℤ pos q)) ≤ℤ r
+    each s l r q le = omega (arith, ints)
 
 -- with one bound at both ends
 pub macroticks_lie_between : MacroticksLieBetween

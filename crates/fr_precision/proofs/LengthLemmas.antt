@@ -30,7 +30,8 @@ use Rattle.fr_precision.specs.Lengths.{next_length_error, NextLengthIsNear, CanW
 use Rattle.fr_precision.specs.Among.{LengthsComeAmong}
 use Rattle.fr_precision.proofs.AmongReceivers.{two_among}
 use Rattle.fr_precision.proofs.Signed.{room_of, signed_of}
-use Rattle.fr_precision.proofs.Walks.{changed, damped_away, moved_on, walked, HasRoom, Walked}
+use Rattle.fr_precision.proofs.Moves.{damped_near}
+use Rattle.fr_precision.proofs.Walks.{changed, moved_on, walked, HasRoom, Walked}
 
 -- the receiver of rate values that an odd row is
 abbrev pub rates_at : Values → NodeRow → List ℤ → Receiver
@@ -158,9 +159,7 @@ next_near p row values term next even sane micro round is =
     let b = damped p.damping z in
     sum (p.damping *ℤ pos (longest_micro p)) (pos (cycle_change p)) ((p.micros +ℤ z) *ℤ row.length) (place_at (rates_at p row values) round.mid) ((p.micros +ℤ b) *ℤ row.length) ((p.micros +ℤ b) *ℤ even.length) (cycle_length_of p even)
     (undamped p.micros row.rate round.mid row.length) (even_length_is p row values term next even round is)
-    (
-    damped_away p.micros p.damping p.rate_limit p.offset_limit p.change_bound (pos (shortest_micro p)) (pos (longest_micro p)) (pos (cycle_change p)) (pos (wide_change p)) row.length z s micro.least micro.most
-    )
+    (damped_near p.micros p.damping (pos (shortest_micro p)) (pos (longest_micro p)) row.length z s.c_from s.qm_from micro.least micro.most)
     (
     changed p.micros p.damping p.rate_limit p.offset_limit p.change_bound (pos (shortest_micro p)) (pos (longest_micro p)) (pos (cycle_change p)) (pos (wide_change p)) next row.length even.length b s round.walks
     (steady_within p row even sane is.steady)

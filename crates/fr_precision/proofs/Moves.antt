@@ -78,11 +78,11 @@ moved n c ro w qm qp y1 j t other b f r least most steady =
     still_high a b c le is = omega (arith, ints)
 
 -- damping changes a length by no more than the damping's own
-pub damped_near : (n c ro w qm qp y1 j t z : ℤ) → Figures n c ro w qm qp y1 j → qm ≤ℤ t → t ≤ℤ qp
+pub damped_near : (n c qm qp t z : ℤ) → pos 0 ≤ℤ c → pos 1 ≤ℤ qm → qm ≤ℤ t → t ≤ℤ qp
     → IsWithin (c *ℤ qp) (((n +ℤ z) *ℤ t) -ℤ ((n +ℤ damped c z) *ℤ t))
-damped_near n c ro w qm qp y1 j t z f least most =
-    let taken = damped-IsTakenToward c z f.c_from in
-    let product : IsWithin (qp *ℤ c) (t *ℤ (z -ℤ damped c z)) = mulz_within t (z -ℤ damped c z) qp c (omega (arith, ints, least, f.qm_from)) most taken.near in
+damped_near n c qm qp t z c_from qm_from least most =
+    let taken = damped-IsTakenToward c z c_from in
+    let product : IsWithin (qp *ℤ c) (t *ℤ (z -ℤ damped c z)) = mulz_within t (z -ℤ damped c z) qp c (omega (arith, ints, least, qm_from)) most taken.near in
     let apart : t *ℤ (z -ℤ damped c z) ≡ ((n +ℤ z) *ℤ t) -ℤ ((n +ℤ damped c z) *ℤ t) =
     mulz_comm t (z -ℤ damped c z) ∙ ap (λ x. x *ℤ t) (difference n z (damped c z)) ∙ subz-mulz (n +ℤ z) (n +ℤ damped c z) t in
     same (qp *ℤ c) (c *ℤ qp) (t *ℤ (z -ℤ damped c z)) ((n +ℤ z) *ℤ t) ((n +ℤ damped c z) *ℤ t) (mulz_comm qp c) apart product

@@ -12,7 +12,7 @@ use Rattle.fr_precision.specs.Rows.{Sender}
 use Rattle.fr_precision.specs.Instants.{gap_of, row_in, LieNear}
 use Rattle.fr_precision.specs.Placement.{IsRegular}
 use Rattle.fr_precision.specs.Step.{Member}
-use Rattle.fr_precision.proofs.InstantLaws.{actions_stay_near}
+use Rattle.fr_precision.proofs.InstantLaws.{actions_stay_near, macroticks_lie_in_reach}
 use Rattle.fr_precision.proofs.OffsetLaws.{third_check_suffices}
 use Rattle.fr_precision.proofs.StepLaws.{nodes_near, reach_fits, sync_is_spread}
 use Rattle.fr_bound.specs.SharpBounds.{last_action, rate_room, rate_walk, sharp_near, walk_lasts}
@@ -21,7 +21,6 @@ use Rattle.fr_precision.specs.SharpSettling.{sharp_spread_after, FitsOlder}
 use Rattle.fr_precision.specs.SharpStep.{ActInReach}
 use Rattle.fr_precision.specs.SharpRun.{lengths_from, starts_from, BeginInSync, BeginSharp, KeepsSharp, OlderSyncSettles, WalkLastsAfter}
 use Rattle.fr_precision.proofs.BoundLemmas.{first_check_stops_walk, key_slots_act_early, older_checks_suffice, walk_is_held}
-use Rattle.fr_precision.proofs.NearLemmas.{macroticks_lie_in_reach}
 use Rattle.fr_precision.proofs.SettlingLemmas.{older_way_fits}
 use Rattle.fr_precision.proofs.StepLemmas.{act_in_reach, in_sync_is_sharp, macroticks_stay_sharp, runs_of, sharp_is_wider}
 use Rattle.fr_precision.proofs.LastingLemmas.{active_later, all_regular, doubles_draw, first_spread_is, keeps_to_spreads, near_fits, nothing, spread_draws, stays_at_rest, up_to}

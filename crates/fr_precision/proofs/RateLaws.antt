@@ -252,9 +252,7 @@ near_next p row values term next sane first second round at same micro steady =
     let z = row.rate +ℤ round.mid in
     let b = damped p.damping z in
     let f = figures_of p sane first second in
-    let taken =
-    damped_near p.micros p.damping p.rate_limit p.change_bound (pos (shortest_micro p)) (pos (longest_micro p)) (pos (y1_of p)) (pos (cycle_change p)) row.length z
-    f at.least at.most in
+    let taken = damped_near p.micros p.damping (pos (shortest_micro p)) (pos (longest_micro p)) row.length z f.c_from f.qm_from at.least at.most in
     record {
       damped_length = (p.micros +ℤ b) *ℤ row.length;
       damping =

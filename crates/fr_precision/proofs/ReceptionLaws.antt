@@ -21,24 +21,26 @@ use Rattle.fr_bound.specs.Bounds.{nominal, precision_of, shortest_micro, widest}
 use Rattle.fr_bound.specs.Checks.{after_action, clear_micros, least_cycle, left_of}
 use Rattle.fr_bound.proofs.Uncut.{uncut_lem}
 use Rattle.fr_bound.specs.Sync.{cycle_length_of}
-use Rattle.fr_precision.specs.Reception.{ArrivalsLieInSlots, IsDelay, RoomChecksSuffice}
+use Rattle.fr_precision.specs.Reception.{ArrivalsLieInSlots, IsDelay, LeavesRoom, RoomChecksSuffice}
 use Rattle.fr_precision.proofs.Figures.{nat_le-true, natural, times_natural}
 use Rattle.fr_precision.proofs.InstantLaws.{before_correction}
 use Rattle.fr_time.proofs.Lines.{on_line, OnLine}
 use Rattle.fr_precision.proofs.OffsetLaws.{shortest_from}
 
-nat_lt-true : (a b : ℕ) → nat_lt a b ≡ true → a < b
+pub nat_lt-true : (a b : ℕ) → nat_lt a b ≡ true → a < b
 nat_lt-true a b h = grind (arith, nat_tests)
 
-pub room_checks_suffice : RoomChecksSuffice
-room_checks_suffice p sane fourth fifth =
+-- what is left of a slot before and behind an action point leaves room for a reach
+pub leaves_room : (p : Values) (reach : ℕ) → IsSane p → amount p name.gMacroPerCycle * (reach + amount p name.xDelayError) ≤ left_of 4 p
+    → amount p name.gMacroPerCycle * (reach + widest p * nominal + amount p name.xDelayError) < left_of 5 p → LeavesRoom p (pos reach)
+leaves_room p reach sane fourth fifth =
     let macros = sane.ranges name.gMacroPerCycle in
     let from : pos 0 ≤ℤ p.macros = omega (arith, ints, macros.0) in
-    let near = precision_of p + amount p name.xDelayError in
-    let far = precision_of p + widest p * nominal + amount p name.xDelayError in
+    let near = reach + amount p name.xDelayError in
+    let far = reach + widest p * nominal + amount p name.xDelayError in
     record {
-      before = at_most (amount p name.gMacroPerCycle * near) (left_of 4 p) (p.macros *ℤ pos near) (times_natural p.macros near from) (nat_le-true _ _ fourth);
-      after = less (amount p name.gMacroPerCycle * far) (left_of 5 p) (p.macros *ℤ pos far) (times_natural p.macros far from) (nat_lt-true _ _ fifth);
+      before = at_most (amount p name.gMacroPerCycle * near) (left_of 4 p) (p.macros *ℤ pos near) (times_natural p.macros near from) fourth;
+      after = less (amount p name.gMacroPerCycle * far) (left_of 5 p) (p.macros *ℤ pos far) (times_natural p.macros far from) fifth;
     }
   where
     at_most : (a b : ℕ) (x : ℤ) → pos a ≡ x → a ≤ b → x ≤ℤ pos b
@@ -46,6 +48,9 @@ room_checks_suffice p sane fourth fifth =
 
     less : (a b : ℕ) (x : ℤ) → pos a ≡ x → a < b → x <ℤ pos b
     less a b x e le = omega (arith, ints)
+
+pub room_checks_suffice : RoomChecksSuffice
+room_checks_suffice p sane fourth fifth = leaves_room p (precision_of p) sane (nat_le-true _ _ fourth) (nat_lt-true _ _ fifth)
 
 -- an instant up to the offset correction on its way, with the receiver's own microtick as the greatest
 even_line : (p : Values) (row : NodeRow) (macrotick : ℤ) → IsSane p → pos 0 <ℤ row.length

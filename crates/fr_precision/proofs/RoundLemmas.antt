@@ -14,15 +14,16 @@ use Rattle.fr_time.specs.Slots.{action_point_of}
 use Rattle.fr_correct.proofs.There.{offset_term_is_there, rate_term_is_there}
 use Rattle.fr_precision.specs.Rows.{Sender}
 use Rattle.fr_precision.specs.Instants.{gap_of}
+use Rattle.fr_precision.specs.Offsets.{LimitSuffices}
 use Rattle.fr_precision.specs.Placement.{IsRegular}
-use Rattle.fr_precision.specs.Round.{offsets_of, rates_of, sender_at, sender_with, senders_of, Hearer, IsHearer, IsSender, Round}
+use Rattle.fr_precision.specs.Round.{offsets_of, rates_of, sender_at, sender_with, senders_of, Hearer, IsHearer, IsRound, IsSender, Round}
 use Rattle.fr_precision.specs.Step.{IsAmong, Member}
 use Rattle.fr_precision.proofs.RoundSenders.{sender_is, IsFrom}
 use Rattle.fr_precision.proofs.Senders.{All-along}
 use Rattle.fr_bound.specs.SharpBounds.{last_action}
 use Rattle.fr_precision.specs.Lengths.{KeepSenders}
 use Rattle.fr_precision.specs.SharpStep.{AllKeepSenders, AreSharp, ComputesSharply}
-use Rattle.fr_precision.specs.SharpRound.{as_member, IsRoundInReach, IsSharpRound, RoundsAreSharp, RoundsInReachAreSharp}
+use Rattle.fr_precision.specs.SharpRound.{as_member, IsRoundInReach, IsSharpRound, IsSteadilySupplied, RoundsAreSharp, RoundsInReachAreSharp}
 use Rattle.fr_precision.proofs.BoundLemmas.{key_slots_act_early}
 use Rattle.fr_precision.proofs.HearingLemmas.{hearers_keep_senders, hears_all_steadily}
 use Rattle.fr_precision.proofs.StepLemmas.{nodes_near, reached_by, Double}
@@ -89,6 +90,52 @@ sender_among r rows have index sender from =
     let is : IsAmong nodes (sender_with r from.slot from.node.id) = (as_member r.params row.0, contains_map (as_member r.params) rows row.0 row.1, row.2, row.3) in
     subst (IsAmong nodes) from.is is
 
+-- ---- a receiver
+
+-- it hears, where action points of those whose rows the senders have lie within reach of its own
+pub hears_in_reach : (r : Round) (flutter : ℕ) (reach : ℤ) (rows : List Hearer) (n : Hearer) → IsRound r → LimitSuffices r.params reach → IsSteadilySupplied r flutter n
+    → ((node : NodeSpec) (slot : ℕ) → IsSender r node slot → (n : Hearer) × Contains rows n × (n.even ≡ r.even node.id) × (n.odd ≡ r.odd node.id))
+    → ((row : Hearer) (action : ℤ) → Contains rows row → pos 0 ≤ℤ action → action ≤ℤ pos (last_action r.params) → IsWithin reach (gap_of r.params false action row.even n.even))
+    → IsHearer r reach n
+hears_in_reach r flutter reach rows n round suffices supplied have acts =
+    let p = r.params in
+    record {
+      regular = supplied.regular;
+      suffices = suffices;
+      near =
+          λ index slot node other.
+          let row = have node slot other.sender in
+          let key = key_among p.nodes node slot other.sender.there other.sender.key in
+          let Near : NodeRow → Type 0 = λ even. IsWithin reach (gap_of p false (pos (action_point_of p slot)) even n.even) in
+          subst Near row.2
+          (
+          acts row.0 (pos (action_point_of p slot)) row.1 (no_less (action_point_of p slot))
+          (no_more (action_point_of p slot) (last_action p) ((key_slots_act_early p round.sane).0 slot key))
+          );
+      supply = supplied.hears;
+    }
+
+-- and computes its terms
+pub computes_sharply : (r : Round) (flutter : ℕ) (reach : ℤ) (n : Hearer) → IsRound r → IsHearer r reach n → IsSteadilySupplied r flutter n
+    → ComputesSharply r.params flutter (senders_of r) (as_member r.params n)
+computes_sharply r flutter reach n round hearer supplied =
+    let p = r.params in
+    let hears = hears_all_steadily r flutter reach n round hearer supplied.steady in
+    record {
+      regular = supplied.regular;
+      by_offset = record {
+        micro = supplied.regular.odd_micro;
+        hears = hears.offsets;
+        is_term = offset_term_is_there p.offset_limit (offsets_of n);
+        applied = supplied.applied;
+      };
+      by_rate = record {
+        micro = supplied.regular.odd_micro;
+        hears = hears.rates;
+        is_term = rate_term_is_there n.odd.rate p.damping p.rate_limit (rates_of n);
+      };
+    }
+
 -- ---- a round
 
 module _ (beside : Bool) (r : Round) (flutter : ℕ) (reach : ℤ) (rows : List Hearer) (s : IsRoundInReach beside r flutter reach rows) where
@@ -100,50 +147,15 @@ module _ (beside : Bool) (r : Round) (flutter : ℕ) (reach : ℤ) (rows : List 
 
   pub hearer : (n : Hearer) → Contains rows n → IsHearer r reach n
   hearer n here =
-      let p = r.params in
-      let at = as_member p in
-      record {
-        regular = (s.supplied n here).regular;
-        suffices = s.suffices;
-        near =
-            λ index slot node other.
-            let row = s.among node slot other.sender in
-            let action = pos (action_point_of p slot) in
-            let key = key_among p.nodes node slot other.sender.there other.sender.key in
-            let Near : NodeRow → Type 0 = λ even. IsWithin reach (gap_of p false action even n.even) in
-            subst Near row.2
-            (
-            s.acts false (at row.0) (at n) action (contains_map at rows row.0 row.1) (contains_map at rows n here) (no_less (action_point_of p slot))
-            (no_more (action_point_of p slot) (last_action p) ((key_slots_act_early p s.round.sane).0 slot key))
-            );
-        supply = (s.supplied n here).hears;
-      }
-
-  computes_at : (n : Hearer) → Contains rows n → ComputesSharply r.params flutter (senders_of r) (as_member r.params n)
-  computes_at n here =
-      let p = r.params in
-      let supplied = s.supplied n here in
-      let hears = hears_all_steadily r flutter reach n s.round (hearer n here) supplied.steady in
-      record {
-        regular = supplied.regular;
-        by_offset = record {
-          micro = supplied.regular.odd_micro;
-          hears = hears.offsets;
-          is_term = offset_term_is_there p.offset_limit (offsets_of n);
-          applied = supplied.applied;
-        };
-        by_rate = record {
-          micro = supplied.regular.odd_micro;
-          hears = hears.rates;
-          is_term = rate_term_is_there n.odd.rate p.damping p.rate_limit (rates_of n);
-        };
-      }
+      let at = as_member r.params in
+      hears_in_reach r flutter reach rows n s.round s.suffices (s.supplied n here) s.among
+      (λ row action there. s.acts false (at row) (at n) action (contains_map at rows row there) (contains_map at rows n here))
 
   computes : All (ComputesSharply r.params flutter (senders_of r)) (map (as_member r.params) rows)
   computes =
       let at = as_member r.params in
       let Computes : Member → Type 0 = ComputesSharply r.params flutter (senders_of r) in
-      All-along (Contains (map at rows)) Computes (map at rows) (λ node is. let n = map_contains at rows node is in subst Computes n.2 (computes_at n.0 n.1)) (All-contains_itself (map at rows))
+      All-along (Contains (map at rows)) Computes (map at rows) (λ node is. let n = map_contains at rows node is in subst Computes n.2 (computes_sharply r flutter reach n.0 s.round (hearer n.0 n.1) (s.supplied n.0 n.1))) (All-contains_itself (map at rows))
 
   keep : AllKeepSenders beside (senders_of r) (map (as_member r.params) rows)
   keep one other here there =

@@ -1,8 +1,9 @@
 -- The senders of a round by key index, and how many they are.
-use Rattle.std.proofs.Common.{◌≡◌, ℕ, ◌+◌, ◌≤◌, Bool, true, false, ◌&&◌, ℤ, Option, Some, None, List, [], ◌∷◌, ◌++◌, length, refl, ap, sym, ◌∙◌, subst, inl, inr, arith, if◌then◌else◌}
-use Rattle.std.specs.Prelude.{Contains, count_by, is_some, option_and_then, unwrap_or}
+use Rattle.std.proofs.Common.{◌≡◌, ℕ, ◌+◌, ◌≤◌, ◌==◌, Bool, true, false, ◌&&◌, ◌||◌, ℤ, Option, Some, None, List, [], ◌∷◌, ◌++◌, length, refl, ap, sym, ◌∙◌, subst, inl, inr, arith, if◌then◌else◌}
+use Rattle.std.specs.Prelude.{Contains, count_by, is_some, nat_le, option_and_then, unwrap_or}
 use Rattle.std.specs.List.{cons_option, range_with_len}
 use Rattle.std.specs.Option.{option_map_or}
+use Rattle.std.proofs.lemmas.Bool.{and_parts, eqb-true, or_cases}
 use Rattle.std.proofs.lemmas.List.{length-append}
 use Rattle.std.proofs.lemmas.List.Sorted.{length_permutation}
 use Rattle.std.proofs.lemmas.Slice.Zip.{AllZip-long}
@@ -195,6 +196,23 @@ pub few_more : (correct more arbitrary : ℕ) → correct ≤ more → AreFew co
 few_more correct more arbitrary le (inl none) = inl (none.0, omega (arith, le, none.1))
 few_more correct more arbitrary le (inr (inl one)) = inr (inl (one.0, omega (arith, le, one.1)))
 few_more correct more arbitrary le (inr (inr two)) = inr (inr (two.0, omega (arith, le, two.1)))
+
+-- those that a test finds few are few
+pub few_by_test : (correct arbitrary : ℕ) → (((arbitrary == 0) && nat_le 1 correct) || ((arbitrary == 1) && nat_le 3 correct) || ((arbitrary == 2) && nat_le 6 correct)) ≡ true → AreFew correct arbitrary
+few_by_test correct arbitrary is = elim (or_cases (((arbitrary == 0) && nat_le 1 correct) || ((arbitrary == 1) && nat_le 3 correct)) ((arbitrary == 2) && nat_le 6 correct) is) [
+  | inl fewer ↦ elim (or_cases ((arbitrary == 0) && nat_le 1 correct) ((arbitrary == 1) && nat_le 3 correct) fewer) [
+    | inl none ↦ inl (both 0 1 none)
+    | inr one ↦ inr (inl (both 1 3 one))
+  ]
+  | inr two ↦ inr (inr (both 2 6 two))
+] where
+  nat_le-true : (a b : ℕ) → nat_le a b ≡ true → a ≤ b
+  nat_le-true a b le = grind arith
+
+  both : (count least : ℕ) → ((arbitrary == count) && nat_le least correct) ≡ true → (arbitrary ≡ count) × (least ≤ correct)
+  both count least is =
+      let parts : ((arbitrary == count) ≡ true) × (nat_le least correct ≡ true) = and_parts (arbitrary == count) (nat_le least correct) is in
+      (eqb-true arbitrary count parts.0, nat_le-true least correct parts.1)
 
 senders_few : (r : Round) → IsRound r → AreFew (length (senders_of r)) (sync_count r.params r.is_arbitrary)
 senders_few r is = few_more (sync_count r.params r.has_rows) (length (senders_of r)) (sync_count r.params r.is_arbitrary) (senders_counted r is.sane) is.few

@@ -16,7 +16,7 @@ use Rattle.fr_precision.specs.Instants.{gap_of, row_in, LieNear, Runs}
 use Rattle.fr_precision.specs.Offsets.{IsSending}
 use Rattle.fr_precision.specs.Placement.{IsRegular}
 use Rattle.fr_precision.specs.Step.{IsAmong, IsFollowed, Member}
-use Rattle.fr_precision.proofs.InstantLaws.{wider}
+use Rattle.fr_precision.proofs.InstantLaws.{macroticks_lie_in_reach, wider}
 use Rattle.fr_precision.proofs.OffsetLaws.{micro_lasts, offset_terms_are_uncut}
 use Rattle.fr_precision.proofs.Senders.{All-along}
 use Rattle.fr_precision.proofs.StepLaws.{all_lie, any_two, mapped_twice, same_apart, unmapped}
@@ -27,7 +27,7 @@ use Rattle.fr_precision.specs.SharpStep.{ActInReach, ActionsLieInReach, AreSharp
 use Rattle.fr_precision.proofs.BoundLemmas.{sharp_checks_reach}
 use Rattle.fr_precision.proofs.EndLemmas.{ends_come_near_lem}
 use Rattle.fr_precision.proofs.LengthLemmas.{lengths_come_near_lem, range_walks}
-use Rattle.fr_precision.proofs.NearLemmas.{actions_lie_near, macroticks_lie_in_reach, odd_lengths_follow}
+use Rattle.fr_precision.proofs.NearLemmas.{actions_lie_near, odd_lengths_follow}
 
 -- ---- two receivers
 

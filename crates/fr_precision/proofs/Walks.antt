@@ -5,7 +5,7 @@ use Rattle.std.proofs.lemmas.Int.{ints, by_lt_z}
 use Rattle.fr_base.specs.Within.{IsBetween, IsWithin}
 use Rattle.fr_midpoint.proofs.Products.{addz-mulz, subz-mulz, lez_of_mulz-lez, mulz-lez_left, mulz-subz, mulz_comm, mulz_from, mulz_within, negz-mulz}
 use Rattle.fr_correct.specs.Terms.{damped}
-use Rattle.fr_correct.proofs.Damped.{damped_cases, damped-IsTakenToward}
+use Rattle.fr_correct.proofs.Damped.{damped_cases}
 use Rattle.fr_precision.proofs.Signed.{Signed}
 
 -- a damped rate within its limit, and the room for one change that it leaves on the side that it corrects to
@@ -170,19 +170,3 @@ moved_on n c ro oo w qm qp j wide next t other b s r next_from least most steady
 
     still_high : (a b c next : ℤ) → pos 0 ≤ℤ next → b ≤ℤ a → c ≡ b → c ≤ℤ (a +ℤ next)
     still_high a b c next f le is = omega (arith, ints)
-
--- damping changes a length by no more than the damping's own
-pub damped_away : (n c ro oo w qm qp j wide t z : ℤ) → Signed n c ro oo w qm qp j wide → qm ≤ℤ t → t ≤ℤ qp
-    → IsWithin (c *ℤ qp) (((n +ℤ z) *ℤ t) -ℤ ((n +ℤ damped c z) *ℤ t))
-damped_away n c ro oo w qm qp j wide t z s least most =
-    let taken = damped-IsTakenToward c z s.c_from in
-    let product : IsWithin (qp *ℤ c) (t *ℤ (z -ℤ damped c z)) = mulz_within t (z -ℤ damped c z) qp c (omega (arith, ints, least, s.qm_from)) most taken.near in
-    let apart : t *ℤ (z -ℤ damped c z) ≡ ((n +ℤ z) *ℤ t) -ℤ ((n +ℤ damped c z) *ℤ t) =
-    mulz_comm t (z -ℤ damped c z) ∙ ap (λ x. x *ℤ t) (difference n z (damped c z)) ∙ subz-mulz (n +ℤ z) (n +ℤ damped c z) t in
-    same (qp *ℤ c) (c *ℤ qp) (t *ℤ (z -ℤ damped c z)) ((n +ℤ z) *ℤ t) ((n +ℤ damped c z) *ℤ t) (mulz_comm qp c) apart product
-  where
-    difference : (n z b : ℤ) → z -ℤ b ≡ (n +ℤ z) -ℤ (n +ℤ b)
-    difference n z b = omega (arith, ints)
-
-    same : (wide other apart x y : ℤ) → wide ≡ other → apart ≡ x -ℤ y → IsWithin wide apart → IsWithin other (x -ℤ y)
-    same wide other apart x y a b within = record { low = omega (arith, ints, within.low); high = omega (arith, ints, within.high) }

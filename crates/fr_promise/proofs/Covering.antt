@@ -1,7 +1,7 @@
 -- A run without a gap is covered: what each kind of gap would be, were it not.
-use Rattle.std.proofs.Common.{◌≡◌, ℕ, suc, ◌+◌, ◌*◌, ◌-◌, ◌<◌, ◌≤◌, ◌==◌, ℤ, pos, ◌-ℤ◌, ◌+ℤ◌, ◌≤ℤ◌, Bool, true, false, ◌&&◌, ◌||◌, Some, refl, ap, sym, ◌∙◌, inl, inr, arith, add-one}
-use Rattle.std.specs.Prelude.{Contains, int_lt, nat_le, neg_ℤ}
-use Rattle.std.proofs.lemmas.Bool.{and_parts, ne_eqb, or_cases, or_parts, eqb-true}
+use Rattle.std.proofs.Common.{◌≡◌, ℕ, suc, ◌+◌, ◌*◌, ◌-◌, ◌<◌, ◌≤◌, ℤ, pos, ◌-ℤ◌, ◌+ℤ◌, ◌≤ℤ◌, Bool, true, false, ◌&&◌, ◌||◌, Some, refl, ap, sym, ◌∙◌, inl, inr, arith, add-one}
+use Rattle.std.specs.Prelude.{Contains, int_lt, neg_ℤ}
+use Rattle.std.proofs.lemmas.Bool.{and_parts, ne_eqb, or_cases, or_parts}
 use Rattle.std.proofs.lemmas.Int.{ints}
 use Rattle.fr_base.specs.Event.{Event}
 use Rattle.fr_base.specs.Event as event
@@ -27,6 +27,7 @@ use Rattle.fr_coverage.specs.Links.{is_carried, is_carried_on, is_free, is_link,
 use Rattle.fr_script.specs.View.{ScriptView}
 use Rattle.fr_coverage.specs.declared.gap.Gap.TheVariants as gap
 use Rattle.fr_coverage.proofs.Checks.{five-asked}
+use Rattle.fr_precision.proofs.RoundSenders.{few_by_test}
 use Rattle.fr_runs.specs.Links.{IsCarried, IsLinked, Share}
 use Rattle.fr_runs.proofs.Nodes.{correct_node, IsCorrectNode}
 use Rattle.fr_coverage.specs.Decided.{setting_of}
@@ -63,24 +64,8 @@ joining_checks p d s number w joins from to =
     let asked : asked_checks p s ≡ 9 = ap asked_where joins in
     check_holds p d s number w (omega (arith, from)) (omega (arith, to, asked))
 
-nat_le-true : (a b : ℕ) → nat_le a b ≡ true → a ≤ b
-nat_le-true a b le = grind arith
-
-few_if : (correct arbitrary : ℕ) → outweighs correct arbitrary ≡ true → AreFew correct arbitrary
-few_if correct arbitrary is = elim (or_cases (((arbitrary == 0) && nat_le 1 correct) || ((arbitrary == 1) && nat_le 3 correct)) ((arbitrary == 2) && nat_le 6 correct) is) [
-  | inl fewer ↦ elim (or_cases ((arbitrary == 0) && nat_le 1 correct) ((arbitrary == 1) && nat_le 3 correct) fewer) [
-    | inl none ↦ inl (both 0 1 none)
-    | inr one ↦ inr (inl (both 1 3 one))
-  ]
-  | inr two ↦ inr (inr (both 2 6 two))
-] where
-  both : (count least : ℕ) → ((arbitrary == count) && nat_le least correct) ≡ true → (arbitrary ≡ count) × (least ≤ correct)
-  both count least is =
-      let parts : ((arbitrary == count) ≡ true) × (nat_le least correct ≡ true) = and_parts (arbitrary == count) (nat_le least correct) is in
-      (eqb-true arbitrary count parts.0, nat_le-true least correct parts.1)
-
 pub few_nodes : (p : Values) (d : DriftView) (s : ScriptView) (from : ℕ) → HaveNoGapFrom p d s from → AreFew (count_of s false p.nodes) (count_of s true p.nodes)
-few_nodes p d s from w = few_if (count_of s false p.nodes) (count_of s true p.nodes) (by_test (outweighs (count_of s false p.nodes) (count_of s true p.nodes)) refl)
+few_nodes p d s from w = few_by_test (count_of s false p.nodes) (count_of s true p.nodes) (by_test (outweighs (count_of s false p.nodes) (count_of s true p.nodes)) refl)
   where
     by_test : (b : Bool) → outweighs (count_of s false p.nodes) (count_of s true p.nodes) ≡ b → b ≡ true
     by_test true holds = refl

@@ -1,8 +1,7 @@
 -- The nodes that follow in a double cycle of a run: their rows are regular, and each has its deviations of every node with a row,
 -- those of one channel as a steady pair.
-use Rattle.std.proofs.Common.{◌≡◌, ◌≢◌, ℕ, suc, ◌*◌, ◌<◌, ◌≤◌, Bool, true, false, ℤ, pos, Some, length, sym, ◌∙◌, subst, arith}
-use Rattle.std.specs.Prelude.{◌≤ℤ◌, ◌+ℤ◌, ◌-ℤ◌, Contains}
-use Rattle.std.proofs.lemmas.Int.{ints}
+use Rattle.std.proofs.Common.{◌≡◌, ◌≢◌, ℕ, suc, ◌*◌, ◌<◌, Bool, true, false, ℤ, pos, Some, length, sym, ◌∙◌, subst, arith}
+use Rattle.std.specs.Prelude.{◌+ℤ◌, ◌-ℤ◌, Contains}
 use Rattle.fr_base.specs.Rows.{dev_in}
 use Rattle.fr_base.specs.Within.{IsWithin}
 use Rattle.fr_base.specs.declared.channel.Channel.{Channel}
@@ -10,7 +9,6 @@ use Rattle.fr_cluster.specs.Questions.{key_slot_of}
 use Rattle.fr_cluster.specs.Sane.{IsSane}
 use Rattle.fr_cluster.specs.Setting.{Setting}
 use Rattle.fr_cluster.specs.declared.nodes.NodeSpec.{NodeSpec}
-use Rattle.fr_cluster.proofs.KeyNodes.{key_among}
 use Rattle.fr_time.specs.Instant.{instant_of}
 use Rattle.fr_time.specs.Position.{grid_for}
 use Rattle.fr_time.specs.Slots.{action_point_of}
@@ -36,12 +34,10 @@ use Rattle.fr_runs.proofs.Hearing.{before_in, counted_from, cycle_of, heard_at, 
 use Rattle.fr_runs.proofs.Begun.{row_sends}
 use Rattle.fr_runs.proofs.Fed.{follower_other, follower_receiver, follower_receivers}
 use Rattle.fr_precision.specs.Hearing.{AreSteadyPairs}
-use Rattle.fr_bound.specs.SharpBounds.{last_action}
 use Rattle.fr_precision.specs.SharpRound.{IsSteadilySupplied}
 use Rattle.fr_promise.specs.SharpFollowing.{AreFollowersInReach, FollowersHearSteadily}
-use Rattle.fr_precision.proofs.BoundLemmas.{key_slots_act_early}
 use Rattle.fr_runs.specs.SteadyRuns.{IsWhole}
-use Rattle.fr_runs.proofs.RowsSupplied.{lawful_rows_from, lawful_rows_send, proper_in, steady_in, LawfulRows}
+use Rattle.fr_runs.proofs.RowsSupplied.{acts_early, lawful_rows_from, lawful_rows_send, proper_in, steady_in, LawfulRows}
 
 -- a node with a row, and one that follows
 record FollowerLink (x : Setting) (h : Cycles) (sender receiver : NodeSpec) (slot : ℕ) : Type 0 where
@@ -95,21 +91,13 @@ module _ (x : Setting) (flutter : ℕ) (h : Cycles) (even odd : Cycle) (double :
     other = link.other;
   }
 
-  acts_early : (sender : NodeSpec) (slot : ℕ) → Contains (row_nodes x h) sender → sender.key ≡ Some slot → pos (action_point_of x.params slot) ≤ℤ pos (last_action x.params)
-  acts_early sender slot among key =
-      let correct = correct_node x sender (is_correct_row x h sender among) in
-      no_more (action_point_of x.params slot) (last_action x.params) ((key_slots_act_early x.params sane).0 slot (key_among x.params.nodes sender slot correct.there key))
-    where
-      no_more : (a b : ℕ) → a ≤ b → pos a ≤ℤ pos b
-      no_more a b le = omega (arith, ints, le)
-
   pub sending : RowsSend x h even odd double reach
   sending = lawful_rows_send x flutter h even odd double reach s r.active_even r.active_odd r.room
 
   pub receiving : (node : NodeSpec) → Contains (following_nodes x h) node → IsReceiver x h even odd reach (follower_receivers x h even odd) node
   receiving node among =
       follower_receiver x h even odd double reach node s.even_obeys s.odd_obeys sending among (follower_regular x flutter h even odd double s r.rates node among)
-      (λ is_odd sender slot there key. r.acts is_odd sender node (pos (action_point_of x.params slot)) there among (no_less (action_point_of x.params slot)) (acts_early sender slot there key))
+      (λ is_odd sender slot there key. r.acts is_odd sender node (pos (action_point_of x.params slot)) there among (no_less (action_point_of x.params slot)) (acts_early x h sane sender slot there key))
 
   -- ---- what each of them has
 
@@ -143,7 +131,7 @@ module _ (x : Setting) (flutter : ℕ) (h : Cycles) (even odd : Cycle) (double :
       (
       frames_are_steady p flutter slot channel (row_for even.followers receiver.id) (row_for odd.followers receiver.id) (row_for even.told.rows sender.id) (row_for odd.told.rows sender.id)
       (delay (length h)) (delay (suc (length h))) reach sane r.room r.limit (follower_regular x flutter h even odd double s r.rates receiver link.hears) key.from key.to
-      (r.acts false sender receiver (pos (action_point_of p slot)) link.sends link.hears (no_less (action_point_of p slot)) (acts_early sender slot link.sends link.key))
+      (r.acts false sender receiver (pos (action_point_of p slot)) link.sends link.hears (no_less (action_point_of p slot)) (acts_early x h sane sender slot link.sends link.key))
       (sending.delays false sender receiver slot channel linked first.share)
       (subst Flutters (sym s.counted) (s.covered.flutters sender receiver slot channel double linked first.share (omega arith) s.within))
       )

@@ -11,27 +11,23 @@ use Rattle.fr_reception.specs.Listening.{Caught}
 use Rattle.fr_bound.specs.Sync.{cycle_length_of}
 use Rattle.fr_precision.specs.Rows.{Sender}
 use Rattle.fr_precision.specs.Round.{sender_with, senders_of, Hearer}
-use Rattle.fr_precision.specs.Step.{IsFollowed, Member}
+use Rattle.fr_precision.specs.Step.{Member}
 use Rattle.fr_precision.proofs.StepLaws.{same_apart}
-use Rattle.fr_history.specs.Cycles.{Cycle, Cycles, told_of}
+use Rattle.fr_history.specs.Cycles.{Cycle, Cycles}
 use Rattle.fr_history.specs.History.{row_for}
-use Rattle.fr_history.specs.Laws.{follower_laws, follower_offset, row_laws}
-use Rattle.fr_history.specs.Rows.{offset_after}
+use Rattle.fr_history.specs.Laws.{follower_laws, follower_offset}
 use Rattle.fr_history.specs.Standing.{following_nodes, has_row, row_nodes}
-use Rattle.fr_history.proofs.Lists.{map-map}
 use Rattle.fr_runs.specs.Gathered.{follower_hearer, followers_since, hearers_of, round_at, row_hearer}
-use Rattle.fr_runs.specs.Group.{WillHaveRow}
 use Rattle.fr_runs.specs.Hearers.{group_of, member_from}
 use Rattle.fr_runs.specs.Listening.{BeginsAt}
 use Rattle.fr_runs.proofs.Begun.{row_sends, sender_there}
 use Rattle.fr_runs.proofs.Courses.{follower_two, is_correct_follower, rate_begun, start_begun}
-use Rattle.fr_runs.proofs.Doubles.{even_length, status_even}
+use Rattle.fr_runs.proofs.Doubles.{even_length}
 use Rattle.fr_runs.proofs.Going.{is_since, rows_ascend}
-use Rattle.fr_runs.proofs.Moved.{hearer_by, two_on}
-use Rattle.fr_runs.proofs.Outcomes.{outcomes_none, told_counted}
-use Rattle.fr_runs.proofs.Receivers.{same_mapped}
+use Rattle.fr_runs.proofs.Moved.{follower_moves, followed, hearer_by, member_at, moved, next_rows_hold, two_on, IsUncutStep, Moved, Moves}
+use Rattle.fr_runs.proofs.Outcomes.{outcomes_none}
 use Rattle.fr_precision.proofs.RoundLemmas.{contains_map, map_contains}
-use Rattle.fr_runs.proofs.Rows.{row_runs_by, rows_are}
+use Rattle.fr_runs.proofs.Rows.{row_runs_by}
 use Rattle.fr_runs.proofs.Whole.{prior_of}
 use Rattle.fr_bound.specs.SharpBounds.{sharp_precision}
 use Rattle.fr_promise.specs.SharpGroup.{IsSteadyPlacing, LastApart, StartApart}
@@ -40,7 +36,7 @@ use Rattle.fr_promise.specs.SharpJoined.{FollowedDoublesGoOn, JoinedDoublesGoOn}
 use Rattle.fr_promise.specs.SharpListening.{IsCaughtSharply}
 use Rattle.fr_precision.specs.SharpStep.{AreSharp}
 use Rattle.fr_promise.proofs.JoinedDoubles.{joined_doubles_are_kept, joined_part}
-use Rattle.fr_promise.proofs.JoinedMoves.{follower_moves, moved, next_even_of, parity, IsFollowedStep, MovedTo, Moves}
+use Rattle.fr_promise.proofs.JoinedMoves.{next_even_of, uncut_by, IsFollowedStep}
 use Rattle.fr_runs.proofs.Succeeding.{nodes_succeed}
 use Rattle.fr_runs.proofs.RowsSupplied.{timed_rows_from, proper_in, rates_in_limit, steady_in}
 use Rattle.fr_promise.proofs.RunDoubles.{evens_are}
@@ -54,14 +50,6 @@ spec_of p at nodes m here =
     let from = map_contains at nodes found.0 found.1 in
     (from.0, from.1, ap (member_from p) from.2 ∙ found.2)
 
--- the member that a node was which has a row behind the double cycle
-member_at : Setting → Cycles → Cycle → Cycle → NodeSpec → Member
-member_at x h even odd node = member_from x.params (hearer_by x even odd (has_row x h node.id) node.id)
-
--- the row of a member in a later cycle
-next_row : Cycle → Member → NodeRow
-next_row c member = row_for c.told.rows member.even.node
-
 -- the first rows of a node that listened
 record FirstAt (x : Setting) (flutter : ℕ) (beyond : ℤ) (h : Cycles) (even odd even2 odd2 : Cycle) (node : NodeSpec) : Type 0 where
   caught : Caught
@@ -73,66 +61,24 @@ record FirstAt (x : Setting) (flutter : ℕ) (beyond : ℤ) (h : Cycles) (even o
 module _
     (x : Setting) (flutter : ℕ) (now to : GroupSpread) (apart : ℕ) (reach beyond next : ℤ) (h : Cycles) (even odd even2 odd2 : Cycle) (double : ℕ)
     (s : IsFollowedStep x flutter now to apart reach beyond next h even odd even2 odd2 double) where
-  move : (node : NodeSpec) → Contains (row_nodes x (odd ∷ even ∷ h)) node → MovedTo x flutter h even odd even2 odd2 double node (hearer_by x even odd (has_row x h node.id) node.id)
-  move = moved x flutter now to apart reach beyond next h even odd even2 odd2 double s
+  uncut : IsUncutStep x h even odd even2 odd2 double
+  uncut = uncut_by x flutter now to apart reach beyond next h even odd even2 odd2 double s
+
+  move : (node : NodeSpec) → Contains (row_nodes x (odd ∷ even ∷ h)) node → Moved x h even odd even2 odd2 double node (hearer_by x even odd (has_row x h node.id) node.id)
+  move node among = moved x h even odd even2 odd2 double node uncut among
 
   -- ---- the rows of the next double cycle are as near
-
-  next_row_is : (c : Cycle) (node : NodeSpec) → Contains (row_nodes x (odd ∷ even ∷ h)) node → next_row c (member_at x h even odd node) ≡ row_for c.told.rows node.id
-  unfolding member_at next_row
-  next_row_is c node among = ap (row_for c.told.rows) (move node among).number
-
-  followed : (node : NodeSpec) → Contains (row_nodes x (odd ∷ even ∷ h)) node → IsFollowed x.params (member_at x h even odd node) (row_for even2.told.rows node.id) (row_for odd2.told.rows node.id)
-  unfolding member_at
-  followed node among =
-      let p = x.params in
-      let after = odd ∷ even ∷ h in
-      let nodes = row_nodes x after in
-      let goes = move node among in
-      let early = row_runs_by (row_laws x after) (offset_after p (told_of after) even2.told) nodes even2.told.rows node s.later.two.even_rows among in
-      let late = row_runs_by (row_laws x (even2 ∷ after)) (offset_after p (told_of (even2 ∷ after)) odd2.told) nodes odd2.told.rows node s.later.two.odd_rows among in
-      let even_after = even_length (length (told_of after)) (suc double) (told_counted after (suc double) (two_on h even odd double s.rows.counted)) in
-      record {
-        start = goes.moves.start;
-        next = goes.moves.next;
-        active_even = early.state ∙ goes.active;
-        active_odd = late.state ∙ status_even x (told_of after) even2.told node.id even_after ∙ goes.active;
-      }
 
   next_sync :
       All (λ row. row.state ≡ Active) even2.told.rows × All (λ row. row.state ≡ Active) odd2.told.rows
       × AreSharp x.params to.rows.starts to.rows.lengths next even2.told.rows
-  unfolding member_at
   next_sync =
-      let p = x.params in
-      let nodes = row_nodes x (odd ∷ even ∷ h) in
-      let at : NodeSpec → Member = member_at x h even odd in
-      let group = group_of p (hearers_of x h even odd double) in
-      let members = map at nodes in
-      let Goes : Member → Type 0 = λ member. WillHaveRow group member × IsFollowed p member (next_row even2 member) (next_row odd2 member) in
-      let each = λ (member : Member) (among : Contains members member).
-      (
-      let found = map_contains at nodes member among in
-      let node = found.0 in
-      let is = followed node found.1 in
-      let Even : NodeRow → Type 0 = λ row. IsFollowed p (at node) row (row_for odd2.told.rows node.id) in
-      let Odd : NodeRow → Type 0 = λ row. IsFollowed p (at node) (next_row even2 (at node)) row in
-      let by_even : Even (next_row even2 (at node)) = subst Even (sym (next_row_is even2 node found.1)) is in
-      let by_odd : Odd (next_row odd2 (at node)) = subst Odd (sym (next_row_is odd2 node found.1)) by_even in
-      let own : Goes (at node) = ((move node found.1).will, by_odd) in
-      subst Goes found.2 own
-      ) in
-      let rows = λ (c : Cycle).
-      map-map (next_row c) at nodes
-      ∙ same_mapped (λ (node : NodeSpec). next_row c (at node)) (λ (node : NodeSpec). row_for c.told.rows node.id) nodes (λ node among. next_row_is c node among) in
-      let ascend = rows_ascend x (odd ∷ even ∷ h) s.rows.covered.sane in
-      let evens : map (next_row even2) members ≡ even2.told.rows = rows even2 ∙ rows_are nodes even2.told.rows ascend s.later.two.even_rows.nodes in
-      let odds : map (next_row odd2) members ≡ odd2.told.rows = rows odd2 ∙ rows_are nodes odd2.told.rows ascend s.later.two.odd_rows.nodes in
-      let Even : List NodeRow → Type 0 = λ rows.
-      All (λ row. row.state ≡ Active) rows × All (λ row. row.state ≡ Active) (map (next_row odd2) members) × AreSharp p to.rows.starts to.rows.lengths next rows in
-      let Odd : List NodeRow → Type 0 = λ rows.
-      All (λ row. row.state ≡ Active) even2.told.rows × All (λ row. row.state ≡ Active) rows × AreSharp p to.rows.starts to.rows.lengths next even2.told.rows in
-      subst Odd odds (subst Even evens (s.kept.next_rows members (next_row even2) (next_row odd2) each))
+      let after = odd ∷ even ∷ h in
+      let Near : List NodeRow → List NodeRow → Type 0 = λ evens odds.
+      All (λ row. row.state ≡ Active) evens × All (λ row. row.state ≡ Active) odds × AreSharp x.params to.rows.starts to.rows.lengths next evens in
+      next_rows_hold x.params (group_of x.params (hearers_of x h even odd double)) (row_nodes x after) (member_at x h even odd) even2.told.rows odd2.told.rows
+      (rows_ascend x after s.rows.covered.sane) s.later.two.even_rows.nodes s.later.two.odd_rows.nodes
+      (λ node among. followed x h even odd even2 odd2 double node uncut among) Near s.kept.next_rows
 
   -- ---- those that follow
 
@@ -147,7 +93,7 @@ module _
   second_moves : (node : NodeSpec) → Contains (followers_since x (odd ∷ even ∷ h) 2 (suc double)) node
       → Moves x.params (follower_hearer x even odd node.id) (row_for even2.followers node.id) (row_for odd2.followers node.id)
   second_moves node second =
-      follower_moves x flutter now to apart reach beyond next h even odd even2 odd2 double s node (is_since x h 1 double node (s.succeeded.seconds_from node second)) (is_since x (odd ∷ even ∷ h) 2 (suc double) node second)
+      follower_moves x h even odd even2 odd2 double node uncut (is_since x h 1 double node (s.succeeded.seconds_from node second)) (is_since x (odd ∷ even ∷ h) 2 (suc double) node second)
 
   second_start : (row node : NodeSpec) → Contains (row_nodes x (odd ∷ even ∷ h)) row → Contains (followers_since x (odd ∷ even ∷ h) 2 (suc double)) node
       → IsWithin (pos to.seconds) ((row_for even2.told.rows row.id).start -ℤ (row_for even2.followers node.id).start)
@@ -192,7 +138,7 @@ module _
       let begins = s.succeeded.firsts_from node since in
       let found = caught_at x flutter beyond h even odd double node begins.join begins.caught s.rows s.joined.rows s.referenced correct begins.joins begins.begins in
       let first = row_runs_by (follower_laws x after) (follower_offset p after even2.follower_devs) (following_nodes x after) even2.followers node s.later.two.even_followers among in
-      let at = follower_two x after even2 odd2 node s.later.two (parity x flutter now to apart reach beyond next h even odd even2 odd2 double s) among in
+      let at = follower_two x after even2 odd2 node s.later.two (even_length (length after) (suc double) (two_on h even odd double counted)) among in
       let rate = first.rate ∙ rate_begun x (even ∷ h) odd node.id begins.join begins.caught begins.no_row begins.no_follower begins.joins begins.begins in
       let early = proper_in x double flutter node (suc (suc (length h))) (row_for even2.followers node.id).length covered correct (omega (arith, counted)) (omega (arith, less)) at.even_length in
       let late = proper_in x double flutter node (suc (suc (suc (length h)))) (row_for odd2.followers node.id).length covered correct (omega (arith, counted)) less at.odd_length in

@@ -5,6 +5,7 @@ pub mod Stating
 pub mod Within
 pub mod Promising
 pub mod Computed
+pub mod CheckNumbers
 pub mod AmongNumbers
 pub mod StrayLemmas
 pub mod LossOrder

@@ -13,6 +13,7 @@ use Rattle.fr_history.specs.Lawful.{IsLawful}
 use Rattle.fr_history.specs.Next.{cycles_of}
 use Rattle.fr_history.specs.Skew.{skew_at}
 use Rattle.fr_history.specs.Terms.{status_in}
+use Rattle.fr_runs.specs.Links.{cycle_in}
 use Rattle.fr_runs.specs.Rounds.{IsDoubleOf}
 use Rattle.fr_runs.proofs.Parts.{cycle_found, cycle_within, each_cycle}
 use Rattle.fr_bound.specs.SharpBounds.{rate_walk, sharp_near, sharp_precision}
@@ -24,29 +25,47 @@ use Rattle.fr_precision.proofs.LastingLemmas.{up_to}
 use Rattle.fr_precision.proofs.OlderLemmas.{does_not_walk, lasts_on, stays_in_range}
 use Rattle.fr_promise.proofs.RunSync.{keeps_sync, sync_in}
 
--- ---- each cycle
+-- ---- each cycle, whatever says so of each double cycle
 
-module _ (x : Setting) (h : Cycles) (whole : length h ≡ 2 * x.doubles) (double apart : ℕ) (some : double < x.doubles) (active : (k : ℕ) → double ≤ k → k < x.doubles → BeginsActive h k)
-    (keeps : (k : ℕ) → double ≤ k → k < x.doubles → KeepsApart x h k apart) where
-  Near : ℕ → Cycle → Type 0
-  Near n c = (macrotick : ℕ) → macrotick < amount x.params name.gMacroPerCycle → skew_at x.params (told_of h) n macrotick ≤ℤ pos apart
+module _ (x : Setting) (h : Cycles) (whole : length h ≡ 2 * x.doubles) (double : ℕ) where
+  Near : ℕ → ℕ → Cycle → Type 0
+  Near apart n c = (macrotick : ℕ) → macrotick < amount x.params name.gMacroPerCycle → skew_at x.params (told_of h) n macrotick ≤ℤ pos apart
 
   Active_in : ℕ → Cycle → Type 0
   Active_in n c = All (λ (row : NodeRow). row.state ≡ Active) c.told.rows
 
+  -- macroticks lie no further apart
+  pub skew_by_cycle : (apart : ℕ)
+      → ((k : ℕ) → double ≤ k → k < x.doubles → (macrotick : ℕ) (is_odd : Bool) → macrotick < amount x.params name.gMacroPerCycle → skew_at x.params (told_of h) (cycle_in is_odd k) macrotick ≤ℤ pos apart)
+      → (cycle macrotick : ℕ) → 2 * double ≤ cycle → cycle < length h → macrotick < amount x.params name.gMacroPerCycle → skew_at x.params (told_of h) cycle macrotick ≤ℤ pos apart
+  unfolding Near
+  skew_by_cycle apart skew cycle macrotick from less lt =
+      let c = cycle_found h cycle less in
+      each_cycle h double x.doubles (Near apart) whole
+      (λ k earlier even odd d after within. (λ m below. skew k after within m false below, λ m below. skew k after within m true below)) cycle c.0 from c.1 macrotick lt
+
+  -- nodes with rows are active
+  pub active_by_cycle : ((k : ℕ) → double ≤ k → k < x.doubles → BeginsActive h k) → (cycle : ℕ) (c : Cycle) → 2 * double ≤ cycle → cycle_at h cycle ≡ Some c → All (λ row. row.state ≡ Active) c.told.rows
+  unfolding Active_in
+  active_by_cycle active = each_cycle h double x.doubles Active_in whole (λ k earlier even odd d after within. active k after within earlier even odd d)
+
+  -- and each correct node behind the last one
+  pub active_last : double < x.doubles
+      → ((k : ℕ) → double ≤ k → k < x.doubles → (earlier : Cycles) (even odd : Cycle) → IsDoubleOf h k earlier even odd → (node : NodeSpec) → Contains (correct_nodes x) node
+      → (status_in x.params (told_of (odd ∷ even ∷ earlier)) node.id).state ≡ Active)
+      → (t : Cycles) → h ≡ t → (node : NodeSpec) → Contains (correct_nodes x) node → (status_in x.params (told_of t) node.id).state ≡ Active
+  active_last some ends [] is node there = let none : length h ≡ 0 = ap (λ (t : Cycles). length t) is in absurd (omega (arith, whole, none, some))
+  active_last some ends (odd ∷ []) is node there = let one : length h ≡ 1 = ap (λ (t : Cycles). length t) is in absurd (omega (arith, whole, one))
+  active_last some ends (odd ∷ even ∷ earlier) is node there =
+      let long : length h ≡ suc (suc (length earlier)) = ap (λ (t : Cycles). length t) is in
+      let k : ℕ = x.doubles - 1 in
+      let d : IsDoubleOf h k earlier even odd = record { later = []; parted = is; counted = omega (arith, whole, long) } in
+      ends k (omega (arith, some)) (omega (arith, some)) earlier even odd d node there
+
+module _ (x : Setting) (h : Cycles) (whole : length h ≡ 2 * x.doubles) (double apart : ℕ) (some : double < x.doubles) (active : (k : ℕ) → double ≤ k → k < x.doubles → BeginsActive h k)
+    (keeps : (k : ℕ) → double ≤ k → k < x.doubles → KeepsApart x h k apart) where
   Uncut : ℕ → Cycle → Type 0
   Uncut n c = All (λ (row : NodeRow). row.cut ≡ 0) c.told.rows
-
-  skew_in : (cycle macrotick : ℕ) → 2 * double ≤ cycle → cycle < length h → macrotick < amount x.params name.gMacroPerCycle → skew_at x.params (told_of h) cycle macrotick ≤ℤ pos apart
-  unfolding Near
-  skew_in cycle macrotick from less lt =
-      let c = cycle_found h cycle less in
-      each_cycle h double x.doubles Near whole
-      (λ k earlier even odd d after within. (λ m below. (keeps k after within).skew m false below, λ m below. (keeps k after within).skew m true below)) cycle c.0 from c.1 macrotick lt
-
-  active_in : (cycle : ℕ) (c : Cycle) → 2 * double ≤ cycle → cycle_at h cycle ≡ Some c → All (λ row. row.state ≡ Active) c.told.rows
-  unfolding Active_in
-  active_in = each_cycle h double x.doubles Active_in whole (λ k earlier even odd d after within. active k after within earlier even odd d)
 
   uncut_in : (cycle : ℕ) (c : Cycle) → 2 * double ≤ cycle → cycle_at h cycle ≡ Some c → All (λ row. row.cut ≡ 0) c.told.rows
   unfolding Uncut
@@ -54,21 +73,12 @@ module _ (x : Setting) (h : Cycles) (whole : length h ≡ 2 * x.doubles) (double
       each_cycle h double x.doubles Uncut whole
       (λ k earlier even odd d after within. let ends = (keeps k after within).ends earlier even odd d in (ends.uncut_even, ends.uncut_odd))
 
-  active_last : (t : Cycles) → h ≡ t → (node : NodeSpec) → Contains (correct_nodes x) node → (status_in x.params (told_of t) node.id).state ≡ Active
-  active_last [] is node there = let none : length h ≡ 0 = ap (λ (t : Cycles). length t) is in absurd (omega (arith, whole, none, some))
-  active_last (odd ∷ []) is node there = let one : length h ≡ 1 = ap (λ (t : Cycles). length t) is in absurd (omega (arith, whole, one))
-  active_last (odd ∷ even ∷ earlier) is node there =
-      let long : length h ≡ suc (suc (length earlier)) = ap (λ (t : Cycles). length t) is in
-      let k : ℕ = x.doubles - 1 in
-      let d : IsDoubleOf h k earlier even odd = record { later = []; parted = is; counted = omega (arith, whole, long) } in
-      ((keeps k (omega (arith, some)) (omega (arith, some))).ends earlier even odd d).active node there
-
   pub cycles_keep_apart : CyclesKeepApart x h double apart
   cycles_keep_apart = record {
-    skew = skew_in;
-    active = active_in;
+    skew = skew_by_cycle x h whole double apart (λ k after within. (keeps k after within).skew);
+    active = active_by_cycle x h whole double active;
     uncut = uncut_in;
-    after = λ node there. active_last h refl node there;
+    after = active_last x h whole double some (λ k after within earlier even odd d. ((keeps k after within).ends earlier even odd d).active) h refl;
   }
 
 -- ---- where each double cycle keeps it

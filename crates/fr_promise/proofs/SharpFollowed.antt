@@ -1,15 +1,10 @@
 -- A round with nodes that follow, whatever supplies it, is such a group as the sharper step asks for.
-use Rattle.std.proofs.Common.{◌≡◌, ℕ, ◌≤◌, Bool, false, ℤ, pos, subst, inl, inr, arith}
+use Rattle.std.proofs.Common.{◌≡◌, ℕ, Bool, false, ℤ, pos, subst, inl, inr}
 use Rattle.std.specs.Prelude.{◌≤ℤ◌, Contains}
-use Rattle.std.proofs.lemmas.Int.{ints}
-use Rattle.fr_base.specs.declared.node_row.NodeRow.{NodeRow}
 use Rattle.fr_base.specs.Within.{IsWithin}
-use Rattle.fr_cluster.proofs.KeyNodes.{key_among}
-use Rattle.fr_time.specs.Slots.{action_point_of}
-use Rattle.fr_correct.proofs.There.{offset_term_is_there, rate_term_is_there}
 use Rattle.fr_precision.specs.Instants.{gap_of, row_in}
 use Rattle.fr_precision.specs.Placement.{IsRegular}
-use Rattle.fr_precision.specs.Round.{offsets_of, rates_of, senders_of, Hearer, IsHearer, Round}
+use Rattle.fr_precision.specs.Round.{senders_of, Hearer, IsHearer, Round}
 use Rattle.fr_precision.specs.Step.{Member}
 use Rattle.fr_runs.specs.Group.{IsOf}
 use Rattle.fr_runs.specs.Hearers.{group_of, member_from, Hearers, IsOneOf}
@@ -19,17 +14,10 @@ use Rattle.fr_precision.specs.SharpRound.{IsRoundInReach}
 use Rattle.fr_precision.specs.SharpStep.{ComputesSharply, IsSharpDouble}
 use Rattle.fr_promise.specs.SharpJoining.{sharp_group_spread, GroupSpread}
 use Rattle.fr_promise.specs.SharpGroup.{IsSteadyRoundFollowed, SharpRoundsAreFollowed, SteadyRoundsAreFollowed}
-use Rattle.fr_precision.proofs.BoundLemmas.{key_slots_act_early}
-use Rattle.fr_precision.proofs.HearingLemmas.{hearers_keep_senders, hears_all_steadily}
-use Rattle.fr_precision.proofs.RoundLemmas.{rounds_in_reach_are_sharp, contains_map, map_contains}
+use Rattle.fr_precision.proofs.HearingLemmas.{hearers_keep_senders}
+use Rattle.fr_precision.proofs.RoundLemmas.{computes_sharply, contains_map, hears_in_reach, map_contains, rounds_in_reach_are_sharp}
 use Rattle.fr_promise.proofs.SharpGrouped.{apart_reached}
 use Rattle.fr_precision.proofs.StepLemmas.{nodes_near, Double}
-
-no_less : (n : ℕ) → pos 0 ≤ℤ pos n
-no_less n = omega (arith, ints)
-
-no_more : (a b : ℕ) → a ≤ b → pos a ≤ℤ pos b
-no_more a b le = omega (arith, ints, le)
 
 module _
     (beside : Bool) (r : Round) (flutter : ℕ) (now : GroupSpread) (beyond walk : ℤ) (g : Hearers) (reach : ℤ)
@@ -86,43 +74,9 @@ module _
 
   hearer : (n : Hearer) → IsOneOf g n → IsHearer r reach n
   hearer n here =
-      let p = r.params in
-      record {
-        regular = (s.supplied n here).regular;
-        suffices = s.takes.limit;
-        near =
-            λ index slot node other.
-            let row = s.among node slot other.sender in
-            let action = pos (action_point_of p slot) in
-            let key = key_among p.nodes node slot other.sender.there other.sender.key in
-            let Near : NodeRow → Type 0 = λ even. IsWithin reach (gap_of p false action even n.even) in
-            subst Near row.2
-            (
-            reached false (member_from p row.0) (member_from p n) action (contains_map (member_from p) g.rows row.0 row.1) (is_of n here) (no_less (action_point_of p slot))
-            (no_more (action_point_of p slot) (last_action p) ((key_slots_act_early p s.round.sane).0 slot key))
-            );
-        supply = (s.supplied n here).hears;
-      }
-
-  computes_at : (n : Hearer) → IsOneOf g n → ComputesSharply r.params flutter (senders_of r) (member_from r.params n)
-  computes_at n here =
-      let p = r.params in
-      let supplied = s.supplied n here in
-      let hears = hears_all_steadily r flutter reach n s.round (hearer n here) supplied.steady in
-      record {
-        regular = supplied.regular;
-        by_offset = record {
-          micro = supplied.regular.odd_micro;
-          hears = hears.offsets;
-          is_term = offset_term_is_there p.offset_limit (offsets_of n);
-          applied = supplied.applied;
-        };
-        by_rate = record {
-          micro = supplied.regular.odd_micro;
-          hears = hears.rates;
-          is_term = rate_term_is_there n.odd.rate p.damping p.rate_limit (rates_of n);
-        };
-      }
+      let at = member_from r.params in
+      hears_in_reach r flutter reach g.rows n s.round s.takes.limit (s.supplied n here) s.among
+      (λ row action there. reached false (at row) (at n) action (contains_map at g.rows row there) (is_of n here))
 
   keep : (one other : Member) → IsOf (group_of r.params g) one → IsOf (group_of r.params g) other
       → KeepSenders beside (senders_of r) one.offsets other.offsets × KeepSenders beside (senders_of r) one.rates other.rates
@@ -149,7 +103,7 @@ steady_rounds_are_followed beside r flutter now beyond walk g reach s =
         computes =
             λ node here.
             let n = hearer_of beside r flutter now beyond walk g reach s node here in
-            subst (ComputesSharply r.params flutter (senders_of r)) n.2 (computes_at beside r flutter now beyond walk g reach s n.0 n.1);
+            subst (ComputesSharply r.params flutter (senders_of r)) n.2 (computes_sharply r flutter reach n.0 s.round (hearer beside r flutter now beyond walk g reach s n.0 n.1) (s.supplied n.0 n.1));
         keep = keep beside r flutter now beyond walk g reach s;
       },
     )

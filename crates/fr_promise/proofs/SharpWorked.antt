@@ -32,7 +32,7 @@ use Rattle.fr_precision.specs.Rates.{IsNext}
 use Rattle.fr_precision.specs.Step.{IsAmong, IsFollowed, Member}
 use Rattle.fr_precision.proofs.Worked.{node, row, none, sane_node}
 use Rattle.fr_bound.specs.SharpBounds.{last_action, last_of, rate_walk, sharp_lambda, sharp_near, sharp_pi}
-use Rattle.fr_bound.specs.SharpChecks.{SharpChecksHold}
+use Rattle.fr_bound.specs.SharpChecks.{sharp_holds_of, SharpChecksHold}
 use Rattle.fr_precision.specs.Steady.{IsSteadyPair, PlacesEven}
 use Rattle.fr_precision.specs.Lengths.{walked_after, CanWalk, IsAboutCycle, IsSteadyRound}
 use Rattle.fr_precision.specs.SharpRun.{AreSharpDoubles, BeginWithin, IsNextDouble, KeepsToSpreads, StaysInSharpSync}
@@ -46,6 +46,7 @@ use Rattle.fr_promise.proofs.SharpRows.{set_of}
 use Rattle.fr_precision.proofs.SteadyLemmas.{counted_are_steady, deviations_are_steady, steady_values_place_lem}
 use Rattle.fr_precision.proofs.StepLemmas.{next_is_in_sharp_sync, sharp_is_wider, sharp_sync_is_kept_lem}
 use Rattle.fr_precision.proofs.LastingLemmas.{sharp_spreads_keep, sharp_sync_is_reached, sharp_sync_lasts_lem}
+use Rattle.fr_promise.proofs.CheckNumbers.{two_to_five}
 
 -- ---- the cluster: four key slots, damping 2, delays of 50 to 300 ns, 100 ppm
 
@@ -281,17 +282,8 @@ third_round = record {
 
 pub checks : (beside : Bool) → SharpChecksHold 0 (sharp_near beside cluster 0) cluster
 unfolding last_of
-checks beside zero from to = absurd (omega (arith, from))
-checks beside (suc zero) from to = absurd (omega (arith, from))
-checks false (suc (suc zero)) from to = refl
-checks false (suc (suc (suc zero))) from to = refl
-checks false (suc (suc (suc (suc zero)))) from to = refl
-checks false (suc (suc (suc (suc (suc zero))))) from to = refl
-checks true (suc (suc zero)) from to = refl
-checks true (suc (suc (suc zero))) from to = refl
-checks true (suc (suc (suc (suc zero)))) from to = refl
-checks true (suc (suc (suc (suc (suc zero))))) from to = refl
-checks beside (suc (suc (suc (suc (suc (suc k)))))) from to = absurd (omega (arith, to))
+checks false = two_to_five (λ k. sharp_holds_of k 0 (sharp_near false cluster 0) cluster) refl refl refl refl
+checks true = two_to_five (λ k. sharp_holds_of k 0 (sharp_near true cluster 0) cluster) refl refl refl refl
 
 -- ---- their rates
 
@@ -717,13 +709,7 @@ near_way true (suc zero) short = lit≤ tt
 near_way beside (suc (suc k)) short = absurd (omega (arith, short))
 
 pub way_checks : SharpChecksHold 0 117_418_141 cluster
-way_checks zero from to = absurd (omega (arith, from))
-way_checks (suc zero) from to = absurd (omega (arith, from))
-way_checks (suc (suc zero)) from to = refl
-way_checks (suc (suc (suc zero))) from to = refl
-way_checks (suc (suc (suc (suc zero)))) from to = refl
-way_checks (suc (suc (suc (suc (suc zero))))) from to = refl
-way_checks (suc (suc (suc (suc (suc (suc k)))))) from to = absurd (omega (arith, to))
+way_checks = two_to_five (λ k. sharp_holds_of k 0 117_418_141 cluster) refl refl refl refl
 
 wide : (beside : Bool) → AreSharp cluster 96_000_000 20_000_000 (pos 0) evens
 wide false =

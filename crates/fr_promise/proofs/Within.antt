@@ -1,5 +1,5 @@
 -- No correction term of a run that keeps together is cut or missing, of a node with a row or of one that follows.
-use Rattle.std.proofs.Common.{◌≡◌, ◌∙◌, ◌⊎◌, ℕ, zero, suc, ◌*◌, ◌<◌, ◌≤◌, None, [], ◌∷◌, ◌&&◌, inl, inr, ap, ap₂, subst, arith}
+use Rattle.std.proofs.Common.{◌≡◌, ◌∙◌, ℕ, ◌<◌, ◌≤◌, None, ◌∷◌, ◌&&◌, inl, ap, ap₂}
 use Rattle.fr_base.specs.declared.node_row.NodeRow.{NodeRow}
 use Rattle.fr_base.specs.declared.state.Outcome.{Outcome}
 use Rattle.fr_base.specs.declared.state.Outcome.TheVariants.{Within}
@@ -23,53 +23,12 @@ use Rattle.fr_runs.specs.Numbers.{rate_term_told}
 use Rattle.fr_runs.specs.Rounds.{IsDoubleOf}
 use Rattle.fr_runs.specs.Whole.{IsUnfollowedRun}
 use Rattle.fr_runs.proofs.Courses.{follower_term_is}
-use Rattle.fr_runs.proofs.Joining.{is_run, later_at}
+use Rattle.fr_runs.proofs.Precision.{followers_are, IsFedRun}
+use Rattle.fr_runs.proofs.Joining.{is_fed, is_run, later_at}
 use Rattle.fr_precision.proofs.RoundLemmas.{contains_map}
 use Rattle.fr_runs.proofs.Rows.{row_runs_by}
-use Rattle.fr_runs.proofs.Succeeding.{gathered_nodes_succeed}
-use Rattle.fr_runs.proofs.Uncut.{FollowersAre, one_of as hearer_is, two_of}
-use Rattle.fr_runs.proofs.UnfollowedSync.{unfollowed_sync_is}
-use Rattle.fr_runs.proofs.Whole.{double_runs, none_follows, prior_of}
+use Rattle.fr_runs.proofs.Uncut.{one_of as hearer_is, two_of}
 use Rattle.fr_promise.specs.Statement.{TermsAreWithin}
-
--- ---- who follows
-
-none_yet : (x : Setting) (h : Cycles) (double : ℕ) (earlier : Cycles) (even odd : Cycle) → IsUnfollowedRun x h double → IsDoubleOf h double earlier even odd → FollowersAre x earlier double
-none_yet x h double earlier even odd s d node among =
-    let run = is_run x h double s in
-    let unfollowed = unfollowed_sync_is x h double earlier even odd run.covered.sane s.rates run.run s.unfollowed d in
-    let runs = double_runs x h double earlier even odd d run.run in
-    absurd (none_follows x earlier even node runs.1.0 unfollowed.none among)
-
-followers_next : (x : Setting) (h : Cycles) (double m : ℕ) (earlier : Cycles) (even odd : Cycle) → IsUnfollowedRun x h double → double ≤ m → suc m < x.doubles
-    → IsDoubleOf h (suc m) earlier even odd → FollowersAre x earlier (suc m)
-followers_next x h double m [] even odd s from less d =
-    let counted : 0 ≡ 2 * suc m = d.counted in
-    absurd (omega (arith, counted))
-followers_next x h double m (o ∷ []) even odd s from less d =
-    let counted : 1 ≡ 2 * suc m = d.counted in
-    absurd (omega (arith, counted))
-followers_next x h double m (o ∷ e ∷ earlier) even odd s from less d =
-    let before = (later_at x h double m earlier e o s from (omega (arith, less)) (prior_of h m earlier e o even odd d)).up in
-    let run = is_run x h double s in
-    let runs = double_runs x h (suc m) (o ∷ e ∷ earlier) even odd d run.run in
-    (gathered_nodes_succeed x earlier e o even m before.gathered runs.1.0).followers_from
-
-splits : (a b : ℕ) → a ≤ suc b → (a ≤ b) ⊎ (a ≡ suc b)
-splits a b le = grind arith
-
-followers_are_at : (x : Setting) (h : Cycles) (double k : ℕ) (earlier : Cycles) (even odd : Cycle) → double ≡ k → IsUnfollowedRun x h double → IsDoubleOf h k earlier even odd → FollowersAre x earlier k
-followers_are_at x h double k earlier even odd same s d =
-    let Are : ℕ → Type 0 = λ j. IsDoubleOf h j earlier even odd → FollowersAre x earlier j in
-    subst Are same (λ own. none_yet x h double earlier even odd s own) d
-
-followers_are : (x : Setting) (h : Cycles) (double k : ℕ) (earlier : Cycles) (even odd : Cycle) → IsUnfollowedRun x h double → double ≤ k → k < x.doubles → IsDoubleOf h k earlier even odd
-    → FollowersAre x earlier k
-followers_are x h double zero earlier even odd s from less d = followers_are_at x h double 0 earlier even odd (omega (arith, from)) s d
-followers_are x h double (suc m) earlier even odd s from less d = elim (splits double m from) [
-  | inl sooner ↦ followers_next x h double m earlier even odd s sooner less d
-  | inr same ↦ followers_are_at x h double (suc m) earlier even odd same s d
-]
 
 -- ---- their terms
 
@@ -85,6 +44,7 @@ terms_are_within x h double s m earlier even odd from less d =
     let p : Values = x.params in
     let up = (later_at x h double m earlier even odd s from less d).up in
     let two = two_of x earlier even odd m up in
+    let fed : IsFedRun x h double = record { run = is_run x h double s; first = s.rates; fed = is_fed x h double s; unfollowed = s.unfollowed } in
     record {
       rows = λ node among.
           let at : NodeSpec → Hearer = λ n. row_hearer x even odd n.id in
@@ -94,7 +54,7 @@ terms_are_within x h double s m earlier even odd from less d =
       followers = λ node among.
           let n : Hearer = follower_hearer x even odd node.id in
           let row : NodeRow = row_for odd.followers node.id in
-          let one = hearer_is x earlier even odd m node (followers_are x h double m earlier even odd s from less d node among) in
+          let one = hearer_is x earlier even odd m node (followers_are x h double m earlier even odd fed from less d node among) in
           let late = row_runs_by (follower_laws x (even ∷ earlier)) (follower_offset p (even ∷ earlier) odd.follower_devs) (following_nodes x earlier) odd.followers node two.odd_followers among in
           let offset : (offset_term_by p even.follower_devs odd.follower_devs row.node None).outcome ≡ Within =
           ap (λ k. (offset_term_by p even.follower_devs odd.follower_devs k None).outcome) late.has.number ∙ up.offset_within n one in

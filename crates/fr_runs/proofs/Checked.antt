@@ -1,19 +1,16 @@
 -- What the checks of a cluster that nodes join say.
-use Rattle.std.proofs.Common.{◌≡◌, ℕ, ◌+◌, ◌*◌, ◌<◌, ◌≤◌, true, ℤ, pos, refl, arith}
-use Rattle.std.specs.Prelude.{◌+ℤ◌, ◌-ℤ◌, ◌*ℤ◌, ◌≤ℤ◌, ◌<ℤ◌, nat_abs, nat_lt}
-use Rattle.std.proofs.lemmas.Bool.Decides.{nat_tests}
+use Rattle.std.proofs.Common.{◌≡◌, ℕ, ◌+◌, ◌*◌, ◌≤◌, ℤ, pos, refl, arith}
+use Rattle.std.specs.Prelude.{◌+ℤ◌, ◌-ℤ◌, ◌*ℤ◌, ◌≤ℤ◌, nat_abs, nat_lt}
 use Rattle.std.proofs.lemmas.Int.{ints}
 use Rattle.fr_cluster.specs.Values.{Values, amount}
 use Rattle.fr_cluster.specs.Sane.{IsSane}
 use Rattle.fr_cluster.specs.declared.names.ParamName.TheVariants as name
-use Rattle.fr_bound.specs.Bounds.{arrival_error, follower_error, longest_micro, nominal, reach_of, shortest_micro, widest}
+use Rattle.fr_bound.specs.Bounds.{arrival_error, follower_error, longest_micro, reach_of, shortest_micro}
 use Rattle.fr_bound.specs.Checks.{left_of}
 use Rattle.fr_bound.proofs.Uncut.{uncut_lem}
 use Rattle.fr_precision.proofs.Figures.{drift_range, nat_le-true, times_natural}
+use Rattle.fr_precision.proofs.ReceptionLaws.{leaves_room, nat_lt-true}
 use Rattle.fr_runs.specs.Room.{LastChecksSuffice, RateLimitSuffices, SeventhCheckSuffices, SixthCheckSuffices}
-
-nat_lt-true : (a b : ℕ) → nat_lt a b ≡ true → a < b
-nat_lt-true a b h = grind (arith, nat_tests)
 
 pub sixth_check_suffices : SixthCheckSuffices
 sixth_check_suffices p holds = nat_le-true _ _ holds
@@ -25,21 +22,7 @@ seventh_check_suffices p holds = step (reach_of p) (arrival_error p) (longest_mi
     step k e q left le = omega (arith, ints)
 
 pub last_checks_suffice : LastChecksSuffice
-last_checks_suffice p sane eighth ninth =
-    let macros = sane.ranges name.gMacroPerCycle in
-    let from : pos 0 ≤ℤ p.macros = omega (arith, ints, macros.0) in
-    let near = reach_of p + amount p name.xDelayError in
-    let far = reach_of p + widest p * nominal + amount p name.xDelayError in
-    record {
-      before = at_most (amount p name.gMacroPerCycle * near) (left_of 4 p) (p.macros *ℤ pos near) (times_natural p.macros near from) (nat_le-true _ _ eighth);
-      after = less (amount p name.gMacroPerCycle * far) (left_of 5 p) (p.macros *ℤ pos far) (times_natural p.macros far from) (nat_lt-true _ _ ninth);
-    }
-  where
-    at_most : (a b : ℕ) (x : ℤ) → pos a ≡ x → a ≤ b → x ≤ℤ pos b
-    at_most a b x e le = omega (arith, ints)
-
-    less : (a b : ℕ) (x : ℤ) → pos a ≡ x → a < b → x <ℤ pos b
-    less a b x e le = omega (arith, ints)
+last_checks_suffice p sane eighth ninth = leaves_room p (reach_of p) sane (nat_le-true _ _ eighth) (nat_lt-true _ _ ninth)
 
 -- the sixth check over signed numbers: microticks per cycle, rate limit, the shortest and the longest microtick, and what a
 -- first length may be off

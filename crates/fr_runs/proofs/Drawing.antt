@@ -1,7 +1,6 @@
 -- A round whose receivers have rows and lie so far apart is a double cycle as the step asks for, and any two of them draw near.
 use Rattle.std.proofs.Common.{◌≡◌, ℕ, false, ℤ, pos, List, All, map, sym, subst}
 use Rattle.std.specs.Prelude.{Contains}
-use Rattle.std.specs.List.{range_with_len}
 use Rattle.std.proofs.lemmas.List.Elements.{All-contains_itself}
 use Rattle.fr_base.specs.Within.{IsWithin}
 use Rattle.fr_base.specs.declared.node_row.NodeRow.{NodeRow}
@@ -10,7 +9,7 @@ use Rattle.fr_cluster.specs.Values.{Values}
 use Rattle.fr_cluster.specs.declared.nodes.NodeSpec.{NodeSpec}
 use Rattle.fr_time.specs.Slots.{action_point_of}
 use Rattle.fr_correct.proofs.There.{offset_term_is_there, rate_term_is_there}
-use Rattle.fr_precision.specs.Rows.{KeepOne, Sender}
+use Rattle.fr_precision.specs.Rows.{KeepOne}
 use Rattle.fr_precision.specs.Instants.{gap_of, LieNear, Runs}
 use Rattle.fr_precision.specs.Offsets.{IsSending}
 use Rattle.fr_precision.specs.Placement.{IsRegular}
@@ -20,18 +19,12 @@ use Rattle.fr_precision.proofs.OffsetLaws.{micro_lasts}
 use Rattle.fr_precision.proofs.Senders.{All-along}
 use Rattle.fr_precision.proofs.StepLaws.{nodes_near, spreads_shrink_lem}
 use Rattle.fr_history.proofs.Lists.{map-map}
-use Rattle.fr_precision.specs.Round.{Hearer, IsHearer, IsRound, IsSender, Round, offsets_of, rates_of, sender_at, sender_with, senders_of}
-use Rattle.fr_precision.proofs.RoundSenders.{IsFrom, sender_is}
+use Rattle.fr_precision.specs.Round.{Hearer, IsHearer, IsRound, IsSender, Round, offsets_of, rates_of, sender_with, senders_of}
 use Rattle.fr_precision.proofs.Values.{acts_before, hearers_keep_one, hears_all}
 use Rattle.fr_runs.proofs.Receivers.{no_less}
 use Rattle.fr_runs.specs.Drawn.{IsRoundSpread, RoundsDrawNear}
 use Rattle.fr_runs.specs.Hearers.{IsSupplied, member_from}
-use Rattle.fr_precision.proofs.RoundLemmas.{all_given, contains_map, map_contains}
-
--- ---- the senders of any round
-
-pub all_senders : (r : Round) (P : Sender → Type 0) → ((index : ℕ) (sender : Sender) → IsFrom r index sender → P sender) → All P (senders_of r)
-all_senders r P each = all_given (sender_at r) P (range_with_len 0 15) (λ index sender some. each index sender (sender_is r index sender some))
+use Rattle.fr_precision.proofs.RoundLemmas.{all_senders, contains_map, map_contains, sender_among}
 
 pub runs_of : (p : Values) (even odd : NodeRow) → IsSane p → IsRegular p even odd → Runs p even odd
 runs_of p even odd sane regular = record {
@@ -58,15 +51,7 @@ sending r round =
 pub all_among : (r : Round) (rows : List Hearer)
     → ((node : NodeSpec) (slot : ℕ) → IsSender r node slot → (n : Hearer) × Contains rows n × (n.even ≡ r.even node.id) × (n.odd ≡ r.odd node.id))
     → All (IsAmong (map (member_from r.params) rows)) (senders_of r)
-all_among r rows among =
-    let p = r.params in
-    let nodes = map (member_from p) rows in
-    all_senders r (IsAmong nodes)
-    (λ index sender from.
-    let row = among from.node from.slot from.from in
-    let is : IsAmong nodes (sender_with r from.slot from.node.id) =
-    (member_from p row.0, contains_map (member_from p) rows row.0 row.1, row.2, row.3) in
-    subst (IsAmong nodes) from.is is)
+all_among r rows among = all_senders r (IsAmong (map (member_from r.params) rows)) (sender_among r rows among)
 
 -- ---- any receiver of it
 

@@ -100,11 +100,12 @@ pub whole_of : (deaf sends : Bool) (answer : Offer → Option ℤ) (offer : List
     → option_and_then answer (cond deaf None (cond sends (option_map offer o) None)) ≡ answer (offer bytes)
 whole_of deaf sends answer offer o bytes hears sent comes = rw (hears, sent, comes) refl
 
--- a stored value is the deviation of its offer, whatever the bytes
-read_value : (p : Values) (cycle : ℕ) (row : NodeRow) (offer : Offer) (value : ℤ) (r : Result Header FrameFault) → value_of (answer_by p cycle row offer r) ≡ Some value → value ≡ deviation_of p row offer
-read_value p cycle row offer value (Err fault) is = absurd (cc)
-read_value p cycle row offer value (Ok header) is =
-    let Fits : Heard → Type 0 = λ heard. value_of heard ≡ Some value → value ≡ deviation_of p row offer in
+-- what is stored is of a key slot, and is the deviation of its offer, whatever the bytes
+read_stored : (p : Values) (cycle : ℕ) (row : NodeRow) (offer : Offer) (value : ℤ) (r : Result Header FrameFault) → value_of (answer_by p cycle row offer r) ≡ Some value
+    → (is_none (key_index_of p offer.slot) ≡ false) × (value ≡ deviation_of p row offer)
+read_stored p cycle row offer value (Err fault) is = absurd (cc)
+read_stored p cycle row offer value (Ok header) is =
+    let Fits : Heard → Type 0 = λ heard. value_of heard ≡ Some value → (is_none (key_index_of p offer.slot) ≡ false) × (value ≡ deviation_of p row offer) in
     let length : ℕ = amount p name.gPayloadLengthStatic in
     let stored : Heard = Stored (deviation_of p row offer) in
     let by_sync : Heard = cond (not header.sync || is_none (key_index_of p offer.slot)) (Ignored reason.Plain) stored in
@@ -117,16 +118,24 @@ read_value p cycle row offer value (Ok header) is =
     (λ _. cond_both (not (header.words == length)) (Ignored (reason.WrongLength length header.words)) by_sync Fits
     (λ _. ignored (reason.WrongLength length header.words))
     (λ _. cond_both (not header.sync || is_none (key_index_of p offer.slot)) (Ignored reason.Plain) stored Fits
-    (λ _. ignored reason.Plain) (λ _ same. let e : deviation_of p row offer ≡ value = cc in sym e))))
+    (λ _. ignored reason.Plain) (λ key same. let e : deviation_of p row offer ≡ value = cc in (second (not header.sync) (is_none (key_index_of p offer.slot)) key, sym e)))))
     is
   where
-    ignored : (why : Reason) → value_of (Ignored why) ≡ Some value → value ≡ deviation_of p row offer
+    ignored : (why : Reason) → value_of (Ignored why) ≡ Some value → (is_none (key_index_of p offer.slot) ≡ false) × (value ≡ deviation_of p row offer)
     ignored why wrong = absurd (cc)
 
-pub stored_value : (p : Values) (cycle : ℕ) (row : NodeRow) (offer : Offer) (value : ℤ) → value_of (answer_of p cycle row offer) ≡ Some value → value ≡ deviation_of p row offer
+    second : (a b : Bool) → (a || b) ≡ false → b ≡ false
+    second false b e = e
+    second true b e = absurd (cc e)
+
+pub stored_parts : (p : Values) (cycle : ℕ) (row : NodeRow) (offer : Offer) (value : ℤ) → value_of (answer_of p cycle row offer) ≡ Some value
+    → (is_none (key_index_of p offer.slot) ≡ false) × (value ≡ deviation_of p row offer)
 unfolding answer_of
-stored_value p cycle row offer value is =
+stored_parts p cycle row offer value is =
     let out : Bool = int_lt offer.arrival (slot_begins p row offer.slot) || int_le (slot_ends p row offer.slot) offer.arrival in
     cond_both out (Ignored (reason.Outside offer.arrival (slot_begins p row offer.slot) (slot_ends p row offer.slot))) (answer_by p cycle row offer (read_as offer.channel offer.bytes))
-    (λ heard. value_of heard ≡ Some value → value ≡ deviation_of p row offer)
-    (λ _ wrong. absurd (cc)) (λ _. read_value p cycle row offer value (read_as offer.channel offer.bytes)) is
+    (λ heard. value_of heard ≡ Some value → (is_none (key_index_of p offer.slot) ≡ false) × (value ≡ deviation_of p row offer))
+    (λ _ wrong. absurd (cc)) (λ _. read_stored p cycle row offer value (read_as offer.channel offer.bytes)) is
+
+pub stored_value : (p : Values) (cycle : ℕ) (row : NodeRow) (offer : Offer) (value : ℤ) → value_of (answer_of p cycle row offer) ≡ Some value → value ≡ deviation_of p row offer
+stored_value p cycle row offer value is = (stored_parts p cycle row offer value is).1

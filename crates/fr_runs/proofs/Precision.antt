@@ -22,25 +22,25 @@ use Rattle.fr_runs.proofs.Uncut.{CutsOf, FollowersAre, NoneCut, double_uncut}
 use Rattle.fr_runs.proofs.Whole.{double_runs, none_follows, prior_of}
 
 -- a whole run that is in sync in a double cycle in which none follows
-record IsUnfollowedRun (x : Setting) (h : Cycles) (double : ℕ) : Type 0 where
-  run : IsRun x h
-  first : RatesBegin x
-  fed : IsFedFrom x h double
-  unfollowed : IsUnfollowedSyncAt x.params h double
+pub record IsFedRun (x : Setting) (h : Cycles) (double : ℕ) : Type 0 where
+  pub run : IsRun x h
+  pub first : RatesBegin x
+  pub fed : IsFedFrom x h double
+  pub unfollowed : IsUnfollowedSyncAt x.params h double
 
-up_at : (x : Setting) (h : Cycles) (double k : ℕ) (earlier : Cycles) (even odd : Cycle) → IsUnfollowedRun x h double → double ≤ k → k < x.doubles → IsDoubleOf h k earlier even odd
+up_at : (x : Setting) (h : Cycles) (double k : ℕ) (earlier : Cycles) (even odd : Cycle) → IsFedRun x h double → double ≤ k → k < x.doubles → IsDoubleOf h k earlier even odd
     → KeepsUp x earlier even odd k
 up_at x h double k earlier even odd s from within d = unfollowed_runs_keep_up x h double s.run s.first s.fed s.unfollowed k earlier even odd from within d
 
 -- ---- who follows
 
-none_at_unfollowed : (x : Setting) (h : Cycles) (double : ℕ) (earlier : Cycles) (even odd : Cycle) → IsUnfollowedRun x h double → IsDoubleOf h double earlier even odd → FollowersAre x earlier double
+none_at_unfollowed : (x : Setting) (h : Cycles) (double : ℕ) (earlier : Cycles) (even odd : Cycle) → IsFedRun x h double → IsDoubleOf h double earlier even odd → FollowersAre x earlier double
 none_at_unfollowed x h double earlier even odd s d node among =
     let unfollowed = unfollowed_sync_is x h double earlier even odd s.run.covered.sane s.first s.run.run s.unfollowed d in
     let runs = double_runs x h double earlier even odd d s.run.run in
     absurd (none_follows x earlier even node runs.1.0 unfollowed.none among)
 
-followers_later : (x : Setting) (h : Cycles) (double m : ℕ) (earlier : Cycles) (even odd : Cycle) → IsUnfollowedRun x h double → double ≤ m → suc m < x.doubles
+followers_later : (x : Setting) (h : Cycles) (double m : ℕ) (earlier : Cycles) (even odd : Cycle) → IsFedRun x h double → double ≤ m → suc m < x.doubles
     → IsDoubleOf h (suc m) earlier even odd → FollowersAre x earlier (suc m)
 followers_later x h double m [] even odd s from within d =
     let counted : 0 ≡ 2 * suc m = d.counted in
@@ -56,12 +56,13 @@ followers_later x h double m (o ∷ e ∷ earlier) even odd s from within d =
 splits : (a b : ℕ) → a ≤ suc b → (a ≤ b) ⊎ (a ≡ suc b)
 splits a b le = grind arith
 
-same_followers : (x : Setting) (h : Cycles) (double k : ℕ) (earlier : Cycles) (even odd : Cycle) → double ≡ k → IsUnfollowedRun x h double → IsDoubleOf h k earlier even odd → FollowersAre x earlier k
+same_followers : (x : Setting) (h : Cycles) (double k : ℕ) (earlier : Cycles) (even odd : Cycle) → double ≡ k → IsFedRun x h double → IsDoubleOf h k earlier even odd → FollowersAre x earlier k
 same_followers x h double k earlier even odd same s d =
     let Are : ℕ → Type 0 = λ j. IsDoubleOf h j earlier even odd → FollowersAre x earlier j in
     subst Are same (λ own. none_at_unfollowed x h double earlier even odd s own) d
 
-followers_are : (x : Setting) (h : Cycles) (double k : ℕ) (earlier : Cycles) (even odd : Cycle) → IsUnfollowedRun x h double → double ≤ k → k < x.doubles → IsDoubleOf h k earlier even odd
+-- each node that follows does so for the second or for the first double cycle
+pub followers_are : (x : Setting) (h : Cycles) (double k : ℕ) (earlier : Cycles) (even odd : Cycle) → IsFedRun x h double → double ≤ k → k < x.doubles → IsDoubleOf h k earlier even odd
     → FollowersAre x earlier k
 followers_are x h double zero earlier even odd s from within d = same_followers x h double 0 earlier even odd (omega (arith, from)) s d
 followers_are x h double (suc m) earlier even odd s from within d = elim (splits double m from) [
@@ -75,7 +76,7 @@ SkewsIn : Setting → ℕ → Cycle → Type 0
 SkewsIn x n c =
     (macrotick : ℕ) → macrotick < amount x.params name.gMacroPerCycle → spread_at (grid_for x.params) n c.told.rows macrotick ≤ℤ pos (precision_of x.params)
 
-skews : (x : Setting) (h : Cycles) (double : ℕ) → IsUnfollowedRun x h double → (k : ℕ) (earlier : Cycles) (even odd : Cycle) → IsDoubleOf h k earlier even odd → double ≤ k
+skews : (x : Setting) (h : Cycles) (double : ℕ) → IsFedRun x h double → (k : ℕ) (earlier : Cycles) (even odd : Cycle) → IsDoubleOf h k earlier even odd → double ≤ k
     → k < x.doubles → SkewsIn x (2 * k) even × SkewsIn x (suc (2 * k)) odd
 unfolding SkewsIn
 skews x h double s k earlier even odd d from within =
@@ -84,7 +85,7 @@ skews x h double s k earlier even odd d from within =
     let Odd : ℕ → Type 0 = λ n. SkewsIn x (suc n) odd in
     (subst Even d.counted up.even_skew, subst Odd d.counted up.odd_skew)
 
-actives : (x : Setting) (h : Cycles) (double : ℕ) → IsUnfollowedRun x h double → (k : ℕ) (earlier : Cycles) (even odd : Cycle) → IsDoubleOf h k earlier even odd → double ≤ k
+actives : (x : Setting) (h : Cycles) (double : ℕ) → IsFedRun x h double → (k : ℕ) (earlier : Cycles) (even odd : Cycle) → IsDoubleOf h k earlier even odd → double ≤ k
     → k < x.doubles → All (λ row. row.state ≡ Active) even.told.rows × All (λ row. row.state ≡ Active) odd.told.rows
 actives x h double s k earlier even odd d from within =
     let sync = (up_at x h double k earlier even odd s from within d).gathered.in_sync in
@@ -94,7 +95,7 @@ cuts_of : (x : Setting) (later t : Cycles) → AllCutsRun x (later ++ t) → All
 cuts_of x [] t cuts = cuts
 cuts_of x (c ∷ later) t cuts = cuts_of x later t cuts.2
 
-uncuts : (x : Setting) (h : Cycles) (double : ℕ) → IsUnfollowedRun x h double → AllCutsRun x h → (k : ℕ) (earlier : Cycles) (even odd : Cycle) → IsDoubleOf h k earlier even odd → double ≤ k
+uncuts : (x : Setting) (h : Cycles) (double : ℕ) → IsFedRun x h double → AllCutsRun x h → (k : ℕ) (earlier : Cycles) (even odd : Cycle) → IsDoubleOf h k earlier even odd → double ≤ k
     → k < x.doubles → (NoneCut even.told.rows × NoneCut even.followers) × (NoneCut odd.told.rows × NoneCut odd.followers)
 uncuts x h double s all k earlier even odd d from within =
     let cuts = cuts_of x d.later (odd ∷ even ∷ earlier) (subst (AllCutsRun x) d.parted all) in
@@ -105,7 +106,7 @@ uncuts x h double s all k earlier even odd d from within =
 pub unfollowed_runs_keep_precision_lem : UnfollowedRunsKeepPrecision
 unfolding SkewsIn
 unfollowed_runs_keep_precision_lem x h double run first cuts fed unfollowed =
-    let s : IsUnfollowedRun x h double = record { run = run; first = first; fed = fed; unfollowed = unfollowed } in
+    let s : IsFedRun x h double = record { run = run; first = first; fed = fed; unfollowed = unfollowed } in
     let Active_in : ℕ → Cycle → Type 0 = λ n c. All (λ (row : NodeRow). row.state ≡ Active) c.told.rows in
     let Uncut : ℕ → Cycle → Type 0 = λ n c. NoneCut c.told.rows × NoneCut c.followers in
     record {

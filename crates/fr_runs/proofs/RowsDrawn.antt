@@ -33,7 +33,7 @@ use Rattle.fr_runs.specs.Hearers.{IsSupplied, member_from}
 use Rattle.fr_runs.proofs.Courses.{RunTwo, is_correct_row, rate_told_odd, row_applied, row_term_is, row_two, start_told}
 use Rattle.fr_runs.proofs.Drawing.{rounds_draw_near_lem}
 use Rattle.fr_runs.proofs.Going.{is_row_node, rows_ascend}
-use Rattle.fr_runs.proofs.Moved.{Moves, moves_by, two_on}
+use Rattle.fr_runs.proofs.Moved.{Moves, covered_micros, moves_by, two_on}
 use Rattle.fr_runs.proofs.Outcomes.{active_after, told_counted}
 use Rattle.fr_runs.proofs.RowsHeard.{SpreadRows, row_regular, rows_hear}
 
@@ -163,7 +163,7 @@ module _ (x : Setting) (h : Cycles) (even odd : Cycle) (double : ℕ) (starts le
         let rate =
         rate_told_odd x (even ∷ h) odd node.id row (odd_length (length h) double s.counted) (odd_active node among) late.has.is
         ∙ ap (λ (t : Term). t.value) (row_term_is x h even odd node.id late.has.number) in
-        moves_by x h even odd double node (hearer_at x even odd node) (row_for even2.told.rows node.id) (row_for odd2.told.rows node.id) s.covered.clocks s.counted n.more
+        moves_by x h even odd double node (hearer_at x even odd node) (row_for even2.told.rows node.id) (row_for odd2.told.rows node.id) (covered_micros x double s.covered.clocks n.more) s.counted
         (is_correct_row x h node among) late.length_is (first.start ∙ start_told x (even ∷ h) odd node.id row late.has.is) (first.rate ∙ rate)
         (row_two x after even2 odd2 node n.two (even_length (length after) (suc double) (two_on h even odd double s.counted)) (n.stay node among))
 

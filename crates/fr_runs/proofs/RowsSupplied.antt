@@ -259,6 +259,16 @@ lawful_rows_send x flutter h even odd double reach s active_even active_odd room
         let l = s.within in
         s.covered.delays sender receiver slot channel (suc (length h)) link share (omega (arith, c)) (omega (arith, c, l))
 
+-- a node with a row sends by the last action point
+pub acts_early : (x : Setting) (h : Cycles) → IsSane x.params → (sender : NodeSpec) (slot : ℕ) → Contains (row_nodes x h) sender → sender.key ≡ Some slot
+    → pos (action_point_of x.params slot) ≤ℤ pos (last_action x.params)
+acts_early x h sane sender slot among key =
+    let correct = correct_node x sender (is_correct_row x h sender among) in
+    no_more (action_point_of x.params slot) (last_action x.params) ((key_slots_act_early x.params sane).0 slot (key_among x.params.nodes sender slot correct.there key))
+  where
+    no_more : (a b : ℕ) → a ≤ b → pos a ≤ℤ pos b
+    no_more a b le = omega (arith, ints, le)
+
 module _ (x : Setting) (flutter : ℕ) (h : Cycles) (even odd : Cycle) (double : ℕ) (reach : ℤ) (s : LawfulRows x flutter h even odd double) (r : AreRowsInReach x h even odd reach) where
   sane : IsSane x.params
   sane = s.covered.sane
@@ -298,21 +308,13 @@ module _ (x : Setting) (flutter : ℕ) (h : Cycles) (even odd : Cycle) (double :
     other = link.other;
   }
 
-  pub acts_early : (sender : NodeSpec) (slot : ℕ) → Contains (row_nodes x h) sender → sender.key ≡ Some slot → pos (action_point_of x.params slot) ≤ℤ pos (last_action x.params)
-  acts_early sender slot among key =
-      let correct = correct_node x sender (is_correct_row x h sender among) in
-      no_more (action_point_of x.params slot) (last_action x.params) ((key_slots_act_early x.params sane).0 slot (key_among x.params.nodes sender slot correct.there key))
-    where
-      no_more : (a b : ℕ) → a ≤ b → pos a ≤ℤ pos b
-      no_more a b le = omega (arith, ints, le)
-
   pub sending : RowsSend x h even odd double reach
   sending = lawful_rows_send x flutter h even odd double reach s r.active_even r.active_odd r.room
 
   pub receiving : (node : NodeSpec) → Contains (row_nodes x h) node → IsReceiver x h even odd reach (row_receivers x h even odd) node
   receiving node among =
       row_receiver x h even odd double reach node s.even_obeys s.odd_obeys sending among (row_regular x flutter h even odd double s r.rates node among)
-      (λ is_odd sender slot there key. row_reached node sender is_odd (pos (action_point_of x.params slot)) among there (no_less (action_point_of x.params slot)) (acts_early sender slot there key))
+      (λ is_odd sender slot there key. row_reached node sender is_odd (pos (action_point_of x.params slot)) among there (no_less (action_point_of x.params slot)) (acts_early x h sane sender slot there key))
 
   -- ---- what each of them has
 
@@ -355,7 +357,7 @@ module _ (x : Setting) (flutter : ℕ) (h : Cycles) (even odd : Cycle) (double :
       (
       frames_are_steady p flutter slot channel (row_for even.told.rows receiver.id) (row_for odd.told.rows receiver.id) (row_for even.told.rows sender.id) (row_for odd.told.rows sender.id)
       (delay (length h)) (delay (suc (length h))) reach sane r.room r.limit (row_regular x flutter h even odd double s r.rates receiver link.hears) key.from key.to
-      (r.acts false (at sender) (at receiver) (pos (action_point_of p slot)) (member_there sender link.sends) (member_there receiver link.hears) (no_less (action_point_of p slot)) (acts_early sender slot link.sends link.key))
+      (r.acts false (at sender) (at receiver) (pos (action_point_of p slot)) (member_there sender link.sends) (member_there receiver link.hears) (no_less (action_point_of p slot)) (acts_early x h sane sender slot link.sends link.key))
       (sending.delays false sender receiver slot channel linked first.share)
       (subst Flutters (sym s.counted) (s.covered.flutters sender receiver slot channel double linked first.share (omega arith) s.within))
       )

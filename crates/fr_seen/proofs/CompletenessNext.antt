@@ -1,7 +1,6 @@
 -- The courses of senders that have frames in both cycles of the next double cycle too.
-use Rattle.std.proofs.Common.{◌≡◌, ℕ, suc, ◌+◌, All, Option, Some, ℤ, refl, ap, sym, ◌∙◌, subst, arith}
-use Rattle.std.specs.Prelude.{◌-ℤ◌, ◌≤ℤ◌, Contains, IfSome, int_lt, false}
-use Rattle.std.proofs.lemmas.Int.{ints}
+use Rattle.std.proofs.Common.{◌≡◌, ℕ, suc, ◌+◌, All, Option, Some, ℤ, refl, ap, sym, ◌∙◌, subst}
+use Rattle.std.specs.Prelude.{Contains, IfSome}
 use Rattle.std.proofs.lemmas.List.Elements.{All-contains}
 use Rattle.fr_base.specs.declared.channel.Channel.{Channel}
 use Rattle.fr_cluster.specs.Setting.{Setting}
@@ -13,7 +12,6 @@ use Rattle.fr_log.specs.View.{LogView}
 use Rattle.fr_course.specs.Course.{even_start}
 use Rattle.fr_course.specs.Readings.{reading_scale}
 use Rattle.fr_course.specs.declared.courses.Course.{Course}
-use Rattle.fr_course.specs.declared.intervals.Interval.{Interval}
 use Rattle.fr_course.specs.Scales.{Scale}
 use Rattle.fr_course.specs.declared.stamps.Delays.{Delays}
 use Rattle.fr_course.specs.declared.stamps.Observer.{Observer}
@@ -32,7 +30,7 @@ use Rattle.fr_seen.specs.Completeness.{IsNoWider, IsSharp, corner_width, length_
 use Rattle.fr_seen.specs.Contradictions.{IsObservedRun}
 use Rattle.fr_seen.proofs.SeenCourses.{course_there}
 use Rattle.fr_seen.proofs.CompletenessWidths.{corners_are_narrow}
-use Rattle.fr_seen.proofs.CompletenessSenders.{IsByBoth, course_by_both, course_found}
+use Rattle.fr_seen.proofs.CompletenessSenders.{IsByBoth, course_by_both, course_found, ordered, wider}
 
 -- a course that is there
 there_is : (course : Course) → IsCourseThere course → if_there (Some course) ≡ Some course
@@ -106,12 +104,3 @@ module _ (x : Setting) (h : Cycles) (base : ℕ) (delays : ℕ → Channel → D
         reads = (corners_lie_lem x.params l.drift clock_of by.next first last on.seen on.holds).even_starts;
         narrow = wider (corner_width Scaled (observer_of l) sharp.limits) width (even_start Scaled by.next) narrow.even_starts sharp.width_to;
       }
-    where
-      ordered : (low high : ℤ) → int_lt high low ≡ false → low ≤ℤ high
-      ordered low high is = grind (arith, ints)
-
-      wider : (a b : ℤ) (i : Interval) → IsNoWider a i → a ≤ℤ b → IsNoWider b i
-      wider a b i h k = trans (i.high -ℤ i.low) a b h k
-        where
-          trans : (a b c : ℤ) → a ≤ℤ b → b ≤ℤ c → a ≤ℤ c
-          trans a b c h k = omega (arith, ints)

@@ -53,6 +53,17 @@ inside_first i j = record { low = max_left i.low j.low; high = min_left i.high j
 inside_second : (i j : Interval) → LiesInside j (meet i j)
 inside_second i j = record { low = max_right i.low j.low; high = min_right i.high j.high }
 
+-- what is not out of order is in order
+pub ordered : (low high : ℤ) → int_lt high low ≡ false → low ≤ℤ high
+ordered low high is = grind (arith, ints)
+
+-- what is no wider than one width is no wider than a greater one
+pub wider : (a b : ℤ) (i : Interval) → IsNoWider a i → a ≤ℤ b → IsNoWider b i
+wider a b i h k = trans (i.high -ℤ i.low) a b h k
+  where
+    trans : (a b c : ℤ) → a ≤ℤ b → b ≤ℤ c → a ≤ℤ c
+    trans a b c h k = omega (arith, ints)
+
 -- what is inside is no wider, and by how much what comes of it is wider
 narrower : (width : ℤ) (outer inner : Interval) → IsNoWider width outer → LiesInside outer inner → IsNoWider width inner
 narrower width outer inner wide is = less width outer.low outer.high inner.low inner.high wide is.low is.high
@@ -284,15 +295,6 @@ module _ (x : Setting) (h : Cycles) (base : ℕ) (delays : ℕ → Channel → D
         even_turns = wider (corner_width Scaled (observer_of l) sharp.limits) width (even_turn Scaled s.course) narrow.even_turns sharp.width_to;
         odd_turns = wider (corner_width Scaled (observer_of l) sharp.limits) width (odd_turn Scaled s.course) narrow.odd_turns sharp.width_to;
       }
-    where
-      ordered : (low high : ℤ) → int_lt high low ≡ false → low ≤ℤ high
-      ordered low high is = grind (arith, ints)
-
-      wider : (a b : ℤ) (i : Interval) → IsNoWider a i → a ≤ℤ b → IsNoWider b i
-      wider a b i h k = trans (i.high -ℤ i.low) a b h k
-        where
-          trans : (a b c : ℤ) → a ≤ℤ b → b ≤ℤ c → a ≤ℤ c
-          trans a b c h k = omega (arith, ints)
 
 pub corners_are_narrow_lem : CornersAreNarrow
 corners_are_narrow_lem x h base delays clock l double even odd width s run has among sharp = sharp_corners x h base delays clock l run double width even odd s has among sharp

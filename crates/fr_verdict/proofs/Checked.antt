@@ -1,8 +1,8 @@
 -- The clocks of a trace that passes keep together, whoever joins.
-use Rattle.std.proofs.Common.{◌≡◌, ◌⊎◌, ℕ, zero, suc, ◌+◌, ◌*◌, ◌/◌, ◌-◌, ◌<◌, ◌≤◌, ◌==◌, Bool, true, false, not, ◌&&◌, ◌||◌, pos, Option, Some, None, IsSome, List, [], ◌∷◌, ◌++◌, All, length, map, append_assoc, refl, ap, sym, ◌∙◌, subst, inl, inr, arith}
-use Rattle.std.specs.Prelude.{◌≤ℤ◌, Contains, count_by, is_some, nat_le}
+use Rattle.std.proofs.Common.{◌≡◌, ◌⊎◌, ℕ, zero, suc, ◌+◌, ◌*◌, ◌/◌, ◌-◌, ◌<◌, ◌≤◌, Bool, true, false, not, ◌&&◌, pos, Option, Some, None, IsSome, List, [], ◌∷◌, ◌++◌, All, length, map, refl, ap, sym, ◌∙◌, subst, inl, inr, arith}
+use Rattle.std.specs.Prelude.{◌≤ℤ◌, Contains, count_by, is_some}
 use Rattle.std.specs.Option.{option_map_or}
-use Rattle.std.proofs.lemmas.Bool.{and_parts, eqb-true, or_cases}
+use Rattle.std.proofs.lemmas.Bool.{and_parts}
 use Rattle.std.proofs.lemmas.Int.{ints}
 use Rattle.std.proofs.lemmas.List.Kept.{AllPairs-filter}
 use Rattle.fr_base.specs.Within.{IsWithin}
@@ -19,7 +19,8 @@ use Rattle.fr_cluster.specs.declared.names.ParamName.TheVariants as name
 use Rattle.fr_cluster.specs.declared.nodes.NodeSpec.{NodeSpec}
 use Rattle.fr_history.specs.History.{AreRowsOf, History, Record, record_at, row_for, row_of}
 use Rattle.fr_runs.proofs.Doubles.{even_length, odd_length}
-use Rattle.fr_runs.proofs.Receivers.{no_less, same_mapped}
+use Rattle.fr_runs.proofs.Moved.{next_rows_hold}
+use Rattle.fr_runs.proofs.Receivers.{no_less}
 use Rattle.fr_precision.proofs.RoundLemmas.{contains_map, map_contains}
 use Rattle.fr_runs.proofs.Rows.{Ascend, HasRow, all_rows, has_row as row_there, rows_are}
 use Rattle.fr_runs.proofs.Spread.{RowsLie, macrotick_within, spread_within}
@@ -33,7 +34,7 @@ use Rattle.fr_history.specs.Sync.{IsInSyncAt, is_sync_at}
 use Rattle.fr_history.specs.Terms.{offset_term_in, rate_term_in, status_in}
 use Rattle.fr_history.proofs.Lists.{map-map}
 use Rattle.fr_history.proofs.Synced.{record_at-lt, record_at-some}
-use Rattle.fr_runs.specs.Group.{IsGroupKept, WillHaveRow}
+use Rattle.fr_runs.specs.Group.{IsGroupKept}
 use Rattle.fr_midpoint.specs.Receivers.{AreFew}
 use Rattle.fr_precision.specs.Instants.{gap_of}
 use Rattle.fr_precision.specs.Step.{IsFollowed, Member}
@@ -58,11 +59,11 @@ use Rattle.fr_verdict.specs.declared.unlawful.Unlawful.TheVariants as unlawful
 use Rattle.fr_verdict.proofs.Heard.{double_within, heard_in, pairs_heard, hearer_in, round_in, sends_in}
 use Rattle.fr_verdict.proofs.Items.{Unbroken, row_there as row_item, unbroken}
 use Rattle.fr_verdict.proofs.Doubles.{Part, each_record, part_at}
-use Rattle.fr_verdict.proofs.Recorded.{IsDouble, Passes, Rows, even_at, even_parted, node_two, odd_at, regular_in, rows_in, window}
+use Rattle.fr_verdict.proofs.Recorded.{prior_of, IsDouble, Passes, Rows, even_at, even_parted, node_two, odd_at, regular_in, rows_in, window}
 use Rattle.fr_verdict.proofs.Standing.{AreTwo, Comes, comes_or_stays, has_row, lasting_has, nodes_in, nodes_stay}
 use Rattle.fr_verdict.proofs.Syncing.{early_not, is_in_sync_at}
 use Rattle.fr_verdict.proofs.Turning.{behind_active, goes_on, late_active, offset_applied, offset_told, rate_told}
-use Rattle.fr_precision.proofs.RoundSenders.{few_more as more_are_few}
+use Rattle.fr_precision.proofs.RoundSenders.{few_by_test, few_more as more_are_few}
 
 -- ---- what coverage says of the cluster
 
@@ -73,24 +74,8 @@ check_holds p t number covered from to = by_test (holds_of number p) refl
     by_test true holds = refl
     by_test false fails = absurd (covered (gap.Check number (pos (left_of number p)) (pos (right_of number p))) (inl (record { number = number; from = from; to = to; fails = fails; told = refl })))
 
-nat_le-true : (a b : ℕ) → nat_le a b ≡ true → a ≤ b
-nat_le-true a b le = grind arith
-
-few_if : (correct arbitrary : ℕ) → outweighs correct arbitrary ≡ true → AreFew correct arbitrary
-few_if correct arbitrary is = elim (or_cases (((arbitrary == 0) && nat_le 1 correct) || ((arbitrary == 1) && nat_le 3 correct)) ((arbitrary == 2) && nat_le 6 correct) is) [
-  | inl fewer ↦ elim (or_cases ((arbitrary == 0) && nat_le 1 correct) ((arbitrary == 1) && nat_le 3 correct) fewer) [
-    | inl none ↦ inl (both 0 1 none)
-    | inr one ↦ inr (inl (both 1 3 one))
-  ]
-  | inr two ↦ inr (inr (both 2 6 two))
-] where
-  both : (count least : ℕ) → ((arbitrary == count) && nat_le least correct) ≡ true → (arbitrary ≡ count) × (least ≤ correct)
-  both count least is =
-      let parts : ((arbitrary == count) ≡ true) × (nat_le least correct ≡ true) = and_parts (arbitrary == count) (nat_le least correct) is in
-      (eqb-true arbitrary count parts.0, nat_le-true least correct parts.1)
-
 pub few_nodes : (p : Values) (t : TraceView) → ((g : Gap) → IsTracedCountGap p t g → ⊥) → AreFew (sync_count p (is_lasting t)) (sync_count p (is_named t))
-few_nodes p t counts = few_if (sync_count p (is_lasting t)) (sync_count p (is_named t)) (by_test (outweighs (sync_count p (is_lasting t)) (sync_count p (is_named t))) refl)
+few_nodes p t counts = few_by_test (sync_count p (is_lasting t)) (sync_count p (is_named t)) (by_test (outweighs (sync_count p (is_lasting t)) (sync_count p (is_named t))) refl)
   where
     by_test : (b : Bool) → outweighs (sync_count p (is_lasting t)) (sync_count p (is_named t)) ≡ b → b ≡ true
     by_test true holds = refl
@@ -298,50 +283,22 @@ followed p t h even odd even2 odd2 double k node step among among2 =
     let s = step.synced in
     goes_on p t h even odd k s.passes s.is_double node even2 odd2 step.next (odd_active p t h even odd double k node s among) (active_behind p t h even odd double k node s among) among among2
 
--- the row of a member in a later record
-next_row : Record → Member → NodeRow
-next_row r member = row_for r.rows member.even.node
-
-next_row_is : (p : Values) (t : TraceView) (h : History) (even odd r : Record) (k : ℕ) (node : NodeSpec) → Passes p t → IsDouble t h even odd k → Contains (nodes_in p even) node
-    → next_row r (member_in p t even odd node) ≡ row_for r.rows node.id
-unfolding next_row member_in
-next_row_is p t h even odd r k node w d among = ap (row_for r.rows) (node_two p t h even odd k node w d among).has_even.number
-
 next_where_all_stay : (p : Values) (t : TraceView) (h : History) (even odd even2 odd2 : Record) (double k : ℕ) → IsStep p t h even odd even2 odd2 double k → nodes_in p even2 ≡ nodes_in p even
     → IsInSync p even2.rows odd2.rows
+unfolding member_in
 next_where_all_stay p t h even odd even2 odd2 double k step stay =
     let s = step.synced in
-    let w = s.passes in
-    let d = s.is_double in
-    let nodes : List NodeSpec = nodes_in p even in
-    let at : NodeSpec → Member = member_in p t even odd in
-    let group = group_of p (hearers p t even odd) in
-    let members = map at nodes in
-    let Goes : Member → Type 0 = λ member. WillHaveRow group member × IsFollowed p member (next_row even2 member) (next_row odd2 member) in
-    let each = λ (member : Member) (among : Contains members member).
-    (
-    let found = map_contains at nodes member among in
-    let node = found.0 in
-    let Among : List NodeSpec → Type 0 = λ specs. Contains specs node in
-    let is = followed p t h even odd even2 odd2 double k node step found.1 (subst Among (sym stay) found.1) in
-    let Even : NodeRow → Type 0 = λ row. IsFollowed p (at node) row (row_for odd2.rows node.id) in
-    let Odd : NodeRow → Type 0 = λ row. IsFollowed p (at node) (next_row even2 (at node)) row in
-    let by_even : Even (next_row even2 (at node)) = subst Even (sym (next_row_is p t h even odd even2 k node w d found.1)) is in
-    let by_odd : Odd (next_row odd2 (at node)) = subst Odd (sym (next_row_is p t h even odd odd2 k node w d found.1)) by_even in
-    let own : Goes (at node) = (inl (is_member p t even odd node found.1), by_odd) in
-    subst Goes found.2 own
-    ) in
-    let own_rows = λ (r : Record).
-    map-map (next_row r) at nodes
-    ∙ same_mapped (λ (node : NodeSpec). next_row r (at node)) (λ (node : NodeSpec). row_for r.rows node.id) nodes (λ node among. next_row_is p t h even odd r k node w d among) in
-    let ascend = ascend_in p even w.sane in
-    let rows = rows_in p t (odd ∷ even ∷ h) even2 odd2 (suc k) w step.next in
+    let rows = rows_in p t (odd ∷ even ∷ h) even2 odd2 (suc k) s.passes step.next in
     let Are : List NodeRow → List NodeSpec → Type 0 = λ rs specs. AreRowsOf specs rs in
-    let evens : map (next_row even2) members ≡ even2.rows = own_rows even2 ∙ rows_are nodes even2.rows ascend (subst (Are even2.rows) stay rows.even_rows) in
-    let odds : map (next_row odd2) members ≡ odd2.rows = own_rows odd2 ∙ rows_are nodes odd2.rows ascend (subst (Are odd2.rows) stay rows.odd_rows) in
-    let Even : List NodeRow → Type 0 = λ rs. IsInSync p rs (map (next_row odd2) members) in
-    let Odd : List NodeRow → Type 0 = λ rs. IsInSync p even2.rows rs in
-    subst Odd odds (subst Even evens ((kept p t h even odd double k s).next_rows members (next_row even2) (next_row odd2) each))
+    next_rows_hold p (group_of p (hearers p t even odd)) (nodes_in p even) (member_in p t even odd) even2.rows odd2.rows (ascend_in p even s.passes.sane)
+    (subst (Are even2.rows) stay rows.even_rows) (subst (Are odd2.rows) stay rows.odd_rows)
+    (λ node among.
+    let Among : List NodeSpec → Type 0 = λ specs. Contains specs node in (
+      (node_two p t h even odd k node s.passes s.is_double among).has_even.number,
+      inl (is_member p t even odd node among),
+      followed p t h even odd even2 odd2 double k node step among (subst Among (sym stay) among),
+    ))
+    (IsInSync p) (kept p t h even odd double k s).next_rows
 
 -- ---- and where one comes
 
@@ -438,12 +395,7 @@ in_sync_from p t double w covered first (suc k) (o ∷ []) even odd d from = let
 in_sync_from p t double w covered first (suc k) (o ∷ e ∷ g) even odd d from = elim (splits double k from) [
   | inr same ↦ at_double p t (o ∷ e ∷ g) even odd (suc k) d (subst (IsInSyncAt p t.history) same first.synced.in_sync)
   | inl less ↦
-      let counted = d.counted in
-      let before : IsDouble t g e o k = record {
-        later = d.later ++ odd ∷ even ∷ [];
-        parted = d.parted ∙ sym (append_assoc d.later (odd ∷ even ∷ []) (o ∷ e ∷ g));
-        counted = omega arith;
-      } in
+      let before = prior_of t g e o even odd k d in
       let s : IsSynced p t g e o double k = record { passes = w; covered = covered; first = first; is_double = before; from = less; in_sync = in_sync_from p t double w covered first k g e o before less } in
       next_in_sync p t g e o even odd double k (record { synced = s; next = d })
 ]

@@ -48,41 +48,31 @@ use Rattle.fr_verdict.specs.declared.unlawful.Unlawful.TheVariants as unlawful
 
 -- ---- numbers that are rounded down
 
+after : (a b : ℤ) → a <ℤ b → (a +ℤ pos 1) ≤ℤ b
+after a b lt = omega (arith, ints)
+
+no-less : (t : ℤ) → pos 0 <ℤ t → pos 0 ≤ℤ t
+no-less t lt = omega (arith, ints)
+
+once : (t : ℤ) → pos 1 *ℤ t ≡ t
+once (pos k) = ap pos (omega arith)
+once (negsuc k) = let e : 1 * suc k ≡ suc k = omega arith in ap (λ (n : ℕ). neg_ℤ (pos n)) e
+
 pub not-below : (n t value : ℤ) → pos 0 <ℤ t → (n -ℤ t) <ℤ (value *ℤ t) → value <ℤ floor_of n t → ⊥
 not-below n t value some less below =
     let rest = rest_of n t some in
-    let next : ((value +ℤ pos 1) *ℤ t) ≤ℤ (floor_of n t *ℤ t) = mulz-lez (value +ℤ pos 1) (floor_of n t) t (after value (floor_of n t) below) (from t some) in
-    step n t (value *ℤ t) (floor_of n t *ℤ t) ((value +ℤ pos 1) *ℤ t) (pos 1 *ℤ t) less next (addz-mulz value (pos 1) t) (one t) rest.from
+    let next : ((value +ℤ pos 1) *ℤ t) ≤ℤ (floor_of n t *ℤ t) = mulz-lez (value +ℤ pos 1) (floor_of n t) t (after value (floor_of n t) below) (no-less t some) in
+    step n t (value *ℤ t) (floor_of n t *ℤ t) ((value +ℤ pos 1) *ℤ t) (pos 1 *ℤ t) less next (addz-mulz value (pos 1) t) (once t) rest.from
   where
-    after : (a b : ℤ) → a <ℤ b → (a +ℤ pos 1) ≤ℤ b
-    after a b lt = omega (arith, ints)
-
-    from : (t : ℤ) → pos 0 <ℤ t → pos 0 ≤ℤ t
-    from t lt = omega (arith, ints)
-
-    one : (t : ℤ) → pos 1 *ℤ t ≡ t
-    one (pos k) = ap pos (omega arith)
-    one (negsuc k) = let e : 1 * suc k ≡ suc k = omega arith in ap (λ (n : ℕ). neg_ℤ (pos n)) e
-
     step : (n t v f next one_t : ℤ) → (n -ℤ t) <ℤ v → next ≤ℤ f → next ≡ v +ℤ one_t → one_t ≡ t → pos 0 ≤ℤ (n -ℤ f) → ⊥
     step n t v f next one_t a b c d e = omega (arith, ints)
 
 pub not-above : (n t value : ℤ) → pos 0 <ℤ t → (value *ℤ t) ≤ℤ n → floor_of n t <ℤ value → ⊥
 not-above n t value some most above =
     let rest = rest_of n t some in
-    let next : ((floor_of n t +ℤ pos 1) *ℤ t) ≤ℤ (value *ℤ t) = mulz-lez (floor_of n t +ℤ pos 1) value t (after (floor_of n t) value above) (from t some) in
-    step n t (value *ℤ t) (floor_of n t *ℤ t) ((floor_of n t +ℤ pos 1) *ℤ t) (pos 1 *ℤ t) most next (addz-mulz (floor_of n t) (pos 1) t) (one t) rest.to
+    let next : ((floor_of n t +ℤ pos 1) *ℤ t) ≤ℤ (value *ℤ t) = mulz-lez (floor_of n t +ℤ pos 1) value t (after (floor_of n t) value above) (no-less t some) in
+    step n t (value *ℤ t) (floor_of n t *ℤ t) ((floor_of n t +ℤ pos 1) *ℤ t) (pos 1 *ℤ t) most next (addz-mulz (floor_of n t) (pos 1) t) (once t) rest.to
   where
-    after : (a b : ℤ) → a <ℤ b → (a +ℤ pos 1) ≤ℤ b
-    after a b lt = omega (arith, ints)
-
-    from : (t : ℤ) → pos 0 <ℤ t → pos 0 ≤ℤ t
-    from t lt = omega (arith, ints)
-
-    one : (t : ℤ) → pos 1 *ℤ t ≡ t
-    one (pos k) = ap pos (omega arith)
-    one (negsuc k) = let e : 1 * suc k ≡ suc k = omega arith in ap (λ (n : ℕ). neg_ℤ (pos n)) e
-
     step : (n t v f next one_t : ℤ) → v ≤ℤ n → next ≤ℤ v → next ≡ f +ℤ one_t → one_t ≡ t → ((n -ℤ f) +ℤ pos 1) ≤ℤ t → ⊥
     step n t v f next one_t a b c d e = omega (arith, ints)
 

@@ -53,6 +53,16 @@ pub record IsDouble (t : TraceView) (h : History) (even odd : Record) (double : 
   pub parted : t.history ≡ later ++ odd ∷ even ∷ h
   pub counted : length h ≡ 2 * double
 
+-- the one before it
+pub prior_of : (t : TraceView) (h : History) (e o even odd : Record) (k : ℕ) → IsDouble t (o ∷ e ∷ h) even odd (suc k) → IsDouble t h e o k
+prior_of t h e o even odd k d =
+    let counted : suc (suc (length h)) ≡ 2 * suc k = d.counted in
+    record {
+      later = d.later ++ odd ∷ even ∷ [];
+      parted = d.parted ∙ sym (append_assoc d.later (odd ∷ even ∷ []) (o ∷ e ∷ h));
+      counted = omega (arith, counted);
+    }
+
 -- ---- records
 
 pub even_parted : (t : TraceView) (h : History) (even odd : Record) (double : ℕ) (d : IsDouble t h even odd double) → t.history ≡ (d.later ++ odd ∷ []) ++ even ∷ h

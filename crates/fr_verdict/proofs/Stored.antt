@@ -1,9 +1,8 @@
 -- Where the deviations of a run's cycle come from: each is of a sender that sends and a receiver that hears.
-use Rattle.std.proofs.Common.{◌≡◌, ◌≢◌, ◌⊎◌, inl, inr, ℕ, ◌==◌, ℤ, ◌+ℤ◌, ◌*ℤ◌, Bool, true, false, cond, not, ◌&&◌, ◌||◌, List, [], ◌∷◌, map, Option, Some, None, Result, Ok, Err, IfSome, refl, ap, sym, ◌∙◌, subst, arith}
-use Rattle.std.specs.Prelude.{All, Contains, count_by, int_le, int_lt, is_none, nat_lt, option_and_then, if◌then◌else◌}
+use Rattle.std.proofs.Common.{◌≡◌, ◌≢◌, ◌⊎◌, inl, inr, ℕ, ◌==◌, ℤ, ◌+ℤ◌, ◌*ℤ◌, Bool, true, false, not, ◌&&◌, ◌||◌, List, [], ◌∷◌, map, Option, Some, None, IfSome, refl, ap, sym, ◌∙◌, subst, arith}
+use Rattle.std.specs.Prelude.{All, Contains, count_by, is_none, nat_lt, option_and_then, if◌then◌else◌}
 use Rattle.std.specs.List.{filter_map, flat_map, list_any}
 use Rattle.std.specs.Option.{option_map, option_or, option_to_list}
-use Rattle.std.proofs.lemmas.Bool.{cond_both}
 use Rattle.std.proofs.lemmas.Bool.Decides.{nat_tests}
 use Rattle.std.proofs.lemmas.List.Elements.{All-append, All-cons, All-nil}
 use Rattle.std.proofs.lemmas.List.Folds.{flat_map-map}
@@ -19,22 +18,14 @@ use Rattle.fr_cluster.specs.Constraints.{key_slots}
 use Rattle.fr_cluster.specs.Questions.{compensation_of, key_index_of}
 use Rattle.fr_cluster.specs.Searches.{is_key, key_index_in, key_node_in}
 use Rattle.fr_cluster.specs.Setting.{Setting}
-use Rattle.fr_cluster.specs.Values.{Values, amount}
 use Rattle.fr_cluster.specs.declared.names.ParamName.TheVariants as name
 use Rattle.fr_cluster.specs.declared.nodes.NodeSpec.{NodeSpec}
-use Rattle.fr_frame.specs.declared.fault.FrameFault.{FrameFault}
-use Rattle.fr_frame.specs.declared.header.Header.{Header}
-use Rattle.fr_frame.specs.Reading.{read_as}
 use Rattle.fr_reception.proofs.Answers.{answer_found}
-use Rattle.fr_reception.specs.Answers.{answer_by, answer_of}
+use Rattle.fr_reception.specs.Answers.{answer_of}
 use Rattle.fr_reception.specs.Offers.{Offer, deviation_of}
 use Rattle.fr_reception.specs.Regular.{is_sync_frame, regular_frame}
-use Rattle.fr_reception.specs.declared.heard.Heard.{Heard}
-use Rattle.fr_reception.specs.declared.heard.Heard.TheVariants.{Stored, Ignored}
-use Rattle.fr_reception.specs.declared.heard.Ignored.{Ignored as Reason}
 use Rattle.fr_reception.specs.declared.heard.Ignored.TheVariants as reason
-use Rattle.fr_time.specs.Cycles.{cycle_count}
-use Rattle.fr_time.specs.Instant.{action_instant, slot_begins, slot_ends}
+use Rattle.fr_time.specs.Instant.{action_instant}
 use Rattle.fr_time.specs.Senders.{sender_of, sync_sending, further_sending, further_slot_of}
 use Rattle.fr_time.specs.declared.senders.Sending.{Sending}
 use Rattle.fr_history.proofs.Devs.{devs_are_stored, stored_at, stored_of}
@@ -44,7 +35,7 @@ use Rattle.fr_history.proofs.Marks.{HasMarks, offer_in-marked}
 use Rattle.fr_history.specs.History.{row_of}
 use Rattle.fr_history.specs.Offers.{AreReceptions, Reception, active_offer, arrived_of, channels, devs_among, is_on, offer_in, said_in_event, said_offer, sender_offer, sent_offer, static_slots_of, stored_in, value_of}
 use Rattle.fr_history.specs.Rows.{uncorrected}
-use Rattle.fr_runs.proofs.Known.{offer_with, stored_value}
+use Rattle.fr_runs.proofs.Known.{offer_with, stored_parts, stored_value}
 
 -- ---- a deviation is what some row stores
 
@@ -86,40 +77,6 @@ all-stored x cycle rows receptions devs received listed =
     (λ slot. All-flat_map (IsStoredBy x cycle sending rows) (stored_at x cycle sending (uncorrected row) slot) (λ channel. slot-stored x cycle sending rows row among slot channel) channels) (static_slots_of x)))
 
 -- ---- it is about a key slot
-
-read-key : (p : Values) (cycle : ℕ) (row : NodeRow) (offer : Offer) (value : ℤ) (r : Result Header FrameFault) → value_of (answer_by p cycle row offer r) ≡ Some value → is_none (key_index_of p offer.slot) ≡ false
-read-key p cycle row offer value (Err fault) is = absurd (cc is)
-read-key p cycle row offer value (Ok header) is =
-    let Fits : Heard → Type 0 = λ heard. value_of heard ≡ Some value → is_none (key_index_of p offer.slot) ≡ false in
-    let length : ℕ = amount p name.gPayloadLengthStatic in
-    let stored : Heard = Stored (deviation_of p row offer) in
-    let by_sync : Heard = cond (not header.sync || is_none (key_index_of p offer.slot)) (Ignored reason.Plain) stored in
-    let by_length : Heard = cond (not (header.words == length)) (Ignored (reason.WrongLength length header.words)) by_sync in
-    let by_cycle : Heard = cond (not (header.cycle == cycle_count cycle)) (Ignored (reason.WrongCycle (cycle_count cycle) header.cycle)) by_length in
-    cond_both (not (header.id == offer.slot)) (Ignored (reason.WrongId offer.slot header.id)) by_cycle Fits
-    (λ _. ignored (reason.WrongId offer.slot header.id))
-    (λ _. cond_both (not (header.cycle == cycle_count cycle)) (Ignored (reason.WrongCycle (cycle_count cycle) header.cycle)) by_length Fits
-    (λ _. ignored (reason.WrongCycle (cycle_count cycle) header.cycle))
-    (λ _. cond_both (not (header.words == length)) (Ignored (reason.WrongLength length header.words)) by_sync Fits
-    (λ _. ignored (reason.WrongLength length header.words))
-    (λ _. cond_both (not header.sync || is_none (key_index_of p offer.slot)) (Ignored reason.Plain) stored Fits
-    (λ _. ignored reason.Plain) (λ e _. second (not header.sync) (is_none (key_index_of p offer.slot)) e))))
-    is
-  where
-    ignored : (why : Reason) → value_of (Ignored why) ≡ Some value → is_none (key_index_of p offer.slot) ≡ false
-    ignored why wrong = absurd (cc wrong)
-
-    second : (a b : Bool) → (a || b) ≡ false → b ≡ false
-    second false b e = e
-    second true b e = absurd (cc e)
-
-stored-key : (p : Values) (cycle : ℕ) (row : NodeRow) (offer : Offer) (value : ℤ) → value_of (answer_of p cycle row offer) ≡ Some value → is_none (key_index_of p offer.slot) ≡ false
-unfolding answer_of
-stored-key p cycle row offer value is =
-    let out : Bool = int_lt offer.arrival (slot_begins p row offer.slot) || int_le (slot_ends p row offer.slot) offer.arrival in
-    cond_both out (Ignored (reason.Outside offer.arrival (slot_begins p row offer.slot) (slot_ends p row offer.slot))) (answer_by p cycle row offer (read_as offer.channel offer.bytes))
-    (λ heard. value_of heard ≡ Some value → is_none (key_index_of p offer.slot) ≡ false)
-    (λ _ wrong. absurd (cc wrong)) (λ _. read-key p cycle row offer value (read_as offer.channel offer.bytes)) is
 
 -- the node of a key slot
 pub record HasKeyNode (nodes : List NodeSpec) (slot : ℕ) : Type 0 where
@@ -293,5 +250,5 @@ sent-of x cycle sending row dev stored = by (offer_in x cycle sending row dev.sl
         → option_and_then (λ offer. value_of (answer_of x.params cycle row offer)) o ≡ Some dev.value → IsSent x cycle sending row dev
     by None is marks e = absurd (cc e)
     by (Some offer) is marks e =
-        let key = indexed x.params.nodes dev.slot (ap (λ (s : ℕ). is_none (key_index_of x.params s)) (sym marks.slot_is) ∙ stored-key x.params cycle row offer dev.value e) in
+        let key = indexed x.params.nodes dev.slot (ap (λ (s : ℕ). is_none (key_index_of x.params s)) (sym marks.slot_is) ∙ (stored_parts x.params cycle row offer dev.value e).0) in
         sent x cycle sending row dev offer key is marks.slot_is e

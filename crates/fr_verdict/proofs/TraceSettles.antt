@@ -1,5 +1,5 @@
 -- A trace that passes comes from sync in the older sense into sharp sync.
-use Rattle.std.proofs.Common.{◌≡◌, ℕ, zero, suc, ◌+◌, ◌*◌, ◌<◌, ◌≤◌, Bool, true, Option, List, [], ◌∷◌, ◌++◌, length, map, ℤ, pos, append_assoc, ap, sym, ◌∙◌, subst, lit≤, arith}
+use Rattle.std.proofs.Common.{◌≡◌, ℕ, zero, suc, ◌+◌, ◌*◌, ◌<◌, ◌≤◌, Bool, true, Option, List, [], ◌∷◌, length, map, ℤ, pos, ap, sym, ◌∙◌, subst, lit≤, arith}
 use Rattle.std.specs.Prelude.{◌≤ℤ◌, Contains}
 use Rattle.std.proofs.lemmas.Int.{ints}
 use Rattle.std.proofs.lemmas.List.Elements.{All-contains}
@@ -23,7 +23,7 @@ use Rattle.fr_verdict.specs.Sync.{IsFirstSynced}
 use Rattle.fr_verdict.proofs.Checked.{at_double, check_holds, checked_traces_keep_precision, of_part}
 use Rattle.fr_verdict.proofs.Doubles.{Part, part_at}
 use Rattle.fr_verdict.proofs.Heard.{double_within}
-use Rattle.fr_verdict.proofs.Recorded.{IsDouble, even_at, odd_at}
+use Rattle.fr_verdict.proofs.Recorded.{prior_of, IsDouble, even_at, odd_at}
 use Rattle.fr_precision.specs.Lengths.{walked_after}
 use Rattle.fr_bound.specs.SharpBounds.{last_action, rate_walk, sharp_lambda, sharp_near, sharp_pi}
 use Rattle.fr_bound.specs.SharpChecks.{sharp_holds_of}
@@ -135,18 +135,14 @@ module _ (beside : Bool) (p : Values) (t : TraceView) (double : ℕ) (s : IsStea
   near_after (suc passed) [] even odd d = let counted : 0 ≡ 2 * (double + suc passed) = d.counted in absurd (omega (arith, counted))
   near_after (suc passed) (o ∷ []) even odd d = let counted : 1 ≡ 2 * (double + suc passed) = d.counted in absurd (omega (arith, counted))
   near_after (suc passed) (o ∷ e ∷ g) even odd d =
-      let counted : suc (suc (length g)) ≡ 2 * (double + suc passed) = d.counted in
       let one : double + suc passed ≡ suc (double + passed) = omega arith in
       let At : ℕ → Type 0 = λ k. IsDouble t (o ∷ e ∷ g) even odd k in
-      let prior : IsDouble t g e o (double + passed) = record {
-        later = d.later ++ odd ∷ even ∷ [];
-        parted = d.parted ∙ sym (append_assoc d.later (odd ∷ even ∷ []) (o ∷ e ∷ g));
-        counted = omega (arith, counted);
-      } in
+      let here = subst At one d in
+      let prior = prior_of t g e o even odd (double + passed) here in
       (
       next_stands beside p t double (as_said beside p t double s) (double + passed) (at_least double passed) (double_within t g e o (double + passed) s.trace prior) g e o prior (starts passed) (lengths passed) (starts (suc passed))
       (lengths (suc passed)) (walked passed) (walked (suc passed)) (pos (precision_of p))
-      (step_of (double + passed) (at_least double passed) g e o prior passed (near_after passed g e o prior)) even odd (subst At one d)
+      (step_of (double + passed) (at_least double passed) g e o prior passed (near_after passed g e o prior)) even odd here
       ).rows
     where
       at_least : (a b : ℕ) → a ≤ a + b

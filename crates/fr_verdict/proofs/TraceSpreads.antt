@@ -1,5 +1,5 @@
 -- A steady trace whose rows lie within stated numbers in a double cycle keeps to the spreads from them, and comes into sharp sync.
-use Rattle.std.proofs.Common.{◌≡◌, ℕ, zero, suc, ◌+◌, ◌*◌, ◌<◌, ◌≤◌, Bool, true, Some, List, [], ◌∷◌, ◌++◌, length, map, Option, ℤ, pos, append_assoc, ap, sym, ◌∙◌, subst, arith}
+use Rattle.std.proofs.Common.{◌≡◌, ℕ, zero, suc, ◌+◌, ◌*◌, ◌<◌, ◌≤◌, Bool, true, Some, List, [], ◌∷◌, map, Option, ℤ, pos, ap, sym, ◌∙◌, subst, arith}
 use Rattle.fr_base.specs.declared.node_row.NodeRow.{NodeRow}
 use Rattle.fr_bound.specs.Checks.{holds_of}
 use Rattle.fr_cluster.specs.Values.{Values}
@@ -10,7 +10,7 @@ use Rattle.fr_time.specs.Cycles.{odd_cycle}
 use Rattle.fr_trace.specs.Trace.{TraceView}
 use Rattle.fr_verdict.proofs.Checked.{of_part}
 use Rattle.fr_verdict.proofs.Doubles.{Part, part_at}
-use Rattle.fr_verdict.proofs.Recorded.{IsDouble, even_at, odd_at}
+use Rattle.fr_verdict.proofs.Recorded.{prior_of, IsDouble, even_at, odd_at}
 use Rattle.fr_precision.specs.Lengths.{walked_after}
 use Rattle.fr_bound.specs.SharpBounds.{last_action, precision_by, rate_walk, sharp_pi}
 use Rattle.fr_precision.specs.SharpRun.{lengths_from, starts_from, WalkLastsAfter, WalkLastsUpTo}
@@ -108,18 +108,14 @@ module _ (beside : Bool) (p : Values) (t : TraceView) (double : ℕ) (said : IsS
   stands_after (suc passed) within before [] even odd d = let counted : 0 ≡ 2 * (double + suc passed) = d.counted in absurd (omega (arith, counted))
   stands_after (suc passed) within before (o ∷ []) even odd d = let counted : 1 ≡ 2 * (double + suc passed) = d.counted in absurd (omega (arith, counted))
   stands_after (suc passed) within before (o ∷ e ∷ g) even odd d =
-      let counted : suc (suc (length g)) ≡ 2 * (double + suc passed) = d.counted in
       let one : double + suc passed ≡ suc (double + passed) = omega arith in
       let At : ℕ → Type 0 = λ k. IsDouble t (o ∷ e ∷ g) even odd k in
-      let prior : IsDouble t g e o (double + passed) = record {
-        later = d.later ++ odd ∷ even ∷ [];
-        parted = d.parted ∙ sym (append_assoc d.later (odd ∷ even ∷ []) (o ∷ e ∷ g));
-        counted = omega (arith, counted);
-      } in
+      let here = subst At one d in
+      let prior = prior_of t g e o even odd (double + passed) here in
       let still = earlier p flutter passed before in
       let less : double + passed < t.doubles = omega (arith, within) in
       next_stands beside p t double said (double + passed) (at_least double passed) less g e o prior (starts passed) (lengths passed) (starts (suc passed)) (lengths (suc passed)) (walked passed) (walked (suc passed)) (pos reach)
-      (step_of (double + passed) passed still g e o prior (stands_after passed less (up_to p flutter passed still) g e o prior)) even odd (subst At one d)
+      (step_of (double + passed) passed still g e o prior (stands_after passed less (up_to p flutter passed still) g e o prior)) even odd here
 
   -- ---- each of them
 

@@ -1,10 +1,10 @@
 -- The worked run that a node joins is covered: its links carry all frames, and the node that joins has a reference.
-use Rattle.std.proofs.Common.{◌≡◌, ℕ, zero, suc, pos, true, None, Some, [], ◌∷◌, refl, sym, ◌∙◌, subst, inl, lit≤, arith}
+use Rattle.std.proofs.Common.{◌≡◌, ℕ, pos, true, None, Some, [], ◌∷◌, refl, sym, ◌∙◌, subst, inl, lit≤, arith}
 use Rattle.std.specs.Prelude.{◌<◌, Contains}
 use Rattle.fr_base.specs.declared.channel.Channel.{Channel}
 use Rattle.fr_base.specs.declared.channel.Channel.TheVariants.{A, B}
 use Rattle.fr_cluster.specs.declared.nodes.NodeSpec.{NodeSpec}
-use Rattle.fr_bound.specs.Checks.{AllChecksHold, AllJoinChecksHold}
+use Rattle.fr_bound.specs.Checks.{holds_of, AllChecksHold, AllJoinChecksHold}
 use Rattle.fr_precision.specs.Reception.{IsDelay}
 use Rattle.fr_cluster.specs.declared.join.Join.{Join}
 use Rattle.fr_history.specs.Worked.{joined_run, on_a, roomy_cluster}
@@ -14,6 +14,7 @@ use Rattle.fr_runs.specs.References.{AreReferenced, IsReference}
 use Rattle.fr_runs.specs.Supplied.{IsCovered, IsCoveredByFiles}
 use Rattle.fr_runs.proofs.Covers.{coverage_suffices}
 use Rattle.fr_worked.proofs.Begun.{each_node, is_sane}
+use Rattle.fr_promise.proofs.CheckNumbers.{one_to_five, six_to_nine}
 
 -- ---- the reference of node 3 is node 1
 
@@ -75,26 +76,10 @@ is_carried sender receiver slot double link less = record {
 -- ---- its checks hold
 
 pub checks_hold : AllChecksHold roomy_cluster
-checks_hold zero from to = absurd (omega (arith, from))
-checks_hold (suc zero) from to = refl
-checks_hold (suc (suc zero)) from to = refl
-checks_hold (suc (suc (suc zero))) from to = refl
-checks_hold (suc (suc (suc (suc zero)))) from to = refl
-checks_hold (suc (suc (suc (suc (suc zero))))) from to = refl
-checks_hold (suc (suc (suc (suc (suc (suc n)))))) from to = absurd (omega (arith, to))
+checks_hold = one_to_five (λ k. holds_of k roomy_cluster) refl refl refl refl refl
 
 pub join_checks_hold : AllJoinChecksHold roomy_cluster
-join_checks_hold zero from to = absurd (omega (arith, from))
-join_checks_hold (suc zero) from to = absurd (omega (arith, from))
-join_checks_hold (suc (suc zero)) from to = absurd (omega (arith, from))
-join_checks_hold (suc (suc (suc zero))) from to = absurd (omega (arith, from))
-join_checks_hold (suc (suc (suc (suc zero)))) from to = absurd (omega (arith, from))
-join_checks_hold (suc (suc (suc (suc (suc zero))))) from to = absurd (omega (arith, from))
-join_checks_hold (suc (suc (suc (suc (suc (suc zero)))))) from to = refl
-join_checks_hold (suc (suc (suc (suc (suc (suc (suc zero))))))) from to = refl
-join_checks_hold (suc (suc (suc (suc (suc (suc (suc (suc zero)))))))) from to = refl
-join_checks_hold (suc (suc (suc (suc (suc (suc (suc (suc (suc zero))))))))) from to = refl
-join_checks_hold (suc (suc (suc (suc (suc (suc (suc (suc (suc (suc n)))))))))) from to = absurd (omega (arith, to))
+join_checks_hold = six_to_nine (λ k. holds_of k roomy_cluster) refl refl refl refl
 
 -- ---- so it is covered
 

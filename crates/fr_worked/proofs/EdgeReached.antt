@@ -1,11 +1,11 @@
 -- The run that begins at the edge of sync: it is covered and in sync, and its skew, computed from the definitions.
-use Rattle.std.proofs.Common.{◌≡◌, ◌==◌, ◌<◌, ℕ, zero, suc, Bool, true, false, pos, Some, length, refl, inl, lit≤, arith, if◌then◌else◌}
+use Rattle.std.proofs.Common.{◌≡◌, ◌==◌, ◌<◌, ℕ, Bool, true, false, pos, Some, length, refl, inl, lit≤, arith, if◌then◌else◌}
 use Rattle.std.specs.Prelude.{neg_ℤ, Contains}
 use Rattle.std.proofs.lemmas.List.Elements.{All-contains}
 use Rattle.fr_base.specs.Within.{IsWithin}
 use Rattle.fr_base.specs.declared.channel.Channel.{Channel}
 use Rattle.fr_base.specs.declared.channel.Channel.TheVariants.{A, B}
-use Rattle.fr_bound.specs.Checks.{AllChecksHold}
+use Rattle.fr_bound.specs.Checks.{holds_of, AllChecksHold}
 use Rattle.fr_cluster.specs.Setting.{IsSetting, Setting}
 use Rattle.fr_cluster.specs.declared.nodes.NodeSpec.{NodeSpec}
 use Rattle.fr_precision.specs.Reception.{IsDelay}
@@ -27,19 +27,14 @@ use Rattle.fr_promise.specs.Statement.{KeepsPrecision}
 use Rattle.fr_promise.proofs.Promising.{runs_keep_precision}
 use Rattle.fr_worked.specs.Edge.{edge_run}
 use Rattle.fr_worked.proofs.Sane.{cluster_sane, nodes_from}
+use Rattle.fr_promise.proofs.CheckNumbers.{one_to_five}
 
 edge_setting : IsSetting edge_run
 unfolding nodes_from
 edge_setting = record { sane = cluster_sane false 2 (omega arith) (omega arith); bytes = λ cycle sender receiver channel. tt }
 
 checks_hold : AllChecksHold edge_run.params
-checks_hold zero from to = absurd (omega (arith, from))
-checks_hold (suc zero) from to = refl
-checks_hold (suc (suc zero)) from to = refl
-checks_hold (suc (suc (suc zero))) from to = refl
-checks_hold (suc (suc (suc (suc zero)))) from to = refl
-checks_hold (suc (suc (suc (suc (suc zero))))) from to = refl
-checks_hold (suc (suc (suc (suc (suc (suc n)))))) from to = absurd (omega (arith, to))
+checks_hold = one_to_five (λ k. holds_of k edge_run.params) refl refl refl refl refl
 
 no_delay : (channel : Channel) → IsDelay edge_run.params channel (pos 0)
 no_delay A = record { low = record { le = tt }; high = record { le = tt } }

@@ -1,10 +1,10 @@
 -- The worked run that reaches nearly all of the sharper precision is as the law asks.
-use Rattle.std.proofs.Common.{zero, suc, inl, Bool, true, false, [], ◌∷◌, refl, lit≤, arith}
+use Rattle.std.proofs.Common.{inl, Bool, true, false, [], ◌∷◌, refl, lit≤, arith}
 use Rattle.fr_base.specs.declared.channel.Channel.TheVariants.{A}
 use Rattle.fr_cluster.proofs.Elements.{Contains-here, Contains-there}
 use Rattle.fr_history.specs.Worked.{on_a as spec}
 use Rattle.fr_bound.specs.Bounds.{lambda_of, pi_of}
-use Rattle.fr_bound.specs.Checks.{AllChecksHold}
+use Rattle.fr_bound.specs.Checks.{holds_of, AllChecksHold}
 use Rattle.fr_worked.specs.DrivenRun.{driven_cluster}
 use Rattle.fr_worked.specs.FarRun.{older_far, WorkedOlderFarRun, far_apart_run, worked_far, HasTwo, IsFar, WorkedFarRuns}
 use Rattle.fr_bound.specs.SharpBounds.{sharp_lambda, sharp_pi}
@@ -13,6 +13,7 @@ use Rattle.fr_sharp.specs.WorkedRun.{steady_cluster, OfBytes, Said}
 use Rattle.fr_worked.proofs.RunDriven.{is_sane as driven_sane, on_channel}
 use Rattle.fr_worked.proofs.RunWorked.{few, on_a}
 use Rattle.fr_promise.proofs.SharpWorked.{is_sane}
+use Rattle.fr_promise.proofs.CheckNumbers.{one_to_five}
 
 module _ (said : Said) (bytes : OfBytes said) where
   is_far : (beside : Bool) → IsFar (worked_far said beside) (sharp_pi beside steady_cluster 0) (sharp_lambda beside steady_cluster 0)
@@ -68,13 +69,7 @@ worked_far_runs said true bytes = (is_far said bytes true, may said bytes true, 
 -- ---- and of a cluster that meets the older checks
 
 older_checks : AllChecksHold driven_cluster
-older_checks zero from to = absurd (omega (arith, from))
-older_checks (suc zero) from to = refl
-older_checks (suc (suc zero)) from to = refl
-older_checks (suc (suc (suc zero))) from to = refl
-older_checks (suc (suc (suc (suc zero)))) from to = refl
-older_checks (suc (suc (suc (suc (suc zero))))) from to = refl
-older_checks (suc (suc (suc (suc (suc (suc k)))))) from to = absurd (omega (arith, to))
+older_checks = one_to_five (λ k. holds_of k driven_cluster) refl refl refl refl refl
 
 older_is_far : (said : Said) → OfBytes said → IsFar (older_far said) (pi_of driven_cluster) (lambda_of driven_cluster)
 older_is_far said bytes = record {

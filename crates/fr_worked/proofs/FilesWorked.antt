@@ -1,5 +1,5 @@
 -- The files of the worked run whose delays flutter are sharply covered, and its cycle 0 lies near.
-use Rattle.std.proofs.Common.{◌≡◌, ℕ, zero, suc, ◌≤◌, Bool, true, false, ℤ, pos, None, refl, sym, subst, lit≤, arith}
+use Rattle.std.proofs.Common.{◌≡◌, ℕ, ◌≤◌, Bool, true, false, ℤ, pos, None, refl, sym, subst, lit≤, arith}
 use Rattle.std.specs.Prelude.{◌+ℤ◌, ◌-ℤ◌, ◌*ℤ◌, ◌≤ℤ◌, ◌||◌, int_lt, not, Contains}
 use Rattle.std.specs.List.{list_all}
 use Rattle.std.proofs.lemmas.Bool.{not-true, or_parts}
@@ -26,7 +26,7 @@ use Rattle.fr_promise.specs.HeldWalks.{sync_lasts}
 use Rattle.fr_precision.specs.Lengths.{IsAboutCycle}
 use Rattle.fr_sharp.specs.SettlingHistories.{AreStatedNear}
 use Rattle.fr_bound.specs.SharpBounds.{last_of, sharp_lambda, sharp_near, sharp_pi}
-use Rattle.fr_bound.specs.SharpChecks.{SharpChecksHold}
+use Rattle.fr_bound.specs.SharpChecks.{sharp_holds_of, SharpChecksHold}
 use Rattle.fr_sharp.specs.SharpFiles.{CoveredFilesKeepSharply}
 use Rattle.fr_runs.specs.SharpHistories.{IsInSharpSyncAt, IsSteadyRun}
 use Rattle.fr_sharp.specs.SharpStatement.{has_arbitrary, IsSharplyCovered, KeepsSharply}
@@ -36,6 +36,7 @@ use Rattle.fr_sharp.proofs.FromFiles.{files_give_steady_runs}
 use Rattle.fr_sharp.proofs.RunStated.{stated_runs_begin_in_sharp_sync}
 use Rattle.fr_promise.proofs.SharpWorked.{is_sane}
 use Rattle.fr_worked.proofs.TracesFit.{within_if as within_if_told}
+use Rattle.fr_promise.proofs.CheckNumbers.{two_to_five}
 
 -- ---- they are sharply covered
 
@@ -61,17 +62,8 @@ none_joins true = refl
 
 checks_hold : (beside : Bool) → SharpChecksHold 250 (sharp_near beside steady_cluster 250) steady_cluster
 unfolding last_of
-checks_hold beside zero from to = absurd (omega (arith, from))
-checks_hold beside (suc zero) from to = absurd (omega (arith, from))
-checks_hold false (suc (suc zero)) from to = refl
-checks_hold false (suc (suc (suc zero))) from to = refl
-checks_hold false (suc (suc (suc (suc zero)))) from to = refl
-checks_hold false (suc (suc (suc (suc (suc zero))))) from to = refl
-checks_hold true (suc (suc zero)) from to = refl
-checks_hold true (suc (suc (suc zero))) from to = refl
-checks_hold true (suc (suc (suc (suc zero)))) from to = refl
-checks_hold true (suc (suc (suc (suc (suc zero))))) from to = refl
-checks_hold beside (suc (suc (suc (suc (suc (suc k)))))) from to = absurd (omega (arith, to))
+checks_hold false = two_to_five (λ k. sharp_holds_of k 250 (sharp_near false steady_cluster 250) steady_cluster) refl refl refl refl
+checks_hold true = two_to_five (λ k. sharp_holds_of k 250 (sharp_near true steady_cluster 250) steady_cluster) refl refl refl refl
 
 pub covered : (beside : Bool) → IsSharplyCovered steady_cluster fluttering_drift (marking_script beside) 0 250
 covered beside = record {

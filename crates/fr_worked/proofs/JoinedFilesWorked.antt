@@ -1,5 +1,5 @@
 -- The files of the worked run whose delays flutter are sharply covered to join, where node 4 joins.
-use Rattle.std.proofs.Common.{◌≡◌, zero, suc, Bool, true, false, None, refl, sym, subst, arith}
+use Rattle.std.proofs.Common.{◌≡◌, Bool, true, false, None, refl, sym, subst, arith}
 use Rattle.fr_coverage.specs.Coverage.{gap_of_run, some_join}
 use Rattle.fr_coverage.specs.First.{first_below, first_in}
 use Rattle.fr_coverage.specs.Flutter.{flutter_from, flutter_of, greatest_below, greatest_in}
@@ -11,11 +11,12 @@ use Rattle.fr_script.specs.Events.{event_of}
 use Rattle.fr_script.specs.View.{deed_of, is_arbitrary, join_of}
 use Rattle.fr_bound.specs.SharpBounds.{last_of}
 use Rattle.fr_bound.specs.SharpChecks.{sharp_holds_of}
-use Rattle.fr_promise.specs.SharpJoining.{sharp_reach, SharpJoinChecksHold}
+use Rattle.fr_promise.specs.SharpJoining.{sharp_join_holds_of, sharp_reach, SharpJoinChecksHold}
 use Rattle.fr_sharp.specs.SharpStatement.{has_arbitrary}
 use Rattle.fr_worked.specs.WorkedFiles.{fluttering_drift, joining_script, JoiningFilesAreCovered}
 use Rattle.fr_sharp.specs.WorkedRun.{steady_cluster}
 use Rattle.fr_promise.proofs.SharpWorked.{is_sane}
+use Rattle.fr_promise.proofs.CheckNumbers.{six_to_nine}
 
 no_gap : gap_of_run steady_cluster fluttering_drift joining_script ≡ None
 unfolding first_below first_in doubles_of length_of delay_of held is_arbitrary join_of deed_of deed_in event_of
@@ -38,17 +39,7 @@ first_holds = refl
 
 checks_hold : SharpJoinChecksHold false 250 steady_cluster
 unfolding last_of
-checks_hold zero from to = absurd (omega (arith, from))
-checks_hold (suc zero) from to = absurd (omega (arith, from))
-checks_hold (suc (suc zero)) from to = absurd (omega (arith, from))
-checks_hold (suc (suc (suc zero))) from to = absurd (omega (arith, from))
-checks_hold (suc (suc (suc (suc zero)))) from to = absurd (omega (arith, from))
-checks_hold (suc (suc (suc (suc (suc zero))))) from to = absurd (omega (arith, from))
-checks_hold (suc (suc (suc (suc (suc (suc zero)))))) from to = refl
-checks_hold (suc (suc (suc (suc (suc (suc (suc zero))))))) from to = refl
-checks_hold (suc (suc (suc (suc (suc (suc (suc (suc zero)))))))) from to = refl
-checks_hold (suc (suc (suc (suc (suc (suc (suc (suc (suc zero))))))))) from to = refl
-checks_hold (suc (suc (suc (suc (suc (suc (suc (suc (suc (suc k)))))))))) from to = absurd (omega (arith, to))
+checks_hold = six_to_nine (λ k. sharp_join_holds_of k false 250 steady_cluster) refl refl refl refl
 
 pub joining_files_are_covered : JoiningFilesAreCovered
 joining_files_are_covered =

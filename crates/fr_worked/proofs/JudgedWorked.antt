@@ -1,9 +1,9 @@
 -- The first double cycle of the worked run is judged by its own numbers, and goes on as they say.
-use Rattle.std.proofs.Common.{◌≡◌, ℕ, zero, suc, ◌≤◌, ◌==◌, Bool, true, false, length, refl, lit≤, arith}
+use Rattle.std.proofs.Common.{◌≡◌, ℕ, ◌≤◌, ◌==◌, Bool, true, false, length, refl, lit≤, arith}
 use Rattle.fr_cluster.specs.Setting.{IsSetting, Setting}
 use Rattle.fr_bound.specs.Judged.{IsJudgedDouble}
 use Rattle.fr_bound.specs.SharpBounds.{last_of}
-use Rattle.fr_bound.specs.SharpChecks.{SharpChecksHold}
+use Rattle.fr_bound.specs.SharpChecks.{sharp_holds_of, SharpChecksHold}
 use Rattle.fr_bound.specs.SharpSpreads.{sharply_near_in}
 use Rattle.fr_history.specs.Lawful.{IsLawful}
 use Rattle.fr_history.specs.Next.{cycles_of}
@@ -16,29 +16,18 @@ use Rattle.fr_sharp.specs.WorkedRun.{steady_cluster, steady_run, Said}
 use Rattle.fr_sharp.proofs.JudgedLaws.{judged_goes_on_lem, stated_runs_are_known_lem}
 use Rattle.fr_promise.proofs.RunSync.{timed}
 use Rattle.fr_worked.proofs.RunWorked.{in_its_range, near_lengths, near_starts, steady_run_meets_premises}
+use Rattle.fr_promise.proofs.CheckNumbers.{two_to_five}
 
 pub worked_numbers_go_on : WorkedNumbersGoOn
 worked_numbers_go_on = (refl, refl, refl, refl, refl, refl)
 
 worked_checks : SharpChecksHold 0 (sharply_near_in steady_cluster worked_known.spread) steady_cluster
 unfolding last_of
-worked_checks zero from to = absurd (omega (arith, from))
-worked_checks (suc zero) from to = absurd (omega (arith, from))
-worked_checks (suc (suc zero)) from to = refl
-worked_checks (suc (suc (suc zero))) from to = refl
-worked_checks (suc (suc (suc (suc zero)))) from to = refl
-worked_checks (suc (suc (suc (suc (suc zero))))) from to = refl
-worked_checks (suc (suc (suc (suc (suc (suc k)))))) from to = absurd (omega (arith, to))
+worked_checks = two_to_five (λ k. sharp_holds_of k 0 (sharply_near_in steady_cluster worked_known.spread) steady_cluster) refl refl refl refl
 
 far_checks : SharpChecksHold 0 (sharply_near_in steady_cluster far_known.spread) steady_cluster
 unfolding last_of
-far_checks zero from to = absurd (omega (arith, from))
-far_checks (suc zero) from to = absurd (omega (arith, from))
-far_checks (suc (suc zero)) from to = refl
-far_checks (suc (suc (suc zero))) from to = refl
-far_checks (suc (suc (suc (suc zero)))) from to = refl
-far_checks (suc (suc (suc (suc (suc zero))))) from to = refl
-far_checks (suc (suc (suc (suc (suc (suc k)))))) from to = absurd (omega (arith, to))
+far_checks = two_to_five (λ k. sharp_holds_of k 0 (sharply_near_in steady_cluster far_known.spread) steady_cluster) refl refl refl refl
 
 worked_judged : IsJudgedDouble steady_cluster 0 worked_known
 worked_judged = record { checks = worked_checks; room = lit≤ tt }

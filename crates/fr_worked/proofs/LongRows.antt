@@ -1,5 +1,5 @@
 -- The long run of three perfect clocks is stated as the laws ask, and any two of its nodes hear each other alike.
-use Rattle.std.proofs.Common.{◌≡◌, ℕ, zero, suc, ◌*◌, ◌%◌, ◌<◌, ◌≤◌, ◌==◌, Bool, true, false, ℤ, pos, negsuc, Option, None, Some, IsSome, [], ◌∷◌, All, length, refl, ap, sym, ◌∙◌, subst, inl, lit≤, lit<, arith}
+use Rattle.std.proofs.Common.{◌≡◌, ℕ, ◌*◌, ◌%◌, ◌<◌, ◌≤◌, ◌==◌, Bool, true, false, ℤ, pos, negsuc, Option, None, Some, IsSome, [], ◌∷◌, All, length, refl, ap, sym, ◌∙◌, subst, inl, lit≤, lit<, arith}
 use Rattle.std.specs.Prelude.{◌+ℤ◌, ◌-ℤ◌, ◌*ℤ◌, ◌≤ℤ◌, Contains, int_lt}
 use Rattle.std.proofs.lemmas.Int.{ints}
 use Rattle.std.proofs.lemmas.List.Elements.{All-contains, All-nil}
@@ -37,7 +37,7 @@ use Rattle.fr_runs.proofs.Rows.{all_rows}
 use Rattle.fr_runs.specs.Flutter.{FluttersWithin}
 use Rattle.fr_worked.specs.LongRun.{long_cluster, long_run}
 use Rattle.fr_bound.specs.SharpBounds.{last_action, last_of, sharp_near}
-use Rattle.fr_bound.specs.SharpChecks.{SharpChecksHold}
+use Rattle.fr_bound.specs.SharpChecks.{sharp_holds_of, SharpChecksHold}
 use Rattle.fr_precision.specs.SharpRound.{as_member}
 use Rattle.fr_precision.specs.SharpStep.{ActInReach}
 use Rattle.fr_runs.specs.SteadyRuns.{row_hearers, row_members, AreRowsInReach, IsSteadySetting}
@@ -47,6 +47,7 @@ use Rattle.fr_runs.proofs.RowsSupplied.{LawfulRows}
 use Rattle.fr_worked.proofs.RunWorked.{turns}
 use Rattle.fr_promise.proofs.SharpWorked.{three}
 use Rattle.fr_worked.proofs.Begun as joined
+use Rattle.fr_promise.proofs.CheckNumbers.{two_to_five}
 
 -- ---- its parameters are those of a cluster
 
@@ -115,13 +116,7 @@ setting = record { sane = is_sane; bytes = λ cycle sender receiver channel. tt 
 
 pub other_checks : SharpChecksHold 10_000_000 (sharp_near false long_cluster 10_000_000) long_cluster
 unfolding last_of
-other_checks zero from to = absurd (omega (arith, from))
-other_checks (suc zero) from to = absurd (omega (arith, from))
-other_checks (suc (suc zero)) from to = refl
-other_checks (suc (suc (suc zero))) from to = refl
-other_checks (suc (suc (suc (suc zero)))) from to = refl
-other_checks (suc (suc (suc (suc (suc zero))))) from to = refl
-other_checks (suc (suc (suc (suc (suc (suc k)))))) from to = absurd (omega (arith, to))
+other_checks = two_to_five (λ k. sharp_holds_of k 10_000_000 (sharp_near false long_cluster 10_000_000) long_cluster) refl refl refl refl
 
 -- ---- its nodes
 

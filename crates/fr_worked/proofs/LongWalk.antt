@@ -160,7 +160,7 @@ module _ (double : ℕ) (start : ℤ) (earlier : Cycles) (even odd : Cycle) (s :
   heard sender receiver slot link not_b =
       let r = reach double start earlier even odd s a most in
       let action : ℤ = pos (action_point_of long_cluster slot) in
-      let acts : action ≤ℤ pos 3_536 = along action (pos (last_action long_cluster)) (pos 3_536) (acts_early long_run 10_000_000 earlier even odd double near s r sender slot link.sends link.key) last_acts in
+      let acts : action ≤ℤ pos 3_536 = along action (pos (last_action long_cluster)) (pos 3_536) (acts_early long_run earlier s.covered.sane sender slot link.sends link.key) last_acts in
       let share : Share sender receiver A = record { by_sender = on_channel sender link.sends; by_receiver = on_channel receiver link.hears } in
       record {
         even_a =

@@ -18,7 +18,7 @@ use Rattle.fr_sharp.specs.LossStatement.{run_spread, without_losses, IsCoveredTh
 use Rattle.fr_traffic.specs.Reaching.{whole_in}
 use Rattle.fr_sharp.specs.SettlingHistories.{AreStatedNear}
 use Rattle.fr_bound.specs.SharpBounds.{last_of, sharp_lambda, sharp_pi}
-use Rattle.fr_bound.specs.SharpChecks.{SharpChecksHold}
+use Rattle.fr_bound.specs.SharpChecks.{sharp_holds_of, SharpChecksHold}
 use Rattle.fr_runs.specs.SharpHistories.{IsInSharpSyncAt, KeepsApart}
 use Rattle.fr_precision.specs.SharpRun.{WalkLastsAfter}
 use Rattle.fr_bound.specs.SharpSpreads.{sharply_near_in}
@@ -33,6 +33,7 @@ use Rattle.fr_sharp.proofs.BearingKinds.{through_is_apart}
 use Rattle.fr_sharp.proofs.FromLossyFiles.{covered_files_keep_through_losses, lossy_files_give_runs}
 use Rattle.fr_sharp.proofs.RunStated.{timed_runs_begin_in_sharp_sync}
 use Rattle.fr_promise.proofs.SharpWorked.{is_sane}
+use Rattle.fr_promise.proofs.CheckNumbers.{two_to_five}
 
 -- ---- what is heard
 
@@ -68,13 +69,7 @@ none_joins = refl
 
 checks_hold : SharpChecksHold 250 61_281_165 steady_cluster
 unfolding last_of
-checks_hold zero from to = absurd (omega (arith, from))
-checks_hold (suc zero) from to = absurd (omega (arith, from))
-checks_hold (suc (suc zero)) from to = refl
-checks_hold (suc (suc (suc zero))) from to = refl
-checks_hold (suc (suc (suc (suc zero)))) from to = refl
-checks_hold (suc (suc (suc (suc (suc zero))))) from to = refl
-checks_hold (suc (suc (suc (suc (suc (suc k)))))) from to = absurd (omega (arith, to))
+checks_hold = two_to_five (λ k. sharp_holds_of k 250 61_281_165 steady_cluster) refl refl refl refl
 
 -- the numbers of each double cycle
 abbrev what : ℕ → Heard

@@ -1,6 +1,5 @@
 -- The files of the worked runs in which lists meet are covered through losses.
 use Rattle.std.proofs.Common.{◌≡◌, ℕ, zero, suc, ◌+◌, ◌<◌, ◌≤◌, Bool, true, false, pos, None, refl, subst, sym, lit≤, lit<, arith}
-use Rattle.fr_bound.specs.declared.judging.Heard.{Heard}
 use Rattle.fr_bound.specs.declared.judging.Heard.TheVariants as heard
 use Rattle.fr_cluster.specs.Setting.{Setting}
 use Rattle.fr_coverage.specs.Coverage.{gap_of_run, some_join}
@@ -18,7 +17,7 @@ use Rattle.fr_sharp.specs.Losses.{HistoriesKeepThroughLosses}
 use Rattle.fr_sharp.specs.LossStatement.{run_spread, without_losses, IsCoveredThroughLosses}
 use Rattle.fr_sharp.specs.SettlingHistories.{AreStatedNear}
 use Rattle.fr_bound.specs.SharpBounds.{last_of, sharp_lambda, sharp_pi}
-use Rattle.fr_bound.specs.SharpChecks.{SharpChecksHold}
+use Rattle.fr_bound.specs.SharpChecks.{sharp_holds_of, SharpChecksHold}
 use Rattle.fr_runs.specs.SharpHistories.{IsInSharpSyncAt, KeepsApart}
 use Rattle.fr_precision.specs.SharpRun.{WalkLastsAfter}
 use Rattle.fr_bound.specs.SharpSpreads.{sharply_near_in}
@@ -33,6 +32,7 @@ use Rattle.fr_sharp.proofs.BearingKinds.{through_is_apart}
 use Rattle.fr_sharp.proofs.FromLossyFiles.{covered_files_keep_through_losses, lossy_files_give_runs}
 use Rattle.fr_sharp.proofs.RunStated.{stated_runs_begin_in_sharp_sync, timed_runs_begin_in_sharp_sync}
 use Rattle.fr_promise.proofs.SharpWorked.{is_sane}
+use Rattle.fr_promise.proofs.CheckNumbers.{two_to_five}
 
 -- ---- one frame at one node
 
@@ -66,13 +66,7 @@ none_joins = refl
 
 missing_checks : SharpChecksHold 250 45_726_402 steady_cluster
 unfolding last_of
-missing_checks zero from to = absurd (omega (arith, from))
-missing_checks (suc zero) from to = absurd (omega (arith, from))
-missing_checks (suc (suc zero)) from to = refl
-missing_checks (suc (suc (suc zero))) from to = refl
-missing_checks (suc (suc (suc (suc zero)))) from to = refl
-missing_checks (suc (suc (suc (suc (suc zero))))) from to = refl
-missing_checks (suc (suc (suc (suc (suc (suc k)))))) from to = absurd (omega (arith, to))
+missing_checks = two_to_five (λ k. sharp_holds_of k 250 45_726_402 steady_cluster) refl refl refl refl
 
 abbrev near_at : ScriptView → ℕ → ℕ
 near_at s double = sharply_near_in steady_cluster (run_spread steady_cluster s 0 250 double)
@@ -173,13 +167,7 @@ meeting (suc (suc (suc k))) less = absurd (omega (arith, less))
 
 beside_checks : SharpChecksHold 250 84_305_863 steady_cluster
 unfolding last_of
-beside_checks zero from to = absurd (omega (arith, from))
-beside_checks (suc zero) from to = absurd (omega (arith, from))
-beside_checks (suc (suc zero)) from to = refl
-beside_checks (suc (suc (suc zero))) from to = refl
-beside_checks (suc (suc (suc (suc zero)))) from to = refl
-beside_checks (suc (suc (suc (suc (suc zero))))) from to = refl
-beside_checks (suc (suc (suc (suc (suc (suc k)))))) from to = absurd (omega (arith, to))
+beside_checks = two_to_five (λ k. sharp_holds_of k 250 84_305_863 steady_cluster) refl refl refl refl
 
 beside_near : (double : ℕ) → 0 ≤ double → double < doubles_of fluttering_drift → near_at (marking_script true) double ≤ 84_305_863
 unfolding doubles_of spread_through_losses costs_by last_of is_arbitrary deed_of deed_in event_of

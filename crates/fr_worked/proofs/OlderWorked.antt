@@ -1,6 +1,6 @@
 -- From sync in the older sense: the two nodes of the reference cluster, whose starts lie 2,500,000 ticks apart, without an arbitrary
 -- node, and with a flutter of twice the error of an arrival.
-use Rattle.std.proofs.Common.{◌≡◌, ℕ, suc, zero, ◌≤◌, true, false, ℤ, pos, negsuc, List, [], ◌∷◌, length, All, refl, inr, lit≤, lit<, arith}
+use Rattle.std.proofs.Common.{◌≡◌, ℕ, ◌≤◌, true, false, ℤ, pos, negsuc, List, [], ◌∷◌, length, All, refl, inr, lit≤, lit<, arith}
 use Rattle.std.proofs.lemmas.List.Elements.{All-contains}
 use Rattle.std.proofs.lemmas.List.Sorted.{IsPermutation-refl}
 use Rattle.fr_base.specs.Within.{IsBetween}
@@ -17,6 +17,7 @@ use Rattle.fr_precision.specs.SharpStep.{AllKeepSenders, ComputesSharply, IsShar
 use Rattle.fr_precision.specs.SharpRun.{BeginInSync, KeepsFromSync}
 use Rattle.fr_precision.proofs.OlderLemmas.{older_sync_settles}
 use Rattle.fr_promise.proofs.SharpWorked.{uncut}
+use Rattle.fr_promise.proofs.CheckNumbers.{one_to_five}
 
 abbrev both : List Sender
 both = first ∷ second ∷ []
@@ -166,13 +167,7 @@ heard = record {
 }
 
 checks : (number : ℕ) → 1 ≤ number → number ≤ 5 → holds_of number cluster ≡ true
-checks zero from to = absurd (omega (arith, from))
-checks (suc zero) from to = refl
-checks (suc (suc zero)) from to = refl
-checks (suc (suc (suc zero))) from to = refl
-checks (suc (suc (suc (suc zero)))) from to = refl
-checks (suc (suc (suc (suc (suc zero))))) from to = refl
-checks (suc (suc (suc (suc (suc (suc k)))))) from to = absurd (omega (arith, to))
+checks = one_to_five (λ k. holds_of k cluster) refl refl refl refl refl
 
 begin : BeginInSync false cluster 1_000_000 1 (λ k. both) (λ k. members)
 begin = record {

@@ -1,5 +1,5 @@
 -- The run whose clocks begin together and are driven apart: what is stated of it, and its skew, computed from the definitions.
-use Rattle.std.proofs.Common.{◌≡◌, ℕ, zero, suc, ◌*◌, ◌%◌, ◌<◌, ◌≤◌, ◌==◌, Bool, true, false, ℤ, pos, [], ◌∷◌, Some, length, refl, inl, lit≤, lit<, arith, if◌then◌else◌}
+use Rattle.std.proofs.Common.{◌≡◌, ℕ, suc, ◌*◌, ◌%◌, ◌<◌, ◌≤◌, ◌==◌, Bool, true, false, ℤ, pos, [], ◌∷◌, Some, length, refl, inl, lit≤, lit<, arith, if◌then◌else◌}
 use Rattle.std.specs.Prelude.{◌+ℤ◌, ◌-ℤ◌, ◌*ℤ◌, ◌≤ℤ◌, Contains}
 use Rattle.std.proofs.lemmas.Int.{ints}
 use Rattle.std.proofs.lemmas.List.Elements.{All-contains, All-nil}
@@ -36,6 +36,7 @@ use Rattle.fr_promise.proofs.RunCycles.{stated_runs_are_steady}
 use Rattle.fr_sharp.proofs.RunStated.{stated_runs_begin_in_sharp_sync}
 use Rattle.fr_promise.proofs.SharpWorked.{four}
 use Rattle.fr_promise.proofs.SharpWorked as four_nodes
+use Rattle.fr_promise.proofs.CheckNumbers.{one_to_five}
 
 -- ---- its parameters are those of a cluster
 
@@ -222,13 +223,7 @@ stated_near = record {
 
 five_checks : (k : ℕ) → 1 ≤ k → k ≤ 5 → sharp_holds_of k 1_000_000 (sharp_near false driven_cluster 1_000_000) driven_cluster ≡ true
 unfolding last_of
-five_checks zero from to = absurd (omega (arith, from))
-five_checks (suc zero) from to = refl
-five_checks (suc (suc zero)) from to = refl
-five_checks (suc (suc (suc zero))) from to = refl
-five_checks (suc (suc (suc (suc zero)))) from to = refl
-five_checks (suc (suc (suc (suc (suc zero))))) from to = refl
-five_checks (suc (suc (suc (suc (suc (suc k)))))) from to = absurd (omega (arith, to))
+five_checks = one_to_five (λ k. sharp_holds_of k 1_000_000 (sharp_near false driven_cluster 1_000_000) driven_cluster) refl refl refl refl refl
 
 -- ---- what comes of it
 

@@ -1,5 +1,5 @@
 -- The run of three perfect clocks that all halt: what is stated of it, and its cycles, computed from the definitions.
-use Rattle.std.proofs.Common.{◌≡◌, ℕ, zero, suc, ◌*◌, ◌%◌, ◌<◌, ◌≤◌, ◌==◌, Bool, true, false, pos, [], ◌∷◌, Some, length, replicate, refl, sym, ◌∙◌, subst, inl, lit≤, lit<, arith}
+use Rattle.std.proofs.Common.{◌≡◌, ℕ, ◌*◌, ◌%◌, ◌<◌, ◌≤◌, ◌==◌, Bool, true, false, pos, [], ◌∷◌, Some, length, replicate, refl, sym, ◌∙◌, subst, inl, lit≤, lit<}
 use Rattle.std.specs.Prelude.{◌-ℤ◌, Contains}
 use Rattle.std.proofs.lemmas.List.Elements.{All-contains, All-nil}
 use Rattle.fr_base.specs.Within.{IsWithin}
@@ -30,7 +30,7 @@ use Rattle.fr_runs.specs.Flutter.{FluttersWithin}
 use Rattle.fr_worked.specs.HaltingRun.{halting_cluster, halting_run, rates_and_cuts, walked, CyclesKeepApartUnchecked, HaltingRunBegins, HaltingRunWalks}
 use Rattle.fr_sharp.specs.SettlingHistories.{AreStatedNear}
 use Rattle.fr_bound.specs.SharpBounds.{last_of, sharp_lambda, sharp_near, sharp_pi}
-use Rattle.fr_bound.specs.SharpChecks.{SharpChecksHold}
+use Rattle.fr_bound.specs.SharpChecks.{sharp_holds_of, SharpChecksHold}
 use Rattle.fr_runs.specs.SharpHistories.{IsInSharpSyncAt, IsSteadyRun}
 use Rattle.fr_runs.specs.SteadyRuns.{IsSteadySetting}
 use Rattle.fr_sharp.specs.WorkedRun.{delay_in_turn}
@@ -39,6 +39,7 @@ use Rattle.fr_sharp.proofs.RunStated.{stated_runs_begin_in_sharp_sync}
 use Rattle.fr_worked.proofs.RunWorked.{turns}
 use Rattle.fr_promise.proofs.SharpWorked.{three}
 use Rattle.fr_worked.proofs.Begun as joined
+use Rattle.fr_promise.proofs.CheckNumbers.{two_to_five}
 
 -- ---- its parameters are those of a cluster
 
@@ -114,13 +115,7 @@ stated_near = record {
 
 other_checks : SharpChecksHold 10_000_000 (sharp_near false halting_cluster 10_000_000) halting_cluster
 unfolding last_of
-other_checks zero from to = absurd (omega (arith, from))
-other_checks (suc zero) from to = absurd (omega (arith, from))
-other_checks (suc (suc zero)) from to = refl
-other_checks (suc (suc (suc zero))) from to = refl
-other_checks (suc (suc (suc (suc zero)))) from to = refl
-other_checks (suc (suc (suc (suc (suc zero))))) from to = refl
-other_checks (suc (suc (suc (suc (suc (suc k)))))) from to = absurd (omega (arith, to))
+other_checks = two_to_five (λ k. sharp_holds_of k 10_000_000 (sharp_near false halting_cluster 10_000_000) halting_cluster) refl refl refl refl
 
 -- ---- what comes of it
 

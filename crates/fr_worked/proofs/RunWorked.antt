@@ -34,6 +34,7 @@ use Rattle.fr_promise.proofs.RunCycles.{histories_keep_sharp_precision, stated_r
 use Rattle.fr_sharp.proofs.RunStated.{stated_runs_begin_in_sharp_sync}
 use Rattle.fr_promise.proofs.RunSync.{histories_keep_sharp_sync_lem}
 use Rattle.fr_promise.proofs.SharpWorked.{checks, four, is_sane}
+use Rattle.fr_promise.proofs.CheckNumbers.{two_to_five}
 
 -- ---- what is stated of it
 
@@ -252,13 +253,7 @@ walking_near = record {
 
 walking_checks : SharpChecksHold 10_000_000 (sharp_near false steady_cluster 10_000_000) steady_cluster
 unfolding last_of
-walking_checks zero from to = absurd (omega (arith, from))
-walking_checks (suc zero) from to = absurd (omega (arith, from))
-walking_checks (suc (suc zero)) from to = refl
-walking_checks (suc (suc (suc zero))) from to = refl
-walking_checks (suc (suc (suc (suc zero)))) from to = refl
-walking_checks (suc (suc (suc (suc (suc zero))))) from to = refl
-walking_checks (suc (suc (suc (suc (suc (suc k)))))) from to = absurd (omega (arith, to))
+walking_checks = two_to_five (λ k. sharp_holds_of k 10_000_000 (sharp_near false steady_cluster 10_000_000) steady_cluster) refl refl refl refl
 
 module _ (lawful : (x : Setting) (n : ℕ) → IsSetting x → IsLawful x (cycles_of x n)) (long : (x : Setting) (n : ℕ) → length (cycles_of x n) ≡ n) where
   walks_steadily : IsSteadyRun false walking_run 10_000_000 (all_cycles walking_run)

@@ -1,6 +1,6 @@
 -- The files whose delays flutter, and which node 5 joins: they are accepted and sharply covered to join, and their run begins in sharp
 -- sync.
-use Rattle.std.proofs.Common.{◌≡◌, ◌<◌, ◌≤◌, ◌*◌, ℕ, zero, suc, ◌==◌, Bool, true, false, ◌||◌, [], ◌∷◌, Some, None, length, refl, sym, ◌∙◌, subst, lit≤, lit<, arith}
+use Rattle.std.proofs.Common.{◌≡◌, ◌<◌, ◌≤◌, ◌*◌, ℕ, ◌==◌, Bool, true, false, ◌||◌, [], ◌∷◌, Some, None, length, refl, sym, ◌∙◌, subst, lit≤, lit<, arith}
 use Rattle.std.specs.Prelude.{cond}
 use Rattle.std.specs.Ordering.{nat_cmp}
 use Rattle.std.proofs.lemmas.Int.{ints}
@@ -46,7 +46,7 @@ use Rattle.fr_script.specs.declared.deeds.Passage.{Passage}
 use Rattle.fr_sharp.specs.JoinedFiles.{IsSharplyCoveredToJoin, JoinedFilesKeepSharpPrecision, KeepsSharplyJoined}
 use Rattle.fr_bound.specs.SharpBounds.{last_of}
 use Rattle.fr_bound.specs.SharpChecks.{sharp_holds_of}
-use Rattle.fr_promise.specs.SharpJoining.{sharp_reach, SharpJoinChecksHold}
+use Rattle.fr_promise.specs.SharpJoining.{sharp_join_holds_of, sharp_reach, SharpJoinChecksHold}
 use Rattle.fr_sharp.specs.SharpStatement.{has_arbitrary}
 use Rattle.fr_promise.specs.SharpTested.{IsFirstSharpSync, IsUnfollowedSharpSyncAt, first_free_of, first_sharp_sync_of}
 use Rattle.fr_promise.proofs.FreeLemmas.{first_sharp_sync_is}
@@ -61,6 +61,7 @@ use Rattle.fr_worked.proofs.Decided.{none_marked}
 use Rattle.fr_promise.proofs.Stating.{is_setting as files_are_a_setting}
 use Rattle.fr_worked.proofs.FilesKept.{first_two}
 use Rattle.fr_worked.proofs.Sane.{cluster_sane, nodes_from}
+use Rattle.fr_promise.proofs.CheckNumbers.{six_to_nine}
 
 -- ---- the cluster
 
@@ -92,21 +93,8 @@ is_sane =
 
 checks_hold : (beside : Bool) → SharpJoinChecksHold beside 250 wide_cluster
 unfolding last_of
-checks_hold beside zero from to = absurd (omega (arith, from))
-checks_hold beside (suc zero) from to = absurd (omega (arith, from))
-checks_hold beside (suc (suc zero)) from to = absurd (omega (arith, from))
-checks_hold beside (suc (suc (suc zero))) from to = absurd (omega (arith, from))
-checks_hold beside (suc (suc (suc (suc zero)))) from to = absurd (omega (arith, from))
-checks_hold beside (suc (suc (suc (suc (suc zero))))) from to = absurd (omega (arith, from))
-checks_hold false (suc (suc (suc (suc (suc (suc zero)))))) from to = refl
-checks_hold false (suc (suc (suc (suc (suc (suc (suc zero))))))) from to = refl
-checks_hold false (suc (suc (suc (suc (suc (suc (suc (suc zero)))))))) from to = refl
-checks_hold false (suc (suc (suc (suc (suc (suc (suc (suc (suc zero))))))))) from to = refl
-checks_hold true (suc (suc (suc (suc (suc (suc zero)))))) from to = refl
-checks_hold true (suc (suc (suc (suc (suc (suc (suc zero))))))) from to = refl
-checks_hold true (suc (suc (suc (suc (suc (suc (suc (suc zero)))))))) from to = refl
-checks_hold true (suc (suc (suc (suc (suc (suc (suc (suc (suc zero))))))))) from to = refl
-checks_hold beside (suc (suc (suc (suc (suc (suc (suc (suc (suc (suc k)))))))))) from to = absurd (omega (arith, to))
+checks_hold false = six_to_nine (λ k. sharp_join_holds_of k false 250 wide_cluster) refl refl refl refl
+checks_hold true = six_to_nine (λ k. sharp_join_holds_of k true 250 wide_cluster) refl refl refl refl
 
 -- ---- the drift file
 

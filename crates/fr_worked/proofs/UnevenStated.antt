@@ -1,5 +1,5 @@
 -- The uneven runs meet what the laws of runs ask, wherever their nodes begin.
-use Rattle.std.proofs.Common.{◌≡◌, ◌≢◌, ◌≤◌, ◌*◌, ℕ, zero, suc, Bool, true, false, ℤ, pos, None, Some, [], ◌∷◌, All, refl, sym, ◌∙◌, subst, inl, inr, lit≤, lit<, arith}
+use Rattle.std.proofs.Common.{◌≡◌, ◌≢◌, ◌≤◌, ◌*◌, ℕ, suc, Bool, true, false, ℤ, pos, None, Some, [], ◌∷◌, All, refl, sym, ◌∙◌, subst, inl, inr, lit≤, lit<, arith}
 use Rattle.std.specs.Prelude.{◌<◌, ◌≤ℤ◌, ◌-ℤ◌, AllPairs, Contains}
 use Rattle.std.proofs.lemmas.List.Elements.{All-cons, All-nil}
 use Rattle.std.proofs.lemmas.List.Kept.{AllPairs-cons}
@@ -18,7 +18,7 @@ use Rattle.fr_cluster.specs.declared.names.ParamName.TheVariants as name
 use Rattle.fr_cluster.specs.declared.nodes.NodeSpec.{NodeSpec}
 use Rattle.fr_cluster.specs.declared.nodes.SlotSpec.{SlotSpec}
 use Rattle.fr_bound.specs.Bounds.{longest_micro, shortest_micro}
-use Rattle.fr_bound.specs.Checks.{AllChecksHold, AllJoinChecksHold}
+use Rattle.fr_bound.specs.Checks.{holds_of, AllChecksHold, AllJoinChecksHold}
 use Rattle.fr_precision.specs.Reception.{IsDelay}
 use Rattle.fr_history.specs.Standing.{has_row}
 use Rattle.fr_cluster.proofs.Elements.{Contains-here, Contains-none, Contains-there, filtered}
@@ -28,6 +28,7 @@ use Rattle.fr_runs.specs.Supplied.{IsCoveredByFiles}
 use Rattle.fr_runs.specs.Stated.{IsCoveredRun}
 use Rattle.fr_worked.specs.Uneven.{far_run, micro_in, node_on_both, on_b, small_cluster, uneven_event, uneven_from, uneven_run}
 use Rattle.fr_precision.proofs.Worked.{none}
+use Rattle.fr_promise.proofs.CheckNumbers.{one_to_five, six_to_nine}
 
 -- ---- its parameters are those of a cluster
 
@@ -259,26 +260,10 @@ is_carried start doubles sender receiver double sends hears = record {
 -- ---- its checks hold
 
 checks_hold : AllChecksHold small_cluster
-checks_hold zero from to = absurd (omega (arith, from))
-checks_hold (suc zero) from to = refl
-checks_hold (suc (suc zero)) from to = refl
-checks_hold (suc (suc (suc zero))) from to = refl
-checks_hold (suc (suc (suc (suc zero)))) from to = refl
-checks_hold (suc (suc (suc (suc (suc zero))))) from to = refl
-checks_hold (suc (suc (suc (suc (suc (suc n)))))) from to = absurd (omega (arith, to))
+checks_hold = one_to_five (λ k. holds_of k small_cluster) refl refl refl refl refl
 
 join_checks_hold : AllJoinChecksHold small_cluster
-join_checks_hold zero from to = absurd (omega (arith, from))
-join_checks_hold (suc zero) from to = absurd (omega (arith, from))
-join_checks_hold (suc (suc zero)) from to = absurd (omega (arith, from))
-join_checks_hold (suc (suc (suc zero))) from to = absurd (omega (arith, from))
-join_checks_hold (suc (suc (suc (suc zero)))) from to = absurd (omega (arith, from))
-join_checks_hold (suc (suc (suc (suc (suc zero))))) from to = absurd (omega (arith, from))
-join_checks_hold (suc (suc (suc (suc (suc (suc zero)))))) from to = refl
-join_checks_hold (suc (suc (suc (suc (suc (suc (suc zero))))))) from to = refl
-join_checks_hold (suc (suc (suc (suc (suc (suc (suc (suc zero)))))))) from to = refl
-join_checks_hold (suc (suc (suc (suc (suc (suc (suc (suc (suc zero))))))))) from to = refl
-join_checks_hold (suc (suc (suc (suc (suc (suc (suc (suc (suc (suc n)))))))))) from to = absurd (omega (arith, to))
+join_checks_hold = six_to_nine (λ k. holds_of k small_cluster) refl refl refl refl
 
 -- ---- so it is stated
 

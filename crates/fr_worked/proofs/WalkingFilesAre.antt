@@ -1,5 +1,5 @@
 -- The files of the three runs in which lengths walk: they are accepted and sharply covered, and their runs begin in sharp sync.
-use Rattle.std.proofs.Common.{◌≡◌, ◌<◌, ◌≤◌, ◌*◌, ◌<ℤ◌, ◌*ℤ◌, ℕ, zero, suc, ◌==◌, Bool, true, false, [], ◌∷◌, Some, None, length, pos, refl, sym, ◌∙◌, subst, lit≤, lit<, arith}
+use Rattle.std.proofs.Common.{◌≡◌, ◌<◌, ◌≤◌, ◌*◌, ◌<ℤ◌, ◌*ℤ◌, ℕ, ◌==◌, Bool, true, false, [], ◌∷◌, Some, None, length, pos, refl, sym, ◌∙◌, subst, lit≤, lit<, arith}
 use Rattle.std.specs.Prelude.{cond, IfSome}
 use Rattle.std.specs.Ordering.{nat_cmp}
 use Rattle.std.proofs.lemmas.Int.{ints}
@@ -47,7 +47,7 @@ use Rattle.fr_promise.specs.HeldWalks.{SyncLastsAfter, sync_lasts}
 use Rattle.fr_sharp.specs.JoinedFiles.{IsSharplyCoveredToJoin, JoinedFilesKeepSharpPrecision, KeepsSharplyJoined}
 use Rattle.fr_promise.specs.JoinedHistories.{FirstRatesLast, FirstRatesLastSo, first_rates_last}
 use Rattle.fr_runs.specs.SharpHistories.{IsInSharpSyncAt}
-use Rattle.fr_promise.specs.SharpJoining.{SharpJoinChecksHold}
+use Rattle.fr_promise.specs.SharpJoining.{sharp_join_holds_of, SharpJoinChecksHold}
 use Rattle.fr_sharp.specs.SharpStatement.{FilesKeepSharpPrecision, has_arbitrary, IsSharplyCovered, KeepsSharply}
 use Rattle.fr_promise.specs.SharpTested.{IsUnfollowedSharpSyncAt, first_free_of, first_sharp_sync_of}
 use Rattle.fr_promise.proofs.FreeLemmas.{first_sharp_sync_is}
@@ -62,6 +62,7 @@ use Rattle.fr_worked.proofs.Accepted.{AllKept, are_accepted, are_deeds, delay_is
 use Rattle.fr_worked.proofs.Decided.{none_marked}
 use Rattle.fr_promise.proofs.Stating.{is_setting as files_are_a_setting}
 use Rattle.fr_worked.proofs.SharplyJoinedAre.{begins_longer, is_sane}
+use Rattle.fr_promise.proofs.CheckNumbers.{six_to_nine, two_to_five}
 
 -- ---- the cluster
 
@@ -114,37 +115,15 @@ changing_is_sane =
 
 checks_hold : SharpChecksHold 400_000 (sharp_near false walking_cluster 400_000) walking_cluster
 unfolding last_of
-checks_hold zero from to = absurd (omega (arith, from))
-checks_hold (suc zero) from to = absurd (omega (arith, from))
-checks_hold (suc (suc zero)) from to = refl
-checks_hold (suc (suc (suc zero))) from to = refl
-checks_hold (suc (suc (suc (suc zero)))) from to = refl
-checks_hold (suc (suc (suc (suc (suc zero))))) from to = refl
-checks_hold (suc (suc (suc (suc (suc (suc k)))))) from to = absurd (omega (arith, to))
+checks_hold = two_to_five (λ k. sharp_holds_of k 400_000 (sharp_near false walking_cluster 400_000) walking_cluster) refl refl refl refl
 
 changing_checks_hold : SharpChecksHold 200_000 (sharp_near false changing_cluster 200_000) changing_cluster
 unfolding last_of
-changing_checks_hold zero from to = absurd (omega (arith, from))
-changing_checks_hold (suc zero) from to = absurd (omega (arith, from))
-changing_checks_hold (suc (suc zero)) from to = refl
-changing_checks_hold (suc (suc (suc zero))) from to = refl
-changing_checks_hold (suc (suc (suc (suc zero)))) from to = refl
-changing_checks_hold (suc (suc (suc (suc (suc zero))))) from to = refl
-changing_checks_hold (suc (suc (suc (suc (suc (suc k)))))) from to = absurd (omega (arith, to))
+changing_checks_hold = two_to_five (λ k. sharp_holds_of k 200_000 (sharp_near false changing_cluster 200_000) changing_cluster) refl refl refl refl
 
 join_checks_hold : SharpJoinChecksHold false 400_000 walking_cluster
 unfolding last_of
-join_checks_hold zero from to = absurd (omega (arith, from))
-join_checks_hold (suc zero) from to = absurd (omega (arith, from))
-join_checks_hold (suc (suc zero)) from to = absurd (omega (arith, from))
-join_checks_hold (suc (suc (suc zero))) from to = absurd (omega (arith, from))
-join_checks_hold (suc (suc (suc (suc zero)))) from to = absurd (omega (arith, from))
-join_checks_hold (suc (suc (suc (suc (suc zero))))) from to = absurd (omega (arith, from))
-join_checks_hold (suc (suc (suc (suc (suc (suc zero)))))) from to = refl
-join_checks_hold (suc (suc (suc (suc (suc (suc (suc zero))))))) from to = refl
-join_checks_hold (suc (suc (suc (suc (suc (suc (suc (suc zero)))))))) from to = refl
-join_checks_hold (suc (suc (suc (suc (suc (suc (suc (suc (suc zero))))))))) from to = refl
-join_checks_hold (suc (suc (suc (suc (suc (suc (suc (suc (suc (suc k)))))))))) from to = absurd (omega (arith, to))
+join_checks_hold = six_to_nine (λ k. sharp_join_holds_of k false 400_000 walking_cluster) refl refl refl refl
 
 first_fails : sharp_holds_of 1 400_000 (sharp_near false walking_cluster 400_000) walking_cluster ≡ false
 first_fails = refl

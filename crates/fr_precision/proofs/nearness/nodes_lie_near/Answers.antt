@@ -1,4 +1,5 @@
-use Rattle.fr_precision.proofs.NearLemmas.{actions_lie_near, macroticks_lie_in_reach, odd_lengths_follow}
+use Rattle.fr_precision.proofs.InstantLaws.{macroticks_lie_in_reach}
+use Rattle.fr_precision.proofs.NearLemmas.{actions_lie_near, odd_lengths_follow}
 use Rattle.fr_precision.proofs.nearness.nodes_lie_near.Goals as goal
 
 pub returns-clause-odd : goal.returns-clause-odd
