@@ -1,20 +1,34 @@
 -- What a double cycle hears and keeps, by what was heard since the first one in sharp sync.
-use Rattle.std.proofs.Common.{◌≡◌, ◌∙◌, ℕ, ◌+◌, ◌-◌, ◌≤◌, Option, Some, ap, ap₂, sym, arith}
+use Rattle.std.proofs.Common.{◌≡◌, ◌∙◌, ℕ, ◌+◌, ◌-◌, ◌≤◌, Bool, Option, Some, ap, ap₂, sym, add-one, arith}
 use Rattle.fr_cluster.specs.Values.{Values}
 use Rattle.fr_drift.specs.View.{DriftView}
 use Rattle.fr_script.specs.View.{ScriptView}
 use Rattle.fr_bound.specs.SharpBounds.{most_flutter}
 use Rattle.fr_bound.specs.Judged.{heard_spread}
 use Rattle.fr_bound.specs.declared.judging.Heard.{Heard}
-use Rattle.fr_precision.specs.Among.{spread_through_losses}
+use Rattle.fr_bound.specs.declared.settling.Spread.{Spread}
+use Rattle.fr_precision.specs.Among.{apart_through_losses, spread_through_losses}
 use Rattle.fr_sharp.specs.LossRuns.{told_apart}
 use Rattle.fr_sharp.specs.LossSteps.{heard_apart, LossDouble}
 use Rattle.fr_sharp.specs.SharpStatement.{has_arbitrary}
 use Rattle.fr_traffic.specs.JoinedTraffic.{heard_of}
-use Rattle.fr_sharp.proofs.LossTold.{apart_on, spread_on}
 use Rattle.fr_series.specs.Basis.{basis_of}
 use Rattle.fr_series.specs.SharpLosses.{bound_of, bound_since, IsHeldBy}
 use Rattle.fr_series.specs.declared.basis.Basis.{Basis}
+
+-- the numbers so many double cycles after one, by what is heard
+module _ (beside : Bool) (p : Values) (flutter : ℕ) (what : ℕ → Heard) (n : ℕ) (hears : Heard) (now : Spread) where
+  spread_on : (next : Spread) → hears ≡ what n → now ≡ spread_through_losses beside p flutter what n → next ≡ heard_spread hears p flutter now
+      → next ≡ spread_through_losses beside p flutter what (n + 1)
+  unfolding spread_through_losses
+  spread_on next is now_is goes =
+      goes ∙ ap (λ (h : Heard). heard_spread h p flutter now) is ∙ ap (heard_spread (what n) p flutter) now_is
+      ∙ ap (spread_through_losses beside p flutter what) (sym (add-one n))
+
+  apart_on : (apart : ℕ) → hears ≡ what n → now ≡ spread_through_losses beside p flutter what n → apart ≡ heard_apart hears p flutter now
+      → apart ≡ apart_through_losses beside p flutter what n
+  unfolding spread_through_losses
+  apart_on apart is now_is far = far ∙ ap (λ (h : Heard). heard_apart h p flutter now) is ∙ ap (heard_apart (what n) p flutter) now_is
 
 module _ (p : Values) (d : DriftView) (s : ScriptView) where
   -- there it begins
