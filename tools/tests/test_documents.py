@@ -197,6 +197,12 @@ class House(Case):
         self.ends(1, "functions with more than 6 arguments: 42 (at most 26)", "house")
         self.write("crates/fr_low/src/long.rt", "fn six(&self, a: Map<u8, u8>, b: fn(u8, u8) -> u8, c: u8, d: u8, e: u8)\n{\n}\n")
         self.ends(0, "functions with more than 6 arguments: 0", "house")
+        most = loaded("house").MOST_REPEATED
+        # One repeats another already.
+        self.write("crates/fr_low/src/said.rt", "".join(
+            f"fn same_{number}()\n    ensures {{ IsSo result }}\n{{\n}}\n\n" for number in range(most + 1)))
+        self.ends(1, f"lines of clauses that repeat another {most + 1:,} (at most {most:,})", "house")
+        self.write("crates/fr_low/src/said.rt", "")
         for name in ("low", "high", "low/proofs/deep"):
             self.write(f"crates/fr_{name}/proofs/Long.antt".replace("deep/proofs/", "deep/"), "-- a line\n" * 9001)
         self.ends(1, "crates over 9,000 lines of proofs: 2 (at most 0)", "house")
