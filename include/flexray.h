@@ -243,6 +243,14 @@ static inline uint32_t flexray_check(const uint8_t *params, size_t params_length
     return FLEXRAY_INLINE_REQUEST(params, params_length, trace, trace_length, &none, 0);
 }
 
+/* `flexray check PARAMS TRACE sharp`: what the sharper bounds promise of it. */
+static inline uint32_t flexray_check_sharp(const uint8_t *params, size_t params_length,
+                                           const uint8_t *trace, size_t trace_length,
+                                           uint8_t *out, size_t out_room, uint8_t *err, size_t err_room, flexray_texts *texts) {
+    FLEXRAY_INLINE_WORDS("check\nfirst\nsecond\nsharp");
+    return FLEXRAY_INLINE_REQUEST(params, params_length, trace, trace_length, &none, 0);
+}
+
 /* `flexray observe PARAMS LOG`: what the log of a bus analyzer tells of the cluster's clocks. The text has, by double cycles,
    limits of skews, cycle lengths and offset terms, and the faults, which contradict the rules; then by senders which frames
    are there, whether a run can be covered, whether it is sure that frames of clocks in sync come in time, from when on the

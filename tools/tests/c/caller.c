@@ -105,7 +105,7 @@ static uint32_t typed(int count, char **given, uint8_t *out, size_t out_room, ui
     if (!strcmp(name, "run") && count == 5) return flexray_run_sharp(FIRST, SECOND, THIRD, PLACES);
     if (!strcmp(name, "run")) return flexray_run(FIRST, SECOND, THIRD, PLACES);
     if (!strcmp(name, "trace")) return flexray_trace(FIRST, SECOND, THIRD, PLACES);
-    if (!strcmp(name, "check")) return flexray_check(FIRST, SECOND, PLACES);
+    if (!strcmp(name, "check")) return (count == 4 ? flexray_check_sharp : flexray_check)(FIRST, SECOND, PLACES);
     if (!strcmp(name, "observe")) return flexray_observe(FIRST, SECOND, PLACES);
     if (!strcmp(name, "cold")) return flexray_cold(FIRST, SECOND, PLACES);
     if (!strcmp(name, "upgrade")) return flexray_upgrade(FIRST, PLACES);
