@@ -12,10 +12,10 @@ from . import texts
 from .errors import BY_STATUS, FlexrayError, NoFrame, ReadFault, Usage
 from .library import DONE, MOST, NO, Answer, given_bytes, request, series_request, shown, whole
 from .results import (Bound, Capture, Frame, LostBound, Observation, PowerOn, Report, Series, Settled, SharpBound, SharpReport,
-                      SharpSeries, SharpSettled, Startup, Trace, Upgraded, Vectors, Verdict)
+                      SharpSeries, SharpSettled, SharpVerdict, Startup, Trace, Upgraded, Vectors, Verdict)
 
-__all__ = ["Input", "Raw", "bound", "sharp_bound", "lost_bound", "run", "sharp_run", "series", "sharp_series", "trace", "check", "observe",
-           "settle", "sharp_settle", "power_on", "cold", "frame", "capture", "nm", "make", "upgrade"]
+__all__ = ["Input", "Raw", "bound", "sharp_bound", "lost_bound", "run", "sharp_run", "series", "sharp_series", "trace", "check",
+           "sharp_check", "observe", "settle", "sharp_settle", "power_on", "cold", "frame", "capture", "nm", "make", "upgrade"]
 
 #: A file of records: its bytes, its text, or its path.
 Input = Union[bytes, bytearray, memoryview, str, "os.PathLike[str]"]
@@ -144,6 +144,12 @@ def check(params: Input, trace: Input) -> Verdict:
     """Whether a recorded trace is lawful and covered. One that does not pass is an answer, and raises nothing."""
     answer = _answered(("check", "first", "second"), {"params": params, "trace": trace})
     return texts.failed_verdict(answer.line) if answer.status == NO else texts.verdict(_text(answer))
+
+
+def sharp_check(params: Input, trace: Input) -> SharpVerdict:
+    """What the sharper bounds promise of a recorded trace that no node joins. One that does not pass raises nothing."""
+    answer = _answered(("check", "first", "second", "sharp"), {"params": params, "trace": trace})
+    return texts.failed_sharp_verdict(answer.line) if answer.status == NO else texts.sharp_verdict(_text(answer))
 
 
 def observe(params: Input, log: Input) -> Observation:

@@ -7,10 +7,10 @@ from dataclasses import dataclass, field
 from typing import NamedTuple, overload
 
 __all__ = ["Check", "Bound", "SharpSide", "SharpBound", "LostBound", "Skew", "Sent", "Heard", "NodeEnd", "Report", "Losses",
-           "Fluttering", "SharpReport", "SeriesCycle", "SeriesCycles", "Series", "SharpSeries", "CycleRow", "Deviation", "Join", "Trace",
-           "Verdict", "Failing", "Failure", "ObservedCycle", "ObservedNode", "ObservedFault", "ObservedMissed", "ObservedSender",
-           "ObservedSpread", "LogCounts", "Observation", "FailedCheck", "Settled", "SharpWay", "SharpSettled", "PowerOn", "Lead", "Startup",
-           "Frame", "CapturedFrame", "Capture", "Vector", "Vectors", "Upgraded"]
+           "Fluttering", "SharpReport", "SeriesCycle", "SeriesCycles", "Series", "SharpSeries", "CycleRow", "Deviation", "Join",
+           "Trace", "Verdict", "SharpVerdict", "Failing", "Failure", "ObservedCycle", "ObservedNode", "ObservedFault",
+           "ObservedMissed", "ObservedSender", "ObservedSpread", "LogCounts", "Observation", "FailedCheck", "Settled", "SharpWay",
+           "SharpSettled", "PowerOn", "Lead", "Startup", "Frame", "CapturedFrame", "Capture", "Vector", "Vectors", "Upgraded"]
 
 
 @dataclass(frozen=True)
@@ -372,6 +372,31 @@ class Verdict:
     precision: int | None = None
     in_sync: int | None = None
     greatest: Skew | None = None
+
+
+@dataclass(frozen=True)
+class SharpVerdict:
+    """What the sharper bounds promise of a recorded trace. `kind` is `alone`, `alike` or `beside`; `checks` are the first three of that
+    kind. `in_sync` is the first double cycle in sync with each length in its range, None where none is, and `lasts` for how many from
+    there on that is promised, None where to the end. `unlike` is the first double cycle from there on in which an arbitrary node is not
+    alike, None of other kinds. `greatest` is the greatest skew since then, `within` whether none was above the precision, None where none
+    is in sync, and `beyond` the first that was. Where the trace does not pass, `line` says why, as of a `Verdict`, `record` is the number
+    of the record that breaks a law, and the other fields are None."""
+
+    text: str = field(repr=False)
+    passes: bool
+    line: str = ""
+    record: int | None = None
+    flutter: int | None = None
+    kind: str | None = None
+    precision: int | None = None
+    checks: tuple[Check, ...] | None = None
+    in_sync: int | None = None
+    lasts: int | None = None
+    unlike: int | None = None
+    greatest: Skew | None = None
+    within: bool | None = None
+    beyond: Skew | None = None
 
 
 @dataclass(frozen=True)

@@ -5,10 +5,11 @@ import functools
 import re
 from collections.abc import Iterable, Iterator
 
-from .results import (Bound, Capture, CapturedFrame, Check, CycleRow, Deviation, FailedCheck, Failing, Failure, Fluttering, Frame, Heard,
-                      Join, Lead, LogCounts, Losses, LostBound, NodeEnd, Observation, ObservedCycle, ObservedFault, ObservedMissed,
-                      ObservedNode, ObservedSender, ObservedSpread, PowerOn, Report, Sent, Series, SeriesCycles, Settled, SharpBound,
-                      SharpReport, SharpSeries, SharpSettled, SharpSide, SharpWay, Skew, Startup, Trace, Upgraded, Vector, Vectors, Verdict)
+from .results import (Bound, Capture, CapturedFrame, Check, CycleRow, Deviation, FailedCheck, Failing, Failure, Fluttering, Frame,
+                      Heard, Join, Lead, LogCounts, Losses, LostBound, NodeEnd, Observation, ObservedCycle, ObservedFault,
+                      ObservedMissed, ObservedNode, ObservedSender, ObservedSpread, PowerOn, Report, Sent, Series, SeriesCycles,
+                      Settled, SharpBound, SharpReport, SharpSeries, SharpSettled, SharpSide, SharpVerdict, SharpWay, Skew, Startup,
+                      Trace, Upgraded, Vector, Vectors, Verdict)
 
 
 class Strange(ValueError):
@@ -316,9 +317,30 @@ def verdict(text: str) -> Verdict:
     return Verdict(text, True, "", None, nodes, arbitrary, doubles, precision, _in_sync(lines), _skew_line(lines))
 
 
-def failed_verdict(line: str) -> Verdict:
+def _record(line: str) -> int | None:
     found = re.match(r"trace: record (\d+) ", line)
-    return Verdict("", False, line, int(found[1]) if found else None)
+    return int(found[1]) if found else None
+
+
+def failed_verdict(line: str) -> Verdict:
+    return Verdict("", False, line, _record(line))
+
+
+def sharp_verdict(text: str) -> SharpVerdict:
+    lines = _Lines(text)
+    flutter, (kind,) = lines.one(r"flutter (\d+)"), lines.take(r"kind (alone|alike|beside)")
+    precision, checks = lines.one(r"precision (\d+)"), _checks(lines.every(CHECK))
+    synced, lasts = lines.take(r"in sync (?:never|(\d+) (on|\d+))")
+    unlike = lines.maybe(r"unlike (\d+)")
+    greatest = _skew_line(lines) if synced else None
+    within, *beyond = lines.take(rf"within (?:(yes|-)|no {PLACE})")
+    return SharpVerdict(text, True, "", None, flutter, kind, precision, checks, int(synced) if synced else None,
+                        int(lasts) if lasts and lasts.isdigit() else None, int(unlike[0]) if unlike else None, greatest,
+                        None if within == "-" else within == "yes", Skew(*map(int, beyond)) if beyond[0] else None)
+
+
+def failed_sharp_verdict(line: str) -> SharpVerdict:
+    return SharpVerdict("", False, line, _record(line))
 
 
 # ---- what does not hold, by its line alone

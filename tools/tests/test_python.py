@@ -164,6 +164,8 @@ class Calls(Bench):
                     found = (flexray.sharp_series if told else flexray.series)(*files)
                 elif words[0] == "run" and "sharp" in told:
                     found = flexray.sharp_run(*files)
+                elif words[0] == "check" and "sharp" in told:
+                    found = flexray.sharp_check(*files)
                 elif words[0] == "bound" and "lost" in told:
                     found = flexray.lost_bound(*files, flutter=int(told[2]), count=int(told[4]))
                 elif words[0] == "bound" and "sharp" in told:
@@ -188,7 +190,20 @@ class Calls(Bench):
                 if line:
                     self.assertEqual((found.passes, found.line), (False, line))
                 seen.add(type(found).__name__)
-        self.assertEqual(len(seen), 18, sorted(seen))
+        self.assertEqual(len(seen), 19, sorted(seen))
+
+    def test_what_a_sharp_check_says(self):
+        files = [Path(EXAMPLES, "faults", "arbitrary", "params.csv"), Path(EXAMPLES, "faults", "check-beside", "trace.csv")]
+        found = flexray.sharp_check(*files)
+        self.assertEqual((found.passes, found.flutter, found.kind, found.precision, found.in_sync, found.lasts, found.unlike),
+                         (True, 1000000, "beside", 141023780, 0, None, 2))
+        self.assertEqual([check.number for check in found.checks], [1, 2, 3])
+        self.assertEqual((found.greatest.ticks, found.within, found.beyond), (2500000, True, None))
+        text = found.text.replace("in sync 0 on\nunlike 2\ngreatest skew 2500000 cycle 0 macrotick 0\nwithin yes", "{}")
+        never = flexray.texts.sharp_verdict(text.format("in sync never\nwithin -"))
+        self.assertEqual((never.in_sync, never.unlike, never.greatest, never.within, never.beyond), (None, None, None, None, None))
+        late = flexray.texts.sharp_verdict(text.format("in sync 3 12\ngreatest skew 7 cycle 6 macrotick 1\nwithin no 8 cycle 9 macrotick 2"))
+        self.assertEqual((late.in_sync, late.lasts, late.within, late.beyond), (3, 12, False, flexray.results.Skew(8, 9, 2)))
 
     def test_what_a_sharp_report_says(self):
         files = [Path(EXAMPLES, "sharp", f"{name}.csv") for name in ("params", "drift", "script")]
