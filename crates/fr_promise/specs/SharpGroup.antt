@@ -1,6 +1,6 @@
 -- The sharper step of a cluster that nodes join: the nodes with rows, and those that follow for the first and for the second
 -- double cycle, from one double cycle to the next.
-use Rattle.std.specs.Prelude.{◌≡◌, ◌⊎◌, ◌+◌, ◌≤◌, ℕ, Bool, true, false, ℤ, pos, ◌+ℤ◌, ◌-ℤ◌, ◌≤ℤ◌, List, All, map, Contains}
+use Rattle.std.specs.Prelude.{◌≡◌, ◌+◌, ◌≤◌, ℕ, Bool, true, false, ℤ, pos, ◌+ℤ◌, ◌-ℤ◌, ◌≤ℤ◌, List, All, map, Contains}
 use Rattle.fr_base.specs.declared.node_row.NodeRow.{NodeRow}
 use Rattle.fr_base.specs.declared.state.Outcome.TheVariants.{Within}
 use Rattle.fr_base.specs.declared.state.State.TheVariants.{Active}
@@ -9,8 +9,6 @@ use Rattle.fr_cluster.specs.Values.{Values}
 use Rattle.fr_cluster.specs.Sane.{IsSane}
 use Rattle.fr_cluster.specs.declared.nodes.NodeSpec.{NodeSpec}
 use Rattle.fr_reception.specs.Listening.{Caught, first_start_of}
-use Rattle.fr_bound.specs.declared.judging.Heard.{Heard}
-use Rattle.fr_bound.specs.declared.judging.Heard.TheVariants as heard
 use Rattle.fr_bound.specs.Bounds.{longest_micro}
 use Rattle.fr_bound.specs.Sync.{cycle_length_of}
 use Rattle.fr_precision.specs.Rows.{corrected_end_of, Sender}
@@ -23,11 +21,13 @@ use Rattle.fr_runs.specs.Hearers.{group_of, Hearers, IsOneOf}
 use Rattle.fr_runs.specs.Listening.{BeginsAt}
 use Rattle.fr_bound.specs.SharpBounds.{last_action, near_by, precision_by, sharp_precision}
 use Rattle.fr_precision.specs.Lengths.{CanWalk, IsNextEven, KeepSenders, WalksOn}
-use Rattle.fr_precision.specs.Among.{ComputesOwn, HearInCommon}
+use Rattle.fr_precision.specs.Among.{both, OffsetsSo, RatesSo}
+use Rattle.fr_precision.specs.Placement.{IsRegular}
+use Rattle.fr_precision.specs.declared.kinds.Kinds.{Kinds}
 use Rattle.fr_precision.specs.SharpStep.{AreSharp, ComputesSharply}
 use Rattle.fr_precision.specs.Hearing.{AllowsArbitrary}
 use Rattle.fr_precision.specs.SharpRound.{IsSteadilySupplied}
-use Rattle.fr_promise.specs.SharpJoining.{sharp_group_spread, GroupGoesTo, GroupSpread}
+use Rattle.fr_promise.specs.SharpJoining.{all_heard, sharp_group_spread, GroupGoesTo, GroupSpread}
 use Rattle.fr_promise.specs.SharpListening.{IsCaughtSharply, RateTakesIn}
 
 -- the starts of two nodes' double cycles lie at most so far apart, and the lengths of their even cycles
@@ -70,20 +70,18 @@ pub record AllIsHeard (beside : Bool) (p : Values) (flutter : ℕ) (senders : Li
       (one other : Member) → IsOf g one → IsOf g other
       → KeepSenders beside senders one.offsets other.offsets × KeepSenders beside senders one.rates other.rates
 
--- each computes its terms from values of senders of its own, some of the nodes with rows
-abbrev pub EachHears : Values → ℕ → Group → Type 0
-EachHears p flutter g = (node : Member) → IsOf g node → ComputesOwn p flutter g.rows (pos (last_action p)) node
+-- what is heard, of offsets and of rates, by the nodes with rows and those that follow; none of them keeps its rate
+pub record GroupHears (what : Kinds) (p : Values) (flutter : ℕ) (senders : List Sender) (g : Group) : Type 0 where
+  pub regular : (node : Member) → IsOf g node → IsRegular p node.even node.odd
+  pub offsets : OffsetsSo what.offsets p senders g.rows (pos (last_action p)) (λ node. IsOf g node)
+  pub rates : RatesSo what.rates false p flutter senders g.rows (λ node. IsOf g node)
 
--- any two hear enough of them in common
-abbrev pub AnyTwoMeet : Values → ℕ → Group → Type 0
-AnyTwoMeet p flutter g =
-    (one other : Member) → IsOf g one → IsOf g other → (one ≡ other) ⊎ HearInCommon p flutter g.rows (pos (last_action p)) one other
-
--- what is heard: all of all, without arbitrary nodes; all of all beside them, or enough in common; or what there is
-abbrev pub GroupHears : Heard → Values → ℕ → List Sender → Group → Type 0
-GroupHears heard.Clean p flutter senders g = AllIsHeard false p flutter senders g
-GroupHears heard.Meeting p flutter senders g = AllIsHeard true p flutter senders g ⊎ (EachHears p flutter g × AnyTwoMeet p flutter g)
-GroupHears heard.Poor p flutter senders g = EachHears p flutter g
+-- where all is heard of all, so it is of both
+abbrev pub AllIsHeardOfBoth : Type 0
+AllIsHeardOfBoth =
+    (beside : Bool) (p : Values) (flutter : ℕ) (senders : List Sender) (g : Group)
+    → All (IsAmong g.rows) senders → All (λ sender. IsBetween (pos 0) (pos (last_action p)) sender.action) senders
+    → AllIsHeard beside p flutter senders g → GroupHears (both (all_heard beside)) p flutter senders g
 
 -- what the group comes to, with the bounds of the next double cycle; next is how far beyond their range lengths may lie in it
 pub record IsSteadyGroupKept (p : Values) (flutter : ℕ) (to : GroupSpread) (apart : ℕ) (beyond next : ℤ) (senders : List Sender) (g : Group) (reach : ℤ) : Type 0 where
@@ -129,7 +127,7 @@ pub record IsSteadyGroupKept (p : Values) (flutter : ℕ) (to : GroupSpread) (ap
 
 abbrev pub SteadyGroupsAreKept : Type 0
 SteadyGroupsAreKept =
-    (what : Heard) (p : Values) (flutter : ℕ) (s to : GroupSpread) (apart : ℕ) (beyond walk next : ℤ) (senders : List Sender) (g : Group) (reach : ℤ)
+    (what : Kinds) (p : Values) (flutter : ℕ) (s to : GroupSpread) (apart : ℕ) (beyond walk next : ℤ) (senders : List Sender) (g : Group) (reach : ℤ)
     → IsSteadyGroup p flutter s beyond walk senders g reach → GroupHears what p flutter senders g → GroupGoesTo what p flutter s to
     → precision_by p s.rows.starts s.rows.lengths ≤ apart → to.rows.starts + longest_micro p ≤ apart
     → pos 0 ≤ℤ next → (beyond +ℤ walk) ≤ℤ next → IsSteadyGroupKept p flutter to apart beyond next senders g reach

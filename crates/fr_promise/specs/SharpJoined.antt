@@ -6,7 +6,8 @@ use Rattle.fr_base.specs.declared.state.State.TheVariants.{Active}
 use Rattle.fr_cluster.specs.Setting.{Setting, correct_nodes}
 use Rattle.fr_cluster.specs.declared.join.Join.{Join}
 use Rattle.fr_cluster.specs.declared.nodes.NodeSpec.{NodeSpec}
-use Rattle.fr_bound.specs.declared.judging.Heard.{Heard}
+use Rattle.fr_precision.specs.Among.{both}
+use Rattle.fr_precision.specs.declared.kinds.Kinds.{Kinds}
 use Rattle.fr_bound.specs.Bounds.{longest_micro}
 use Rattle.fr_bound.specs.SharpBounds.{precision_by}
 use Rattle.fr_precision.specs.Reception.{LeavesRoom}
@@ -73,7 +74,7 @@ IsFollowedKept x flutter to apart reach beyond next h even odd double =
     IsSteadyGroupKept x.params flutter to apart beyond next (senders_of (round_at x h even odd)) (group_of x.params (hearers_of x h even odd double)) reach
 
 -- so much is heard in it
-abbrev pub IsFollowedHearing : Heard → Setting → ℕ → Cycles → Cycle → Cycle → ℕ → Type 0
+abbrev pub IsFollowedHearing : Kinds → Setting → ℕ → Cycles → Cycle → Cycle → ℕ → Type 0
 IsFollowedHearing what x flutter h even odd double =
     GroupHears what x.params flutter (senders_of (round_at x h even odd)) (group_of x.params (hearers_of x h even odd double))
 
@@ -85,12 +86,12 @@ FollowedDoublesHear =
     → IsTimedPartFrom x from flutter h → from ≤ double → IsDoubleOf h double earlier even odd → MayHaveArbitrary beside x → IsWhole x double
     → CanWalk x.params flutter beyond walk
     → LeavesRoom x.params reach → TakesInGroup x.params s (group_of x.params (hearers_of x earlier even odd double)) reach
-    → IsFollowedDouble x s beyond earlier even odd double → IsFollowedHearing (all_heard beside) x flutter earlier even odd double
+    → IsFollowedDouble x s beyond earlier even odd double → IsFollowedHearing (both (all_heard beside)) x flutter earlier even odd double
 
 -- its group comes to what the step says by what is heard
 abbrev pub FollowedDoublesAreKept : Type 0
 FollowedDoublesAreKept =
-    (what : Heard) (x : Setting) (from flutter : ℕ) (h : Cycles) (double : ℕ) (earlier : Cycles) (even odd : Cycle)
+    (what : Kinds) (x : Setting) (from flutter : ℕ) (h : Cycles) (double : ℕ) (earlier : Cycles) (even odd : Cycle)
     (s to : GroupSpread) (apart : ℕ) (reach beyond walk next : ℤ)
     → IsTimedPartFrom x from flutter h → from ≤ double → IsDoubleOf h double earlier even odd
     → CanWalk x.params flutter beyond walk → pos 0 ≤ℤ next → (beyond +ℤ walk) ≤ℤ next

@@ -15,9 +15,9 @@ use Rattle.fr_precision.specs.Offsets.{LimitSuffices}
 use Rattle.fr_precision.specs.Reception.{LeavesRoom}
 use Rattle.fr_bound.specs.SharpBounds.{near_by, odd_spread, sharp_lambda, sharp_near, sharp_pi, steady_error}
 use Rattle.fr_bound.specs.SharpChecks.{RateSuffices, SharpChecksHold}
-use Rattle.fr_bound.specs.Judged.{heard_spread}
 use Rattle.fr_bound.specs.SharpSpreads.{sharp_spread}
-use Rattle.fr_precision.specs.Among.{spread_through_losses, GoesTo}
+use Rattle.fr_precision.specs.Among.{both, kinds_spread, spread_through_losses, GoesTo}
+use Rattle.fr_precision.specs.declared.kinds.Kinds.{Kinds}
 
 -- how far the length that a listener counts between two frames of its reference, in its own even microticks, may lie from
 -- that of the reference's even cycle: flutter, a change, and a microtick that it rounds by
@@ -38,7 +38,7 @@ abbrev pub first_apart_by : Values → ℕ → ℕ → ℕ → ℕ
 first_apart_by p flutter starts lengths =
     starts + 2 * lengths + 4 * cycle_change p + 2 * arrival_error p + flutter + 4 * longest_micro p
 
--- how far its second start may, by what was heard in its first double cycle, where its first lengths may lie so far from those of
+-- how far its second start may, by what was heard of offsets in its first double cycle, where its first lengths may lie so far from those of
 -- the others: where all is heard by these alone; where lists meet half as far as the others' starts and these; and else as far as
 -- both. Its second lengths lie as near as all
 abbrev pub second_apart_by : Heard → Values → ℕ → ℕ → ℕ → ℕ
@@ -86,47 +86,47 @@ sharp_group_spread beside p flutter = record {
 
 -- in the double cycle after one, by what is heard in this one; first lengths are taken no nearer than those of the nodes with rows,
 -- which may have lain nearer when the node listened
-abbrev pub next_group_spread : Heard → Values → ℕ → GroupSpread → GroupSpread
+abbrev pub next_group_spread : Kinds → Values → ℕ → GroupSpread → GroupSpread
 next_group_spread what p flutter s = record {
-  rows = heard_spread what p flutter s.rows;
-  seconds = second_apart_by what p s.rows.starts s.rows.lengths s.firsts.lengths;
+  rows = kinds_spread what p flutter s.rows;
+  seconds = second_apart_by what.offsets p s.rows.starts s.rows.lengths s.firsts.lengths;
   firsts = record {
     starts = first_apart_by p flutter s.rows.starts s.rows.lengths;
-    lengths = max (first_lengths_by p flutter s.rows.lengths) (heard_spread what p flutter s.rows).lengths;
+    lengths = max (first_lengths_by p flutter s.rows.lengths) (kinds_spread what p flutter s.rows).lengths;
   };
 }
 
 -- bounds of a double cycle and of the next one to which they go, by what is heard; first lengths lie no nearer than those of the
 -- nodes with rows
-pub record GroupGoesTo (what : Heard) (p : Values) (flutter : ℕ) (s to : GroupSpread) : Type 0 where
+pub record GroupGoesTo (what : Kinds) (p : Values) (flutter : ℕ) (s to : GroupSpread) : Type 0 where
   pub rows : GoesTo what p flutter s.rows.starts s.rows.lengths to.rows.starts to.rows.lengths
   pub wide : s.rows.lengths ≤ s.firsts.lengths
-  pub seconds : second_apart_by what p s.rows.starts s.rows.lengths s.firsts.lengths ≤ to.seconds
+  pub seconds : second_apart_by what.offsets p s.rows.starts s.rows.lengths s.firsts.lengths ≤ to.seconds
   pub first_starts : first_apart_by p flutter s.rows.starts s.rows.lengths ≤ to.firsts.starts
   pub first_lengths : first_lengths_by p flutter s.rows.lengths ≤ to.firsts.lengths
 
 -- they go to those of the next double cycle, and so on from there; and those of sharp sync stay where all is heard
 abbrev pub NextGroupSpreadGoes : Type 0
 NextGroupSpreadGoes =
-    (what : Heard) (p : Values) (flutter : ℕ) (s : GroupSpread) → s.rows.lengths ≤ s.firsts.lengths
+    (what : Kinds) (p : Values) (flutter : ℕ) (s : GroupSpread) → s.rows.lengths ≤ s.firsts.lengths
     → GroupGoesTo what p flutter s (next_group_spread what p flutter s)
     × ((next_group_spread what p flutter s).rows.lengths ≤ (next_group_spread what p flutter s).firsts.lengths)
 
 abbrev pub SharpGroupSpreadGoes : Type 0
 SharpGroupSpreadGoes =
     (beside : Bool) (p : Values) (flutter : ℕ)
-    → GroupGoesTo (all_heard beside) p flutter (sharp_group_spread beside p flutter) (sharp_group_spread beside p flutter)
+    → GroupGoesTo (both (all_heard beside)) p flutter (sharp_group_spread beside p flutter) (sharp_group_spread beside p flutter)
 
 -- from sharp sync on they go so by what is heard in each double cycle, for ever; those of the nodes with rows are then the ones of a
 -- run that no node joins
-unfoldable pub group_spread_through : Bool → Values → ℕ → (ℕ → Heard) → ℕ → GroupSpread
+unfoldable pub group_spread_through : Bool → Values → ℕ → (ℕ → Kinds) → ℕ → GroupSpread
 group_spread_through beside p flutter what zero = sharp_group_spread beside p flutter
 group_spread_through beside p flutter what (suc k) =
     next_group_spread (what k) p flutter (group_spread_through beside p flutter what k)
 
 abbrev pub GroupSpreadsGo : Type 0
 GroupSpreadsGo =
-    (beside : Bool) (p : Values) (flutter : ℕ) (what : ℕ → Heard) (k : ℕ)
+    (beside : Bool) (p : Values) (flutter : ℕ) (what : ℕ → Kinds) (k : ℕ)
     → GroupGoesTo (what k) p flutter (group_spread_through beside p flutter what k) (group_spread_through beside p flutter what (suc k))
     × ((group_spread_through beside p flutter what k).rows ≡ spread_through_losses beside p flutter what k)
 

@@ -1,5 +1,5 @@
 ghost use Rattle.fr_precision.specs.Lengths.{LaterStraysLess, NoneStrays, WalkIsHeldThrough};
-ghost use Rattle.fr_precision.specs.Among.{CleanAgain, DeafSpreadsGrow, EndsComeAmong, EverySecondCosts, HeardAgain, LaterSpreadsAreLess, LengthsComeAmong, LostIsBy, LostSpreadGoes, LossyDoublesKeep, LossyDoublesStayApart, LostSpreadsGrow, MeetingSpreadsDraw, MeetingStays, OneLossCosts, SpreadsAreBelowLost, SpreadsGo};
+ghost use Rattle.fr_precision.specs.Among.{CleanAgain, EndsComeAmong, EverySecondCosts, HeardAgain, HeardSpreadsGo, LaterSpreadsAreLess, LengthsComeAmong, LostIsBy, LostSpreadGoes, LossyDoublesKeep, LossyDoublesStayApart, MeetingStays, OneLossCosts, SpreadsAreBelowLost, SpreadsGo};
 
 /// The laws of losses: whichever senders two nodes have heard, their next lengths and their next starts, in ticks,
 /// lie no further apart than those of the senders, and some.
@@ -8,19 +8,13 @@ pub fn nodes_come_among()
     ensures ends { EndsComeAmong }
 {}
 
-/// The law of a double cycle in which anything may be lost: its nodes come so near, in ticks; and what that costs from
-/// sharp sync, without arbitrary nodes. Nodes that keep their rates come no less near, and lie further beyond their range by
-/// no more than two changes of a cycle.
+/// The law of a double cycle by what is heard in it: any two of its nodes come so near, in ticks, their next starts by what is
+/// heard of offsets and their next lengths by what is heard of rates. Nodes that keep their rates come no less near than where
+/// anything may be lost, and lie further beyond their range by no more than two changes of a cycle. And what one such double
+/// cycle costs from sharp sync, without arbitrary nodes.
 pub fn losses_cost()
-    ensures step { LostSpreadsGrow }
-    ensures deaf { DeafSpreadsGrow }
+    ensures step { HeardSpreadsGo }
     ensures cost { OneLossCosts }
-{}
-
-/// The law of a double cycle in which lists meet: any two nodes that have enough senders in common come half as near, and
-/// some, in ticks, as beside arbitrary nodes where all is heard.
-pub fn meeting_lists_draw()
-    ensures { MeetingSpreadsDraw }
 {}
 
 /// The law of many double cycles in some of which anything may be lost: nodes keep to numbers that go on by what was

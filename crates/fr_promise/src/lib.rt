@@ -19,7 +19,7 @@ mod tested;
 mod way;
 
 pub use among::{
-    heard_numbers, losses_cost, losses_last, lost_numbers, meeting_lists_draw, nodes_come_among,
+    heard_numbers, losses_cost, losses_last, lost_numbers, nodes_come_among,
     strays_are_held,
 };
 pub use following::followers_hear_steadily;

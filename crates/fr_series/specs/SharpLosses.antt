@@ -21,8 +21,7 @@ use Rattle.fr_traffic.specs.Reaching.{whole_in}
 use Rattle.fr_runs.specs.SharpHistories.{IsInSharpSyncAt}
 use Rattle.fr_precision.specs.SharpRun.{WalkLastsAfter}
 use Rattle.fr_sharp.specs.SharpStatement.{has_arbitrary}
-use Rattle.fr_traffic.specs.JoinedTraffic.{heard_of}
-use Rattle.fr_traffic.specs.Traffic.{none_lacks, traffic_in}
+use Rattle.fr_traffic.specs.Traffic.{heard_in, none_lacks, traffic_in}
 use Rattle.fr_series.specs.Basis.{basis_of}
 use Rattle.fr_series.specs.declared.basis.Basis.{Basis}
 use Rattle.fr_series.specs.declared.kept.Kept.{Kept}
@@ -43,7 +42,7 @@ bound_since p d s (Some first) double =
 abbrev pub kept_by : Values → DriftView → ScriptView → Option ℕ → ℕ → Kept
 kept_by p d s synced double = record {
   whole = whole_in p s double;
-  heard = heard_of p s double;
+  heard = heard_in (traffic_in p s) double;
   bound = bound_since p d s synced double;
 }
 
@@ -60,7 +59,7 @@ pub record IsHeldBy (p : Values) (d : DriftView) (s : ScriptView) (double : ℕ)
   pub most : basis.flutter ≤ most_flutter
   pub low : basis.from ≤ double
   pub passed : spread.passed ≡ double - basis.from
-  pub apart : spread.spread ≡ spread_since (has_arbitrary p s) p basis.from basis.flutter (heard_of p s) double
+  pub apart : spread.spread ≡ spread_since (has_arbitrary p s) p basis.from basis.flutter (heard_in (traffic_in p s)) double
 
 abbrev pub IsHeldSince : Values → DriftView → ScriptView → ℕ → Option Basis → LossDouble → Type 0
 IsHeldSince p d s double None spread = Unit {0}
@@ -74,9 +73,17 @@ most_or_any heard.Clean = codes "all"
 most_or_any heard.Meeting = codes "most"
 most_or_any heard.Poor = codes "any"
 
--- whether all is heard in a double cycle, and else whether of any two nodes enough in common
+-- the worse of two kinds
+abbrev pub worse : Heard → Heard → Heard
+worse heard.Clean other = other
+worse heard.Meeting heard.Clean = heard.Meeting
+worse heard.Meeting heard.Meeting = heard.Meeting
+worse heard.Meeting heard.Poor = heard.Poor
+worse heard.Poor other = heard.Poor
+
+-- whether all is heard in a double cycle, and else whether of any two nodes enough in common, of offsets and of rates
 abbrev pub hearing_text : Kept → List ℕ
-hearing_text kept = if kept.whole then codes "all" else most_or_any kept.heard
+hearing_text kept = if kept.whole then codes "all" else most_or_any (worse kept.heard.offsets kept.heard.rates)
 
 -- its number, in ticks; none where the run is not covered through losses
 abbrev pub bound_or_none : Option ℕ → List ℕ
@@ -109,7 +116,7 @@ lost_text basis =
 -- none of a node that follows is cut, no follower is left behind, and whoever listens where its reference's frames come to it joins
 pub record TellsLosses (p : Values) (d : DriftView) (s : ScriptView) (from : ℕ) (h : Cycles) : Type 0 where
   pub lost :
-      AreLosses (has_arbitrary p s) p from (flutter_from p d s from) (whole_in p s) (heard_of p s) (is_borne_of p s from (flutter_from p d s from))
+      AreLosses (has_arbitrary p s) p from (flutter_from p d s from) (whole_in p s) (heard_in (traffic_in p s)) (is_borne_of p s from (flutter_from p d s from))
       (told_near p s from (flutter_from p d s from)) (doubles_of d) (losses_of p d s from (flutter_from p d s from))
   pub through :
       is_through_losses p s (flutter_from p d s from) (gap_from p d s from) (losses_of p d s from (flutter_from p d s from)) ≡ true

@@ -1,14 +1,14 @@
 ghost use Rattle.std.specs.Prelude.{◌≡◌, ◌≤◌, ◌<◌, ◌+◌, None, Some, IfSome};
 ghost use Rattle.fr_traffic.specs.Reaching.{whole_in};
-ghost use Rattle.fr_traffic.specs.JoinedTraffic.{heard_of};
+ghost use Rattle.fr_traffic.specs.Traffic.{heard_in, traffic_in};
 ghost use Rattle.fr_series.specs.SharpLosses.{bound_of, bound_since, from_of, kept_by, IsHeldSince, IsHeldBy};
 
 use crate::basis::Basis;
-use fr_bound::Heard;
 use fr_cluster::Params;
+use fr_precision::Kinds;
 use fr_script::Script;
 use fr_sharp::LossSpread;
-use fr_traffic::{all_reach, heard_of};
+use fr_traffic::{all_reach, heard_in};
 use fr_world::World;
 
 /// What the nodes hear in a double cycle, and how far macroticks may lie apart in it.
@@ -16,9 +16,9 @@ use fr_world::World;
 pub struct Kept {
     /// Whether all is heard in it: between any two nodes one channel carries the frames of both its cycles.
     pub whole: bool,
-    /// What is heard in it: all of all, without arbitrary sync nodes; of any two nodes enough in common; or what there is. Of
-    /// nodes that join nothing is counted on.
-    pub heard: Heard,
+    /// What is heard in it, of offsets and of rates: all of all, without arbitrary sync nodes; of any two nodes enough in
+    /// common; or what there is. Of nodes that join nothing less than all is counted on.
+    pub heard: Kinds,
     /// How far macroticks may lie apart in it, in ticks, from the first double cycle in sharp sync on, where the run is
     /// covered through losses from there on, whoever joins.
     pub bound: Option<u128>,
@@ -73,7 +73,7 @@ pub(crate) fn next_kept(
     let params = world.params();
     let script = world.script();
     let whole = is_whole(params, script, double);
-    let heard = heard_of(params, script, double, whole);
+    let heard = heard_in(params, script, double, whole);
     Kept {
         whole,
         heard,
@@ -86,11 +86,11 @@ fn next_bound(
     world: &World,
     basis: &Option<Basis>,
     double: u32,
-    heard: Heard,
+    heard: Kinds,
     spread: &mut LossSpread,
 ) -> Option<u128>
     requires double { double < 100_000 }
-    requires heard { heard ≡ heard_of world.now.params world.now.script double }
+    requires heard { heard ≡ heard_in (traffic_in world.now.params world.now.script) double }
     requires held { IsHeldSince world.now.params world.now.drift world.now.script double basis.now spread.old }
     ensures bound { result ≡
         bound_since world.now.params world.now.drift world.now.script (from_of basis.now) double }

@@ -1,6 +1,6 @@
 ghost use Rattle.std.specs.Prelude.{◌≡◌, ◌++◌, ◌≤◌, codes, length, IfSome};
 ghost use Rattle.std.specs.Fmt.{decimal};
-ghost use Rattle.fr_series.specs.SharpLosses.{bound_or_none, hearing_text, last_lost_text, lost_text, most_or_any};
+ghost use Rattle.fr_series.specs.SharpLosses.{bound_or_none, hearing_text, last_lost_text, lost_text, most_or_any, worse};
 ghost use Rattle.fr_series.specs.SeriesText.{above_text, greatest_text, synced_text, within_text};
 ghost use Rattle.fr_series.specs.SharpText.{beside_or_alone, doubles_or_on, flutter_text, older_end, sharp_covered_text, sharp_end};
 ghost use Rattle.fr_series.specs.SharpText.{sharp_head, sharp_precision_text, sharp_row, sharp_synced_text};
@@ -72,7 +72,21 @@ fn heard_piece<'a>(kept: Kept) -> Piece<'a>
     if kept.whole {
         Word(b"all")
     } else {
-        most_piece(kept.heard)
+        most_piece(worse(kept.heard.offsets, kept.heard.rates))
+    }
+}
+
+// The worse of two kinds.
+fn worse(one: Heard, other: Heard) -> Heard
+    ensures { result ≡ worse one other }
+{
+    match one {
+        Heard::Clean => other,
+        Heard::Meeting => match other {
+            Heard::Poor => Heard::Poor,
+            Heard::Clean | Heard::Meeting => Heard::Meeting,
+        },
+        Heard::Poor => Heard::Poor,
     }
 }
 

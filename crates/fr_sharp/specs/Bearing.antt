@@ -1,6 +1,6 @@
 -- A double cycle in which a node without a key slot may hear nothing: it keeps its rate and its end, and is borne as one whose terms lie
 -- within their limits.
-use Rattle.std.specs.Prelude.{◌≡◌, ◌≤ℤ◌, ◌<◌, ◌≤◌, ℕ, ℤ, pos, Bool, true, false, List, [], ◌∷◌, map, All, Contains}
+use Rattle.std.specs.Prelude.{◌≡◌, ◌≤ℤ◌, ◌<◌, ◌≤◌, ℕ, ℤ, pos, Bool, true, false, List, [], ◌∷◌, All, Contains}
 use Rattle.fr_base.specs.declared.Outcome.{Outcome}
 use Rattle.fr_base.specs.declared.Outcome.TheVariants.{Within, Missing, Exceeded}
 use Rattle.fr_base.specs.declared.state.State.TheVariants.{Active}
@@ -9,18 +9,15 @@ use Rattle.fr_cluster.specs.Values.{amount}
 use Rattle.fr_cluster.specs.declared.names.ParamName.TheVariants as name
 use Rattle.fr_cluster.specs.declared.nodes.NodeSpec.{NodeSpec}
 use Rattle.fr_correct.specs.declared.term.Term.{Term}
-use Rattle.fr_history.specs.Cycles.{Cycle, Cycles, some_joins, told_of}
+use Rattle.fr_history.specs.Cycles.{Cycle, Cycles, told_of}
 use Rattle.fr_history.specs.Skew.{skew_at}
 use Rattle.fr_history.specs.Terms.{status_in}
-use Rattle.fr_precision.specs.Among.{ComputesOrKeeps}
 use Rattle.fr_precision.specs.Step.{Member}
-use Rattle.fr_bound.specs.SharpBounds.{last_action}
 use Rattle.fr_runs.specs.Links.{cycle_in}
 use Rattle.fr_runs.specs.Numbers.{offset_term_told, rate_term_told}
 use Rattle.fr_runs.specs.Rounds.{IsDoubleOf}
-use Rattle.fr_runs.specs.SteadyRuns.{row_members, AreRowsInReach, IsTimedPartFrom}
 use Rattle.fr_runs.specs.SharpHistories.{KeepsApart}
-use Rattle.fr_traffic.specs.Traffic.{all_bear, is_deaf, none_lacks, some_keep, traffic_of}
+use Rattle.fr_traffic.specs.Traffic.{is_deaf, none_lacks, traffic_of}
 
 -- a term that is missing, as one within its limit; and a node without offset values, as one with its own value alone
 abbrev pub borne_outcome : Outcome → Outcome
@@ -44,16 +41,6 @@ borne node = record {
   offset_term = borne_term node.offset_term;
   rate_term = borne_term node.rate_term;
 }
-
--- in a double cycle of a run that each correct node bears each node with a row computes its terms from the values of senders of its own,
--- or keeps its rate
-abbrev pub RowsBear : Type 0
-RowsBear =
-    (x : Setting) (from flutter : ℕ) (h earlier : Cycles) (even odd : Cycle) (double : ℕ) (reach : ℤ) (node : Member)
-    → some_joins x ≡ false → IsTimedPartFrom x from flutter h → from ≤ double → IsDoubleOf h double earlier even odd
-    → all_bear x.params (traffic_of x) double ≡ true
-    → AreRowsInReach x earlier even odd reach → Contains (map borne (row_members x earlier even odd)) node
-    → ComputesOrKeeps (some_keep (traffic_of x) double) x.params flutter (map borne (row_members x earlier even odd)) (pos (last_action x.params)) node
 
 -- how a double cycle ends through losses: the terms of each correct node lie within their limits, or are missing where it has no value
 -- of that kind; no row tells a cut; and each is active behind it

@@ -1,5 +1,5 @@
 -- What is promised of a run that nodes join and in which frames are lost, by its files. The words of it, from the top: `IsLawful` (what
--- a run is), `IsCoveredToJoinThroughLosses` (what is asked of the files), `heard_to_join`, `group_spread_through` (the numbers by what is
+-- a run is), `IsCoveredToJoinThroughLosses` (what is asked of the files), `heard_in`, `group_spread_through` (the numbers by what is
 -- heard), `IsUnfollowedSharpSyncAt`, `FirstRatesLast`, `KeepsJoinedThroughLosses`, `StaysThrough`,
 -- `comes_in_both`, `IsJoinedUpTo`.
 use Rattle.std.specs.Prelude.{◌≡◌, ◌+◌, ◌-◌, ◌*◌, ◌<◌, ◌≤◌, ◌||◌, ℕ, suc, Bool, true, List, Contains, Some}
@@ -15,7 +15,7 @@ use Rattle.fr_drift.specs.View.{DriftView}
 use Rattle.fr_script.specs.Files.{IsScriptFile, ScriptFits}
 use Rattle.fr_script.specs.View.{join_of, ScriptView}
 use Rattle.fr_bound.specs.SharpChecks.{SharpChecksHold}
-use Rattle.fr_bound.specs.declared.judging.Heard.{Heard}
+use Rattle.fr_precision.specs.declared.kinds.Kinds.{Kinds}
 use Rattle.fr_coverage.specs.Decided.{setting_of}
 use Rattle.fr_coverage.specs.Flutter.{flutter_from}
 use Rattle.fr_coverage.specs.Order.{HasNoGapFrom}
@@ -27,20 +27,19 @@ use Rattle.fr_promise.specs.Statement.{IsRunOf}
 use Rattle.fr_sharp.specs.JoinedLosses.{IsLossyJoinedFrom, StaysThrough, TakesInJoining}
 use Rattle.fr_sharp.specs.LossStatement.{without_losses}
 use Rattle.fr_sharp.specs.SharpStatement.{has_arbitrary}
-use Rattle.fr_traffic.specs.JoinedTraffic.{heard_to_join, is_borne_to_join}
-use Rattle.fr_traffic.specs.Traffic.{rate_on, traffic_in, Traffic}
+use Rattle.fr_traffic.specs.Traffic.{heard_in, is_borne_to_join, rate_on, traffic_in, Traffic}
 
 -- the bounds of a double cycle by what was heard since an earlier one or since it; and so by what is heard in a run
-abbrev pub group_since : Bool → Values → ℕ → ℕ → (ℕ → Heard) → ℕ → GroupSpread
+abbrev pub group_since : Bool → Values → ℕ → ℕ → (ℕ → Kinds) → ℕ → GroupSpread
 group_since beside p from flutter what double = group_spread_through beside p flutter (λ m. what (from + m)) (double - from)
 
 abbrev pub run_group : Values → DriftView → ScriptView → ℕ → ℕ → ℕ → GroupSpread
-run_group p d s from flutter double = group_since (has_arbitrary p s) p from flutter (heard_to_join (traffic_in p s) (join_of s)) double
+run_group p d s from flutter double = group_since (has_arbitrary p s) p from flutter (heard_in (traffic_in p s)) double
 
 -- of the sharper checks those from 2 to 5 hold with a reach, in ticks, that takes in the nodes with rows of each double cycle from one on
 -- and those that may follow in it, by what was heard since; from that double cycle on the run would have no gap if nothing were lost,
--- and its delays flutter by no more than so many ticks; and in each of these double cycles all is heard of all, or each correct node that
--- has begun trusts what it has of the senders that do not join. Correct nodes may join
+-- and its delays flutter by no more than so many ticks; and in each of these double cycles of each kind of values all is heard, or each
+-- correct node that has begun trusts what it has of the senders that do not join. Correct nodes may join
 pub record IsCoveredToJoinThroughLosses (p : Values) (d : DriftView) (s : ScriptView) (from flutter reach : ℕ) : Type 0 where
   pub checks : SharpChecksHold flutter reach p
   pub takes :
@@ -50,14 +49,14 @@ pub record IsCoveredToJoinThroughLosses (p : Values) (d : DriftView) (s : Script
   pub flutters : flutter_from p d s from ≤ flutter
   pub hears :
       (double : ℕ) → from ≤ double → double < doubles_of d
-      → is_borne_to_join p s double ≡ true
+      → is_borne_to_join (traffic_in p s) double ≡ true
 
 -- such a drift and a script that fits give a run as the law of losses asks for
 abbrev pub LossyFilesGiveJoinedRuns : Type 0
 LossyFilesGiveJoinedRuns =
     (p : Values) (d : DriftView) (s : ScriptView) (from flutter reach : ℕ) (h : Cycles)
     → IsSane p → ScriptFits p s → IsCoveredToJoinThroughLosses p d s from flutter reach → IsRunOf (setting_of p d s) h
-    → IsLossyJoinedFrom (setting_of p d s) from flutter h
+    → IsLossyJoinedFrom (has_arbitrary p s) (setting_of p d s) from flutter h
 
 -- of one node at another the frames of both cycles of a double cycle come over one channel
 abbrev pub comes_in_both : Traffic → NodeSpec → NodeSpec → ℕ → Bool

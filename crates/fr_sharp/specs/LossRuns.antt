@@ -15,7 +15,6 @@ use Rattle.fr_promise.specs.SharpJoining.{group_spread_through, GroupSpread}
 use Rattle.fr_promise.specs.SharpTested.{IsUnfollowedSharpSyncAt}
 use Rattle.fr_sharp.specs.JoinedLosses.{TakesInJoining}
 use Rattle.fr_sharp.specs.JoinedLossStatement.{group_since, IsCoveredToJoinThroughLosses, KeepsJoinedThroughLosses}
-use Rattle.fr_traffic.specs.JoinedTraffic.{heard_of, is_borne_to_join}
 use Rattle.fr_traffic.specs.Reaching.{all_reach}
 use Rattle.fr_drift.specs.Questions.{doubles_of}
 use Rattle.fr_drift.specs.View.{DriftView}
@@ -27,13 +26,13 @@ use Rattle.fr_coverage.specs.declared.gap.Gap.{Gap}
 use Rattle.fr_coverage.specs.declared.gap.Gap.TheVariants as gap
 use Rattle.fr_history.specs.Cycles.{Cycles}
 use Rattle.fr_promise.specs.Statement.{IsRunOf}
-use Rattle.fr_bound.specs.declared.judging.Heard.{Heard}
+use Rattle.fr_precision.specs.declared.kinds.Kinds.{Kinds}
 use Rattle.fr_precision.specs.Among.{apart_through_losses}
 use Rattle.fr_sharp.specs.Bearing.{KeepsThrough}
 use Rattle.fr_sharp.specs.LossCosts.{limits_hold}
 use Rattle.fr_sharp.specs.LossStatement.{apart_since, run_strayed, IsCoveredThroughLosses}
 use Rattle.fr_traffic.specs.Reaching.{whole_in}
-use Rattle.fr_traffic.specs.Traffic.{all_bear_from, none_lacks, traffic_in}
+use Rattle.fr_traffic.specs.Traffic.{all_bear_from, heard_in, is_borne_to_join, none_lacks, traffic_in}
 use Rattle.fr_bound.specs.Checks.{holds_of}
 use Rattle.fr_bound.specs.SharpBounds.{rate_room, walk_lasts}
 use Rattle.fr_bound.specs.SharpChecks.{sharp_holds_of, RateSuffices}
@@ -70,11 +69,11 @@ is_borne p s from flutter double =
 -- each correct node bears a double cycle, and behind it the rate limit suffices; where a correct node joins, all is heard in it, or each
 -- correct node that has begun trusts what it has of the senders that do not join
 abbrev pub is_borne_of : Values → ScriptView → ℕ → ℕ → ℕ → Bool
-is_borne_of p s from flutter double = if some_join p s then is_borne_to_join p s double else is_borne p s from flutter double
+is_borne_of p s from flutter double = if some_join p s then is_borne_to_join (traffic_in p s) double else is_borne p s from flutter double
 
 -- how far macroticks may lie apart in a double cycle by what was heard since an earlier one or since it, in ticks
 abbrev pub told_apart : Values → ScriptView → ℕ → ℕ → ℕ → ℕ
-told_apart p s from flutter double = apart_since (has_arbitrary p s) p from flutter (heard_of p s) double
+told_apart p s from flutter double = apart_since (has_arbitrary p s) p from flutter (heard_in (traffic_in p s)) double
 
 -- some correct node listened so many double cycles before one
 abbrev pub some_listened : List NodeSpec → ScriptView → ℕ → ℕ → Bool
@@ -91,11 +90,11 @@ near_in_group p s double spread =
 -- by what was heard since an earlier one or since it; and so many double cycles after one
 abbrev pub told_near : Values → ScriptView → ℕ → ℕ → ℕ → ℕ
 told_near p s from flutter double =
-    near_in_group p s double (group_since (has_arbitrary p s) p from flutter (heard_of p s) double)
+    near_in_group p s double (group_since (has_arbitrary p s) p from flutter (heard_in (traffic_in p s)) double)
 
 abbrev pub near_passed : Values → ScriptView → ℕ → ℕ → ℕ → ℕ
 near_passed p s from flutter passed =
-    near_in_group p s (from + passed) (group_spread_through (has_arbitrary p s) p flutter (λ m. heard_of p s (from + m)) passed)
+    near_in_group p s (from + passed) (group_spread_through (has_arbitrary p s) p flutter (λ m. heard_in (traffic_in p s) (from + m)) passed)
 
 -- ---- what a run loses
 
@@ -113,7 +112,7 @@ IsLastLost whole from doubles (Some last) =
 -- of the double cycles from one on, so many in all: in how many, one or more, and the last of these; the greatest of the numbers by what
 -- was heard since that one, and the first double cycle with it; a reach that takes in how far action points may lie apart; and whether
 -- each double cycle is borne
-pub record AreLosses (beside : Bool) (p : Values) (from flutter : ℕ) (whole : ℕ → Bool) (what : ℕ → Heard) (trusted : ℕ → Bool) (near_in : ℕ → ℕ) (doubles : ℕ) (losses : RunLosses) : Type 0 where
+pub record AreLosses (beside : Bool) (p : Values) (from flutter : ℕ) (whole : ℕ → Bool) (what : ℕ → Kinds) (trusted : ℕ → Bool) (near_in : ℕ → ℕ) (doubles : ℕ) (losses : RunLosses) : Type 0 where
   pub count : losses.doubles ≡ lost_before (λ m. whole (from + m)) (doubles - from)
   pub last : IsLastLost whole from doubles losses.last
   pub greatest : (k : ℕ) → from ≤ k → k < doubles → apart_since beside p from flutter what k ≤ losses.peak
@@ -144,7 +143,7 @@ next_losses heard trusted double apart near was = record {
 }
 
 -- of so many double cycles from one on
-unfoldable pub losses_by : Bool → Values → ℕ → ℕ → (ℕ → Bool) → (ℕ → Heard) → (ℕ → Bool) → (ℕ → ℕ) → ℕ → RunLosses
+unfoldable pub losses_by : Bool → Values → ℕ → ℕ → (ℕ → Bool) → (ℕ → Kinds) → (ℕ → Bool) → (ℕ → ℕ) → ℕ → RunLosses
 losses_by beside p from flutter whole what trusted near zero = no_losses from
 losses_by beside p from flutter whole what trusted near (suc k) =
     next_losses (whole (from + k)) (trusted (from + k)) (from + k) (apart_through_losses beside p flutter (λ m. what (from + m)) k)
@@ -153,7 +152,7 @@ losses_by beside p from flutter whole what trusted near (suc k) =
 -- what the run of some parameters, a drift and a script loses from a double cycle on, where its delays flutter by so many ticks
 abbrev pub losses_of : Values → DriftView → ScriptView → ℕ → ℕ → RunLosses
 losses_of p d s from flutter =
-    losses_by (has_arbitrary p s) p from flutter (whole_in p s) (heard_of p s) (is_borne_of p s from flutter) (near_passed p s from flutter)
+    losses_by (has_arbitrary p s) p from flutter (whole_in p s) (heard_in (traffic_in p s)) (is_borne_of p s from flutter) (near_passed p s from flutter)
     (doubles_of d - from)
 
 -- ---- whether it is covered through losses
@@ -197,7 +196,7 @@ abbrev pub LossesAreTold : Type 0
 LossesAreTold =
     (p : Values) (d : DriftView) (s : ScriptView) (from flutter : ℕ)
     → from < doubles_of d
-    → AreLosses (has_arbitrary p s) p from flutter (whole_in p s) (heard_of p s) (is_borne_of p s from flutter) (told_near p s from flutter)
+    → AreLosses (has_arbitrary p s) p from flutter (whole_in p s) (heard_in (traffic_in p s)) (is_borne_of p s from flutter) (told_near p s from flutter)
     (doubles_of d) (losses_of p d s from flutter)
 
 -- what is said to be covered through losses is, with the reach of what it loses

@@ -15,7 +15,7 @@ use Rattle.fr_coverage.specs.Flutter.{flutter_from}
 use Rattle.fr_coverage.specs.Order.{HasNoGapFrom}
 use Rattle.fr_history.specs.Cycles.{Cycles}
 use Rattle.fr_promise.specs.Statement.{IsRunOf}
-use Rattle.fr_bound.specs.declared.judging.Heard.{Heard}
+use Rattle.fr_precision.specs.declared.kinds.Kinds.{Kinds}
 use Rattle.fr_bound.specs.declared.settling.Spread.{Spread}
 use Rattle.fr_precision.specs.Among.{apart_through_losses, spread_through_losses}
 use Rattle.fr_sharp.specs.Losses.{IsLossyRunFrom}
@@ -36,18 +36,15 @@ without_losses s = record { arbitrary = s.arbitrary; joins = s.joins; on_a = [];
 
 -- how far starts and even lengths may lie apart in a double cycle by what was heard since an earlier one or since it, and how far
 -- macroticks, in ticks
-abbrev pub spread_since : Bool → Values → ℕ → ℕ → (ℕ → Heard) → ℕ → Spread
+abbrev pub spread_since : Bool → Values → ℕ → ℕ → (ℕ → Kinds) → ℕ → Spread
 spread_since beside p from flutter what double = spread_through_losses beside p flutter (λ m. what (from + m)) (double - from)
 
-abbrev pub apart_since : Bool → Values → ℕ → ℕ → (ℕ → Heard) → ℕ → ℕ
+abbrev pub apart_since : Bool → Values → ℕ → ℕ → (ℕ → Kinds) → ℕ → ℕ
 apart_since beside p from flutter what double = apart_through_losses beside p flutter (λ m. what (from + m)) (double - from)
 
 -- so by what is heard in a run
 abbrev pub run_spread : Values → ScriptView → ℕ → ℕ → ℕ → Spread
 run_spread p s from flutter double = spread_since (has_arbitrary p s) p from flutter (heard_in (traffic_in p s)) double
-
-abbrev pub run_apart : Values → ScriptView → ℕ → ℕ → ℕ → ℕ
-run_apart p s from flutter double = apart_since (has_arbitrary p s) p from flutter (heard_in (traffic_in p s)) double
 
 -- by how much more than by the walk lengths may lie beyond their range in a double cycle of it, in ticks, where nodes that lack values kept
 -- their rates since an earlier one

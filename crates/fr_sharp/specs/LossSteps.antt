@@ -3,8 +3,8 @@ use Rattle.std.specs.Prelude.{ℕ, ◌+◌, ◌*◌, ◌≤◌, max}
 use Rattle.fr_cluster.specs.Values.{Values}
 use Rattle.fr_bound.specs.Bounds.{longest_micro}
 use Rattle.fr_bound.specs.declared.settling.Spread.{Spread}
-use Rattle.fr_bound.specs.Judged.{heard_spread}
-use Rattle.fr_bound.specs.declared.judging.Heard.{Heard}
+use Rattle.fr_precision.specs.Among.{kinds_spread}
+use Rattle.fr_precision.specs.declared.kinds.Kinds.{Kinds}
 use Rattle.fr_bound.specs.SharpBounds.{precision_by}
 use Rattle.fr_promise.specs.SharpJoining.{GroupSpread}
 
@@ -44,5 +44,5 @@ most_lost = 100_000_000_000_000_000_000_000
 
 -- how far macroticks may lie apart in a double cycle, by what is heard in it: as far as its starts and lengths say, or as the
 -- next starts do
-abbrev pub heard_apart : Heard → Values → ℕ → Spread → ℕ
-heard_apart what p flutter s = max (precision_by p s.starts s.lengths) ((heard_spread what p flutter s).starts + longest_micro p)
+abbrev pub heard_apart : Kinds → Values → ℕ → Spread → ℕ
+heard_apart what p flutter s = max (precision_by p s.starts s.lengths) ((kinds_spread what p flutter s).starts + longest_micro p)

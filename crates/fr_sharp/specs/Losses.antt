@@ -1,15 +1,16 @@
 -- A run in which frames are lost: what a node still makes of those that come, and how far its clocks then lie apart. Of links nothing
 -- is asked but that each correct node has a value, and discards at each end as many as there may be of arbitrary nodes.
-use Rattle.std.specs.Prelude.{◌≡◌, ◌⊎◌, ◌+◌, ◌<◌, ◌≤◌, ℕ, suc, ℤ, pos, max, Bool, true, false, Contains}
+use Rattle.std.specs.Prelude.{◌≡◌, ◌+◌, ◌<◌, ◌≤◌, ℕ, suc, ℤ, pos, max, Bool, true, false, map}
 use Rattle.fr_cluster.specs.Setting.{Setting}
 use Rattle.fr_cluster.specs.Values.{Values}
 use Rattle.fr_bound.specs.Bounds.{longest_micro}
-use Rattle.fr_precision.specs.Step.{Member}
 use Rattle.fr_history.specs.Cycles.{Cycle, Cycles, some_joins}
 use Rattle.fr_runs.specs.Rounds.{IsDoubleOf}
-use Rattle.fr_precision.specs.Among.{apart_through_losses, lost_spread, spread_through_losses, ComputesOwn, HearInCommon}
-use Rattle.fr_sharp.specs.Bearing.{KeepsThrough}
-use Rattle.fr_traffic.specs.Traffic.{all_bear, all_trusted, heard_in, lists_meet, none_lacks, some_keep, traffic_of}
+use Rattle.fr_precision.specs.Among.{apart_through_losses, lost_spread, spread_through_losses, HeardSo}
+use Rattle.fr_precision.specs.Round.{senders_of}
+use Rattle.fr_runs.specs.Gathered.{round_at}
+use Rattle.fr_sharp.specs.Bearing.{borne, KeepsThrough}
+use Rattle.fr_traffic.specs.Traffic.{all_bear, heard_in, none_lacks, some_keep, traffic_of}
 use Rattle.fr_precision.specs.Lengths.{walked_through}
 use Rattle.fr_bound.specs.SharpBounds.{last_action, precision_by, sharp_precision}
 use Rattle.fr_bound.specs.SharpChecks.{RateSuffices, SharpChecksHold}
@@ -18,25 +19,14 @@ use Rattle.fr_precision.specs.SharpRun.{WalkLastsAfter}
 use Rattle.fr_bound.specs.SharpSpreads.{sharply_near_in}
 use Rattle.fr_runs.specs.SteadyRuns.{row_members, AreRowsInReach, IsTimedPartFrom, MayHaveArbitrary}
 
--- in one of its double cycles each node with a row computes its terms from the values of senders of its own, where each correct node
--- trusts its lists
-abbrev pub RowsComputeOwn : Type 0
-RowsComputeOwn =
-    (x : Setting) (from flutter : ℕ) (h earlier : Cycles) (even odd : Cycle) (double : ℕ) (reach : ℤ) (node : Member)
-    → some_joins x ≡ false → IsTimedPartFrom x from flutter h → from ≤ double → IsDoubleOf h double earlier even odd
-    → all_trusted (traffic_of x) double ≡ true
-    → AreRowsInReach x earlier even odd reach → Contains (row_members x earlier even odd) node
-    → ComputesOwn x.params flutter (row_members x earlier even odd) (pos (last_action x.params)) node
-
--- and where the lists of any two correct nodes meet, any two of the nodes with rows have enough in common
-abbrev pub RowsMeet : Type 0
-RowsMeet =
-    (x : Setting) (from flutter : ℕ) (h earlier : Cycles) (even odd : Cycle) (double : ℕ) (reach : ℤ) (one other : Member)
-    → some_joins x ≡ false → IsTimedPartFrom x from flutter h → from ≤ double → IsDoubleOf h double earlier even odd
-    → all_trusted (traffic_of x) double ≡ true
-    → lists_meet false (traffic_of x) double ≡ true → lists_meet true (traffic_of x) double ≡ true
-    → AreRowsInReach x earlier even odd reach → Contains (row_members x earlier even odd) one → Contains (row_members x earlier even odd) other
-    → (one ≡ other) ⊎ HearInCommon x.params flutter (row_members x earlier even odd) (pos (last_action x.params)) one other
+-- in one of its double cycles that each correct node bears the nodes with rows hear what is said of it, of offsets and of rates
+abbrev pub RowsHear : Type 0
+RowsHear =
+    (beside : Bool) (x : Setting) (from flutter : ℕ) (h earlier : Cycles) (even odd : Cycle) (double : ℕ) (reach : ℤ)
+    → some_joins x ≡ false → IsTimedPartFrom x from flutter h → MayHaveArbitrary beside x → from ≤ double → IsDoubleOf h double earlier even odd
+    → all_bear x.params (traffic_of x) double ≡ true → AreRowsInReach x earlier even odd reach
+    → HeardSo (heard_in (traffic_of x) double) (some_keep (traffic_of x) double) x.params flutter (senders_of (round_at x earlier even odd))
+    (map borne (row_members x earlier even odd)) (pos (last_action x.params))
 
 -- a whole lawful history of such a run, with arbitrary sync nodes or without; each correct node bears each of its double cycles from one
 -- on

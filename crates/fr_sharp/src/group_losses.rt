@@ -2,7 +2,7 @@ ghost use Rattle.std.specs.Prelude.{ℕ, ◌≡◌, ◌≤◌, ◌<◌, ◌+◌,
 ghost use Rattle.fr_script.specs.View.{is_arbitrary, join_of};
 ghost use Rattle.fr_runs.specs.Gathered.{listened_by};
 ghost use Rattle.fr_bound.specs.SharpBounds.{most_flutter};
-ghost use Rattle.fr_bound.specs.declared.judging.Heard.{Heard};
+ghost use Rattle.fr_precision.specs.declared.kinds.Kinds.{Kinds};
 ghost use Rattle.fr_promise.specs.SharpJoining.{all_heard, first_apart_by, first_lengths_by, group_spread_through, next_group_spread, second_apart_by};
 ghost use Rattle.fr_sharp.specs.LossRuns.{near_in_group, some_listened};
 ghost use Rattle.fr_sharp.specs.LossSteps.{AreReckoned, LossGroup, heard_apart, most_lost, most_passed};
@@ -12,6 +12,7 @@ use fr_bound::{
     Heard, arrival_error, cycle_change, even_lambda, longest_microtick, sharp_pi, steady_error,
 };
 use fr_cluster::{NodeList, NodeSpec, ParamName, Params};
+use fr_precision::Kinds;
 use fr_script::Script;
 use std::marker::Model;
 
@@ -45,7 +46,7 @@ impl GroupLosses {
     // That of a double cycle in sharp sync, beside arbitrary sync nodes or without.
     pub(crate) fn first(params: &Params, beside: bool, flutter: u64) -> GroupLosses
         requires { flutter ≤ most_flutter }
-        ensures spread { (what : ℕ → Heard) → result.spread ≡ group_spread_through beside params.now flutter what 0 }
+        ensures spread { (what : ℕ → Kinds) → result.spread ≡ group_spread_through beside params.now flutter what 0 }
         ensures passed { result.passed ≡ 0 }
     {
         let starts = u128::from(sharp_pi(params, beside, flutter));
@@ -60,14 +61,14 @@ impl GroupLosses {
     }
 
     // Goes on to the next double cycle, by what is heard in this one.
-    pub(crate) fn step(&mut self, params: &Params, flutter: u64, what: Heard)
+    pub(crate) fn step(&mut self, params: &Params, flutter: u64, what: Kinds)
         requires few { self.old.passed < most_passed }
         requires flutter { flutter ≤ most_flutter }
         ensures spread { self.new.spread ≡ next_group_spread what params.now flutter self.old.spread }
         ensures passed { self.new.passed ≡ self.old.passed + 1 }
     {
         let (starts, lengths) = self.rows.both();
-        self.seconds = second_apart(params, what, starts, lengths, self.first_lengths);
+        self.seconds = second_apart(params, what.offsets, starts, lengths, self.first_lengths);
         self.first_starts = first_apart(params, flutter, starts, lengths);
         self.rows.step(params, flutter, what);
         let (_, next) = self.rows.both();
@@ -75,7 +76,7 @@ impl GroupLosses {
     }
 
     // How far macroticks of the nodes with rows may lie apart in this double cycle, by what is heard in it.
-    pub(crate) fn apart(&self, params: &Params, flutter: u64, what: Heard) -> u128
+    pub(crate) fn apart(&self, params: &Params, flutter: u64, what: Kinds) -> u128
         requires { flutter ≤ most_flutter }
         ensures value { result ≡ heard_apart what params.now flutter self.now.spread.rows }
         ensures most { result ≤ most_lost }
@@ -140,7 +141,7 @@ fn first_lengths(params: &Params, flutter: u64, lengths: u128) -> u128
         + 4 * u128::from(cycle_change(params))
 }
 
-// How far the starts of those that follow for the second time may, by what was heard in their first double cycle.
+// How far the starts of those that follow for the second time may, by what was heard of offsets in their first double cycle.
 fn second_apart(params: &Params, what: Heard, starts: u128, lengths: u128, first: u128) -> u128
     requires starts { starts ≤ 30_000_100_000_000_000_000_000 }
     requires lengths { lengths ≤ 14_000_000_000_000_000 }

@@ -1,23 +1,20 @@
-ghost use Rattle.fr_sharp.specs.Bearing.{RowsBear, ThroughIsApart};
-ghost use Rattle.fr_sharp.specs.JoinedLosses.{FollowedDoublesHearInPart, FollowedDoublesMeet, JoinedHistoriesKeepThroughLosses};
+ghost use Rattle.fr_sharp.specs.Bearing.{ThroughIsApart};
+ghost use Rattle.fr_sharp.specs.JoinedLosses.{FollowedDoublesHearInPart, JoinedHistoriesKeepThroughLosses};
 ghost use Rattle.fr_sharp.specs.RoundsInPart.{RoundsInPartComputeOwn};
-ghost use Rattle.fr_sharp.specs.Losses.{HistoriesKeepThroughLosses, RowsComputeOwn, RowsMeet, SharpAfterTwoWhole};
+ghost use Rattle.fr_sharp.specs.Losses.{HistoriesKeepThroughLosses, RowsHear, SharpAfterTwoWhole};
 
 use fr_promise::{heard_numbers, losses_last};
 
 /// The law of hearing where frames are lost: each receiver of a round that trusts its lists computes its terms from the
-/// values of senders of its own, those of whom it has one (sections 8.5 and 8.6). So do the nodes with rows in a double
-/// cycle of a lawful run that no node joins, whatever frames are lost in it; where lists meet, any two have enough in common.
-/// In a run that nodes join, so do the nodes with rows and those that follow, where each trusts what it has of the senders that
-/// do not join; and any two have enough in common where lists of those meet. A node that surely hears nothing keeps its rate
-/// and its end.
+/// values of senders of its own, those of whom it has one (sections 8.5 and 8.6). The nodes with rows in a double cycle of a
+/// lawful run that no node joins hear what is said of it, of offsets and of rates, whatever frames are lost in it: all of all;
+/// any two enough in common; or each has values of some, or, where it surely hears nothing, keeps its rate and its end. So do
+/// the nodes with rows and those that follow in a run that nodes join, where each has a value of all, or trusts what it has
+/// of the senders that do not join.
 pub fn what_is_heard_suffices()
     ensures rounds { RoundsInPartComputeOwn }
-    ensures rows { RowsComputeOwn }
-    ensures meet { RowsMeet }
+    ensures rows { RowsHear }
     ensures joined { FollowedDoublesHearInPart }
-    ensures joined_meet { FollowedDoublesMeet }
-    ensures bear { RowsBear }
 {}
 
 /// The law of losses in a run: in a lawful history that no node joins, from a double cycle in sharp sync on, whatever frames

@@ -1,5 +1,5 @@
 ghost use Rattle.std.specs.Prelude.{◌≡◌, ◌≤◌, ◌<◌, ◌+◌, ◌-◌, None, Some};
-ghost use Rattle.fr_precision.specs.Among.{all_or_any, lost_spread};
+ghost use Rattle.fr_precision.specs.Among.{all_or_any, both, lost_spread};
 ghost use Rattle.fr_sharp.specs.LossCosts.{IsLongest, IsLossCost, IsSecondCost, heard_behind};
 ghost use Rattle.fr_sharp.specs.LossSteps.{most_lost};
 ghost use Rattle.fr_bound.specs.SharpBounds.{most_flutter};
@@ -8,6 +8,7 @@ use crate::loss_checks::limits_hold;
 use crate::loss_steps::LossSpread;
 use fr_bound::Heard;
 use fr_cluster::{ParamName, Params};
+use fr_precision::Kinds;
 
 /// What it costs, in ticks, where any frames may be lost in so many double cycles in a row, from one in sharp sync on
 /// without arbitrary sync nodes.
@@ -44,21 +45,21 @@ pub fn loss_cost(params: &Params, flutter: u64, count: u32) -> LossCost
     let _macros = params.value(ParamName::gMacroPerCycle);
     let spread = behind(params, flutter, count);
     LossCost {
-        peak: spread.apart(params, flutter, Heard::Clean),
+        peak: spread.apart(params, flutter, Kinds::both(Heard::Clean)),
         reach: spread.near(params),
         back: count + 2,
     }
 }
 
 /// What is heard in a double cycle, where any frames may be lost in the first so many, and in each later one all is heard.
-pub fn heard_behind(count: u32, double: u32) -> Heard
-    ensures { result ≡ all_or_any (heard_behind count double) }
+pub fn heard_behind(count: u32, double: u32) -> Kinds
+    ensures { result ≡ both (all_or_any (heard_behind count double)) }
 {
-    if count <= double {
+    Kinds::both(if count <= double {
         Heard::Clean
     } else {
         Heard::Poor
-    }
+    })
 }
 
 // The spread behind so many double cycles in which anything may be lost.
@@ -69,7 +70,7 @@ fn behind(params: &Params, flutter: u64, count: u32) -> LossSpread
 {
     let mut spread = LossSpread::first(params, false, flutter);
     for _double in 0..count {
-        spread.step(params, flutter, Heard::Poor);
+        spread.step(params, flutter, Kinds::both(Heard::Poor));
     }
     spread
 }
@@ -83,11 +84,11 @@ pub fn every_second_cost(params: &Params, flutter: u64) -> SecondCost
 {
     let _macros = params.value(ParamName::gMacroPerCycle);
     let mut spread = LossSpread::first(params, false, flutter);
-    spread.step(params, flutter, Heard::Poor);
-    spread.step(params, flutter, Heard::Clean);
-    spread.step(params, flutter, Heard::Poor);
+    spread.step(params, flutter, Kinds::both(Heard::Poor));
+    spread.step(params, flutter, Kinds::both(Heard::Clean));
+    spread.step(params, flutter, Kinds::both(Heard::Poor));
     SecondCost {
-        peak: spread.apart(params, flutter, Heard::Clean),
+        peak: spread.apart(params, flutter, Kinds::both(Heard::Clean)),
         reach: spread.near(params),
     }
 }
@@ -104,7 +105,7 @@ pub fn longest_loss(params: &Params, flutter: u64) -> Option<u32>
         if !limits_hold(params, flutter, spread.near(params)) {
             return before(count);
         }
-        spread.step(params, flutter, Heard::Poor);
+        spread.step(params, flutter, Kinds::both(Heard::Poor));
     }
     unreachable!()
 }

@@ -3,8 +3,8 @@ ghost use Rattle.fr_bound.specs.Bounds.{cycle_change, longest_micro};
 ghost use Rattle.fr_cluster.specs.Values.{amount};
 ghost use Rattle.fr_cluster.specs.declared.names.ParamName.TheVariants as name;
 ghost use Rattle.fr_bound.specs.Judged.{heard_spread};
-ghost use Rattle.fr_bound.specs.declared.judging.Heard.{Heard};
-ghost use Rattle.fr_precision.specs.Among.{spread_through_losses};
+ghost use Rattle.fr_precision.specs.Among.{kinds_spread, spread_through_losses};
+ghost use Rattle.fr_precision.specs.declared.kinds.Kinds.{Kinds};
 ghost use Rattle.fr_sharp.specs.LossSteps.{LossDouble, IsReckoned, heard_apart, most_lost, most_passed, spread_with};
 ghost use Rattle.fr_bound.specs.SharpBounds.{last_action, most_flutter, near_by, odd_spread, precision_by, steady_error};
 ghost use Rattle.fr_bound.specs.SharpSpreads.{sharply_near_in};
@@ -14,6 +14,7 @@ use fr_bound::{
     steady_error,
 };
 use fr_cluster::{ParamName, Params};
+use fr_precision::Kinds;
 use std::marker::Model;
 
 /// How far starts and even lengths may lie apart in a double cycle by what was heard since one in sharp sync, in ticks; and
@@ -38,7 +39,7 @@ impl LossSpread {
     /// many ticks, 0 to 1,000,000,000.
     pub fn first(params: &Params, beside: bool, flutter: u64) -> LossSpread
         requires { flutter ≤ most_flutter }
-        ensures spread { (what : ℕ → Heard) → result.spread ≡ spread_through_losses beside params.now flutter what 0 }
+        ensures spread { (what : ℕ → Kinds) → result.spread ≡ spread_through_losses beside params.now flutter what 0 }
         ensures passed { result.passed ≡ 0 }
     {
         LossSpread {
@@ -49,10 +50,10 @@ impl LossSpread {
     }
 
     /// Goes on to the next double cycle, by what is heard in this one; up to 1,000,000 may pass.
-    pub fn step(&mut self, params: &Params, flutter: u64, what: Heard)
+    pub fn step(&mut self, params: &Params, flutter: u64, what: Kinds)
         requires few { self.old.passed < most_passed }
         requires flutter { flutter ≤ most_flutter }
-        ensures spread { self.new.spread ≡ heard_spread what params.now flutter self.old.spread }
+        ensures spread { self.new.spread ≡ kinds_spread what params.now flutter self.old.spread }
         ensures passed { self.new.passed ≡ self.old.passed + 1 }
     {
         let (starts, lengths) = next(params, flutter, what, self.starts, self.lengths);
@@ -62,7 +63,7 @@ impl LossSpread {
     }
 
     /// How far macroticks may lie apart in this double cycle, by what is heard in it, in ticks.
-    pub fn apart(&self, params: &Params, flutter: u64, what: Heard) -> u128
+    pub fn apart(&self, params: &Params, flutter: u64, what: Kinds) -> u128
         requires { flutter ≤ most_flutter }
         ensures value { result ≡ heard_apart what params.now flutter self.now.spread }
         ensures most { result ≤ most_lost }
@@ -105,28 +106,53 @@ pub(crate) fn near_by(params: &Params, starts: u128, lengths: u128) -> u128
 }
 
 // The next starts and the next lengths.
-fn next(params: &Params, flutter: u64, what: Heard, starts: u128, lengths: u128) -> (u128, u128)
+fn next(params: &Params, flutter: u64, what: Kinds, starts: u128, lengths: u128) -> (u128, u128)
     requires starts { starts ≤ 30_000_100_000_000_000_000_000 }
     requires lengths { lengths ≤ 14_000_000_000_000_000 }
     requires flutter { flutter ≤ most_flutter }
     ensures next { spread_with result.0 result.1 ≡
-        heard_spread what params.now flutter (spread_with starts lengths) }
+        kinds_spread what params.now flutter (spread_with starts lengths) }
     ensures starts { result.0 ≤ starts + 30_000_000_000_000_000 }
     ensures lengths { result.1 ≤ lengths + 13_000_000_000 }
+{
+    (
+        next_starts(params, what.offsets, starts, lengths),
+        next_lengths(params, flutter, what.rates, lengths),
+    )
+}
+
+// The next starts, by what is heard of offsets.
+fn next_starts(params: &Params, what: Heard, starts: u128, lengths: u128) -> u128
+    requires starts { starts ≤ 30_000_100_000_000_000_000_000 }
+    requires lengths { lengths ≤ 14_000_000_000_000_000 }
+    ensures value { (flutter : ℕ) → result ≡
+        (heard_spread what params.now flutter (spread_with starts lengths)).starts }
+    ensures most { result ≤ starts + 30_000_000_000_000_000 }
 {
     let error = u128::from(arrival_error(params));
     let longest = u128::from(longest_microtick(params));
     let clean = odd(params, lengths) + 2 * error + 3 * longest;
     match what {
-        Heard::Clean => (clean, u128::from(even_lambda(params, false, flutter))),
-        Heard::Meeting => (
-            (starts + lengths + 2 * odd(params, lengths) + 4 * error + 7 * longest) / 2,
-            (lengths + u128::from(even_lambda(params, true, flutter))) / 2,
-        ),
-        Heard::Poor => (
-            starts + lengths + clean,
-            lengths + u128::from(lengthened(params, flutter)),
-        ),
+        Heard::Clean => clean,
+        Heard::Meeting => {
+            (starts + lengths + 2 * odd(params, lengths) + 4 * error + 7 * longest) / 2
+        }
+        Heard::Poor => starts + lengths + clean,
+    }
+}
+
+// The next lengths, by what is heard of rates.
+fn next_lengths(params: &Params, flutter: u64, what: Heard, lengths: u128) -> u128
+    requires lengths { lengths ≤ 14_000_000_000_000_000 }
+    requires flutter { flutter ≤ most_flutter }
+    ensures value { (starts : ℕ) → result ≡
+        (heard_spread what params.now flutter (spread_with starts lengths)).lengths }
+    ensures most { result ≤ lengths + 13_000_000_000 }
+{
+    match what {
+        Heard::Clean => u128::from(even_lambda(params, false, flutter)),
+        Heard::Meeting => (lengths + u128::from(even_lambda(params, true, flutter))) / 2,
+        Heard::Poor => lengths + u128::from(lengthened(params, flutter)),
     }
 }
 

@@ -15,7 +15,7 @@ use fr_coverage::{found_gap_from_is_first, some_join};
 use fr_drift::Drift;
 use fr_promise::heard_numbers;
 use fr_script::Script;
-use fr_traffic::{all_bear_from, all_reach, heard_of, is_borne_to_join, none_lacks};
+use fr_traffic::{all_bear_from, all_reach, heard_in, is_borne_to_join, none_lacks};
 
 /// What a run loses from a double cycle on, by its files, and how far apart that may take its clocks, from one in sharp sync
 /// on.
@@ -65,7 +65,7 @@ pub fn run_losses(
         );
         let borne = is_borne(params, script, flutter, from, double, strayed);
         let trusted = is_borne_of(params, script, double, whole, borne);
-        let what = heard_of(params, script, double, whole);
+        let what = heard_in(params, script, double, whole);
         let apart = spread.apart(params, flutter, what);
         let near = spread.near(params, script, double);
         losses = losses.followed(double, whole, trusted, apart, near);

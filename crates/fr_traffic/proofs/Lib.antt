@@ -1,4 +1,3 @@
 pub mod TrafficCounts
-pub mod GreatestCosts
 pub mod HeardEvents
 pub mod BearingCounts

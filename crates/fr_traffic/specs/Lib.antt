@@ -1,4 +1,3 @@
 -- what the public contract cites
-pub mod JoinedTraffic
 pub mod Reaching
 pub mod Traffic

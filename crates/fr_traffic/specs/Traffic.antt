@@ -1,12 +1,13 @@
 -- What correct nodes have of the frames of correct sync nodes in a double cycle in which frames may be lost, and how that decides
 -- how near their clocks come, beside arbitrary sync nodes or without.
-use Rattle.std.specs.Prelude.{ℕ, zero, suc, ◌+◌, ◌*◌, ◌==◌, ◌&&◌, ◌||◌, nat_le, nat_lt, nat_eq, Bool, true, false, not, if◌then◌else◌, List, [], ◌∷◌, count_by}
+use Rattle.std.specs.Prelude.{ℕ, zero, suc, ◌+◌, ◌*◌, ◌==◌, ◌&&◌, ◌||◌, nat_le, nat_lt, nat_eq, Bool, true, false, not, if◌then◌else◌, is_none, List, count_by, Option, Some, None}
 use Rattle.std.specs.List.{list_all, list_any}
 use Rattle.fr_base.specs.Event.{Event}
 use Rattle.fr_base.specs.declared.channel.Channel.{Channel}
 use Rattle.fr_base.specs.declared.channel.Channel.TheVariants as channel
 use Rattle.fr_cluster.specs.Setting.{Setting}
 use Rattle.fr_cluster.specs.Values.{Values, amount}
+use Rattle.fr_cluster.specs.declared.join.Join.{Join}
 use Rattle.fr_cluster.specs.declared.names.ParamName.TheVariants as name
 use Rattle.fr_cluster.specs.declared.nodes.NodeSpec.{NodeSpec}
 use Rattle.fr_midpoint.specs.Midpoint.{discarded}
@@ -14,22 +15,23 @@ use Rattle.fr_bound.specs.declared.judging.Heard.{Heard}
 use Rattle.fr_bound.specs.declared.judging.Heard.TheVariants as heard
 use Rattle.fr_coverage.specs.Links.{is_regular, is_sync, shares}
 use Rattle.fr_script.specs.Events.{event_of}
-use Rattle.fr_script.specs.View.{ScriptView, is_arbitrary}
-use Rattle.fr_traffic.specs.declared.traffic.Costs.{Costs}
+use Rattle.fr_precision.specs.declared.kinds.Kinds.{Kinds}
+use Rattle.fr_script.specs.View.{is_arbitrary, join_of, ScriptView}
 use Rattle.fr_runs.specs.SteadyRuns.{is_silent}
 
--- the nodes of a cluster, which of them are arbitrary, and by cycle, sender, receiver and channel what becomes of frames
+-- the nodes of a cluster, which of them are arbitrary, how nodes join, and by cycle, sender, receiver and channel what becomes of frames
 pub record Traffic : Type 0 where
   pub nodes : List NodeSpec
   pub is_arbitrary : ℕ → Bool
+  pub join : ℕ → Option Join
   pub event : ℕ → ℕ → ℕ → Channel → Event
 
 -- that of a run; that of some nodes and a script; and that of the run of some parameters and a script
 abbrev pub traffic_of : Setting → Traffic
-traffic_of x = record { nodes = x.params.nodes; is_arbitrary = x.is_arbitrary; event = x.event }
+traffic_of x = record { nodes = x.params.nodes; is_arbitrary = x.is_arbitrary; join = x.join; event = x.event }
 
 abbrev pub traffic_with : List NodeSpec → ScriptView → Traffic
-traffic_with nodes s = record { nodes = nodes; is_arbitrary = is_arbitrary s; event = event_of s }
+traffic_with nodes s = record { nodes = nodes; is_arbitrary = is_arbitrary s; join = join_of s; event = event_of s }
 
 abbrev pub traffic_in : Values → ScriptView → Traffic
 traffic_in p s = traffic_with p.nodes s
@@ -59,58 +61,110 @@ abbrev pub has_value : Bool → Bool → Traffic → ℕ → NodeSpec → NodeSp
 has_value rate surely t double b a =
     a.id == b.id || (value_on rate surely t a b double channel.A || value_on rate surely t a b double channel.B)
 
--- ---- one receiver
+-- ---- who takes part
 
--- a correct node with a key slot
+-- a node does not join; and one that does takes part at the earliest from the third double cycle on behind the one in which it listens
+abbrev pub stays : Traffic → NodeSpec → Bool
+stays t a = is_none (t.join a.id)
+
+abbrev pub may_send_by : Option Join → ℕ → Bool
+may_send_by None double = true
+may_send_by (Some join) double = nat_le (join.double + 3) double
+
+-- it has begun by a double cycle: it does not join, or listened before it
+abbrev pub has_begun : Option Join → ℕ → Bool
+has_begun None double = true
+has_begun (Some join) double = nat_lt join.double double
+
+-- a correct node with a key slot; one that does not join, which has a row in every cycle; and one that may send in a double cycle
 abbrev pub is_correct_sender : Traffic → NodeSpec → Bool
 is_correct_sender t a = is_sync a && not (t.is_arbitrary a.id)
 
--- how many of them pass a test, and how many arbitrary sync nodes there are
+abbrev pub is_staying_sender : Traffic → NodeSpec → Bool
+is_staying_sender t a = is_correct_sender t a && stays t a
+
+abbrev pub may_send : Traffic → ℕ → NodeSpec → Bool
+may_send t double a = is_correct_sender t a && may_send_by (t.join a.id) double
+
+-- a correct node that has begun: it may have values
+abbrev pub may_receive : Traffic → ℕ → NodeSpec → Bool
+may_receive t double b = not (t.is_arbitrary b.id) && has_begun (t.join b.id) double
+
+-- how many correct senders pass a test, how many of them that stay on, and how many arbitrary sync nodes there are
 abbrev pub sender_count : Traffic → (NodeSpec → Bool) → ℕ
 sender_count t test = count_by (λ a. is_correct_sender t a && test a) t.nodes
+
+abbrev pub staying_count : Traffic → (NodeSpec → Bool) → ℕ
+staying_count t test = sender_count t (λ a. stays t a && test a)
 
 abbrev pub arbitrary_count : Traffic → ℕ
 arbitrary_count t = count_by (λ a. is_sync a && t.is_arbitrary a.id) t.nodes
 
--- of how many senders a receiver surely has a value; and how many values there may be in its list, those of arbitrary nodes among them
-abbrev pub sure_count : Bool → Traffic → ℕ → NodeSpec → ℕ
-sure_count rate t double b = sender_count t (has_value rate true t double b)
+-- ---- one receiver
 
-abbrev pub most_count : Bool → Traffic → ℕ → NodeSpec → ℕ
-most_count rate t double b = sender_count t (has_value rate false t double b) + arbitrary_count t
-
--- it has a value, and discards at each end as many as may be of arbitrary nodes
-abbrev pub is_trusted : Bool → Traffic → ℕ → NodeSpec → Bool
-is_trusted rate t double b =
-    nat_le 1 (sure_count rate t double b) && nat_le (arbitrary_count t) (discarded (sure_count rate t double b + arbitrary_count t))
-
--- how many senders it may miss or discard at one end
-abbrev pub missed_or_discarded : Bool → Traffic → ℕ → NodeSpec → ℕ
-missed_or_discarded rate t double b =
-    sender_count t (λ a. not (has_value rate true t double b a)) + discarded (most_count rate t double b)
-
--- ---- all receivers
-
--- both lists of each correct node are trusted
-abbrev pub trusts : Traffic → ℕ → NodeSpec → Bool
-trusts t double b = t.is_arbitrary b.id || (is_trusted false t double b && is_trusted true t double b)
-
-abbrev pub all_trusted : Traffic → ℕ → Bool
-all_trusted t double = list_all (trusts t double) t.nodes
-
--- ---- a node that hears nothing
-
--- something may come of what an arbitrary node says on a channel, of the odd cycle or of both
+-- something may come of what an arbitrary node says on a channel, of the odd cycle or of both; on one channel or the other
 abbrev pub may_say : Bool → Traffic → NodeSpec → NodeSpec → ℕ → Channel → Bool
 may_say false t a b double ch = comes false (t.event (2 * double + 1) a.id b.id ch)
 may_say true t a b double ch = comes false (t.event (2 * double) a.id b.id ch) && comes false (t.event (2 * double + 1) a.id b.id ch)
 
+abbrev pub may_be_said : Bool → Traffic → ℕ → NodeSpec → NodeSpec → Bool
+may_be_said rate t double b a = may_say rate t a b double channel.A || may_say rate t a b double channel.B
+
+-- of how many senders that stay on a receiver surely has a value; of how many arbitrary nodes it may have one; and how many values there
+-- may be in its list
+abbrev pub sure_count : Bool → Traffic → ℕ → NodeSpec → ℕ
+sure_count rate t double b = staying_count t (has_value rate true t double b)
+
+abbrev pub further_count : Bool → Traffic → ℕ → NodeSpec → ℕ
+further_count rate t double b = count_by (λ a. (is_sync a && t.is_arbitrary a.id) && may_be_said rate t double b a) t.nodes
+
+abbrev pub most_count : Bool → Traffic → ℕ → NodeSpec → ℕ
+most_count rate t double b = sender_count t (has_value rate false t double b) + further_count rate t double b
+
+-- it has a value, and discards at each end as many as may be of arbitrary nodes
+abbrev pub is_trusted : Bool → Traffic → ℕ → NodeSpec → Bool
+is_trusted rate t double b =
+    nat_le 1 (sure_count rate t double b)
+    && nat_le (further_count rate t double b) (discarded (sure_count rate t double b + further_count rate t double b))
+
+-- two receivers surely have values of so many senders in common; and those are more than both discard at one end
+abbrev pub common_count : Bool → Traffic → ℕ → NodeSpec → NodeSpec → ℕ
+common_count rate t double b c = staying_count t (λ a. has_value rate true t double b a && has_value rate true t double c a)
+
+abbrev pub two_meet : Bool → Traffic → ℕ → NodeSpec → NodeSpec → Bool
+two_meet rate t double b c =
+    nat_lt (discarded (most_count rate t double b) + discarded (most_count rate t double c)) (common_count rate t double b c)
+
+-- ---- all receivers
+
+-- each correct node that has begun trusts its list
+abbrev pub all_trust : Bool → Traffic → ℕ → Bool
+all_trust rate t double = list_all (λ b. not (may_receive t double b) || is_trusted rate t double b) t.nodes
+
+-- each such node surely has a value of each correct sender that may send
+abbrev pub has_all : Bool → Traffic → ℕ → NodeSpec → Bool
+has_all rate t double b = list_all (λ a. not (may_send t double a) || has_value rate true t double b a) t.nodes
+
+abbrev pub all_have : Bool → Traffic → ℕ → Bool
+all_have rate t double = list_all (λ b. not (may_receive t double b) || has_all rate t double b) t.nodes
+
+-- each has one of some sender that stays on, and any two of them enough in common
+abbrev pub meets_each : Bool → Traffic → ℕ → NodeSpec → Bool
+meets_each rate t double b =
+    list_all (λ c. not (may_receive t double c) || (b.id == c.id || two_meet rate t double b c)) t.nodes
+
+abbrev pub has_and_meets : Bool → Traffic → ℕ → NodeSpec → Bool
+has_and_meets rate t double b = nat_le 1 (sure_count rate t double b) && meets_each rate t double b
+
+abbrev pub lists_meet : Bool → Traffic → ℕ → Bool
+lists_meet rate t double = list_all (λ b. not (may_receive t double b) || has_and_meets rate t double b) t.nodes
+
+-- ---- a node that hears nothing
+
 -- a receiver may have a value of a sync node, correct or arbitrary
 abbrev pub may_reach : Bool → Traffic → ℕ → NodeSpec → NodeSpec → Bool
 may_reach rate t double b a =
-    if t.is_arbitrary a.id
-    then may_say rate t a b double channel.A || may_say rate t a b double channel.B
-    else has_value rate false t double b a
+    if t.is_arbitrary a.id then may_be_said rate t double b a else has_value rate false t double b a
 
 -- a node without a key slot has no such value where none of any sync node can come to it
 abbrev pub is_deaf : Bool → Traffic → ℕ → NodeSpec → Bool
@@ -152,25 +206,7 @@ some_keep t double = not (none_lacks t double)
 abbrev pub all_bear_from : Values → Traffic → ℕ → ℕ → Bool
 all_bear_from p t from double = all_bear p t double && (not (double == from) || none_lacks t double)
 
--- the two greatest of some numbers
-abbrev pub with_cost : ℕ → Costs → Costs
-with_cost cost was =
-    if nat_lt was.most cost then record { most = cost; second = was.most }
-    else (if nat_lt was.second cost then record { most = was.most; second = cost } else was)
-
--- of some nodes, each with its cost, but for those left out
-unfoldable pub costs_by : (NodeSpec → Bool) → (NodeSpec → ℕ) → List NodeSpec → Costs
-costs_by left_out cost [] = record { most = 0; second = 0 }
-costs_by left_out cost (b ∷ nodes) =
-    if left_out b then costs_by left_out cost nodes else with_cost (cost b) (costs_by left_out cost nodes)
-
-abbrev pub costs_of : Bool → Traffic → ℕ → List NodeSpec → Costs
-costs_of rate t double = costs_by (λ b. t.is_arbitrary b.id) (missed_or_discarded rate t double)
-
--- the lists of any two correct nodes have a sender in common that neither misses nor discards
-abbrev pub lists_meet : Bool → Traffic → ℕ → Bool
-lists_meet rate t double =
-    nat_lt ((costs_of rate t double t.nodes).most + (costs_of rate t double t.nodes).second) (sender_count t (λ a. true))
+-- ---- what is heard
 
 -- all is heard: of any two nodes one channel carries the frames of both cycles
 abbrev pub bears_on : Traffic → NodeSpec → NodeSpec → Bool
@@ -182,8 +218,21 @@ all_linked t double =
     (λ a. list_all (λ b. not (bears_on t a b) || (rate_on true t a b double channel.A || rate_on true t a b double channel.B)) t.nodes)
     t.nodes
 
--- what is heard in a double cycle: all of all, without arbitrary sync nodes; of any two nodes enough in common; or what there is
-abbrev pub heard_in : Traffic → ℕ → Heard
-heard_in t double =
-    if all_linked t double && nat_eq (arbitrary_count t) 0 then heard.Clean
-    else (if lists_meet false t double && lists_meet true t double then heard.Meeting else heard.Poor)
+-- of one kind: all of all, without arbitrary sync nodes; all of all beside them, or of any two nodes enough in common; or what there is
+abbrev pub kind_by : Bool → Bool → Bool → Heard
+kind_by all none meet = if all && none then heard.Clean else (if all || meet then heard.Meeting else heard.Poor)
+
+abbrev pub kind_in : Bool → Traffic → ℕ → Heard
+kind_in rate t double = kind_by (all_have rate t double) (nat_eq (arbitrary_count t) 0) (lists_meet rate t double)
+
+-- what is heard in a double cycle, of offsets and of rates
+abbrev pub heard_in : Traffic → ℕ → Kinds
+heard_in t double = record { offsets = kind_in false t double; rates = kind_in true t double }
+
+-- in a run that nodes join: of each kind all is heard in it, or each correct node that has begun trusts what it has of the senders that do
+-- not join
+abbrev pub bears_kind : Bool → Traffic → ℕ → Bool
+bears_kind rate t double = all_have rate t double || all_trust rate t double
+
+abbrev pub is_borne_to_join : Traffic → ℕ → Bool
+is_borne_to_join t double = bears_kind false t double && bears_kind true t double

@@ -1,12 +1,10 @@
-ghost use Rattle.std.specs.Prelude.{◌≡◌, ◌≤◌, ◌&&◌, false, nat_le, length, List};
+ghost use Rattle.std.specs.Prelude.{◌≡◌, ◌≤◌, ◌&&◌, nat_le, length, List};
 ghost use Rattle.std.specs.List.{list_all, list_any};
-ghost use Rattle.fr_base.specs.declared.channel.Channel.TheVariants as channel;
 ghost use Rattle.fr_cluster.specs.declared.nodes.NodeSpec.{NodeSpec};
 ghost use Rattle.fr_coverage.specs.Links.{is_sync};
-ghost use Rattle.fr_traffic.specs.Traffic.{all_bear, all_bear_from, arbitrary_count, bears, is_deaf, lacking_for, lacks_values, may_lack, may_reach, may_say, none_lacks, traffic_in, traffic_with, trusts_or_lacks};
+ghost use Rattle.fr_traffic.specs.Traffic.{all_bear, all_bear_from, bears, is_deaf, lacking_for, lacks_values, may_lack, may_reach, none_lacks, traffic_in, traffic_with, trusts_or_lacks};
 
-use crate::traffic::{Asked, arbitrary_count, comes_even, comes_odd, has_value, is_trusted};
-use fr_base::Channel;
+use crate::traffic::{Asked, has_value, is_trusted, may_be_said};
 use fr_cluster::{NodeList, NodeSpec, ParamName, Params};
 use fr_script::Script;
 
@@ -25,27 +23,18 @@ fn all_bear(params: &Params, script: &Script, double: u32) -> bool
     ensures { result ≡ all_bear params.now (traffic_in params.now script.now) double }
 {
     let _few = params.value(ParamName::gMacroPerCycle);
-    let nodes = &params.nodes;
-    let arbitrary = arbitrary_count(nodes, script);
-    all_bear_in(params, nodes, script, double, arbitrary)
+    all_bear_in(params, &params.nodes, script, double)
 }
 
-fn all_bear_in(
-    params: &Params,
-    nodes: &NodeList,
-    script: &Script,
-    double: u32,
-    arbitrary: u64,
-) -> bool
+fn all_bear_in(params: &Params, nodes: &NodeList, script: &Script, double: u32) -> bool
     requires double { double ≤ 100_000 }
     requires few { length params.now.nodes ≤ 64 }
-    requires arbitrary { arbitrary ≡ arbitrary_count (traffic_in params.now script.now) }
     ensures { result ≡ list_all (bears params.now (traffic_in params.now script.now) double) nodes.now }
 {
     for place in 0..nodes.len() {
         match nodes.get(place) {
             Some(node) => {
-                if !bears(params, script, double, arbitrary, node) {
+                if !bears(params, script, double, node) {
                     return false;
                 }
             }
@@ -55,16 +44,15 @@ fn all_bear_in(
     true
 }
 
-fn bears(params: &Params, script: &Script, double: u32, arbitrary: u64, node: &NodeSpec) -> bool
+fn bears(params: &Params, script: &Script, double: u32, node: &NodeSpec) -> bool
     requires double { double ≤ 100_000 }
     requires few { length params.now.nodes ≤ 64 }
-    requires arbitrary { arbitrary ≡ arbitrary_count (traffic_in params.now script.now) }
     ensures { result ≡ bears params.now (traffic_in params.now script.now) double node.now }
 {
     let nodes = &params.nodes;
     script.arbitrary(node.id)
-        || (trusts_or_lacks(nodes, script, (false, double), arbitrary, node)
-            && trusts_or_lacks(nodes, script, (true, double), arbitrary, node)
+        || (trusts_or_lacks(nodes, script, (false, double), node)
+            && trusts_or_lacks(nodes, script, (true, double), node)
             && (!lacks_values(nodes, script, double, node)
                 || may_lack(params, script, double, node)))
 }
@@ -73,21 +61,14 @@ fn trusts_or_lacks(
     nodes: &NodeList,
     script: &Script,
     kind: (bool, u32),
-    arbitrary: u64,
     node: &NodeSpec,
 ) -> bool
     requires double { kind.1 ≤ 100_000 }
     requires few { length nodes.now ≤ 64 }
-    requires arbitrary { arbitrary ≡ arbitrary_count (traffic_with nodes.now script.now) }
     ensures { result ≡ trusts_or_lacks kind.0 (traffic_with nodes.now script.now) kind.1 node.now }
 {
     let (rate, double) = kind;
-    let asked = Asked {
-        rate,
-        surely: true,
-        double,
-    };
-    is_deaf(nodes, script, rate, double, node) || is_trusted(nodes, script, asked, arbitrary, node)
+    is_deaf(nodes, script, rate, double, node) || is_trusted(nodes, script, rate, double, node)
 }
 
 /// Whether in a double cycle, 0 to 100,000, no correct node lacks values.
@@ -205,35 +186,9 @@ fn may_reach(
     ensures { (nodes : List NodeSpec) → result ≡
         may_reach rate (traffic_with nodes script.now) double receiver.now sender.now }
 {
-    let asked = Asked {
-        rate,
-        surely: false,
-        double,
-    };
     if script.arbitrary(sender.id) {
-        may_say(script, asked, sender, receiver, Channel::A)
-            || may_say(script, asked, sender, receiver, Channel::B)
+        may_be_said(script, rate, double, receiver, sender)
     } else {
-        has_value(script, asked, receiver, sender)
-    }
-}
-
-fn may_say(
-    script: &Script,
-    asked: Asked,
-    sender: &NodeSpec,
-    receiver: &NodeSpec,
-    channel: Channel,
-) -> bool
-    requires double { asked.double ≤ 100_000 }
-    requires surely { asked.surely ≡ false }
-    ensures { (nodes : List NodeSpec) → result ≡
-        may_say asked.rate (traffic_with nodes script.now) sender.now receiver.now asked.double channel }
-{
-    if asked.rate {
-        comes_even(script, asked, sender, receiver, channel)
-            && comes_odd(script, asked, sender, receiver, channel)
-    } else {
-        comes_odd(script, asked, sender, receiver, channel)
+        has_value(script, Asked::maybe(rate, double), receiver, sender)
     }
 }

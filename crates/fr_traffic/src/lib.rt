@@ -4,10 +4,11 @@
 
 mod bearing;
 mod heard;
-mod joining;
+mod hearing;
+mod meeting;
 mod traffic;
 
 pub use bearing::{all_bear_from, none_lacks};
 pub use heard::all_reach;
-pub use joining::{heard_of, is_borne_to_join};
-pub use traffic::{Costs, discarded_of, heard_in, is_arbitrary_sync};
+pub use hearing::{heard_in, is_borne_to_join};
+pub use traffic::{discarded_of, is_arbitrary_sync};

@@ -1,28 +1,16 @@
-ghost use Rattle.std.specs.Prelude.{ℕ, ◌≡◌, ◌≤◌, ◌+◌, ◌*◌, ◌||◌, ◌&&◌, true, not, if◌then◌else◌, nat_le, length, List, count_by};
-ghost use Rattle.std.specs.List.{list_any};
+ghost use Rattle.std.specs.Prelude.{ℕ, ◌≡◌, ◌≤◌, ◌+◌, ◌*◌, ◌||◌, ◌&&◌, true, false, not, nat_le, length, List, count_by};
 ghost use Rattle.fr_base.specs.declared.channel.Channel.TheVariants as channel;
 ghost use Rattle.fr_cluster.specs.declared.nodes.NodeSpec.{NodeSpec};
 ghost use Rattle.fr_script.specs.Events.{event_of, event_seen};
-ghost use Rattle.fr_script.specs.View.{is_arbitrary};
+ghost use Rattle.fr_script.specs.View.{is_arbitrary, join_of};
 ghost use Rattle.fr_coverage.specs.Links.{is_sync};
 ghost use Rattle.fr_midpoint.specs.Midpoint.{discarded};
-ghost use Rattle.fr_traffic.specs.Reaching.{whole_in};
-ghost use Rattle.fr_traffic.specs.Traffic.{all_linked, arbitrary_count, comes, costs_of, has_value, heard_in, is_trusted, lists_meet, missed_or_discarded, sender_count, is_correct_sender, traffic_in, traffic_with, value_on, with_cost};
+ghost use Rattle.fr_traffic.specs.Traffic.{arbitrary_count, comes, further_count, has_begun, has_value, is_correct_sender, is_staying_sender, is_trusted, may_be_said, may_receive, may_say, may_send, may_send_by, most_count, sender_count, stays, sure_count, traffic_with, value_on};
 
 use fr_base::Channel;
-use fr_bound::Heard;
-use fr_cluster::{NodeList, NodeSpec, ParamName, Params};
+use fr_cluster::{Join, NodeList, NodeSpec};
 use fr_coverage::shares;
 use fr_script::{Event, Script};
-
-/// The two greatest of some numbers of nodes: how many senders each may miss or discard at one end.
-#[derive(Clone, Copy, Debug, PartialEq, Eq)]
-pub struct Costs {
-    /// The greatest of them, 0 without any.
-    pub most: u64,
-    /// The greatest of the others, 0 without any.
-    pub second: u64,
-}
 
 // What is asked of the frames of a double cycle: for rate values or for offset values, and whether they surely come.
 #[derive(Clone, Copy)]
@@ -32,195 +20,130 @@ pub(crate) struct Asked {
     pub(crate) double: u32,
 }
 
-/// What the correct nodes of a run hear in a double cycle, 0 to 100,000, by its files: all of all, without arbitrary sync
-/// nodes; of any two nodes enough in common; or what there is. It is known whether all is heard in it.
-pub fn heard_in(params: &Params, script: &Script, double: u32, whole: bool) -> Heard
-    requires double { double ≤ 100_000 }
-    requires whole { whole ≡ whole_in params.now script.now double }
-    ensures { result ≡ heard_in (traffic_in params.now script.now) double }
-{
-    let nodes = &params.nodes;
-    let _few = params.value(ParamName::gMacroPerCycle);
-    heard_by(nodes, script, double, whole)
-}
+impl Asked {
+    // The values of one kind that surely come in a double cycle.
+    pub(crate) fn surely(rate: bool, double: u32) -> Asked
+        ensures rate { result.rate ≡ rate }
+        ensures surely { result.surely ≡ true }
+        ensures double { result.double ≡ double }
+    {
+        Asked {
+            rate,
+            surely: true,
+            double,
+        }
+    }
 
-fn heard_by(nodes: &NodeList, script: &Script, double: u32, whole: bool) -> Heard
-    requires double { double ≤ 100_000 }
-    requires few { length nodes.now ≤ 64 }
-    requires whole { whole ≡ all_linked (traffic_with nodes.now script.now) double }
-    ensures { result ≡ heard_in (traffic_with nodes.now script.now) double }
-{
-    if whole && arbitrary_count(nodes, script) == 0 {
-        Heard::Clean
-    } else if lists_meet(nodes, script, false, double) && lists_meet(nodes, script, true, double) {
-        Heard::Meeting
-    } else {
-        Heard::Poor
+    // The values of one kind that may come in a double cycle.
+    pub(crate) fn maybe(rate: bool, double: u32) -> Asked
+        ensures rate { result.rate ≡ rate }
+        ensures surely { result.surely ≡ false }
+        ensures double { result.double ≡ double }
+    {
+        Asked {
+            rate,
+            surely: false,
+            double,
+        }
     }
 }
 
-pub(crate) fn is_trusted(
-    nodes: &NodeList,
-    script: &Script,
-    asked: Asked,
-    arbitrary: u64,
-    node: &NodeSpec,
-) -> bool
-    requires double { asked.double ≤ 100_000 }
-    requires surely { asked.surely ≡ true }
-    requires few { length nodes.now ≤ 64 }
-    requires arbitrary { arbitrary ≡ arbitrary_count (traffic_with nodes.now script.now) }
-    ensures { result ≡ is_trusted asked.rate (traffic_with nodes.now script.now) asked.double node.now }
+// ---- who takes part
+
+pub(crate) fn is_correct_sender(script: &Script, node: &NodeSpec) -> bool
+    ensures { result ≡ (is_sync node.now && not (is_arbitrary script.now node.now.id)) }
 {
-    if arbitrary == 0 {
-        hears_some(nodes, script, asked, node)
-    } else {
-        is_enough(counted(nodes, script, asked, node), arbitrary)
+    node.key.is_some() && !script.arbitrary(node.id)
+}
+
+// A correct sender that does not join.
+pub(crate) fn is_staying_sender(script: &Script, node: &NodeSpec) -> bool
+    ensures { (nodes : List NodeSpec) → result ≡ is_staying_sender (traffic_with nodes script.now) node.now }
+{
+    is_correct_sender(script, node) && script.join(node.id).is_none()
+}
+
+// A correct sender that may send in a double cycle.
+pub(crate) fn may_send(script: &Script, double: u32, node: &NodeSpec) -> bool
+    requires { double ≤ 100_000 }
+    ensures { (nodes : List NodeSpec) → result ≡ may_send (traffic_with nodes script.now) double node.now }
+{
+    is_correct_sender(script, node) && may_send_by(script.join(node.id), double)
+}
+
+fn may_send_by(join: Option<Join>, double: u32) -> bool
+    requires { double ≤ 100_000 }
+    ensures { result ≡ may_send_by join double }
+{
+    match join {
+        None => true,
+        Some(join) => 3 <= double && join.double <= double - 3,
     }
 }
 
-// So many values of correct nodes beside those of so many arbitrary ones.
-pub(crate) fn is_enough(sure: u64, arbitrary: u64) -> bool
-    requires sure { sure ≤ 64 }
-    requires arbitrary { arbitrary ≤ 64 }
-    ensures { result ≡ (nat_le 1 sure && nat_le arbitrary (discarded (sure + arbitrary))) }
+// A correct node that has begun by a double cycle.
+pub(crate) fn may_receive(script: &Script, double: u32, node: &NodeSpec) -> bool
+    ensures { (nodes : List NodeSpec) → result ≡ may_receive (traffic_with nodes script.now) double node.now }
 {
-    1 <= sure && arbitrary <= discarded_of(sure + arbitrary)
+    !script.arbitrary(node.id) && has_begun(script.join(node.id), double)
 }
 
-// Whether a receiver has such a value of some correct node with a key slot.
-fn hears_some(nodes: &NodeList, script: &Script, asked: Asked, receiver: &NodeSpec) -> bool
-    requires { asked.double ≤ 100_000 }
-    ensures { result ≡ list_any
-        (λ a. is_correct_sender (traffic_with nodes.now script.now) a
-        && has_value asked.rate asked.surely (traffic_with nodes.now script.now) asked.double receiver.now a)
-        nodes.now }
+fn has_begun(join: Option<Join>, double: u32) -> bool
+    ensures { result ≡ has_begun join double }
 {
+    match join {
+        None => true,
+        Some(join) => join.double < double,
+    }
+}
+
+// ---- one receiver
+
+// Of how many senders that stay on a receiver surely has a value.
+pub(crate) fn sure_count(nodes: &NodeList, script: &Script, rate: bool, double: u32, receiver: &NodeSpec) -> u64
+    requires double { double ≤ 100_000 }
+    requires few { length nodes.now ≤ 64 }
+    ensures value { result ≡ sure_count rate (traffic_with nodes.now script.now) double receiver.now }
+    ensures most { result ≤ 64 }
+{
+    let asked = Asked::surely(rate, double);
+    let mut count = 0;
     for place in 0..nodes.len() {
         match nodes.get(place) {
             Some(node) => {
-                if is_heard(script, asked, receiver, node) {
-                    return true;
+                if is_relied_on(script, asked, receiver, node) {
+                    count += 1;
                 }
             }
             None => {}
         }
     }
-    false
+    count
 }
 
-// Whether the lists of any two correct nodes have a sender in common that neither misses nor discards.
-fn lists_meet(nodes: &NodeList, script: &Script, rate: bool, double: u32) -> bool
+// A sender that stays on, of whom a receiver surely has such a value.
+pub(crate) fn is_relied_on(script: &Script, asked: Asked, receiver: &NodeSpec, sender: &NodeSpec) -> bool
+    requires { asked.double ≤ 100_000 }
+    ensures { (nodes : List NodeSpec) → result ≡ (is_correct_sender (traffic_with nodes script.now) sender.now
+        && (stays (traffic_with nodes script.now) sender.now
+        && has_value asked.rate asked.surely (traffic_with nodes script.now) asked.double receiver.now sender.now)) }
+{
+    is_staying_sender(script, sender) && has_value(script, asked, receiver, sender)
+}
+
+// How many values there may be in its list.
+pub(crate) fn most_count(nodes: &NodeList, script: &Script, rate: bool, double: u32, receiver: &NodeSpec) -> u64
     requires double { double ≤ 100_000 }
     requires few { length nodes.now ≤ 64 }
-    ensures { result ≡ lists_meet rate (traffic_with nodes.now script.now) double }
+    ensures value { result ≡ most_count rate (traffic_with nodes.now script.now) double receiver.now }
+    ensures most { result ≤ 128 }
 {
-    let costs = costs_of(nodes, script, rate, double);
-    costs.most + costs.second < senders(nodes, script)
+    counted(nodes, script, Asked::maybe(rate, double), receiver)
+        + further_count(nodes, script, rate, double, receiver)
 }
 
-fn costs_of(nodes: &NodeList, script: &Script, rate: bool, double: u32) -> Costs
-    requires double { double ≤ 100_000 }
-    requires few { length nodes.now ≤ 64 }
-    ensures value { result ≡ costs_of rate (traffic_with nodes.now script.now) double nodes.now }
-    ensures most { result.most ≤ 100 }
-    ensures second { result.second ≤ 100 }
-{
-    let asked = Asked {
-        rate,
-        surely: true,
-        double,
-    };
-    let mut costs = Costs { most: 0, second: 0 };
-    for place in (0..nodes.len()).rev() {
-        match nodes.get(place) {
-            Some(node) => costs = costs_with(nodes, script, asked, node, costs),
-            None => {}
-        }
-    }
-    costs
-}
-
-fn costs_with(
-    nodes: &NodeList,
-    script: &Script,
-    asked: Asked,
-    node: &NodeSpec,
-    costs: Costs,
-) -> Costs
-    requires double { asked.double ≤ 100_000 }
-    requires few { length nodes.now ≤ 64 }
-    requires most { costs.most ≤ 100 }
-    requires second { costs.second ≤ 100 }
-    ensures value { result ≡
-        (if is_arbitrary script.now node.now.id then costs
-        else with_cost
-        (missed_or_discarded asked.rate (traffic_with nodes.now script.now) asked.double node.now) costs) }
-    ensures most { result.most ≤ 100 }
-    ensures second { result.second ≤ 100 }
-{
-    if script.arbitrary(node.id) {
-        costs
-    } else {
-        with_cost(cost_of(nodes, script, asked, node), costs)
-    }
-}
-
-pub(crate) fn with_cost(cost: u64, was: Costs) -> Costs
-    ensures value { result ≡ with_cost cost was }
-    ensures most { (bound : ℕ) → cost ≤ bound → was.most ≤ bound → result.most ≤ bound }
-    ensures second { (bound : ℕ) → cost ≤ bound → was.most ≤ bound → was.second ≤ bound → result.second ≤ bound }
-{
-    if was.most < cost {
-        Costs {
-            most: cost,
-            second: was.most,
-        }
-    } else if was.second < cost {
-        Costs {
-            most: was.most,
-            second: cost,
-        }
-    } else {
-        was
-    }
-}
-
-// How many senders a node may miss or discard at one end.
-fn cost_of(nodes: &NodeList, script: &Script, asked: Asked, node: &NodeSpec) -> u64
-    requires double { asked.double ≤ 100_000 }
-    requires few { length nodes.now ≤ 64 }
-    ensures value { result ≡
-        missed_or_discarded asked.rate (traffic_with nodes.now script.now) asked.double node.now }
-    ensures most { result ≤ 100 }
-{
-    let surely = Asked {
-        rate: asked.rate,
-        surely: true,
-        double: asked.double,
-    };
-    let maybe = Asked {
-        rate: asked.rate,
-        surely: false,
-        double: asked.double,
-    };
-    let sure = counted(nodes, script, surely, node);
-    let most = counted(nodes, script, maybe, node) + arbitrary_count(nodes, script);
-    missed(nodes, script, sure) + discarded_of(most)
-}
-
-// Of how many correct nodes with a key slot a receiver has no value, by that of those of whom it has one.
-fn missed(nodes: &NodeList, script: &Script, heard: u64) -> u64
-    requires few { length nodes.now ≤ 64 }
-    requires heard { heard ≤ count_by (is_correct_sender (traffic_with nodes.now script.now)) nodes.now }
-    ensures value { result + heard ≡ count_by (is_correct_sender (traffic_with nodes.now script.now)) nodes.now }
-    ensures most { result ≤ 64 }
-{
-    senders(nodes, script) - heard
-}
-
-// Of how many a receiver has such a value.
-pub(crate) fn counted(nodes: &NodeList, script: &Script, asked: Asked, receiver: &NodeSpec) -> u64
+// Of how many correct senders a receiver has such a value.
+fn counted(nodes: &NodeList, script: &Script, asked: Asked, receiver: &NodeSpec) -> u64
     requires double { asked.double ≤ 100_000 }
     requires few { length nodes.now ≤ 64 }
     ensures value { result ≡ sender_count (traffic_with nodes.now script.now)
@@ -241,50 +164,6 @@ pub(crate) fn counted(nodes: &NodeList, script: &Script, asked: Asked, receiver:
     count
 }
 
-fn senders(nodes: &NodeList, script: &Script) -> u64
-    requires { length nodes.now ≤ 64 }
-    ensures value { result ≡ count_by (is_correct_sender (traffic_with nodes.now script.now)) nodes.now }
-    ensures most { result ≤ 64 }
-{
-    let mut count = 0;
-    for place in 0..nodes.len() {
-        match nodes.get(place) {
-            Some(node) => {
-                if is_correct_sender(script, node) {
-                    count += 1;
-                }
-            }
-            None => {}
-        }
-    }
-    count
-}
-
-pub(crate) fn arbitrary_count(nodes: &NodeList, script: &Script) -> u64
-    requires { length nodes.now ≤ 64 }
-    ensures value { result ≡ arbitrary_count (traffic_with nodes.now script.now) }
-    ensures most { result ≤ 64 }
-{
-    let mut count = 0;
-    for place in 0..nodes.len() {
-        match nodes.get(place) {
-            Some(node) => {
-                if is_arbitrary_sync(node, script) {
-                    count += 1;
-                }
-            }
-            None => {}
-        }
-    }
-    count
-}
-
-pub(crate) fn is_correct_sender(script: &Script, node: &NodeSpec) -> bool
-    ensures { result ≡ (is_sync node.now && not (is_arbitrary script.now node.now.id)) }
-{
-    node.key.is_some() && !script.arbitrary(node.id)
-}
-
 // A sender of whom a receiver has such a value.
 fn is_heard(script: &Script, asked: Asked, receiver: &NodeSpec, sender: &NodeSpec) -> bool
     requires { asked.double ≤ 100_000 }
@@ -293,6 +172,89 @@ fn is_heard(script: &Script, asked: Asked, receiver: &NodeSpec, sender: &NodeSpe
 {
     is_correct_sender(script, sender) && has_value(script, asked, receiver, sender)
 }
+
+// Of how many arbitrary nodes a receiver may have a value.
+pub(crate) fn further_count(nodes: &NodeList, script: &Script, rate: bool, double: u32, receiver: &NodeSpec) -> u64
+    requires double { double ≤ 100_000 }
+    requires few { length nodes.now ≤ 64 }
+    ensures value { result ≡ further_count rate (traffic_with nodes.now script.now) double receiver.now }
+    ensures most { result ≤ 64 }
+{
+    let mut count = 0;
+    for place in 0..nodes.len() {
+        match nodes.get(place) {
+            Some(node) => {
+                if may_add(script, rate, double, receiver, node) {
+                    count += 1;
+                }
+            }
+            None => {}
+        }
+    }
+    count
+}
+
+// An arbitrary sync node of which a receiver may have a value.
+fn may_add(script: &Script, rate: bool, double: u32, receiver: &NodeSpec, sender: &NodeSpec) -> bool
+    requires { double ≤ 100_000 }
+    ensures { (nodes : List NodeSpec) → result ≡
+        ((is_sync sender.now && is_arbitrary script.now sender.now.id)
+        && may_be_said rate (traffic_with nodes script.now) double receiver.now sender.now) }
+{
+    is_arbitrary_sync(sender, script) && may_be_said(script, rate, double, receiver, sender)
+}
+
+// Something may come of what an arbitrary node says, on one channel or the other.
+pub(crate) fn may_be_said(script: &Script, rate: bool, double: u32, receiver: &NodeSpec, sender: &NodeSpec) -> bool
+    requires { double ≤ 100_000 }
+    ensures { (nodes : List NodeSpec) → result ≡
+        may_be_said rate (traffic_with nodes script.now) double receiver.now sender.now }
+{
+    let asked = Asked::maybe(rate, double);
+    may_say(script, asked, sender, receiver, Channel::A)
+        || may_say(script, asked, sender, receiver, Channel::B)
+}
+
+fn may_say(
+    script: &Script,
+    asked: Asked,
+    sender: &NodeSpec,
+    receiver: &NodeSpec,
+    channel: Channel,
+) -> bool
+    requires double { asked.double ≤ 100_000 }
+    requires surely { asked.surely ≡ false }
+    ensures { (nodes : List NodeSpec) → result ≡
+        may_say asked.rate (traffic_with nodes script.now) sender.now receiver.now asked.double channel }
+{
+    if asked.rate {
+        comes_even(script, asked, sender, receiver, channel)
+            && comes_odd(script, asked, sender, receiver, channel)
+    } else {
+        comes_odd(script, asked, sender, receiver, channel)
+    }
+}
+
+// It has a value, and discards at each end as many as may be of arbitrary nodes.
+pub(crate) fn is_trusted(nodes: &NodeList, script: &Script, rate: bool, double: u32, receiver: &NodeSpec) -> bool
+    requires double { double ≤ 100_000 }
+    requires few { length nodes.now ≤ 64 }
+    ensures { result ≡ is_trusted rate (traffic_with nodes.now script.now) double receiver.now }
+{
+    let sure = sure_count(nodes, script, rate, double, receiver);
+    is_enough(sure, further_count(nodes, script, rate, double, receiver))
+}
+
+// So many values of correct nodes beside those of so many arbitrary ones.
+fn is_enough(sure: u64, further: u64) -> bool
+    requires sure { sure ≤ 64 }
+    requires further { further ≤ 64 }
+    ensures { result ≡ (nat_le 1 sure && nat_le further (discarded (sure + further))) }
+{
+    1 <= sure && further <= discarded_of(sure + further)
+}
+
+// ---- one sender at one receiver
 
 pub(crate) fn has_value(
     script: &Script,
@@ -382,6 +344,26 @@ fn comes(surely: bool, event: Event<'_>) -> bool
     } else {
         !matches!(event, Event::Silent)
     }
+}
+
+// How many arbitrary sync nodes there are.
+pub(crate) fn arbitrary_count(nodes: &NodeList, script: &Script) -> u64
+    requires { length nodes.now ≤ 64 }
+    ensures value { result ≡ arbitrary_count (traffic_with nodes.now script.now) }
+    ensures most { result ≤ 64 }
+{
+    let mut count = 0;
+    for place in 0..nodes.len() {
+        match nodes.get(place) {
+            Some(node) => {
+                if is_arbitrary_sync(node, script) {
+                    count += 1;
+                }
+            }
+            None => {}
+        }
+    }
+    count
 }
 
 /// How many values of so many a midpoint discards at each end, 0 to 2.

@@ -1,20 +1,20 @@
 -- Where each node misses the frames of few other sync nodes in each double cycle the lists of any two meet, so that clocks keep as near as
 -- beside arbitrary nodes, for ever; and why no more may be missed.
-use Rattle.std.specs.Prelude.{◌≡◌, ◌⊎◌, ◌+◌, ◌<◌, ◌≤◌, ℕ, pos, Bool, true, false, not, if◌then◌else◌, List, Contains}
+use Rattle.std.specs.Prelude.{◌≡◌, ◌⊎◌, ◌+◌, ◌<◌, ◌≤◌, ℕ, pos, Bool, true, false, not, if◌then◌else◌, List, Contains, None}
 use Rattle.fr_base.specs.Event as event
 use Rattle.fr_base.specs.declared.channel.Channel.TheVariants as channel
 use Rattle.fr_cluster.specs.Sane.{IsSane}
 use Rattle.fr_cluster.specs.Values.{Values}
 use Rattle.fr_cluster.specs.declared.nodes.NodeSpec.{NodeSpec}
 use Rattle.fr_bound.specs.SharpSpreads.{sharply_near_in}
-use Rattle.fr_bound.specs.declared.judging.Heard.{Heard}
 use Rattle.fr_bound.specs.declared.judging.Heard.TheVariants as heard
 use Rattle.fr_coverage.specs.Decided.{setting_of}
 use Rattle.fr_coverage.specs.Links.{shares}
 use Rattle.fr_drift.specs.Questions.{doubles_of}
 use Rattle.fr_drift.specs.View.{DriftView}
 use Rattle.fr_history.specs.Cycles.{Cycles}
-use Rattle.fr_precision.specs.Among.{apart_through_losses, spread_through_losses}
+use Rattle.fr_precision.specs.Among.{apart_through_losses, spread_through_losses, IsNot}
+use Rattle.fr_precision.specs.declared.kinds.Kinds.{Kinds}
 use Rattle.fr_precision.specs.SharpRun.{WalkLastsAfter}
 use Rattle.fr_promise.specs.Statement.{IsRunOf}
 use Rattle.fr_runs.specs.SharpHistories.{IsInSharpSyncAt, KeepsApart}
@@ -39,14 +39,15 @@ pub record LosesFew (t : Traffic) (missed double : ℕ) : Type 0 where
 abbrev pub FewMissedMeet : Type 0
 FewMissedMeet =
     (t : Traffic) (missed double : ℕ)
-    → arbitrary_count t ≡ 0 → LosesFew t missed double → may_miss (sender_count t (λ a. true)) missed ≡ true
+    → arbitrary_count t ≡ 0 → ((a : NodeSpec) → Contains t.nodes a → is_correct_sender t a ≡ true → t.join a.id ≡ None)
+    → LosesFew t missed double → may_miss (sender_count t (λ a. true)) missed ≡ true
     → (lists_meet false t double ≡ true) × (lists_meet true t double ≡ true)
 
 -- and no macroticks and no action points lie further apart than so, by what is heard, for ever
 abbrev pub MeetingCostsNoMore : Type 0
 MeetingCostsNoMore =
-    (p : Values) (flutter : ℕ) (what : ℕ → Heard) (cost : MeetingCost) (double : ℕ)
-    → IsSane p → IsMeetingCost p flutter cost → ((k : ℕ) → what k ≡ heard.Poor → ⊥)
+    (p : Values) (flutter : ℕ) (what : ℕ → Kinds) (cost : MeetingCost) (double : ℕ)
+    → IsSane p → IsMeetingCost p flutter cost → ((k : ℕ) → IsNot heard.Poor (what k))
     → (apart_through_losses false p flutter what double ≤ cost.peak)
     × (sharply_near_in p (spread_through_losses false p flutter what double) ≤ cost.reach)
 
@@ -73,11 +74,12 @@ abbrev pub traffic_losing : List NodeSpec → (ℕ → ℕ → Bool) → Traffic
 traffic_losing nodes lost = record {
   nodes = nodes;
   is_arbitrary = λ id. false;
+  join = λ id. None;
   event = λ cycle sender receiver ch. if lost sender receiver then event.Silent else event.Regular;
 }
 
--- of any cluster of two sync nodes or more in which any two nodes have a channel in common: each may miss one more so that by the count
--- lists do not meet
+-- of any cluster of two sync nodes or more in which any two nodes have a channel in common: each may miss one more so that lists do not
+-- meet
 abbrev pub OneMoreMayPart : Type 0
 OneMoreMayPart =
     (p : Values) (missed double : ℕ) → IsSane p → AllShare p.nodes → 2 ≤ sync_nodes p → IsMostMissed (sync_nodes p) missed

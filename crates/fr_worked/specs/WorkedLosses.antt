@@ -14,6 +14,7 @@ use Rattle.fr_script.specs.declared.deeds.Passage.{Passage}
 use Rattle.fr_traffic.specs.Reaching.{whole_in}
 use Rattle.fr_sharp.specs.LossStatement.{IsCoveredThroughLosses}
 use Rattle.fr_runs.specs.SharpHistories.{IsInSharpSyncAt, KeepsApart}
+use Rattle.fr_precision.specs.Among.{both}
 use Rattle.fr_traffic.specs.Traffic.{heard_in, traffic_in}
 use Rattle.fr_worked.specs.WorkedFiles.{fluttering_drift, marking_script}
 use Rattle.fr_sharp.specs.WorkedRun.{steady_cluster}
@@ -63,8 +64,8 @@ missing_script = record {
 -- in double cycle 1 lists meet; and the files are covered through losses, with a reach of 45,726,402 ticks
 abbrev pub MissingFilesAreCovered : Type 0
 MissingFilesAreCovered =
-    (heard_in (traffic_in steady_cluster missing_script) 0 ≡ heard.Clean) × (heard_in (traffic_in steady_cluster missing_script) 1 ≡ heard.Meeting)
-    × (heard_in (traffic_in steady_cluster missing_script) 2 ≡ heard.Clean)
+    (heard_in (traffic_in steady_cluster missing_script) 0 ≡ both heard.Clean) × (heard_in (traffic_in steady_cluster missing_script) 1 ≡ both heard.Meeting)
+    × (heard_in (traffic_in steady_cluster missing_script) 2 ≡ both heard.Clean)
     × IsCoveredThroughLosses steady_cluster fluttering_drift missing_script 0 250 45_726_402
 
 -- no macroticks lie further apart than 36,005,494 ticks in double cycle 0 and in the one that loses the frame, and 57,008,790 in the one
@@ -83,7 +84,7 @@ MissingFilesKeep =
 -- apart than 99,015,680 ticks
 abbrev pub BesideFilesAreCovered : Type 0
 BesideFilesAreCovered =
-    ((double : ℕ) → double < 3 → heard_in (traffic_in steady_cluster (marking_script true)) double ≡ heard.Meeting)
+    ((double : ℕ) → double < 3 → heard_in (traffic_in steady_cluster (marking_script true)) double ≡ both heard.Meeting)
     × IsCoveredThroughLosses steady_cluster fluttering_drift (marking_script true) 0 250 84_305_863
 
 abbrev pub BesideFilesKeep : Type 0

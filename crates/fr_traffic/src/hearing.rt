@@ -1,0 +1,121 @@
+ghost use Rattle.std.specs.Prelude.{◌≡◌, ◌≤◌, ◌||◌, not, nat_eq, length};
+ghost use Rattle.std.specs.List.{list_all};
+ghost use Rattle.fr_traffic.specs.Reaching.{whole_in};
+ghost use Rattle.fr_traffic.specs.Traffic.{all_have, all_linked, all_trust, arbitrary_count, bears_kind, has_all, has_value, heard_in, is_borne_to_join, is_trusted, kind_by, kind_in, may_receive, may_send, traffic_in, traffic_with};
+
+use crate::meeting::lists_meet;
+use crate::traffic::{Asked, arbitrary_count, has_value, is_trusted, may_receive, may_send};
+use fr_bound::Heard;
+use fr_cluster::{NodeList, NodeSpec, ParamName, Params};
+use fr_precision::Kinds;
+use fr_script::Script;
+
+/// What the correct nodes of a run hear in a double cycle, 0 to 100,000, by its files, of offsets and of rates: all of all,
+/// without arbitrary sync nodes; all of all beside them, or of any two nodes enough in common; or what there is. Of nodes that
+/// join nothing less than all is counted on. It is known whether one channel carries the frames of both its cycles of any two
+/// nodes.
+pub fn heard_in(params: &Params, script: &Script, double: u32, whole: bool) -> Kinds
+    requires double { double ≤ 100_000 }
+    requires whole { whole ≡ whole_in params.now script.now double }
+    ensures { result ≡ heard_in (traffic_in params.now script.now) double }
+{
+    let _few = params.value(ParamName::gMacroPerCycle);
+    let nodes = &params.nodes;
+    Kinds {
+        offsets: kind_in(nodes, script, false, double, whole),
+        rates: kind_in(nodes, script, true, double, whole),
+    }
+}
+
+fn kind_in(nodes: &NodeList, script: &Script, rate: bool, double: u32, whole: bool) -> Heard
+    requires double { double ≤ 100_000 }
+    requires few { length nodes.now ≤ 64 }
+    requires whole { whole ≡ all_linked (traffic_with nodes.now script.now) double }
+    ensures { result ≡ kind_in rate (traffic_with nodes.now script.now) double }
+{
+    let all = whole || all_have(nodes, script, rate, double);
+    if all && arbitrary_count(nodes, script) == 0 {
+        Heard::Clean
+    } else if all || lists_meet(nodes, script, rate, double) {
+        Heard::Meeting
+    } else {
+        Heard::Poor
+    }
+}
+
+/// Whether in a double cycle, 0 to 100,000, of each kind of values all is heard, or each correct node that has begun trusts
+/// what it has of the senders that do not join: it has a value, and discards at each end as many as there may be of arbitrary
+/// nodes. It is known whether one channel carries the frames of both its cycles of any two nodes.
+pub fn is_borne_to_join(params: &Params, script: &Script, double: u32, whole: bool) -> bool
+    requires double { double ≤ 100_000 }
+    requires whole { whole ≡ whole_in params.now script.now double }
+    ensures { result ≡ is_borne_to_join (traffic_in params.now script.now) double }
+{
+    let _few = params.value(ParamName::gMacroPerCycle);
+    let nodes = &params.nodes;
+    bears_kind(nodes, script, false, double, whole) && bears_kind(nodes, script, true, double, whole)
+}
+
+fn bears_kind(nodes: &NodeList, script: &Script, rate: bool, double: u32, whole: bool) -> bool
+    requires double { double ≤ 100_000 }
+    requires few { length nodes.now ≤ 64 }
+    requires whole { whole ≡ all_linked (traffic_with nodes.now script.now) double }
+    ensures { result ≡ bears_kind rate (traffic_with nodes.now script.now) double }
+{
+    whole || all_have(nodes, script, rate, double) || all_trust(nodes, script, rate, double)
+}
+
+// Whether each correct node that has begun surely has a value of each correct sender that may send.
+fn all_have(nodes: &NodeList, script: &Script, rate: bool, double: u32) -> bool
+    requires { double ≤ 100_000 }
+    ensures { result ≡ all_have rate (traffic_with nodes.now script.now) double }
+{
+    for place in 0..nodes.len() {
+        match nodes.get(place) {
+            Some(node) => {
+                if may_receive(script, double, node) && !has_all(nodes, script, rate, double, node) {
+                    return false;
+                }
+            }
+            None => {}
+        }
+    }
+    true
+}
+
+fn has_all(nodes: &NodeList, script: &Script, rate: bool, double: u32, receiver: &NodeSpec) -> bool
+    requires { double ≤ 100_000 }
+    ensures { result ≡ has_all rate (traffic_with nodes.now script.now) double receiver.now }
+{
+    let asked = Asked::surely(rate, double);
+    for place in 0..nodes.len() {
+        match nodes.get(place) {
+            Some(node) => {
+                if may_send(script, double, node) && !has_value(script, asked, receiver, node) {
+                    return false;
+                }
+            }
+            None => {}
+        }
+    }
+    true
+}
+
+// Whether each correct node that has begun trusts its list.
+fn all_trust(nodes: &NodeList, script: &Script, rate: bool, double: u32) -> bool
+    requires double { double ≤ 100_000 }
+    requires few { length nodes.now ≤ 64 }
+    ensures { result ≡ all_trust rate (traffic_with nodes.now script.now) double }
+{
+    for place in 0..nodes.len() {
+        match nodes.get(place) {
+            Some(node) => {
+                if may_receive(script, double, node) && !is_trusted(nodes, script, rate, double, node) {
+                    return false;
+                }
+            }
+            None => {}
+        }
+    }
+    true
+}
