@@ -11,7 +11,7 @@ ghost use Rattle.fr_program.specs.Around.{around_of};
 ghost use Rattle.fr_program.specs.Command.{CommandEnds};
 ghost use Rattle.fr_program.specs.Failure.{EndingWritesNothing};
 ghost use Rattle.fr_answer.specs.LossAnswer.{AreLossFigures, loss_command};
-ghost use Rattle.fr_answer.specs.LossText.{fails_text, longest_line, loss_apart_line, loss_apart_lines, loss_bounds_text};
+ghost use Rattle.fr_answer.specs.LossText.{crossing_line, fails_text, longest_line, loss_apart_line, loss_apart_lines, loss_bounds_text};
 ghost use Rattle.fr_answer.specs.LossText.{loss_check_line, loss_figures_text, loss_text, meeting_line, second_line};
 
 use crate::bound::value_line;
@@ -21,8 +21,8 @@ use fr_cluster::Params;
 use fr_params::ParamsFile;
 use fr_program::Failure;
 use fr_sharp::{
-    Digits, LossCost, LossSides, LossSpread, MeetingCost, SecondCost, every_second_cost,
-    heard_behind, limits_hold, longest_loss, loss_cost, loss_side, meeting_cost,
+    CrossingCost, Digits, LossCost, LossSides, LossSpread, MeetingCost, SecondCost, crossing_cost,
+    every_second_cost, heard_behind, limits_hold, longest_loss, loss_cost, loss_side, meeting_cost,
 };
 use fr_text::Piece::{Natural, Word};
 use fr_text::{Line, accepted, line_of, put_line, put_lines};
@@ -33,6 +33,8 @@ use std::alloc::Global;
 pub struct LossFigures {
     /// So many double cycles in a row.
     pub row: LossCost,
+    /// So many odd cycles and the even ones behind them.
+    pub crossing: CrossingCost,
     /// Every second double cycle for ever.
     pub second: SecondCost,
     /// Each double cycle for ever where lists meet.
@@ -72,11 +74,13 @@ fn figures_of(params: &Params, flutter: u64, count: u32) -> LossFigures
     requires to { count ≤ 1000 }
     ensures are { AreLossFigures params.now flutter count result }
     ensures row { result.row.reach ≤ most_lost }
+    ensures crossing { result.crossing.reach ≤ most_lost }
     ensures second { result.second.reach ≤ most_lost }
     ensures back { result.row.back ≤ 1002 }
 {
     LossFigures {
         row: loss_cost(params, flutter, count),
+        crossing: crossing_cost(params, flutter, count),
         second: every_second_cost(params, flutter),
         meeting: meeting_cost(params, flutter),
         longest: longest_loss(params, flutter),
@@ -92,6 +96,7 @@ fn print_losses<O: Sink>(
 ) -> Result<(), PutFault>
     requires flutter { flutter ≤ most_flutter }
     requires row { figures.now.row.reach ≤ most_lost }
+    requires crossing { figures.now.crossing.reach ≤ most_lost }
     requires second { figures.now.second.reach ≤ most_lost }
     requires back { figures.now.row.back ≤ 1002 }
     ensures { Puts result (O.state out.old) (O.state out.new) (loss_text params.now flutter count figures.now) }
@@ -110,6 +115,7 @@ fn put_behind<O: Sink>(
 ) -> Result<(), PutFault>
     requires flutter { flutter ≤ most_flutter }
     requires row { figures.now.row.reach ≤ most_lost }
+    requires crossing { figures.now.crossing.reach ≤ most_lost }
     requires second { figures.now.second.reach ≤ most_lost }
     requires back { figures.now.row.back ≤ 1002 }
     ensures { Puts result (O.state out.old) (O.state out.new)
@@ -172,9 +178,10 @@ fn apart_line(double: u32, apart: u128) -> Line
 }
 
 // The peak, the reach, the checks with it, how long the walk lasts, and the way back; and what is of the parameters alone.
-fn figure_lines(params: &Params, flutter: u64, figures: &LossFigures) -> [Option<Line>; 12]
+fn figure_lines(params: &Params, flutter: u64, figures: &LossFigures) -> [Option<Line>; 13]
     requires flutter { flutter ≤ most_flutter }
     requires row { figures.now.row.reach ≤ most_lost }
+    requires crossing { figures.now.crossing.reach ≤ most_lost }
     requires second { figures.now.second.reach ≤ most_lost }
     ensures { joined_lines result ≡ loss_figures_text params.now flutter figures.now }
 {
@@ -189,6 +196,7 @@ fn figure_lines(params: &Params, flutter: u64, figures: &LossFigures) -> [Option
         Some(check_line(params, flutter, reach, 5)),
         Some(lasts_line(params, false, flutter)),
         Some(value_line(b"back ", u64::from(figures.row.back))),
+        Some(crossing_line(params, flutter, &figures.crossing)),
         Some(second_line(params, flutter, &figures.second)),
         Some(meeting_line(params, flutter, &figures.meeting)),
         Some(longest_line(figures.longest)),
@@ -219,6 +227,19 @@ fn check_line(params: &Params, flutter: u64, reach: u128, number: u8) -> Line
         Natural(left),
         Word(b" "),
         Word(digits.bytes()),
+    ])
+}
+
+fn crossing_line(params: &Params, flutter: u64, crossing: &CrossingCost) -> Line
+    requires flutter { flutter ≤ most_flutter }
+    requires reach { crossing.now.reach ≤ most_lost }
+    ensures { result ≡ crossing_line params.now flutter crossing.now }
+{
+    let digits = Digits::of(crossing.peak);
+    line_of(&[
+        Word(b"crossing "),
+        Word(digits.bytes()),
+        Word(fails(limits_hold(params, flutter, crossing.reach))),
     ])
 }
 
