@@ -31,7 +31,7 @@ use Rattle.fr_runs.specs.Group.{Group, IsOf, WillHaveRow}
 use Rattle.fr_bound.specs.SharpBounds.{last_action, near_by, odd_spread, sharp_lambda, sharp_precision, steady_error, wide_change}
 use Rattle.fr_precision.specs.Lengths.{EvensAreAbout, IsNextEven, LengthsCome, WalksOn, next_length_error}
 use Rattle.fr_precision.specs.Ends.{EndsCome, SendApart, TakesOffsets}
-use Rattle.fr_precision.specs.Among.{both, AllOffsets, AllRates, CommonOffsets, CommonRates, GoesTo, LengthsGoTo, LieAcross, OffsetsSo, OwnOffsets, OwnOrKept, OwnRates, RatesSo, StartsGoTo}
+use Rattle.fr_precision.specs.Among.{both, AllOffsets, AllRates, CommonOffsets, CommonRates, LengthsGoTo, LieAcross, OffsetsSo, OwnOffsets, OwnOrKept, OwnRates, RatesSo, StartsGoTo}
 use Rattle.fr_precision.specs.SharpStep.{ActInReach, AreSharp, ComeSharply, IsSharpLimit}
 use Rattle.fr_promise.specs.SharpJoining.{all_heard, second_apart_by, sharp_group_spread, GroupGoesTo, GroupSpread}
 use Rattle.fr_promise.specs.SharpGroup.{AllIsHeard, AllIsHeardOfBoth, GroupHears, IsSteadyGroup, LastApart, SharpGroupsAreKept, StartApart, SteadyGroupsAreKept}
