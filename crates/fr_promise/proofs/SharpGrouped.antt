@@ -1,5 +1,5 @@
 -- The sharper step of a cluster that nodes join.
-use Rattle.std.proofs.Common.{◌≡◌, ℕ, ◌+◌, ◌-◌, ◌*◌, ◌/◌, ◌≤◌, Bool, true, false, ℤ, pos, List, ◌++◌, map, All, refl, sym, subst, inl, inr, arith}
+use Rattle.std.proofs.Common.{◌≡◌, ℕ, ◌+◌, ◌-◌, ◌*◌, ◌/◌, ◌≤◌, Bool, true, false, ℤ, pos, List, ◌++◌, map, All, refl, subst, inl, inr, arith}
 use Rattle.std.specs.Prelude.{◌⊎◌, ◌+ℤ◌, ◌-ℤ◌, ◌*ℤ◌, ◌≤ℤ◌, Contains}
 use Rattle.std.proofs.lemmas.Int.{ints}
 use Rattle.std.proofs.lemmas.List.Elements.{All-contains, All-contains_itself, All-map}
@@ -17,7 +17,6 @@ use Rattle.fr_bound.specs.declared.judging.Heard.TheVariants.{Clean, Meeting, Po
 use Rattle.fr_bound.specs.declared.judging.Heard.TheVariants as heard
 use Rattle.fr_precision.specs.declared.kinds.Kinds.{Kinds}
 use Rattle.fr_bound.specs.Bounds.{arrival_error, cycle_change, longest_micro}
-use Rattle.fr_bound.specs.SharpSpreads.{lost_lengths}
 use Rattle.fr_bound.specs.Sync.{cycle_length_of}
 use Rattle.fr_precision.specs.Rows.{corrected_end_of, end_of, Sender}
 use Rattle.fr_precision.specs.Instants.{gap_of, row_in, LieNear}
@@ -28,10 +27,10 @@ use Rattle.fr_precision.proofs.InstantLaws.{wider}
 use Rattle.fr_precision.proofs.OffsetLaws.{offset_terms_are_uncut}
 use Rattle.fr_precision.proofs.Senders.{All-along}
 use Rattle.fr_runs.specs.Group.{Group, IsOf, WillHaveRow}
-use Rattle.fr_bound.specs.SharpBounds.{last_action, near_by, odd_spread, sharp_lambda, sharp_precision, steady_error, wide_change}
-use Rattle.fr_precision.specs.Lengths.{EvensAreAbout, IsNextEven, LengthsCome, WalksOn, next_length_error}
+use Rattle.fr_bound.specs.SharpBounds.{last_action, near_by, odd_spread, sharp_precision, steady_error, wide_change}
+use Rattle.fr_precision.specs.Lengths.{EvensAreAbout, IsNextEven, WalksOn, next_length_error}
 use Rattle.fr_precision.specs.Ends.{EndsCome, SendApart, TakesOffsets}
-use Rattle.fr_precision.specs.Among.{both, AllOffsets, AllRates, CommonOffsets, CommonRates, LengthsGoTo, LieAcross, OffsetsSo, OwnOffsets, OwnOrKept, OwnRates, RatesSo, StartsGoTo}
+use Rattle.fr_precision.specs.Among.{both, AllOffsets, AllRates, CommonOffsets, LengthsGoTo, LieAcross, OffsetsSo, OwnOffsets, OwnOrKept, OwnRates, RatesSo, StartsGoTo}
 use Rattle.fr_precision.specs.SharpStep.{ActInReach, AreSharp, ComeSharply, IsSharpLimit}
 use Rattle.fr_promise.specs.SharpJoining.{all_heard, second_apart_by, sharp_group_spread, GroupGoesTo, GroupSpread}
 use Rattle.fr_promise.specs.SharpGroup.{AllIsHeard, AllIsHeardOfBoth, GroupHears, IsSteadyGroup, LastApart, SharpGroupsAreKept, StartApart, SteadyGroupsAreKept}
@@ -39,8 +38,9 @@ use Rattle.fr_precision.proofs.AmongSteps.{sends}
 use Rattle.fr_precision.proofs.BoundLemmas.{floor_is, key_slots_act_early}
 use Rattle.fr_precision.proofs.EndLemmas.{end_is_near, ending_of, ends_come_among_lem, ends_come_near_lem, Ending}
 use Rattle.fr_promise.proofs.JoinBounds.{sharp_group_spread_goes}
-use Rattle.fr_precision.proofs.LengthLemmas.{lengths_come_among_lem, lengths_come_near_lem, near_length, range_walks}
-use Rattle.fr_precision.proofs.MeetingSteps.{ends_come, lengths_come, lengths_itself, none_apart, of_one, of_other}
+use Rattle.fr_precision.proofs.LengthLemmas.{near_length, range_walks}
+use Rattle.fr_precision.proofs.HeardSteps.{lengths_so}
+use Rattle.fr_precision.proofs.MeetingSteps.{ends_come, none_apart, of_one, of_other}
 use Rattle.fr_precision.proofs.NearLemmas.{actions_lie_near, odd_lengths_follow}
 use Rattle.fr_promise.proofs.SharpListened.{sharp_first_length_is_near, sharp_first_start_is_near}
 use Rattle.fr_precision.proofs.StepLemmas.{among_rows, ends_fit, le_itself, macroticks_stay_sharp, next_is_near, nodes_near, runs_of, senders_about, senders_near, some_senders, turned, Double}
@@ -71,9 +71,6 @@ odds_wider p a b le = step a b (cycle_change p) le
 poor_sum : (s l o e q : ℕ) (x : ℤ) → IsWithin (pos s +ℤ pos l +ℤ pos o +ℤ pos (2 * e + 3 * q)) x → IsWithin (pos (s + l + o + 2 * e + 3 * q)) x
 poor_sum s l o e q x near = record { low = omega (arith, ints, near.low); high = omega (arith, ints, near.high) }
 
-lengths_sum : (l m n : ℕ) (x : ℤ) → l + m ≤ n → IsWithin (pos l +ℤ pos m) x → IsWithin (pos n) x
-lengths_sum l m n x le near = record { low = omega (arith, ints, near.low); high = omega (arith, ints, near.high) }
-
 -- the next starts take in those of nodes whose lengths lie as near as all
 starts_by : (what : Heard) (p : Values) (starts lengths next_starts : ℕ) → StartsGoTo what p starts lengths next_starts → second_apart_by what p starts lengths lengths ≤ next_starts
 starts_by Clean p starts lengths next_starts goes = goes
@@ -82,15 +79,6 @@ starts_by Meeting p starts lengths next_starts goes = half (starts + lengths + 2
     half : (a n : ℕ) → a ≤ 2 * n + 1 → a / 2 ≤ n
     half a n le = omega (arith, le)
 starts_by Poor p starts lengths next_starts goes = goes
-
--- and the next lengths those that come near, where all is heard
-lengths_to : (beside : Bool) (p : Values) (flutter lengths next_lengths : ℕ) (apart : ℤ) → LengthsGoTo (all_heard beside) p flutter lengths next_lengths → LengthsCome beside p flutter (pos lengths) apart
-    → IsWithin (pos next_lengths) apart
-lengths_to false p flutter lengths next_lengths apart goes come = widen (sharp_lambda false p flutter) next_lengths apart goes come
-lengths_to true p flutter lengths next_lengths apart goes come = half lengths (sharp_lambda true p flutter) next_lengths apart goes come
-  where
-    half : (k l n : ℕ) (x : ℤ) → k + l ≤ 2 * n + 1 → IsWithin (pos k +ℤ pos l) (pos 2 *ℤ x) → IsWithin (pos n) x
-    half k l n x le near = record { low = omega (arith, ints, le, near.low); high = omega (arith, ints, le, near.high) }
 
 -- a corrected end, a reference's end and a first start
 first_start_sum : (s l j e t q n : ℕ) (end other start : ℤ) → s + 2 * l + 4 * j + 2 * e + t + 4 * q ≤ n → IsWithin (pos s +ℤ pos l +ℤ pos (l + 2 * j) +ℤ pos (e + 2 * q)) (end -ℤ other)
@@ -341,17 +329,6 @@ module _
       (odd_lengths_follow p lengths one.even one.odd other.even other.odd s.sane (regular one here) (regular other there) near)
       )
 
-  lengths_own : (next_lengths : ℕ) (one other : Member) (even other_even : NodeRow) → lost_lengths p flutter now.rows.lengths ≤ next_lengths → OwnRates p flutter g.rows one → OwnRates p flutter g.rows other
-      → IsNextEven p one.odd one.rate_term even → IsNextEven p other.odd other.rate_term other_even → IsWithin (pos next_lengths) (cycle_length_of p even -ℤ cycle_length_of p other_even)
-  lengths_own next_lengths one other even other_even longer is as_well after other_after =
-      lengths_sum now.rows.lengths (2 * steady_error p flutter + 2 * (amount p name.pClusterDriftDamping * longest_micro p) + 2 * cycle_change p) next_lengths (cycle_length_of p even -ℤ cycle_length_of p other_even) longer
-      (
-      lengths_come_among_lem p flutter is.senders as_well.senders (pos now.rows.lengths) beyond walk one.odd other.odd one.rates other.rates one.rate_term other.rate_term even other_even s.sane s.walks
-      is.some as_well.some (about is.senders is.among) (about as_well.senders as_well.among)
-      (across (λ sender. cycle_length_of p sender.even) (pos now.rows.lengths) is.senders as_well.senders is.among as_well.among (λ x y among also_among. (pair_near x y among also_among).by_even))
-      is.round as_well.round after other_after
-      )
-
   -- ---- any two that hear enough in common
 
   ends_common : (lengths : ℕ) (one other : Member) → now.rows.lengths ≤ lengths → IsOf g one → IsOf g other → IsPlaced p g.rows lengths reach one → IsPlaced p g.rows lengths reach other → LastApart p lengths one other
@@ -373,21 +350,6 @@ module _
       is.common is.own is.other_own among other_among acts other_acts is.enough
       (takes lengths one here placed (is.common ++ is.own) among acts is.round)
       (takes lengths other there also (is.common ++ is.other_own) other_among other_acts is.other_round)
-      )
-
-  lengths_common : (next_lengths : ℕ) (one other : Member) (even other_even : NodeRow) → LengthsGoTo heard.Meeting p flutter now.rows.lengths next_lengths → OwnRates p flutter g.rows one
-      → (one ≡ other) ⊎ CommonRates p flutter g.rows one other
-      → IsNextEven p one.odd one.rate_term even → IsNextEven p other.odd other.rate_term other_even → IsWithin (pos next_lengths) (cycle_length_of p even -ℤ cycle_length_of p other_even)
-  lengths_common next_lengths one other even other_even goes own (inl same) after other_after =
-      let Next : Member → Type 0 = λ node. IsNextEven p node.odd node.rate_term other_even in
-      lengths_itself p flutter own.senders now.rows.lengths next_lengths beyond walk one even other_even s.sane s.walks goes own.some (about own.senders own.among) own.round after
-      (subst Next (sym same) other_after)
-  lengths_common next_lengths one other even other_even goes own (inr is) after other_after =
-      lengths_to true p flutter now.rows.lengths next_lengths (cycle_length_of p even -ℤ cycle_length_of p other_even) goes
-      (
-      lengths_come p flutter g.rows now.rows.starts now.rows.lengths beyond walk reach (pos (last_action p)) limit rows_act double one other is.common is.own is.other_own
-      (of_one (IsAmong g.rows) is.common is.own is.other_own is.among) (of_other (IsAmong g.rows) is.common is.own is.other_own is.among)
-      is.enough is.round is.other_round even other_even after other_after
       )
 
   -- ---- any two, where all is heard
@@ -412,16 +374,6 @@ module _
       (odd_lengths_follow p lengths one.even one.odd other.even other.odd s.sane (regular one here) (regular other there) near) (all.keep one other here there)
       )
 
-  lengths_all : (beside : Bool) → AllRates beside p flutter senders g.rows (λ node. IsOf g node) → (next_lengths : ℕ) (one other : Member) (even other_even : NodeRow)
-      → LengthsGoTo (all_heard beside) p flutter now.rows.lengths next_lengths → IsOf g one → IsOf g other
-      → IsNextEven p one.odd one.rate_term even → IsNextEven p other.odd other.rate_term other_even → IsWithin (pos next_lengths) (cycle_length_of p even -ℤ cycle_length_of p other_even)
-  lengths_all beside all next_lengths one other even other_even goes here there after other_after =
-      lengths_to beside p flutter now.rows.lengths next_lengths (cycle_length_of p even -ℤ cycle_length_of p other_even) goes
-      (
-      lengths_come_near_lem beside p flutter senders (pos now.rows.lengths) beyond walk one.odd other.odd one.rates other.rates one.rate_term other.rate_term even other_even s.sane s.walks (about senders s.among)
-      (send_all now.rows.lengths (le_itself now.rows.lengths)).by_even (all.rounds one here) (all.rounds other there) (all.keep one other here there) after other_after
-      )
-
   -- ---- by what is heard: ends by offsets, and lengths by rates
 
   ends : (what : Heard) → OffsetsSo what p senders g.rows (pos (last_action p)) (λ node. IsOf g node) → (lengths : ℕ) (one other : Member) → now.rows.lengths ≤ lengths → IsOf g one → IsOf g other
@@ -435,13 +387,12 @@ module _
   lasts : (what : Heard) → RatesSo what false p flutter senders g.rows (λ node. IsOf g node) → (next_lengths : ℕ) → LengthsGoTo what p flutter now.rows.lengths next_lengths → (one other : Member) (even other_even : NodeRow)
       → IsOf g one → IsOf g other → IsNextEven p one.odd one.rate_term even → IsNextEven p other.odd other.rate_term other_even
       → IsWithin (pos next_lengths) (cycle_length_of p even -ℤ cycle_length_of p other_even)
-  lasts Clean hears next_lengths goes one other even other_even here there = lengths_all false hears next_lengths one other even other_even goes here there
-  lasts Meeting (inl hears) next_lengths goes one other even other_even here there = lengths_all true hears next_lengths one other even other_even goes here there
-  lasts Meeting (inr hears) next_lengths goes one other even other_even here there =
-      lengths_common next_lengths one other even other_even goes (hears.each one here) (hears.two one other here there)
-  lasts Poor hears next_lengths goes one other even other_even here there =
-      let Is : Member → Type 0 = λ node. IsOf g node in
-      lengths_own next_lengths one other even other_even goes (own_rates heard.Poor p flutter senders g.rows Is hears one here) (own_rates heard.Poor p flutter senders g.rows Is hears other there)
+  lasts what hears next_lengths goes one other even other_even here there =
+      lengths_so p flutter g.rows now.rows.starts now.rows.lengths beyond walk reach (pos (last_action p)) limit rows_act double senders false (λ node. IsOf g node) none_keeps one other here there what next_lengths goes hears
+      even other_even
+    where
+      none_keeps : false ≡ true → (node : Member) → IsOf g node → Contains g.rows node
+      none_keeps never node here = absurd (cc never)
 
 -- ---- the step
 
