@@ -1,28 +1,26 @@
 -- The step of a double cycle by what is heard in it: ends by offsets, lengths by rates.
-use Rattle.std.proofs.Common.{◌≡◌, ◌⊎◌, ℕ, ◌+◌, ◌*◌, ◌≤◌, Bool, true, false, ℤ, pos, List, ◌++◌, length, map, All, inl, inr, refl, sym, subst, arith}
+use Rattle.std.proofs.Common.{◌≡◌, ◌⊎◌, ℕ, ◌+◌, ◌*◌, ◌≤◌, Bool, true, false, ℤ, pos, List, ◌++◌, All, inl, inr, sym, subst, arith}
 use Rattle.std.specs.Prelude.{◌+ℤ◌, ◌-ℤ◌, ◌*ℤ◌, ◌≤ℤ◌, Contains}
 use Rattle.std.proofs.lemmas.Int.{ints}
 use Rattle.fr_base.specs.declared.node_row.NodeRow.{NodeRow}
 use Rattle.fr_base.specs.declared.state.Outcome.TheVariants.{Within}
 use Rattle.fr_base.specs.Within.{IsBetween, IsWithin}
-use Rattle.fr_cluster.specs.Values.{Values, amount}
-use Rattle.fr_cluster.specs.declared.names.ParamName.TheVariants as name
+use Rattle.fr_cluster.specs.Values.{Values}
 use Rattle.fr_bound.specs.Bounds.{arrival_error, cycle_change, longest_micro}
-use Rattle.fr_bound.specs.SharpBounds.{odd_spread, sharp_lambda, steady_error}
+use Rattle.fr_bound.specs.SharpBounds.{odd_spread, sharp_lambda}
 use Rattle.fr_bound.specs.Sync.{cycle_length_of}
 use Rattle.fr_bound.specs.declared.judging.Heard.{Heard}
 use Rattle.fr_bound.specs.declared.judging.Heard.TheVariants.{Clean, Meeting, Poor}
-use Rattle.fr_precision.specs.Among.{AllOffsets, AllRates, CommonOffsets, CommonRates, HeardSpreadsGo, LengthsGoTo, MeetingOffsets, MeetingRates, OffsetsSo, OwnOffsets, RatesSo, StartsGoTo}
-use Rattle.fr_precision.specs.Ends.{EndsCome, SendApart, TakesOffsets}
-use Rattle.fr_precision.specs.Lengths.{EvensWithin, IsNextEven, KeepSenders, LengthsCome, WalksOn}
+use Rattle.fr_precision.specs.Among.{AllOffsets, AllRates, CommonOffsets, CommonRates, HeardSpreadsGo, LengthsGoTo, OffsetsSo, RatesSo, StartsGoTo}
+use Rattle.fr_precision.specs.Ends.{EndsCome, SendApart}
+use Rattle.fr_precision.specs.Lengths.{EvensWithin, IsNextEven, LengthsCome, WalksOn}
 use Rattle.fr_precision.specs.Rows.{corrected_end_of, Sender}
 use Rattle.fr_precision.specs.SharpStep.{ActInReach, IsSharpLimit}
 use Rattle.fr_precision.specs.Step.{IsAmong, Member}
 use Rattle.fr_precision.proofs.AmongSteps.{across, ends_own, lengths_or, odds, range_or, range_own, sends, starts_sum, takes_of, two, uncut_own}
 use Rattle.fr_precision.proofs.EndLemmas.{ends_come_near_lem}
-use Rattle.fr_precision.proofs.LengthLemmas.{lengths_come_near_lem, range_walks}
+use Rattle.fr_precision.proofs.LengthLemmas.{lengths_come_near_lem}
 use Rattle.fr_precision.proofs.MeetingSteps.{ends_come, lengths_come, lengths_itself, none_apart, of_one, of_other}
-use Rattle.fr_precision.proofs.OffsetLaws.{offset_terms_are_uncut}
 use Rattle.fr_precision.proofs.StepLemmas.{le_itself, nodes_near, senders_about, some_senders, Double}
 
 -- ---- how near the next starts lie where ends come so near, and the next lengths

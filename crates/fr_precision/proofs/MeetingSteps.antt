@@ -1,9 +1,9 @@
 -- The step of a double cycle in which lists meet: two nodes that have enough senders in common come half as near.
-use Rattle.std.proofs.Common.{◌≡◌, ℕ, ◌+◌, ◌*◌, ◌≤◌, true, ℤ, pos, List, [], ◌∷◌, ◌++◌, length, map, All, refl, arith}
-use Rattle.std.specs.Prelude.{◌+ℤ◌, ◌-ℤ◌, ◌*ℤ◌, ◌≤ℤ◌, Contains}
+use Rattle.std.proofs.Common.{◌≡◌, ℕ, ◌+◌, ◌*◌, ◌≤◌, true, ℤ, pos, List, [], ◌∷◌, ◌++◌, length, All, refl, arith}
+use Rattle.std.specs.Prelude.{◌+ℤ◌, ◌-ℤ◌, ◌*ℤ◌, ◌≤ℤ◌}
 use Rattle.std.proofs.lemmas.Int.{ints}
 use Rattle.std.proofs.lemmas.List.{length-append}
-use Rattle.std.proofs.lemmas.List.Elements.{All-append, All-cons, All-contains, All-head, All-nil, All-tail}
+use Rattle.std.proofs.lemmas.List.Elements.{All-append, All-cons, All-head, All-nil, All-tail}
 use Rattle.fr_base.specs.declared.node_row.NodeRow.{NodeRow}
 use Rattle.fr_base.specs.Within.{IsBetween, IsWithin}
 use Rattle.fr_cluster.specs.Values.{Values, amount}
@@ -13,23 +13,21 @@ use Rattle.fr_midpoint.specs.Midpoint.{discarded}
 use Rattle.fr_midpoint.specs.Receivers.{place_at}
 use Rattle.fr_bound.specs.Bounds.{arrival_error, cycle_change, longest_micro}
 use Rattle.fr_bound.specs.SharpBounds.{odd_spread, sharp_lambda, steady_error, wide_change}
-use Rattle.fr_bound.specs.SharpSpreads.{lost_lengths, lost_starts}
 use Rattle.fr_bound.specs.Sync.{cycle_length_of}
 use Rattle.fr_precision.specs.Rows.{corrected_end_of, Sender}
 use Rattle.fr_precision.specs.Instants.{LieNear}
 use Rattle.fr_precision.specs.Offsets.{IsDeviation, IsOffsetRound}
-use Rattle.fr_precision.specs.Placement.{IsRegular}
 use Rattle.fr_precision.specs.Step.{IsAmong, Member}
-use Rattle.fr_precision.proofs.OffsetLaws.{micro_lasts, offset_terms_are_uncut}
+use Rattle.fr_precision.proofs.OffsetLaws.{micro_lasts}
 use Rattle.fr_precision.specs.Ends.{EndsCome, TakesOffsets}
 use Rattle.fr_precision.specs.Lengths.{CanWalk, EvensAreAbout, IsNextEven, IsSteadyRound, LengthsCome}
 use Rattle.fr_precision.specs.Steady.{between_actions, placed_length, PlacesEven}
-use Rattle.fr_precision.specs.SharpStep.{ActInReach, AreSharp, ComeSharply, DrawsTo, IsSharpLimit}
+use Rattle.fr_precision.specs.SharpStep.{ActInReach, IsSharpLimit}
 use Rattle.fr_precision.proofs.AmongSteps.{sends, two, widen}
 use Rattle.fr_precision.proofs.EndLemmas.{beside_ends, corrected, cross_value, ends_at, pair_of, same_value}
-use Rattle.fr_precision.proofs.LengthLemmas.{beside_sum, cross_sum, damping_is, far_of, far_to, next_near, range_walks, rates_at, round_of, same_sum}
+use Rattle.fr_precision.proofs.LengthLemmas.{beside_sum, cross_sum, damping_is, far_of, far_to, next_near, rates_at, round_of, same_sum}
 use Rattle.fr_precision.proofs.MeetingReceivers.{two_meeting, Meet}
-use Rattle.fr_precision.proofs.StepLemmas.{ends_by, lengths_by, le_itself, nodes_near, senders_about, Double}
+use Rattle.fr_precision.proofs.StepLemmas.{senders_about, Double}
 
 -- ---- a list and its parts
 

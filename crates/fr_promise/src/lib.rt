@@ -19,8 +19,7 @@ mod tested;
 mod way;
 
 pub use among::{
-    heard_numbers, losses_cost, losses_last, lost_numbers, nodes_come_among,
-    strays_are_held,
+    heard_numbers, losses_cost, losses_last, lost_numbers, nodes_come_among, strays_are_held,
 };
 pub use following::followers_hear_steadily;
 pub use grouping::{sharp_groups_are_kept, steady_groups_are_kept};
