@@ -74,7 +74,8 @@ class SharpBound:
 @dataclass(frozen=True)
 class LostBound:
     """How far clocks come apart where any frames are lost in `lost` double cycles in a row, and all is heard in each later one;
-    without arbitrary sync nodes. `apart` is by double cycle, up to `back`, from which on it is `precision`. `every_second` is for
+    without arbitrary sync nodes. `apart` is by double cycle, up to `back`, from which on it is `precision`. `crossing` is for as many
+    odd cycles and the even ones behind them, and `crossing_holds` whether the checks from 3 to 5 hold for that. `every_second` is for
     ever, where all is heard in one of any two in a row, and `every_second_holds` whether the checks from 3 to 5 hold for that.
     `meeting` is for ever too, where each node misses the frames of `missed` other sync nodes at most in each double cycle and none
     is damaged, and `meeting_holds` whether these checks hold for that. `longest` is how many in a row they bear, None where they
@@ -93,6 +94,8 @@ class LostBound:
     checks: tuple[Check, ...]
     lasts: int | None
     back: int
+    crossing: int
+    crossing_holds: bool
     every_second: int
     every_second_holds: bool
     meeting: int

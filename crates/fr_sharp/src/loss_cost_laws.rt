@@ -1,5 +1,5 @@
 ghost use Rattle.fr_sharp.specs.LossBursts.{BurstsCostNoMore, BurstsKeepThePeak, EverySecondCostsNoMore, EverySecondKeepsThePeak};
-ghost use Rattle.fr_sharp.specs.LossCosts.{EverySecondIsReached, OneLongest, OneLossCost, OneSecondCost, SomeLongest, SomeLossCost, SomeSecondCost};
+ghost use Rattle.fr_sharp.specs.LossCosts.{EverySecondIsReached, OneCrossingCost, OneLongest, OneLossCost, OneSecondCost, SomeCrossingCost, SomeLongest, SomeLossCost, SomeSecondCost};
 ghost use Rattle.fr_sharp.specs.MeetingCosts.{OneMeetingCost, SomeMeetingCost};
 
 use crate::losing::histories_keep_through_losses;
@@ -8,6 +8,7 @@ use fr_promise::heard_numbers;
 /// A law: what losses cost, in ticks, is one answer, and so is how many double cycles in a row the limits bear.
 pub fn costs_are_one()
     ensures row { OneLossCost }
+    ensures crossing { OneCrossingCost }
     ensures second { OneSecondCost }
     ensures meeting { OneMeetingCost }
     ensures longest { OneLongest }
@@ -17,6 +18,7 @@ pub fn costs_are_one()
 /// precision and what a loss adds to it.
 pub fn costs_are_there()
     ensures row { SomeLossCost }
+    ensures crossing { SomeCrossingCost }
     ensures second { SomeSecondCost }
     ensures meeting { SomeMeetingCost }
     ensures longest { SomeLongest }
