@@ -653,19 +653,3 @@ module _ (keep : LossyDoublesKeep) (stay : LossyDoublesStayApart) (goes : Spread
 pub histories_keep_through_losses_lem : LossyDoublesKeep → LossyDoublesStayApart → SpreadsGo → HistoriesKeepThroughLosses
 histories_keep_through_losses_lem keep stay goes beside x from flutter h double reach w late checks fits strays sync awake passed within before =
     keeps_through keep stay goes beside x from flutter h double reach w late checks fits strays sync awake (omega (arith, within)) passed within before
-
--- ---- back in sharp sync
-
-pub sharp_after_two_whole : SharpAfterTwoWhole
-sharp_after_two_whole p flutter whole passed first second third =
-    let now = heard_again p flutter whole passed first second in
-    let later = heard_again p flutter whole (suc passed) second third in
-    let pi = sharp_pi false p flutter in
-    let Apart : ℕ → ℕ → ℕ → Type 0 = λ s l n. max (precision_by p s l) (n + longest_micro p) ≡ sharp_precision false p flutter in
-    let By_next : ℕ → Type 0 = λ n. Apart pi (sharp_lambda false p flutter) n in
-    let By_lengths : ℕ → Type 0 = λ l. Apart pi l (lost_spread p flutter whole (suc (suc (suc passed)))).starts in
-    let By_starts : ℕ → Type 0 = λ s. Apart s (lost_spread p flutter whole (suc (suc passed))).lengths (lost_spread p flutter whole (suc (suc (suc passed)))).starts in
-    subst By_starts (sym now.1) (subst By_lengths (sym now.0) (subst By_next (sym later.1) (settled pi (sharp_lambda false p flutter) (odd_spread p (sharp_lambda false p flutter)) (longest_micro p))))
-  where
-    settled : (s l o q : ℕ) → max (s + l + o + 2 * q) (s + q) ≡ s + l + o + 2 * q
-    settled s l o q = grind arith

@@ -1,5 +1,6 @@
 use Rattle.fr_sharp.proofs.BearingKinds.{through_is_apart}
-use Rattle.fr_sharp.proofs.LostHistories.{histories_keep_through_losses_lem, sharp_after_two_whole}
+use Rattle.fr_sharp.proofs.LossLemmas.{sharp_after_two_whole}
+use Rattle.fr_sharp.proofs.LostHistories.{histories_keep_through_losses_lem}
 use Rattle.fr_sharp.proofs.losing.histories_keep_through_losses.Goals as goal
 
 pub returns-clause-keep : goal.returns-clause-keep

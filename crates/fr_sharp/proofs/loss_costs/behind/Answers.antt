@@ -1,6 +1,7 @@
 use Rattle.std.proofs.Common.{◌≡◌, ◌∙◌, ℕ, false, ap, sym, arith}
 use Rattle.fr_bound.specs.SharpSpreads.{next_lost_spread}
-use Rattle.fr_precision.specs.Among.{lost_spread}
+use Rattle.fr_precision.specs.Among.{kinds_spread, lost_spread}
+use Rattle.fr_precision.specs.declared.kinds.Kinds.{Kinds}
 use Rattle.fr_sharp.proofs.LossNumbers.{first_of, never, never_heard, never_more, same_yet}
 use Rattle.fr_sharp.proofs.loss_costs.behind.Goals as goal
 
@@ -15,7 +16,9 @@ loop-double-preserved c =
     let p = c.args.params.now in
     let was = c.loop-double.invariant in
     record {
-      spread = c.step.ensures.spread ∙ ap (next_lost_spread false p c.args.flutter) was.spread ∙ never_more p c.args.flutter c.loop-double._double;
+      spread =
+          c.step.ensures.spread ∙ ap (λ (what : Kinds). kinds_spread what p c.args.flutter c.loop-double.spread.spread) c.both.ensures
+          ∙ ap (next_lost_spread false p c.args.flutter) was.spread ∙ never_more p c.args.flutter c.loop-double._double;
       passed = omega (arith, c.step.ensures.passed, was.passed);
     }
 
