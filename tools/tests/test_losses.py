@@ -149,13 +149,17 @@ class Bordering(Bench):
                 (self.heard(2, {}, 1), ("all", MEETING, False)), (self.heard(8, {1: [2, 3], 2: [4, 5]}, 1), ("most", MEETING, True)),
                 (self.heard(8, {1: [2, 3, 4], 2: [5, 6, 7]}, 1), ("any", POOR, True)), (self.heard(8, {}, 2), ("all", MEETING, True)),
                 (self.heard(8, {1: [2]}, 2), ("most", MEETING, False)), (self.heard(10, {1: [2, 3], 2: [3]}, 2), ("most", MEETING, True)),
-                (self.heard(10, {1: [2, 3], 2: [4, 5]}, 2), ("any", POOR, True)), (self.heard(10, {1: [2, 3, 4]}, 2), ("most", MEETING, False)),
+                (self.heard(10, {1: [2, 3], 2: [4, 5]}, 2), ("any", POOR, True)),
+                (self.heard(10, {1: [2, 3, 4]}, 2), ("most", MEETING, False)),
                 # One that says nothing counts as none, but that all is heard costs as beside one that does.
                 (self.heard(4, {}, 1, says=[0]), ("all", MEETING, True)), (self.heard(4, {1: [2]}, 1, says=[0]), ("most", MEETING, True)),
-                (self.heard(4, {1: [2, 3]}, 1, says=[0]), ("any", POOR, True)), (self.heard(8, {1: [2]}, 2, says=[0, 0]), ("most", MEETING, True)),
+                (self.heard(4, {1: [2, 3]}, 1, says=[0]), ("any", POOR, True)),
+                (self.heard(8, {1: [2]}, 2, says=[0, 0]), ("most", MEETING, True)),
                 # One that says something to some counts there alone.
-                (self.heard(4, {1: [2, 3]}, 1, says=[1]), ("any", POOR, False)), (self.heard(4, {2: [1, 3]}, 1, says=[1]), ("any", POOR, True)),
-                (self.heard(8, {1: [2]}, 2, says=[1, 0]), ("most", MEETING, True)), (self.heard(8, {1: [2]}, 2, says=[1, 1]), ("most", MEETING, False)),
+                (self.heard(4, {1: [2, 3]}, 1, says=[1]), ("any", POOR, False)),
+                (self.heard(4, {2: [1, 3]}, 1, says=[1]), ("any", POOR, True)),
+                (self.heard(8, {1: [2]}, 2, says=[1, 0]), ("most", MEETING, True)),
+                (self.heard(8, {1: [2]}, 2, says=[1, 1]), ("most", MEETING, False)),
                 (self.heard(2, {}, 1, says=[0]), ("all", MEETING, True))):
             with self.subTest(what=what, wanted=wanted):
                 self.assertEqual(what, wanted)
@@ -188,8 +192,10 @@ class Bordering(Bench):
                 ({8: -1}, every, 0, None, ("any", POOR, False)), ({8: -1}, but(8), 0, None, ("any", POOR, True)),
                 ({9: -1}, but(9), 0, None, ("any", POOR, True)), ({9: -1}, every, 0, None, ("any", POOR, False)),
                 # Of the seven that stay two lists, each with a value of node 8 perhaps, may miss two each where some is in common.
-                ({8: 0}, {1: [2, 3], 2: [1, 3]}, 0, None, ("most", MEETING, True)), ({8: 0}, {1: [2, 3], 2: [4, 5]}, 0, None, ("most", MEETING, True)),
-                ({8: 0}, {1: [2, 3, 4], 2: [5, 6]}, 0, None, ("any", POOR, True)), ({8: 0}, {1: [2, 3], 8: [4, 5, 6]}, 0, None, ("most", MEETING, True)),
+                ({8: 0}, {1: [2, 3], 2: [1, 3]}, 0, None, ("most", MEETING, True)),
+                ({8: 0}, {1: [2, 3], 2: [4, 5]}, 0, None, ("most", MEETING, True)),
+                ({8: 0}, {1: [2, 3, 4], 2: [5, 6]}, 0, None, ("any", POOR, True)),
+                ({8: 0}, {1: [2, 3], 8: [4, 5, 6]}, 0, None, ("most", MEETING, True)),
                 ({8: -1}, {1: [2, 3], 8: [4, 5, 6]}, 0, None, ("any", POOR, True)),
                 # Beside an arbitrary node all is heard as where lists meet, however few stay.
                 ({8: 0, 4: 0, 3: 0}, {}, 1, None, ("all", MEETING, True)), ({8: 0}, first({1: 2}), 1, None, ("most", MEETING, True)),
@@ -206,7 +212,7 @@ class Bordering(Bench):
                 self.assertEqual(found.is_whole, not lost)
 
     def test_what_bursts_cost(self):
-        """One that takes an odd cycle and the next even one counts for starts once, and for lengths twice; an even cycle for lengths alone."""
+        """One that takes an odd cycle and the next even one counts for starts once, for lengths twice; an even cycle for lengths alone."""
         for values in (PRODUCTION, {**PRODUCTION, **CHANGING}):
             n = losses_peer.Numbers(values, 8, 0)
             kept, rates = n.precision, losses_peer.Kinds("clean", "poor")
