@@ -1,6 +1,6 @@
 -- A double cycle of a run that nodes join in which frames may be lost: the nodes with rows hear what is said of it, and so do those that
 -- follow.
-use Rattle.std.proofs.Common.{◌≡◌, ◌⊎◌, ℕ, ◌+◌, Bool, true, false, ◌&&◌, ◌||◌, not, pos, ℤ, Option, None, Some, ◌∷◌, length, map, refl, ap, sym, ◌∙◌, subst, inl, inr, arith}
+use Rattle.std.proofs.Common.{◌≡◌, ℕ, Bool, true, false, ◌||◌, not, pos, ℤ, Option, None, Some, ◌∷◌, length, map, refl, ap, sym, ◌∙◌, subst, inl, inr, arith}
 use Rattle.std.specs.Prelude.{Contains, ◌<◌, nat_eq, nat_lt}
 use Rattle.std.proofs.lemmas.Bool.{and_parts}
 use Rattle.std.proofs.lemmas.Bool.Decides.{nat_tests}
@@ -9,7 +9,7 @@ use Rattle.fr_cluster.specs.Setting.{Setting, correct_nodes}
 use Rattle.fr_cluster.specs.declared.join.Join.{Join}
 use Rattle.fr_cluster.specs.declared.nodes.NodeSpec.{NodeSpec}
 use Rattle.fr_bound.specs.SharpBounds.{last_action}
-use Rattle.fr_precision.specs.Among.{OffsetsSo, OwnOffsets, OwnOrKept, RatesSo}
+use Rattle.fr_precision.specs.Among.{OffsetsSo, RatesSo}
 use Rattle.fr_precision.specs.Placement.{IsRegular}
 use Rattle.fr_precision.specs.Reception.{LeavesRoom}
 use Rattle.fr_precision.specs.Round.{senders_of, Hearer}
@@ -32,7 +32,7 @@ use Rattle.fr_runs.proofs.KeyedCounts.{all_pass}
 use Rattle.fr_runs.proofs.Nodes.{correct_node}
 use Rattle.fr_runs.proofs.RowsSupplied.{sending, timed_rows_from, LawfulRows}
 use Rattle.fr_promise.specs.SharpFollowing.{AreFollowersInReach}
-use Rattle.fr_promise.specs.SharpGroup.{GroupHears, TakesInGroup}
+use Rattle.fr_promise.specs.SharpGroup.{TakesInGroup}
 use Rattle.fr_promise.specs.SharpJoined.{IsFollowedDouble, IsFollowedHearing}
 use Rattle.fr_promise.specs.SharpJoining.{GroupSpread}
 use Rattle.fr_promise.proofs.FollowersSupplied.{follower_regular, pairs_steady as follower_pairs, receiving as follower_receiving}
