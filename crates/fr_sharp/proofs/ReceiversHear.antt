@@ -1,7 +1,7 @@
 -- What some receivers of a double cycle hear of each kind, nodes with rows or nodes that follow: all of all, any two enough in common, or
 -- each what it has.
-use Rattle.std.proofs.Common.{◌≡◌, ◌⊎◌, ℕ, ◌+◌, ◌*◌, ◌==◌, ◌&&◌, ◌||◌, Bool, true, false, not, ℤ, pos, Option, Some, None, length, map, refl, ap, sym, ◌∙◌, subst, inl, inr, arith, if◌then◌else◌}
-use Rattle.std.specs.Prelude.{◌≤◌, Contains, is_some, nat_eq, nat_le, nat_lt, List}
+use Rattle.std.proofs.Common.{◌≡◌, ◌⊎◌, ℕ, ◌+◌, ◌==◌, ◌||◌, Bool, true, false, not, ℤ, pos, Option, Some, None, refl, ap, ◌∙◌, subst, inl, inr, arith}
+use Rattle.std.specs.Prelude.{◌≤◌, Contains, is_some, nat_le, nat_lt, List}
 use Rattle.std.proofs.lemmas.Bool.{and_parts, eqb-true}
 use Rattle.std.proofs.lemmas.Bool.Decides.{nat_tests}
 use Rattle.fr_base.specs.Within.{IsBetween}
@@ -11,7 +11,6 @@ use Rattle.fr_cluster.specs.Values.{Values}
 use Rattle.fr_cluster.specs.declared.join.Join.{Join}
 use Rattle.fr_cluster.specs.declared.nodes.NodeSpec.{NodeSpec}
 use Rattle.fr_bound.specs.SharpBounds.{last_action}
-use Rattle.fr_bound.specs.declared.judging.Heard.{Heard}
 use Rattle.fr_measure.specs.Values.{offset_at, rate_at}
 use Rattle.fr_precision.specs.Among.{AllOffsets, AllRates, CommonOffsets, CommonRates, MeetingOffsets, MeetingRates, OffsetsSo, OwnOffsets, OwnOrKept, OwnRates, RatesSo}
 use Rattle.fr_precision.specs.Hearing.{AllowsArbitrary}
