@@ -1,3 +1,5 @@
 pub mod TrafficCounts
 pub mod HeardEvents
 pub mod BearingCounts
+pub mod HeardLists
+pub mod MeetingRows

@@ -1,3 +1,4 @@
 -- what the public contract cites
+pub mod Meeting
 pub mod Reaching
 pub mod Traffic
