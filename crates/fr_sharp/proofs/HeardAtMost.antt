@@ -1,7 +1,7 @@
--- What receivers of a double cycle may have, whether they have rows or follow, by what becomes of frames: counted, and none where nothing
--- can reach them.
+-- What receivers of a double cycle may have, whether they have rows or follow, by what becomes of frames: counted, trusted, and none where
+-- nothing can reach them.
 use Rattle.std.proofs.Common.{◌≡◌, ◌≢◌, ◌⊎◌, ℕ, suc, ◌+◌, ◌*◌, ◌≤◌, ◌==◌, ◌&&◌, ◌||◌, Bool, true, false, not, ℤ, Option, Some, None, List, [], ◌∷◌, length, refl, ap, sym, ◌∙◌, inl, inr, arith, if◌then◌else◌}
-use Rattle.std.specs.Prelude.{Contains, count_by, is_some}
+use Rattle.std.specs.Prelude.{Contains, count_by, is_some, nat_le}
 use Rattle.std.specs.List.{list_any, range_with_len}
 use Rattle.std.proofs.lemmas.Bool.{and_parts, not-true}
 use Rattle.fr_base.specs.declared.channel.Channel.{Channel}
@@ -26,12 +26,13 @@ use Rattle.fr_runs.specs.Gathered.{round_at}
 use Rattle.fr_runs.specs.Links.{Share, cycle_in}
 use Rattle.fr_runs.proofs.Nodes.{correct_node}
 use Rattle.fr_coverage.specs.Links.{is_sync, shares}
-use Rattle.fr_sharp.specs.RoundsInPart.{heard_at, senders_heard}
-use Rattle.fr_traffic.specs.Traffic.{comes, further_count, has_value, is_deaf, may_be_said, may_reach, may_say, most_count, is_correct_sender, traffic_of, value_on}
-use Rattle.fr_runs.proofs.KeyedCounts.{count_two, nodes_counted, passes_at, passes_is}
+use Rattle.fr_midpoint.specs.Midpoint.{discarded}
+use Rattle.fr_sharp.specs.RoundsInPart.{heard_at, senders_heard, IsTrustedOf}
+use Rattle.fr_traffic.specs.Traffic.{comes, further_count, has_value, is_deaf, is_trusted, may_be_said, may_reach, may_say, most_count, is_correct_sender, sure_count, traffic_of, value_on}
+use Rattle.fr_runs.proofs.KeyedCounts.{count_two, discards_more, nodes_counted, passes_at, passes_is}
 use Rattle.fr_traffic.proofs.HeardEvents.{may_come}
-use Rattle.fr_sharp.proofs.HeardSurely.{own_of, senders_counted, value_by}
-use Rattle.fr_sharp.proofs.HeardInPart.{is_other, least_there, mean_there, others_counted}
+use Rattle.fr_sharp.proofs.HeardSurely.{at_most, heard_enough, own_of, senders_counted, value_by, ReceivesOwn}
+use Rattle.fr_sharp.proofs.HeardInPart.{least_there, mean_there}
 use Rattle.fr_base.specs.Rows.{dev_in}
 use Rattle.fr_runs.specs.SteadyRuns.{is_silent}
 use Rattle.fr_runs.proofs.FramesCounted.{recorded_says}
@@ -409,3 +410,23 @@ module _
           → (is_some (heard_at (round_at x h even odd) (value_by rate (hearer_from x rs node.id)) index) ≡ true) ⊎ (passes_at x.params (further rate node) index ≡ true)
       by index v None none some = inr (further_value rate node index v.0 (is_own (rs.own node.id) index) among refl v.1 none)
       by index v (Some sender) is some = inl (ap (λ (b : Bool). is_some (if b then sender_at (round_at x h even odd) index else None)) some ∙ ap is_some is)
+
+-- ---- trusted
+
+pub trusted_so : (x : Setting) (h : Cycles) (even odd : Cycle) (double : ℕ) (reach : ℤ) (rs : Receivers) (node : NodeSpec) → RowsSend x h even odd double reach → ReceivesOwn x h even odd reach rs node
+    → (rate : Bool) → is_trusted rate (traffic_of x) double node ≡ true → IsTrustedOf (round_at x h even odd) (value_by rate (hearer_from x rs node.id))
+trusted_so x h even odd double reach rs node sending r rate is =
+    let count = sure_count rate (traffic_of x) double node in
+    let others = further_count rate (traffic_of x) double node in
+    let both = and_parts (nat_le 1 count) (nat_le others (discarded (count + others))) is in
+    let some = at_most 1 count both.0 in
+    let few = at_most others (discarded (count + others)) both.1 in
+    let heard = length (senders_heard (round_at x h even odd) (value_by rate (hearer_from x rs node.id))) in
+    let enough : count ≤ heard = heard_enough x h even odd double reach rs node sending r.is r.owns rate in
+    let more = discards_more (count + others) (heard + others) (omega (arith, enough)) in
+    record {
+      most = others;
+      at_most = few_further x h even odd double reach rs (λ n. ReceivesOwn x h even odd reach rs n) sending (λ n has. has.is) (λ n index has own. has.owned index own) rate node r;
+      few = omega (arith, few, more);
+      some = omega (arith, some, enough);
+    }

@@ -1,52 +1,43 @@
--- What two receivers have in common: the values of each are those of common senders and of others, and where lists meet the common ones
--- are more than both discard.
-use Rattle.std.proofs.Common.{◌≡◌, ◌≢◌, ◌⊎◌, ℕ, ◌+◌, ◌≤◌, ◌<◌, ◌==◌, ◌&&◌, Bool, true, false, not, ℤ, pos, Option, Some, None, List, [], ◌∷◌, ◌++◌, All, map, length, refl, ap, sym, ◌∙◌, subst, inl, inr, arith, if◌then◌else◌}
-use Rattle.std.specs.Prelude.{Contains, IsPermutation, is_some, nat_lt}
+-- What two receivers have in common: the values of each are those of common senders and of others, and where their lists meet the common
+-- ones are more than both discard.
+use Rattle.std.proofs.Common.{◌≡◌, ◌⊎◌, ℕ, ◌+◌, ◌≤◌, ◌<◌, ◌&&◌, Bool, true, false, not, ℤ, pos, Option, Some, None, List, [], ◌∷◌, ◌++◌, All, map, length, refl, sym, ◌∙◌, subst, inl, inr, arith, if◌then◌else◌}
+use Rattle.std.specs.Prelude.{IsPermutation, is_some, nat_lt}
 use Rattle.std.specs.List.{AllZip, cons_option, filter_map, range_with_len}
-use Rattle.std.proofs.lemmas.Bool.{and_parts, eqb-true}
+use Rattle.std.proofs.lemmas.Bool.{and_parts}
 use Rattle.std.proofs.lemmas.Bool.Decides.{nat_tests}
 use Rattle.std.proofs.lemmas.List.Elements.{All-append}
 use Rattle.std.proofs.lemmas.List.Sorted.{IsPermutation-append_left, IsPermutation-cons, IsPermutation-middle, IsPermutation-refl, IsPermutation-trans}
 use Rattle.fr_base.specs.Within.{IsBetween}
 use Rattle.fr_cluster.specs.Sane.{IsSane}
-use Rattle.fr_cluster.specs.Questions.{key_slot_of}
-use Rattle.fr_cluster.specs.Setting.{Setting, correct_nodes}
+use Rattle.fr_cluster.specs.Setting.{Setting}
 use Rattle.fr_cluster.specs.declared.nodes.NodeSpec.{NodeSpec}
 use Rattle.fr_time.proofs.Keys.{key_node_is}
 use Rattle.fr_midpoint.specs.Midpoint.{discarded}
 use Rattle.fr_midpoint.specs.Receivers.{Hears}
-use Rattle.fr_measure.specs.Values.{is_own, offset_at, rate_at, values_of}
+use Rattle.fr_measure.specs.Values.{offset_at, rate_at, values_of}
 use Rattle.fr_correct.proofs.There.{offset_term_is_there, rate_term_is_there}
 use Rattle.fr_precision.specs.Offsets.{IsDeviation}
-use Rattle.fr_precision.specs.Round.{offsets_of, rates_of, sender_at, Hearer, IsRound, IsSender, Round}
+use Rattle.fr_precision.specs.Round.{offsets_of, rates_of, sender_at, Hearer, IsRound, Round}
 use Rattle.fr_precision.specs.Rows.{Sender}
-use Rattle.fr_precision.specs.Step.{IsAmong, Member}
+use Rattle.fr_precision.specs.Step.{IsAmong}
+use Rattle.fr_precision.proofs.Counting.{count_le}
 use Rattle.fr_precision.proofs.Parting.{filter_map_counts}
 use Rattle.fr_precision.proofs.RoundSenders.{sender_is, IsFrom}
 use Rattle.fr_history.specs.Cycles.{Cycle, Cycles}
-use Rattle.fr_history.specs.Standing.{has_row, row_nodes}
-use Rattle.fr_runs.specs.Gathered.{round_at, row_hearer}
-use Rattle.fr_runs.proofs.Courses.{is_correct_row}
+use Rattle.fr_runs.specs.Gathered.{round_at}
 use Rattle.fr_runs.proofs.Fed.{row_receivers}
 use Rattle.fr_runs.proofs.Hearing.{hearer_from, IsReceiver, Receivers, RowsSend}
-use Rattle.fr_runs.proofs.Nodes.{correct_node}
 use Rattle.fr_bound.specs.SharpBounds.{last_action}
-use Rattle.fr_precision.specs.Among.{HearInCommon}
+use Rattle.fr_precision.specs.Among.{CommonOffsets, CommonRates}
 use Rattle.fr_sharp.specs.RoundsInPart.{heard_at, IsSuppliedInPart, IsTrustedOf}
-use Rattle.fr_sharp.specs.Losses.{RowsMeet}
 use Rattle.fr_precision.specs.SharpRound.{as_member}
 use Rattle.fr_precision.specs.Steady.{PlacesEven}
-use Rattle.fr_runs.specs.SteadyRuns.{row_hearers, row_members, AreRowsInReach}
-use Rattle.fr_traffic.specs.Traffic.{all_trusted, costs_of, has_value, lists_meet, missed_or_discarded, most_count, sender_count, is_correct_sender, traffic_of}
-use Rattle.fr_runs.proofs.KeyedCounts.{count_three, discards_more, is_passed, passes_at, passes_is, IsPassed}
-use Rattle.fr_traffic.proofs.GreatestCosts.{two_cost}
-use Rattle.fr_sharp.proofs.HeardInPart.{offsets_heard, placed_of, rates_heard}
+use Rattle.fr_traffic.specs.Traffic.{common_count, has_value, is_correct_sender, most_count, stays, traffic_of, two_meet}
+use Rattle.fr_runs.proofs.KeyedCounts.{discards_more, is_passed, passes_at, passes_is, IsPassed}
+use Rattle.fr_sharp.proofs.HeardInPart.{offsets_heard, rates_heard, HaveSenders}
 use Rattle.fr_sharp.proofs.HeardAtMost.{most_values, row_owned}
-use Rattle.fr_sharp.proofs.HeardSurely.{row_owns, senders_counted, surely_heard, value_by, KeepsOwn}
-use Rattle.fr_precision.proofs.RoundLemmas.{acts_early, all_given, map_contains, sender_among}
-use Rattle.fr_sharp.proofs.RowsInPart.{round_trusted}
-use Rattle.fr_runs.proofs.RowsSupplied.{receiving, sending, timed_rows_from, LawfulRows}
-use Rattle.fr_promise.proofs.RunDoubles.{all_have, AllHave}
+use Rattle.fr_sharp.proofs.HeardSurely.{row_owns, senders_counted, surely_heard, value_by, ReceivesOwn}
+use Rattle.fr_precision.proofs.RoundLemmas.{acts_early, all_given, sender_among}
 
 -- ---- the values of some senders, split in two
 
@@ -175,82 +166,77 @@ all_three r at other P each =
 abbrev pub Enough : Round → (ℕ → Option ℤ) → (ℕ → Option ℤ) → Type 0
 Enough r at other = discarded (length (values_of at)) + discarded (length (values_of other)) + 1 ≤ length (of (both_at r at other))
 
-pub hear_in_common : (r : Round) (flutter : ℕ) (rows : List Hearer) (n m : Hearer) → IsRound r
-    → ((node : NodeSpec) (slot : ℕ) → IsSender r node slot → (n : Hearer) × Contains rows n × (n.even ≡ r.even node.id) × (n.odd ≡ r.odd node.id))
-    → IsSuppliedInPart r flutter n → IsSuppliedInPart r flutter m
-    → IsTrustedOf r (offset_at n.look n.own) × IsTrustedOf r (rate_at n.look n.own) → IsTrustedOf r (offset_at m.look m.own) × IsTrustedOf r (rate_at m.look m.own)
-    → Enough r (offset_at n.look n.own) (offset_at m.look m.own) → Enough r (rate_at n.look n.own) (rate_at m.look m.own)
-    → HearInCommon r.params flutter (map (as_member r.params) rows) (pos (last_action r.params)) (as_member r.params n) (as_member r.params m)
-hear_in_common r flutter rows n m is among one two trusted other_trusted enough also =
+pub common_offsets : (r : Round) (flutter : ℕ) (rows : List Hearer) (n m : Hearer) → IsRound r → HaveSenders r rows → IsSuppliedInPart r flutter n → IsSuppliedInPart r flutter m
+    → IsTrustedOf r (offset_at n.look n.own) → IsTrustedOf r (offset_at m.look m.own) → Enough r (offset_at n.look n.own) (offset_at m.look m.own)
+    → CommonOffsets r.params (map (as_member r.params) rows) (pos (last_action r.params)) (as_member r.params n) (as_member r.params m)
+common_offsets r flutter rows n m is among one two trusted other_trusted enough =
     let p = r.params in
     let nodes = map (as_member p) rows in
     let offsets = offset_at n.look n.own in
     let other_offsets = offset_at m.look m.own in
-    let rates = rate_at n.look n.own in
-    let other_rates = rate_at m.look m.own in
     let range = range_with_len 0 15 in
     let Deviates = λ (k : Hearer) (sender : Sender) (value : ℤ). IsDeviation p true sender.action k.odd sender.odd value in
-    let Places = λ (k : Hearer) (sender : Sender) (value : ℤ). PlacesEven p flutter sender k.odd value in
     record {
-      offset_common = of (both_at r offsets other_offsets);
-      offset_own = of (alone_at r offsets other_offsets);
-      offset_other = of (alone_at r other_offsets offsets);
-      rate_common = of (both_at r rates other_rates);
-      rate_own = of (alone_at r rates other_rates);
-      rate_other = of (alone_at r other_rates rates);
-      offsets_among = all_three r offsets other_offsets (IsAmong nodes) (sender_among r rows among);
-      rates_among = all_three r rates other_rates (IsAmong nodes) (sender_among r rows among);
+      common = of (both_at r offsets other_offsets);
+      own = of (alone_at r offsets other_offsets);
+      other_own = of (alone_at r other_offsets offsets);
+      among = all_three r offsets other_offsets (IsAmong nodes) (sender_among r rows among);
       acts = all_three r offsets other_offsets (λ (sender : Sender). IsBetween (pos 0) (pos (last_action p)) sender.action) (acts_early r is.sane);
-      enough_offsets = enough;
-      enough_rates = also;
-      by_offset = record {
+      enough = enough;
+      round = record {
         micro = one.regular.odd_micro;
         hears =
             hears_both Sender (Deviates n) (heard_at r offsets) (both_at r offsets other_offsets) (alone_at r offsets other_offsets) (in_one r offsets other_offsets) range (offsets_of n)
-            (offsets_heard r flutter n is (placed_of r flutter n one) trusted.0);
+            (offsets_heard r flutter n is one trusted);
         is_term = offset_term_is_there p.offset_limit (offsets_of n);
         applied = one.applied;
       };
-      other_by_offset = record {
+      other_round = record {
         micro = two.regular.odd_micro;
         hears =
             hears_both Sender (Deviates m) (heard_at r other_offsets) (both_at r offsets other_offsets) (alone_at r other_offsets offsets) (in_other r offsets other_offsets) range (offsets_of m)
-            (offsets_heard r flutter m is (placed_of r flutter m two) other_trusted.0);
+            (offsets_heard r flutter m is two other_trusted);
         is_term = offset_term_is_there p.offset_limit (offsets_of m);
         applied = two.applied;
       };
-      by_rate = record {
+    }
+
+pub common_rates : (r : Round) (flutter : ℕ) (rows : List Hearer) (n m : Hearer) → IsRound r → HaveSenders r rows → IsSuppliedInPart r flutter n → IsSuppliedInPart r flutter m
+    → IsTrustedOf r (rate_at n.look n.own) → IsTrustedOf r (rate_at m.look m.own) → Enough r (rate_at n.look n.own) (rate_at m.look m.own)
+    → CommonRates r.params flutter (map (as_member r.params) rows) (as_member r.params n) (as_member r.params m)
+common_rates r flutter rows n m is among one two trusted other_trusted enough =
+    let p = r.params in
+    let nodes = map (as_member p) rows in
+    let rates = rate_at n.look n.own in
+    let other_rates = rate_at m.look m.own in
+    let range = range_with_len 0 15 in
+    let Places = λ (k : Hearer) (sender : Sender) (value : ℤ). PlacesEven p flutter sender k.odd value in
+    record {
+      common = of (both_at r rates other_rates);
+      own = of (alone_at r rates other_rates);
+      other_own = of (alone_at r other_rates rates);
+      among = all_three r rates other_rates (IsAmong nodes) (sender_among r rows among);
+      enough = enough;
+      round = record {
         micro = one.regular.odd_micro;
         hears =
             hears_both Sender (Places n) (heard_at r rates) (both_at r rates other_rates) (alone_at r rates other_rates) (in_one r rates other_rates) range (rates_of n)
-            (rates_heard r flutter n is (placed_of r flutter n one) trusted.1);
+            (rates_heard r flutter n is one trusted);
         is_term = rate_term_is_there n.odd.rate p.damping p.rate_limit (rates_of n);
       };
-      other_by_rate = record {
+      other_round = record {
         micro = two.regular.odd_micro;
         hears =
             hears_both Sender (Places m) (heard_at r other_rates) (both_at r rates other_rates) (alone_at r other_rates rates) (in_other r rates other_rates) range (rates_of m)
-            (rates_heard r flutter m is (placed_of r flutter m two) other_trusted.1);
+            (rates_heard r flutter m is two other_trusted);
         is_term = rate_term_is_there m.odd.rate p.damping p.rate_limit (rates_of m);
       };
     }
 
--- ---- two receivers of a double cycle, where lists meet
-
--- a receiver whose own values are those of its own frames, where it adds them
-pub record ReceivesOwn (x : Setting) (h : Cycles) (even odd : Cycle) (reach : ℤ) (rs : Receivers) (node : NodeSpec) : Type 0 where
-  pub is : IsReceiver x h even odd reach rs node
-  pub owns : KeepsOwn x h even odd rs node
-  pub owned : (index : ℕ) → is_own (rs.own node.id) index ≡ true → (slot : ℕ) × (node.key ≡ Some slot) × (key_slot_of x.params index ≡ Some slot)
-
--- of how many senders that have rows one surely has no value, and how many it may discard at one end
-abbrev pub cost_of : (ℕ → Bool) → Bool → Setting → ℕ → NodeSpec → ℕ
-cost_of stays rate x double b =
-    sender_count (traffic_of x) (λ a. stays a.id && not (has_value rate true (traffic_of x) double b a)) + discarded (most_count rate (traffic_of x) double b)
+-- ---- two receivers of a double cycle, where their lists meet
 
 module _
-    (x : Setting) (h : Cycles) (even odd : Cycle) (double : ℕ) (reach : ℤ) (sending : RowsSend x h even odd double reach) (stays : ℕ → Bool)
-    (have : (a : NodeSpec) → Contains (correct_nodes x) a → stays a.id ≡ true → has_row x h a.id ≡ true) (bs cs : Receivers) (b c : NodeSpec) (first : ReceivesOwn x h even odd reach bs b)
+    (x : Setting) (h : Cycles) (even odd : Cycle) (double : ℕ) (reach : ℤ) (sending : RowsSend x h even odd double reach) (bs cs : Receivers) (b c : NodeSpec) (first : ReceivesOwn x h even odd reach bs b)
     (second : ReceivesOwn x h even odd reach cs c) where
   abbrev at : Bool → (ℕ → Option ℤ)
   at rate = value_by rate (hearer_from x bs b.id)
@@ -261,123 +247,64 @@ module _
   abbrev has : Bool → NodeSpec → NodeSpec → Bool
   has rate node sender = has_value rate true (traffic_of x) double node sender
 
-  abbrev misses : Bool → NodeSpec → NodeSpec → Bool
-  misses rate node sender = is_correct_sender (traffic_of x) sender && (stays sender.id && not (has rate node sender))
+  -- of each sender that stays on and that both surely have both have a value
+  abbrev common : Bool → NodeSpec → Bool
+  common rate sender = is_correct_sender (traffic_of x) sender && (stays (traffic_of x) sender && (has rate b sender && has rate c sender))
 
-  -- of each sender both have a value, or one of them misses it
-  heard_or_missed : (rate : Bool) (index : ℕ) → passes_at x.params (λ (a : NodeSpec). is_correct_sender (traffic_of x) a && stays a.id) index ≡ true
-      → (is_some (both_at (round_at x h even odd) (at rate) (other_at rate) index) ≡ true)
-      ⊎ ((passes_at x.params (misses rate b) index ≡ true) ⊎ (passes_at x.params (misses rate c) index ≡ true))
+  both_heard : (rate : Bool) (index : ℕ) → passes_at x.params (common rate) index ≡ true → is_some (both_at (round_at x h even odd) (at rate) (other_at rate) index) ≡ true
   unfolding both_at
-  heard_or_missed rate index is = by (has rate b from.node) (has rate c from.node) refl refl
+  both_heard rate index is =
+      let one = surely_heard x h even odd double reach bs b sending first.is first.owns rate index (passes (has rate b) (has_both.0)) in
+      let two = surely_heard x h even odd double reach cs c sending second.is second.owns rate index (passes (has rate c) (has_both.1)) in
+      found (is_some (at rate index)) (is_some (other_at rate index)) (sender_at (round_at x h even odd) index) one.0 two.0 one.1
     where
-      from : IsPassed x.params (λ (a : NodeSpec). is_correct_sender (traffic_of x) a && stays a.id) index
-      from = is_passed x.params (λ (a : NodeSpec). is_correct_sender (traffic_of x) a && stays a.id) index sending.sane is
+      from : IsPassed x.params (common rate) index
+      from = is_passed x.params (common rate) index sending.sane is
 
-      correct : (is_correct_sender (traffic_of x) from.node ≡ true) × (stays from.node.id ≡ true)
-      correct = and_parts (is_correct_sender (traffic_of x) from.node) (stays from.node.id) from.passes
+      correct : (is_correct_sender (traffic_of x) from.node ≡ true) × ((stays (traffic_of x) from.node && (has rate b from.node && has rate c from.node)) ≡ true)
+      correct = and_parts (is_correct_sender (traffic_of x) from.node) (stays (traffic_of x) from.node && (has rate b from.node && has rate c from.node)) from.passes
 
-      passes : (test : NodeSpec → Bool) → test from.node ≡ true → passes_at x.params (λ (a : NodeSpec). is_correct_sender (traffic_of x) a && (stays a.id && test a)) index ≡ true
+      stays_there : (stays (traffic_of x) from.node ≡ true) × ((has rate b from.node && has rate c from.node) ≡ true)
+      stays_there = and_parts (stays (traffic_of x) from.node) (has rate b from.node && has rate c from.node) correct.1
+
+      has_both : (has rate b from.node ≡ true) × (has rate c from.node ≡ true)
+      has_both = and_parts (has rate b from.node) (has rate c from.node) stays_there.1
+
+      passes : (test : NodeSpec → Bool) → test from.node ≡ true → passes_at x.params (λ (a : NodeSpec). is_correct_sender (traffic_of x) a && (stays (traffic_of x) a && test a)) index ≡ true
       passes test is =
-          passes_is x.params (λ (a : NodeSpec). is_correct_sender (traffic_of x) a && (stays a.id && test a)) index from.slot from.node from.slot_is
+          passes_is x.params (λ (a : NodeSpec). is_correct_sender (traffic_of x) a && (stays (traffic_of x) a && test a)) index from.slot from.node from.slot_is
           (key_node_is x.params from.node from.slot sending.sane from.there from.key)
-          ∙ rw (correct.0, correct.1, is) refl
+          ∙ all_pass (is_correct_sender (traffic_of x) from.node) (stays (traffic_of x) from.node) (test from.node) correct.0 stays_there.0 is
+        where
+          all_pass : (a b c : Bool) → a ≡ true → b ≡ true → c ≡ true → (a && (b && c)) ≡ true
+          all_pass a b c one two three = rw (one, two, three) refl
 
       found : (a b : Bool) (o : Option Sender) → a ≡ true → b ≡ true → is_some o ≡ true → is_some (if a && b then o else None) ≡ true
       found true true o one two is = is
       found false b o one two is = absurd (cc)
       found true false o one two is = absurd (cc)
 
-      by : (one two : Bool) → has rate b from.node ≡ one → has rate c from.node ≡ two
-          → (is_some (both_at (round_at x h even odd) (at rate) (other_at rate) index) ≡ true)
-          ⊎ ((passes_at x.params (misses rate b) index ≡ true) ⊎ (passes_at x.params (misses rate c) index ≡ true))
-      by true true one_is two_is =
-          let one = surely_heard x h even odd double reach bs b sending first.is first.owns stays have rate index (passes (has rate b) one_is) in
-          let two = surely_heard x h even odd double reach cs c sending second.is second.owns stays have rate index (passes (has rate c) two_is) in
-          inl (found (is_some (at rate index)) (is_some (other_at rate index)) (sender_at (round_at x h even odd) index) one.0 two.0 one.1)
-      by false two one_is two_is = inr (inl (passes (λ (a : NodeSpec). not (has rate b a)) (ap not one_is)))
-      by true false one_is two_is = inr (inr (passes (λ (a : NodeSpec). not (has rate c a)) (ap not two_is)))
-
-  pub enough_met : (rate : Bool) → cost_of stays rate x double b + cost_of stays rate x double c < sender_count (traffic_of x) (λ a. stays a.id) → Enough (round_at x h even odd) (at rate) (other_at rate)
-  enough_met rate within =
+  pub enough_met : (rate : Bool) → two_meet rate (traffic_of x) double b c ≡ true → Enough (round_at x h even odd) (at rate) (other_at rate)
+  enough_met rate is =
       let t = traffic_of x in
       let most =
       λ (rs : Receivers) (node : NodeSpec) (r : ReceivesOwn x h even odd reach rs node).
       most_values x h even odd double reach rs (λ n. ReceivesOwn x h even odd reach rs n) sending (λ n r. r.is) (λ n index r own. r.owned index own) rate node r in
       let discards = discards_more (length (values_of (at rate))) (most_count rate t double b) (most bs b first) in
       let also_discards = discards_more (length (values_of (other_at rate))) (most_count rate t double c) (most cs c second) in
-      let senders = senders_counted x (λ a. stays a.id) sending.sane in
-      let missed = senders_counted x (λ a. stays a.id && not (has rate b a)) sending.sane in
-      let also_missed = senders_counted x (λ a. stays a.id && not (has rate c a)) sending.sane in
-      let common = filter_map_counts (both_at (round_at x h even odd) (at rate) (other_at rate)) (range_with_len 0 15) in
-      let three =
-      count_three (passes_at x.params (λ (a : NodeSpec). is_correct_sender t a && stays a.id)) (λ i. is_some (both_at (round_at x h even odd) (at rate) (other_at rate) i)) (passes_at x.params (misses rate b))
-      (passes_at x.params (misses rate c)) (range_with_len 0 15) (λ index is. heard_or_missed rate index is) in
-      omega (arith, within, discards, also_discards, senders, missed, also_missed, common, three)
+      let senders = senders_counted x (λ a. stays t a && (has rate b a && has rate c a)) sending.sane in
+      let heard = filter_map_counts (both_at (round_at x h even odd) (at rate) (other_at rate)) (range_with_len 0 15) in
+      let within = less (discarded (most_count rate t double b) + discarded (most_count rate t double c)) (common_count rate t double b c) is in
+      let le =
+      count_le (passes_at x.params (common rate)) (λ i. is_some (both_at (round_at x h even odd) (at rate) (other_at rate) i)) (range_with_len 0 15)
+      (λ index passes. both_heard rate index passes) in
+      omega (arith, within, discards, also_discards, senders, heard, le)
+    where
+      less : (a b : ℕ) → nat_lt a b ≡ true → a < b
+      less a b is = grind (arith, nat_tests)
 
 -- a node with a row is one
 pub row_receives : (x : Setting) (h : Cycles) (even odd : Cycle) (reach : ℤ) (node : NodeSpec) → IsSane x.params → IsReceiver x h even odd reach (row_receivers x h even odd) node
     → ReceivesOwn x h even odd reach (row_receivers x h even odd) node
 row_receives x h even odd reach node sane is =
     record { is = is; owns = row_owns x h even odd node sane; owned = λ index own. row_owned x node index sane is.correct own }
-
--- ---- two nodes with rows, where each correct node has one
-
-module _ (x : Setting) (flutter : ℕ) (h : Cycles) (even odd : Cycle) (double : ℕ) (reach : ℤ) (s : LawfulRows x flutter h even odd double) (r : AreRowsInReach x h even odd reach) (all : AllHave x h) where
-  less : (a b : ℕ) → nat_lt a b ≡ true → a < b
-  less a b is = grind (arith, nat_tests)
-
-  enough : (rate : Bool) (b c : NodeSpec) → lists_meet rate (traffic_of x) double ≡ true → Contains (row_nodes x h) b → Contains (row_nodes x h) c → b.id ≢ c.id
-      → Enough (round_at x h even odd) (value_by rate (row_hearer x even odd b.id)) (value_by rate (row_hearer x even odd c.id))
-  enough rate b c meet here there other =
-      let t = traffic_of x in
-      let costs = costs_of rate t double x.params.nodes in
-      let one = correct_node x b (is_correct_row x h b here) in
-      let two = correct_node x c (is_correct_row x h c there) in
-      let cost = two_cost (λ (n : NodeSpec). t.is_arbitrary n.id) (missed_or_discarded rate t double) t.nodes b c one.there two.there one.correct two.correct other in
-      let within = less (costs.most + costs.second) (sender_count t (λ a. true)) meet in
-      let rs = row_receivers x h even odd in
-      let own =
-      λ (node : NodeSpec) (among : Contains (row_nodes x h) node).
-      row_receives x h even odd reach node s.covered.sane (receiving x flutter h even odd double reach s r node among) in
-      enough_met x h even odd double reach (sending x flutter h even odd double reach s r) (λ a. true) (λ a there is. all a there) rs rs b c (own b here) (own c there) rate (omega (arith, cost, within))
-
-  members_meet : (one other : Member) → all_trusted (traffic_of x) double ≡ true → lists_meet false (traffic_of x) double ≡ true → lists_meet true (traffic_of x) double ≡ true
-      → Contains (row_members x h even odd) one → Contains (row_members x h even odd) other
-      → (one ≡ other) ⊎ HearInCommon x.params flutter (row_members x h even odd) (pos (last_action x.params)) one other
-  members_meet one other trusted offsets_meet rates_meet here there =
-      let first = map_contains member (row_hearers x h even odd) one here in
-      let second = map_contains member (row_hearers x h even odd) other there in
-      let b = map_contains hearer (row_nodes x h) first.0 first.1 in
-      let c = map_contains hearer (row_nodes x h) second.0 second.1 in
-      let Meet : Hearer → Hearer → Type 0 = λ n m. Contains (row_hearers x h even odd) n → Contains (row_hearers x h even odd) m → Met (member n) (member m) in
-      let met = subst (λ (n : Hearer). Meet n second.0) b.2 (subst (Meet (hearer b.0)) c.2 (by b.0 c.0 b.1 c.1 (b.0.id == c.0.id) refl)) first.1 second.1 in
-      subst (λ (n : Member). Met n other) first.2 (subst (Met (member first.0)) second.2 met)
-    where
-      member : Hearer → Member
-      member n = as_member x.params n
-
-      hearer : NodeSpec → Hearer
-      hearer node = row_hearer x even odd node.id
-
-      Met : Member → Member → Type 0
-      Met one other = (one ≡ other) ⊎ HearInCommon x.params flutter (row_members x h even odd) (pos (last_action x.params)) one other
-
-      unequal : (a b : ℕ) → (a == b) ≡ false → a ≢ b
-      unequal a b is = grind arith
-
-      by : (b c : NodeSpec) → Contains (row_nodes x h) b → Contains (row_nodes x h) c → (same : Bool) → (b.id == c.id) ≡ same
-          → Contains (row_hearers x h even odd) (hearer b) → Contains (row_hearers x h even odd) (hearer c) → Met (member (hearer b)) (member (hearer c))
-      by b c b_there c_there true is one two = inl (ap (λ (id : ℕ). as_member x.params (row_hearer x even odd id)) (eqb-true b.id c.id is))
-      by b c b_there c_there false is one two =
-          let differ = unequal b.id c.id is in
-          let part = round_trusted x flutter h even odd double reach s r all trusted in
-          inr (
-          hear_in_common (round_at x h even odd) flutter (row_hearers x h even odd) (hearer b) (hearer c) part.round part.among (part.supplied (hearer b) one) (part.supplied (hearer c) two)
-          (part.trusted (hearer b) one) (part.trusted (hearer c) two)
-          (enough false b c offsets_meet b_there c_there differ) (enough true b c rates_meet b_there c_there differ)
-          )
-
-pub rows_meet : RowsMeet
-rows_meet x from flutter h earlier even odd double reach one other none_joins w late d trusted offsets_meet rates_meet r here there =
-    members_meet x flutter earlier even odd double reach (timed_rows_from x from flutter h w double late earlier even odd d) r (all_have x earlier none_joins) one other trusted offsets_meet rates_meet here there

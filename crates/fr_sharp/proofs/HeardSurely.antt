@@ -8,7 +8,7 @@ use Rattle.fr_base.specs.declared.channel.Channel.{Channel}
 use Rattle.fr_base.specs.declared.channel.Channel.TheVariants.{A, B}
 use Rattle.fr_cluster.specs.Questions.{has_channel, index_in, key_in, key_slot_of, own_index}
 use Rattle.fr_cluster.specs.Sane.{IsSane}
-use Rattle.fr_cluster.specs.Setting.{Setting, correct_nodes, is_correct}
+use Rattle.fr_cluster.specs.Setting.{Setting, is_correct}
 use Rattle.fr_cluster.specs.Values.{Values}
 use Rattle.fr_cluster.specs.declared.nodes.NodeSpec.{NodeSpec}
 use Rattle.fr_measure.specs.Values.{change_at, change_of, is_own, least_of, mean_of, offset_at, own_value_or, rate_at}
@@ -26,7 +26,6 @@ use Rattle.fr_runs.specs.Links.{Share, cycle_in}
 use Rattle.fr_runs.proofs.Fed.{follower_other, follower_receivers, row_receivers}
 use Rattle.fr_runs.proofs.Hearing.{hearer_from, looked, stored, IsReceiver, Receivers, RowsSend}
 use Rattle.fr_runs.proofs.Nodes.{node_there}
-use Rattle.fr_runs.proofs.Receivers.{is_correct_node}
 use Rattle.fr_coverage.specs.Links.{is_regular, is_sync, shares}
 use Rattle.fr_sharp.specs.RoundsInPart.{heard_at, senders_heard}
 use Rattle.fr_traffic.specs.Traffic.{has_all, has_value, is_correct_sender, may_send, may_send_by, stays, sure_count, traffic_of, value_on}

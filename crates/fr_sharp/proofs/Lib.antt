@@ -8,7 +8,9 @@ pub mod HeardSurely
 pub mod HeardAtMost
 pub mod HeardValues
 pub mod RowsInPart
+pub mod ReceiversHear
 pub mod BearingRows
+pub mod RowsHear
 pub mod HeardInCommon
 pub mod HeardKinds
 pub mod JoinedInPart
