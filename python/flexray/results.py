@@ -220,9 +220,10 @@ class SharpReport:
 class SeriesCycle(NamedTuple):
     """A cycle of a series: whether its double cycle is in sync, and its greatest skew, which is 0 at macrotick 0 where no node
     runs. `sharp` is whether it is in sharp sync; `heard` is `all` if from each sync node to each other node one channel carries those of
-    both cycles, `most` if lists meet all the same, else `any`; `bound` its number in ticks where the run is covered through losses: in
-    the double cycles that are promised no skew is above it. It is None before the first one in sharp sync. All three are None in a
-    series that was not asked for them."""
+    both cycles, else the worse of offsets and rates: `most` if lists meet, `any` if it is poor, and `all` if nothing is missed but
+    frames of nodes that join, or at them, too early to count; `bound` its number in ticks where the run is covered through losses:
+    in the double cycles that are promised no skew is above it. It is None before the first one in sharp sync. All three are None in
+    a series that was not asked for them."""
 
     cycle: int
     in_sync: bool

@@ -117,7 +117,8 @@ def lost_bound(text: str) -> LostBound:
     meeting, missed, parts = lines.take(r"meeting (\d+) (\d+)( fails)?")
     longest = lines.take(r"longest (none|\d+)")[0]
     return LostBound(text, flutter, lost, lambda_, pi, precision, apart, peak, reach, checks, None if lasts == "on" else int(lasts), back,
-                     int(crossing), not crosses, int(second), not fails, int(meeting), int(missed), not parts, None if longest == "none" else int(longest))
+                     int(crossing), not crosses, int(second), not fails, int(meeting), int(missed), not parts,
+                     None if longest == "none" else int(longest))
 
 
 def _skew_line(lines: _Lines) -> Skew:
