@@ -33,4 +33,5 @@ pub mod LossTold
 pub mod JudgedLaws
 pub mod JudgedCarried
 pub mod CheckGaps
+pub mod CrossingCosts
 pub mod SharpCovering
