@@ -1,6 +1,7 @@
 pub mod DigitTexts
 pub mod LossLemmas
 pub mod LossNumbers
+pub mod CrossingPeaks
 pub mod LossRows
 pub mod MeetingNumbers
 pub mod HeardInPart
