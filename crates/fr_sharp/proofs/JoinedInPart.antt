@@ -20,7 +20,7 @@ use Rattle.fr_history.specs.Lawful.{IsLawful}
 use Rattle.fr_history.specs.Standing.{following_nodes, follows, has_row, row_nodes}
 use Rattle.fr_history.proofs.Standing.{followers_have_no_row, stand_in_time}
 use Rattle.fr_runs.specs.Gathered.{follower_hearer, followers_since, hearers_of, round_at, row_hearer}
-use Rattle.fr_runs.specs.Group.{Group, IsOf}
+use Rattle.fr_runs.specs.Group.{IsOf}
 use Rattle.fr_runs.specs.Hearers.{group_of, member_from}
 use Rattle.fr_runs.specs.SteadyRuns.{row_hearers, row_members, AreRowsInReach}
 use Rattle.fr_runs.proofs.Courses.{follower_applied}
@@ -49,9 +49,6 @@ module _
     (takes : TakesInGroup x.params now (group_of x.params (hearers_of x h even odd double)) reach) (lawful : IsLawful x h) where
   abbrev t : Traffic
   t = traffic_of x
-
-  abbrev group : Group
-  group = group_of x.params (hearers_of x h even odd double)
 
   rows : AreRowsInReach x h even odd reach
   rows = rows_in x flutter now h even odd double beyond s g reach room takes
