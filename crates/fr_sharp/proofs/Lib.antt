@@ -1,6 +1,7 @@
 pub mod DigitTexts
 pub mod LossLemmas
 pub mod LossNumbers
+pub mod CrossingPeaks
 pub mod LossRows
 pub mod MeetingNumbers
 pub mod HeardInPart
@@ -33,5 +34,4 @@ pub mod LossTold
 pub mod JudgedLaws
 pub mod JudgedCarried
 pub mod CheckGaps
-pub mod CrossingCosts
 pub mod SharpCovering
