@@ -4,15 +4,11 @@ pub mod LossNumbers
 pub mod CrossingPeaks
 pub mod LossRows
 pub mod MeetingNumbers
-pub mod HeardInPart
-pub mod HeardSurely
-pub mod HeardAtMost
 pub mod HeardValues
 pub mod RowsInPart
 pub mod ReceiversHear
 pub mod BearingRows
 pub mod RowsHear
-pub mod HeardInCommon
 pub mod HeardKinds
 pub mod JoinedInPart
 pub mod JoinedThrough
