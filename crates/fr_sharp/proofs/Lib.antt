@@ -1,7 +1,6 @@
 pub mod DigitTexts
 pub mod LossLemmas
 pub mod LossNumbers
-pub mod CrossingPeaks
 pub mod LossRows
 pub mod MeetingNumbers
 pub mod HeardInPart
@@ -34,4 +33,5 @@ pub mod LossTold
 pub mod JudgedLaws
 pub mod JudgedCarried
 pub mod CheckGaps
+pub mod CrossingCosts
 pub mod SharpCovering
