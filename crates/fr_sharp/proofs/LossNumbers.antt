@@ -254,7 +254,7 @@ module _ (p : Values) (flutter : ℕ) where
 
 -- ---- each is one
 
-one_greatest : (f : ℕ → ℕ) (a b : ℕ) → IsGreatest f a → IsGreatest f b → a ≡ b
+pub one_greatest : (f : ℕ → ℕ) (a b : ℕ) → IsGreatest f a → IsGreatest f b → a ≡ b
 one_greatest f a b one other =
     let le : a ≤ b = let w = other.greatest one.place in let is = one.reached in omega (arith, w, is) in
     let ge : b ≤ a = let w = one.greatest other.place in let is = other.reached in omega (arith, w, is) in

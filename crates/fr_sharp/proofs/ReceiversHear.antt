@@ -1,7 +1,7 @@
 -- What some receivers of a double cycle hear of each kind, nodes with rows or nodes that follow: all of all, any two enough in common, or
 -- each what it has.
-use Rattle.std.proofs.Common.{◌≡◌, ◌⊎◌, ℕ, ◌+◌, ◌*◌, ◌==◌, ◌&&◌, ◌||◌, Bool, true, false, not, ℤ, pos, Option, Some, None, length, map, refl, ap, sym, ◌∙◌, subst, inl, inr, arith, if◌then◌else◌}
-use Rattle.std.specs.Prelude.{◌≤◌, Contains, is_some, nat_eq, nat_le, nat_lt, List}
+use Rattle.std.proofs.Common.{◌≡◌, ◌⊎◌, ℕ, ◌+◌, ◌==◌, ◌||◌, Bool, true, false, not, ℤ, pos, Option, Some, None, refl, ap, ◌∙◌, subst, inl, inr, arith}
+use Rattle.std.specs.Prelude.{◌≤◌, Contains, is_some, nat_le, nat_lt, List}
 use Rattle.std.proofs.lemmas.Bool.{and_parts, eqb-true}
 use Rattle.std.proofs.lemmas.Bool.Decides.{nat_tests}
 use Rattle.fr_base.specs.Within.{IsBetween}
@@ -11,7 +11,6 @@ use Rattle.fr_cluster.specs.Values.{Values}
 use Rattle.fr_cluster.specs.declared.join.Join.{Join}
 use Rattle.fr_cluster.specs.declared.nodes.NodeSpec.{NodeSpec}
 use Rattle.fr_bound.specs.SharpBounds.{last_action}
-use Rattle.fr_bound.specs.declared.judging.Heard.{Heard}
 use Rattle.fr_measure.specs.Values.{offset_at, rate_at}
 use Rattle.fr_precision.specs.Among.{AllOffsets, AllRates, CommonOffsets, CommonRates, MeetingOffsets, MeetingRates, OffsetsSo, OwnOffsets, OwnOrKept, OwnRates, RatesSo}
 use Rattle.fr_precision.specs.Hearing.{AllowsArbitrary}
@@ -35,11 +34,11 @@ use Rattle.fr_runs.proofs.KeyedCounts.{all_pass}
 use Rattle.fr_runs.proofs.Nodes.{correct_node}
 use Rattle.fr_runs.proofs.RowsSupplied.{receiving, sending, LawfulRows}
 use Rattle.fr_traffic.specs.Traffic.{all_have, has_all, has_and_meets, has_begun, is_trusted, kind_by, lists_meet, may_receive, may_send_by, meets_each, sure_count, traffic_of, two_meet, Traffic}
-use Rattle.fr_sharp.specs.RoundsInPart.{IsSuppliedInPart}
-use Rattle.fr_sharp.proofs.HeardAtMost.{trusted_so}
-use Rattle.fr_sharp.proofs.HeardInCommon.{common_offsets, common_rates, enough_met, row_receives}
-use Rattle.fr_sharp.proofs.HeardInPart.{all_offset_round, all_offsets_told, all_rate_round, all_rates_told, lists_keep, own_offsets, own_rates}
-use Rattle.fr_sharp.proofs.HeardSurely.{all_there, value_by, ReceivesOwn}
+use Rattle.fr_traffic.specs.RoundsInPart.{IsSuppliedInPart}
+use Rattle.fr_traffic.proofs.HeardAtMost.{trusted_so}
+use Rattle.fr_traffic.proofs.HeardInCommon.{common_offsets, common_rates, enough_met, row_receives}
+use Rattle.fr_traffic.proofs.HeardInPart.{all_offset_round, all_offsets_told, all_rate_round, all_rates_told, lists_keep, own_offsets, own_rates}
+use Rattle.fr_traffic.proofs.HeardSurely.{all_there, value_by, ReceivesOwn}
 use Rattle.fr_sharp.proofs.RowsInPart.{round_is, row_placed, senders_among}
 
 -- ---- by the kind of what is heard

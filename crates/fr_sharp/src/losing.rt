@@ -1,6 +1,6 @@
 ghost use Rattle.fr_sharp.specs.Bearing.{ThroughIsApart};
 ghost use Rattle.fr_sharp.specs.JoinedLosses.{FollowedDoublesHearInPart, JoinedHistoriesKeepThroughLosses};
-ghost use Rattle.fr_sharp.specs.RoundsInPart.{RoundsInPartComputeOwn};
+ghost use Rattle.fr_traffic.specs.RoundsInPart.{RoundsInPartComputeOwn};
 ghost use Rattle.fr_sharp.specs.Losses.{HistoriesKeepThroughLosses, RowsHear, SharpAfterTwoWhole};
 
 use fr_promise::{heard_numbers, losses_last};

@@ -75,7 +75,8 @@ pub fn heard_behind(count: u32, double: u32) -> Kinds
 fn behind(params: &Params, flutter: u64, count: u32) -> LossSpread
     requires count { count ≤ 1000 }
     requires flutter { flutter ≤ most_flutter }
-    ensures { result.spread ≡ lost_spread params.now flutter (heard_behind count) count }
+    ensures spread { result.spread ≡ lost_spread params.now flutter (heard_behind count) count }
+    ensures passed { result.passed ≡ count }
 {
     let mut spread = LossSpread::first(params, false, flutter);
     for _double in 0..count {

@@ -1,7 +1,7 @@
-ghost use Rattle.std.specs.Prelude.{◌≡◌, ◌≤◌, ◌||◌, not, nat_eq, length};
-ghost use Rattle.std.specs.List.{list_all};
+ghost use Rattle.std.specs.Prelude.{◌≡◌, ◌≤◌, ◌||◌, not, length, List};
+ghost use Rattle.fr_cluster.specs.declared.nodes.NodeSpec.{NodeSpec};
 ghost use Rattle.fr_traffic.specs.Reaching.{whole_in};
-ghost use Rattle.fr_traffic.specs.Traffic.{all_have, all_linked, all_trust, arbitrary_count, bears_kind, has_all, has_value, heard_in, is_borne_to_join, is_trusted, kind_by, kind_in, may_receive, may_send, traffic_in, traffic_with};
+ghost use Rattle.fr_traffic.specs.Traffic.{all_have, all_linked, all_trust, bears_kind, has_all, has_value, heard_in, is_borne_to_join, is_trusted, kind_in, may_receive, may_send, traffic_in, traffic_with};
 
 use crate::meeting::lists_meet;
 use crate::traffic::{Asked, arbitrary_count, has_value, is_trusted, may_receive, may_send};
@@ -33,14 +33,26 @@ fn kind_in(nodes: &NodeList, script: &Script, rate: bool, double: u32, whole: bo
     requires whole { whole ≡ all_linked (traffic_with nodes.now script.now) double }
     ensures { result ≡ kind_in rate (traffic_with nodes.now script.now) double }
 {
-    let all = whole || all_have(nodes, script, rate, double);
-    if all && arbitrary_count(nodes, script) == 0 {
-        Heard::Clean
-    } else if all || lists_meet(nodes, script, rate, double) {
+    if hears_all(nodes, script, rate, double, whole) {
+        if arbitrary_count(nodes, script) == 0 {
+            Heard::Clean
+        } else {
+            Heard::Meeting
+        }
+    } else if lists_meet(nodes, script, rate, double) {
         Heard::Meeting
     } else {
         Heard::Poor
     }
+}
+
+// Where one channel carries the frames of both cycles of any two nodes, all is heard of either kind.
+fn hears_all(nodes: &NodeList, script: &Script, rate: bool, double: u32, whole: bool) -> bool
+    requires double { double ≤ 100_000 }
+    requires whole { whole ≡ all_linked (traffic_with nodes.now script.now) double }
+    ensures { result ≡ all_have rate (traffic_with nodes.now script.now) double }
+{
+    whole || all_have(nodes, script, rate, double)
 }
 
 /// Whether in a double cycle, 0 to 100,000, of each kind of values all is heard, or each correct node that has begun trusts
@@ -53,7 +65,8 @@ pub fn is_borne_to_join(params: &Params, script: &Script, double: u32, whole: bo
 {
     let _few = params.value(ParamName::gMacroPerCycle);
     let nodes = &params.nodes;
-    bears_kind(nodes, script, false, double, whole) && bears_kind(nodes, script, true, double, whole)
+    bears_kind(nodes, script, false, double, whole)
+        && bears_kind(nodes, script, true, double, whole)
 }
 
 fn bears_kind(nodes: &NodeList, script: &Script, rate: bool, double: u32, whole: bool) -> bool
@@ -62,7 +75,7 @@ fn bears_kind(nodes: &NodeList, script: &Script, rate: bool, double: u32, whole:
     requires whole { whole ≡ all_linked (traffic_with nodes.now script.now) double }
     ensures { result ≡ bears_kind rate (traffic_with nodes.now script.now) double }
 {
-    whole || all_have(nodes, script, rate, double) || all_trust(nodes, script, rate, double)
+    hears_all(nodes, script, rate, double, whole) || all_trust(nodes, script, rate, double)
 }
 
 // Whether each correct node that has begun surely has a value of each correct sender that may send.
@@ -73,7 +86,7 @@ fn all_have(nodes: &NodeList, script: &Script, rate: bool, double: u32) -> bool
     for place in 0..nodes.len() {
         match nodes.get(place) {
             Some(node) => {
-                if may_receive(script, double, node) && !has_all(nodes, script, rate, double, node) {
+                if !has_all_begun(nodes, script, rate, double, node) {
                     return false;
                 }
             }
@@ -81,6 +94,21 @@ fn all_have(nodes: &NodeList, script: &Script, rate: bool, double: u32) -> bool
         }
     }
     true
+}
+
+// A node has not begun, or has all.
+fn has_all_begun(
+    nodes: &NodeList,
+    script: &Script,
+    rate: bool,
+    double: u32,
+    node: &NodeSpec,
+) -> bool
+    requires { double ≤ 100_000 }
+    ensures { result ≡ (not (may_receive (traffic_with nodes.now script.now) double node.now)
+        || has_all rate (traffic_with nodes.now script.now) double node.now) }
+{
+    !may_receive(script, double, node) || has_all(nodes, script, rate, double, node)
 }
 
 fn has_all(nodes: &NodeList, script: &Script, rate: bool, double: u32, receiver: &NodeSpec) -> bool
@@ -91,7 +119,7 @@ fn has_all(nodes: &NodeList, script: &Script, rate: bool, double: u32, receiver:
     for place in 0..nodes.len() {
         match nodes.get(place) {
             Some(node) => {
-                if may_send(script, double, node) && !has_value(script, asked, receiver, node) {
+                if !has_sent(script, asked, receiver, node) {
                     return false;
                 }
             }
@@ -99,6 +127,15 @@ fn has_all(nodes: &NodeList, script: &Script, rate: bool, double: u32, receiver:
         }
     }
     true
+}
+
+// A sender may not send, or a receiver has such a value of it.
+fn has_sent(script: &Script, asked: Asked, receiver: &NodeSpec, sender: &NodeSpec) -> bool
+    requires { asked.double ≤ 100_000 }
+    ensures { (nodes : List NodeSpec) → result ≡ (not (may_send (traffic_with nodes script.now) asked.double sender.now)
+        || has_value asked.rate asked.surely (traffic_with nodes script.now) asked.double receiver.now sender.now) }
+{
+    !may_send(script, asked.double, sender) || has_value(script, asked, receiver, sender)
 }
 
 // Whether each correct node that has begun trusts its list.
@@ -110,7 +147,7 @@ fn all_trust(nodes: &NodeList, script: &Script, rate: bool, double: u32) -> bool
     for place in 0..nodes.len() {
         match nodes.get(place) {
             Some(node) => {
-                if may_receive(script, double, node) && !is_trusted(nodes, script, rate, double, node) {
+                if !trusts_begun(nodes, script, rate, double, node) {
                     return false;
                 }
             }
@@ -118,4 +155,14 @@ fn all_trust(nodes: &NodeList, script: &Script, rate: bool, double: u32) -> bool
         }
     }
     true
+}
+
+// A node has not begun, or trusts its list.
+fn trusts_begun(nodes: &NodeList, script: &Script, rate: bool, double: u32, node: &NodeSpec) -> bool
+    requires double { double ≤ 100_000 }
+    requires few { length nodes.now ≤ 64 }
+    ensures { result ≡ (not (may_receive (traffic_with nodes.now script.now) double node.now)
+        || is_trusted rate (traffic_with nodes.now script.now) double node.now) }
+{
+    !may_receive(script, double, node) || is_trusted(nodes, script, rate, double, node)
 }

@@ -22,8 +22,13 @@ loop-double-preserved c =
       passed = omega (arith, c.step.ensures.passed, was.passed);
     }
 
-pub returns : goal.returns
-returns c =
+pub returns-clause-spread : goal.returns-clause-spread
+returns-clause-spread c =
     let p = c.args.params.now in
     let end : c.loop-double._double ≡ c.args.count = omega (arith, c.loop-double.auto._double-end, c.loop-double-test.false) in
     c.loop-double.invariant.spread ∙ ap (λ (n : ℕ). lost_spread p c.args.flutter never n) end ∙ sym (same_yet p c.args.flutter c.args.count c.args.count (omega arith))
+
+pub returns-clause-passed : goal.returns-clause-passed
+returns-clause-passed c =
+    let end : c.loop-double._double ≡ c.args.count = omega (arith, c.loop-double.auto._double-end, c.loop-double-test.false) in
+    c.loop-double.invariant.passed ∙ end
