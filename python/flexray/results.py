@@ -74,7 +74,8 @@ class SharpBound:
 @dataclass(frozen=True)
 class LostBound:
     """How far clocks come apart where any frames are lost in `lost` double cycles in a row, and all is heard in each later one;
-    without arbitrary sync nodes. `apart` is by double cycle, up to `back`, from which on it is `precision`. `every_second` is for
+    without arbitrary sync nodes. `apart` is by double cycle, up to `back`, from which on it is `precision`. `crossing` is for as many
+    odd cycles and the even ones behind them, and `crossing_holds` whether the checks from 3 to 5 hold for that. `every_second` is for
     ever, where all is heard in one of any two in a row, and `every_second_holds` whether the checks from 3 to 5 hold for that.
     `meeting` is for ever too, where each node misses the frames of `missed` other sync nodes at most in each double cycle and none
     is damaged, and `meeting_holds` whether these checks hold for that. `longest` is how many in a row they bear, None where they
@@ -93,6 +94,8 @@ class LostBound:
     checks: tuple[Check, ...]
     lasts: int | None
     back: int
+    crossing: int
+    crossing_holds: bool
     every_second: int
     every_second_holds: bool
     meeting: int
@@ -217,9 +220,10 @@ class SharpReport:
 class SeriesCycle(NamedTuple):
     """A cycle of a series: whether its double cycle is in sync, and its greatest skew, which is 0 at macrotick 0 where no node
     runs. `sharp` is whether it is in sharp sync; `heard` is `all` if from each sync node to each other node one channel carries those of
-    both cycles, `most` if lists meet all the same, else `any`; `bound` its number in ticks where the run is covered through losses: in
-    the double cycles that are promised no skew is above it. It is None before the first one in sharp sync. All three are None in a
-    series that was not asked for them."""
+    both cycles, else the worse of offsets and rates: `most` if lists meet, `any` if it is poor, and `all` if nothing is missed but
+    frames of nodes that join, or at them, too early to count; `bound` its number in ticks where the run is covered through losses:
+    in the double cycles that are promised no skew is above it. It is None before the first one in sharp sync. All three are None in
+    a series that was not asked for them."""
 
     cycle: int
     in_sync: bool

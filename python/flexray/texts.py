@@ -112,11 +112,13 @@ def lost_bound(text: str) -> LostBound:
     checks = _checks(lines.every(CHECK))
     lasts = lines.take(r"lasts (on|\d+)")[0]
     back = lines.one(r"back (\d+)")
+    crossing, crosses = lines.take(r"crossing (\d+)( fails)?")
     second, fails = lines.take(r"every second (\d+)( fails)?")
     meeting, missed, parts = lines.take(r"meeting (\d+) (\d+)( fails)?")
     longest = lines.take(r"longest (none|\d+)")[0]
     return LostBound(text, flutter, lost, lambda_, pi, precision, apart, peak, reach, checks, None if lasts == "on" else int(lasts), back,
-                     int(second), not fails, int(meeting), int(missed), not parts, None if longest == "none" else int(longest))
+                     int(crossing), not crosses, int(second), not fails, int(meeting), int(missed), not parts,
+                     None if longest == "none" else int(longest))
 
 
 def _skew_line(lines: _Lines) -> Skew:

@@ -5,6 +5,7 @@ A run is of production shape, but that macroticks may be longer: a cycle of 5 ms
 slot that begin near each other, delays around the compensation, frames that are lost or damaged in some double cycles, and up to two
 arbitrary nodes that are early for some and late for others, or say anything. One or two nodes may join it.
 """
+import itertools
 from typing import NamedTuple
 
 from clocks_peer import CHANGE, PRODUCTION
@@ -15,10 +16,19 @@ DAMAGED = next(word for word, fields in FORMS["script"].kinds.items() if any(fie
 MILLION = 1_000_000
 # What frames are lost in a double cycle with losses: of each frame on a channel the share, or all of them; of one node at one other;
 # of a few nodes at each other one; or channel A's in the even cycle and channel B's in the odd one. Or all of them, while oscillators change
-# and some nodes without a key slot hear nobody.
-KINDS = {"bursts": 1, "twentieths": 0.05, "halves": 0.5, "all": 1, "one": 0, "few": 0, "crossed": 0, "deaf": 1}
-# What is heard in a double cycle decides how its numbers go on.
+# and some nodes without a key slot hear nobody; those of its odd cycle and the next even one; of its even cycle alone, or its odd one. Or
+# those of two of eight sync nodes at each node, not the same; a share of all, while arbitrary nodes are silent now and then or for ever;
+# or those of nodes that join or at them, and some others', in the double cycles around.
+KINDS = {"bursts": 1, "twentieths": 0.05, "halves": 0.5, "all": 1, "one": 0, "few": 0, "crossed": 0, "deaf": 1, "crossing": 1, "evens": 1,
+         "odds": 1, "eight": 0, "silent": 0, "around": 0}
+# Of which cycles, counted from the even one, a burst takes all.
+BURSTS = {"crossing": (1, 2), "evens": (0,), "odds": (1,)}
+# Those of runs that no node joins, and of runs that some do: then none may hear nobody.
+ALONE, JOINING = ([kind for kind in KINDS if kind != other] for other in ("around", "deaf"))
+# What is heard in a double cycle decides how its numbers go on: of offsets starts, and of rates lengths.
 CLEAN, MEETING, POOR = "clean", "meeting", "poor"
+# The word of its column where a frame is lost is that of the worse of both kinds, which is the later one here.
+WORDS = {CLEAN: "all", MEETING: "most", POOR: "any"}
 
 
 def discarded(count):
@@ -65,13 +75,13 @@ class Numbers:
                 return False
         return True
 
-    def behind(self, heard, starts, lengths):
+    def behind(self, kinds, starts, lengths):
         """Starts and lengths of the next double cycle."""
         odd = lengths + 2 * self.change
-        if heard == MEETING:
-            return (starts + lengths + 2 * odd + 4 * self.arrival + 7 * self.longest) // 2, (lengths + 2 * self.alone) // 2
         more = odd + 2 * self.arrival + 3 * self.longest
-        return (more, self.alone) if heard == CLEAN else (starts + lengths + more, lengths + self.alone - self.longest)
+        return ({CLEAN: more, MEETING: (starts + lengths + 2 * odd + 4 * self.arrival + 7 * self.longest) // 2,
+                 POOR: starts + lengths + more}[kinds.offsets],
+                {CLEAN: self.alone, MEETING: (lengths + 2 * self.alone) // 2, POOR: lengths + self.alone - self.longest}[kinds.rates])
 
     def apart(self, starts, lengths):
         return starts + 2 * lengths + 2 * self.change + 2 * self.longest
@@ -91,7 +101,7 @@ class Numbers:
             near += [self.near(*follow.first)] if double - 1 in listened else []
             near += [self.near(follow.second, spread[1])] if double - 2 in listened else []
             reach = max(reach, *near)
-            follow.go_on(what, spread, later)
+            follow.go_on(what.offsets, spread, later)
             spread = later
         return apart, reach
 
@@ -119,10 +129,10 @@ class Follow:
     """How far the clocks of nodes that follow may lie from the others in a double cycle: starts and lengths of those in their first one,
     and starts of those in their second one."""
 
-    def __init__(self, numbers, heard, starts, lengths):
+    def __init__(self, numbers, offsets, starts, lengths):
         self.numbers = numbers
         self.first = self.begun(starts, lengths)
-        self.second = self.nearer(heard, starts, lengths)
+        self.second = self.nearer(offsets, starts, lengths)
 
     def begun(self, starts, lengths):
         """Behind a double cycle whose nodes with rows lie so far apart: what was counted from two frames, and where it begins."""
@@ -130,27 +140,39 @@ class Follow:
         rate = lengths + 2 * n.value + n.values["pClusterDriftDamping"] * n.longest + 4 * n.change
         return starts + 2 * lengths + 4 * n.change + 2 * n.arrival + n.flutter + 4 * n.longest, rate
 
-    def nearer(self, heard, starts, lengths):
-        """Behind its first double cycle: as near as what it heard brings it."""
+    def nearer(self, offsets, starts, lengths):
+        """Behind its first double cycle: as near as what it heard of offsets brings it."""
         n, odd = self.numbers, self.first[1] + 2 * self.numbers.change
-        if heard == MEETING:
+        if offsets == MEETING:
             return (starts + lengths + 2 * odd + 4 * n.arrival + 7 * n.longest) // 2
         own = odd + 2 * n.arrival + 3 * n.longest
-        return own if heard == CLEAN else own + starts + lengths
+        return own if offsets == CLEAN else own + starts + lengths
 
-    def go_on(self, heard, rows, later):
-        """To the next double cycle, by what is heard in this one, and starts and lengths of the nodes with rows in both."""
-        self.second = self.nearer(heard, *rows)
+    def go_on(self, offsets, rows, later):
+        """To the next double cycle, by what is heard of offsets in this one, and starts and lengths of the nodes with rows in both."""
+        self.second = self.nearer(offsets, *rows)
         starts, lengths = self.begun(*rows)
         self.first = starts, max(lengths, later[1])
 
 
+class Kinds(NamedTuple):
+    """How starts go on, by what is heard of offsets, and lengths, by what is heard of rates."""
+    offsets: str
+    rates: str
+
+
 class Heard(NamedTuple):
-    """What is heard in a double cycle: the word of its column, how its numbers go on, and whether each correct node trusts its lists, or
-    nothing at all can reach it. Where nodes join, whether all is heard, or each that has begun trusts its lists."""
-    word: str
-    what: str
+    """What is heard in a double cycle: whether between any two correct nodes one channel carries the frames of both its cycles; how its
+    numbers go on; and whether each correct node trusts its lists, or nothing at all can reach it. Where nodes join, whether of each kind
+    all is heard, or each that has begun trusts its list."""
+    is_whole: bool
+    kinds: Kinds
     is_trusted: bool
+
+    @property
+    def word(self):
+        """That of its column."""
+        return "all" if self.is_whole else WORDS[max(self.kinds, key=list(WORDS).index)]
 
 
 def lists_of(double):
@@ -175,10 +197,6 @@ class Traffic:
         gone = self.lost | self.damaged if surely else self.lost - self.damaged
         return one == two or any(all((cycle, one, two, channel) not in gone for cycle in cycles)
                                  for channel in "AB" if channel in self.nodes[one][1] and channel in self.nodes[two][1])
-
-    def counts(self, cycles):
-        """Of each receiver how many senders it surely has a value of, and of how many perhaps."""
-        return [[sum(self.has(surely, cycles, one, two) for one in self.senders) for surely in (True, False)] for two in self.receivers]
 
     def may_reach(self, cycles, one, two):
         """Whether something may come of a node with a key slot, on one channel in each of these cycles."""
@@ -210,45 +228,50 @@ class Traffic:
                 return False
         return True
 
-    def heard(self, double):
-        """An offset value is of the odd cycle, a rate value of both."""
-        if self.joins:
-            return self.heard_to_join(double)
-        lists = [self.counts(cycles) for cycles in lists_of(double)]
-        liars, senders = len(self.arbitrary), len(self.senders)
-        is_whole = all(sure == senders for sure, _ in lists[1])
-        meets = True
-        for counts in lists:
-            costs = sorted(senders - sure + discarded(perhaps + liars) for sure, perhaps in counts)
-            meets = meets and sum(costs[-2:]) < senders
-        return Heard("all" if is_whole else "most" if meets else "any", CLEAN if is_whole and not liars else MEETING if meets else POOR,
-                     all(sure and liars <= discarded(sure + liars) or self.is_deaf(cycles, two)
-                         for cycles, counts in zip(lists_of(double), lists) for two, (sure, _) in zip(self.receivers, counts)))
-
     @property
     def staying(self):
         """The correct senders that do not join."""
         return [node for node in self.senders if node not in self.joins]
 
-    def heard_to_join(self, double):
-        """The same where nodes join. Who listened before takes part or follows: it has to trust what it has of the senders that do not
-        join. What it may have of others makes its list longer, so that it discards more."""
-        begun = [node for node in self.receivers if node not in self.joins or self.joins[node] < double]
-        liars, counts = sum(bool(self.nodes[node][0]) for node in self.arbitrary), len(self.staying)
-        is_whole = all(self.has(True, lists_of(double)[1], one, two) for one in self.senders for two in self.receivers)
-        meets = trusts = True
-        for cycles in lists_of(double):
-            sure = [sum(self.has(True, cycles, one, two) for one in self.staying) for two in begun]
-            perhaps = [sum(self.has(False, cycles, one, two) for one in self.senders) for two in begun]
-            costs = sorted((counts - one + discarded(most + liars) for one, most in zip(sure, perhaps)), reverse=True)
-            meets = meets and sum(costs[:2]) < counts
-            trusts = trusts and all(one > 0 and discarded(one + liars) >= liars for one in sure)
-        what = CLEAN if is_whole and not liars else MEETING if is_whole or meets else POOR
-        return Heard("all" if is_whole else "most" if meets else "any", what, is_whole or trusts)
+    @property
+    def liars(self):
+        """The arbitrary sync nodes."""
+        return [node for node in self.nodes if node in self.arbitrary and self.nodes[node][0]]
+
+    def begun(self, double):
+        """The correct nodes that may have values in a double cycle: those that do not join, and those that listened before it."""
+        return [node for node in self.receivers if node not in self.joins or self.joins[node] < double]
+
+    def sending(self, double):
+        """The correct nodes that may send in it: one that joins does from the third double cycle behind the one in which it listens."""
+        return {node for node in self.senders if node not in self.joins or self.joins[node] + 3 <= double}
+
+    def kind_of(self, double, cycles):
+        """What is heard in a double cycle of the values that come by one channel in each of these cycles; and whether that is borne: each
+        node trusts its list or is deaf, or, where nodes join, all is heard or each that has begun trusts its list. Of nodes that join no
+        value counts but where all is heard; what they may send makes a list longer, so that it discards more."""
+        begun, staying = self.begun(double), set(self.staying)
+        sure = {two: {one for one in self.senders if self.has(True, cycles, one, two)} for two in begun}
+        counted = {two: sure[two] & staying for two in begun}
+        further = {two: sum(self.may_reach(cycles, one, two) for one in self.liars) for two in begun}
+        cut = {two: discarded(sum(self.has(False, cycles, one, two) for one in self.senders) + further[two]) for two in begun}
+        is_all = all(sure[two] >= self.sending(double) for two in begun)
+        meets = all(counted.values()) and all(len(counted[one] & counted[two]) > cut[one] + cut[two]
+                                              for one, two in itertools.combinations(begun, 2))
+        trusting = [two for two in begun if counted[two] and further[two] <= discarded(len(counted[two]) + further[two])]
+        is_borne = (is_all or trusting == begun if self.joins else
+                    all(two in trusting or self.is_deaf(cycles, two) for two in begun))
+        return CLEAN if is_all and not self.liars else MEETING if is_all or meets else POOR, is_borne
+
+    def heard(self, double):
+        """An offset value is of the odd cycle, a rate value of both."""
+        (offsets, bears_offsets), (rates, bears_rates) = (self.kind_of(double, cycles) for cycles in lists_of(double))
+        return Heard(all(self.has(True, lists_of(double)[1], one, two) for one in self.senders for two in self.receivers),
+                     Kinds(offsets, rates), bears_offsets and bears_rates)
 
     def outweighs(self):
         """Whether the correct senders that do not join are enough for the arbitrary ones."""
-        return len(self.arbitrary) < 3 and len(self.staying) >= (1, 3, 6)[len(self.arbitrary)]
+        return len(self.liars) < 3 and len(self.staying) >= (1, 3, 6)[len(self.liars)]
 
 
 class Run(Traffic):
@@ -269,15 +292,21 @@ class Run(Traffic):
         if kind == "deaf":
             # A rate limit that suffices for little more than the range, or for much.
             self.values["pRateCorrectionOut"] = draw.choice([41, 41, 42, 45, 601])
+        self.share = KINDS[kind]
         if liars is None:
             # Where all frames of a sender are lost, nobody trusts what is left beside an arbitrary node.
-            liars = 0 if kind == "deaf" else draw.choice([0, 0, 0, 0, 0, 0, 1, 2] if KINDS[kind] > 0.1 else [0, 0, 1, 1, 1, 2])
+            liars = 0 if kind == "deaf" else draw.choice([0, 0, 0, 0, 0, 0, 1, 2] if self.share > 0.1 else [0, 0, 1, 1, 1, 2])
         self.doubles, count = draw.randrange(6, most_doubles + 1), draw.randrange(*((2, 9), (2, 9), (5, 11))[liars]) + liars
+        if kind == "silent":
+            self.share, liars = draw.choice([0.05, 0.5, 1, 1]), draw.choice([1, 1, 2])
+            count = draw.randrange(*((3, 9), (6, 11))[liars - 1]) + liars
         if joining:
             # What follows lies further apart: with room for it, as a rule, and others enough beside it.
             count = min(12, count + draw.choice([1, 2, 2, 3]))
             self.values["gdActionPointOffset"] = action + more if action < slot - 2 - more else action
             self.values["pOffsetCorrectionOut"] = draw.choice([127, 200, 300, 300, 450])
+        if kind == "eight":
+            count = 8
         channels = draw.choice(["A", "AB", "AB", "mixed"]) if kind != "crossed" else draw.choice(["AB", "AB", "AB", "mixed"])
         slots = sorted(draw.sample(range(1, 20), count))
         # Of each node its key slot and its channels; all share channel A.
@@ -349,7 +378,7 @@ class Run(Traffic):
         """The script: what arbitrary nodes say, and which frames are lost, or come damaged."""
         draw = self.draw
         # Whoever takes part by joining trusts nothing where all is lost: mostly that is before.
-        last = min(self.joins.values()) if self.joins and KINDS[self.kind] > 0.1 and draw.random() < 0.8 else self.doubles
+        last = min(self.joins.values()) if self.joins and self.share > 0.1 and draw.random() < 0.8 else self.doubles
         for double in self.with_losses():
             self.lost |= set(self.lost_in(double)) if double <= last else set()
         rows = sorted(self.lost)
@@ -360,26 +389,71 @@ class Run(Traffic):
         self.script += "".join(
             f"{DAMAGED},{cycle},{one},{two},{channel},{draw.randrange(64)},\n" if (cycle, one, two, channel) in self.damaged
             else f"lose,{cycle},{one},{two},{channel},,\n" for cycle, one, two, channel in rows)
-        rows = [row for node in sorted(self.arbitrary) for row in self.said_by(node)]
+        rows = [row for node in sorted(self.arbitrary) for row in self.told_by(node)]
         self.said = {(int(cycle), int(one), int(two), channel) for _, cycle, one, two, channel, *_ in (row.split(",") for row in rows)}
         self.script += "".join(rows)
 
     def lost_in(self, double):
-        """What is lost in a double cycle."""
-        draw, share = self.draw, KINDS[self.kind]
+        """What is lost in a double cycle, or, where a burst crosses into the next one, from its odd cycle on."""
+        draw, share = self.draw, self.share
         cycles = [2 * double + odd for odd in draw.choice([(0,), (1,), (0, 1), (0, 1)])]
         if self.kind == "crossed":
             pairs = [link[:2] for link in self.links if draw.random() < 0.2]
             return [(2 * double + (channel == "B"), *pair, channel) for *pair, channel in self.links if tuple(pair) in pairs]
+        if self.kind in BURSTS:
+            cycles = [cycle for cycle in (2 * double + after for after in BURSTS[self.kind]) if cycle < 2 * self.doubles]
         if self.kind == "one":
             pairs = [draw.choice(self.links)[:2]] if self.links else []
         elif self.kind == "few":
             most, are_alike = draw.choice([1, 1, 2, 2, 3]), draw.random() < 0.5
             pairs = [(one, two) for two in self.receivers
                      for one in draw.sample(self.senders, min(len(self.senders), most if are_alike else draw.randint(0, most)))]
+        elif self.kind == "eight":
+            pairs = self.two_missed()
+        elif self.kind == "around":
+            pairs = self.lost_around(double)
         else:
             pairs = [link[:2] for link in self.links]
         return [(cycle, *link) for link in self.links if link[:2] in pairs for cycle in cycles if share in (0, 1) or draw.random() < share]
+
+    def two_missed(self):
+        """Pairs by which each node misses two senders: those behind it, or any two."""
+        draw, is_turning, pairs = self.draw, self.draw.random() < 0.5, set()
+        for place, two in enumerate(self.receivers):
+            others = [one for one in self.senders if one != two]
+            missed = [others[(place + more) % len(others)] for more in (0, 1)] if is_turning else draw.sample(others, 2)
+            pairs.update((one, two) for one in missed)
+        return pairs
+
+    def lost_around(self, double):
+        """Pairs around nodes that join: all to one that has not begun, but mostly its reference's, and else one sender or two; all from one
+        before it takes part, and else some; and one pair of any."""
+        draw = self.draw
+        pairs = {draw.choice(self.links)[:2]} if self.links else set()
+        for node, listens in self.joins.items():
+            others = [one for one in self.senders if one != node]
+            if double > listens:
+                pairs.update((one, node) for one in draw.sample(others, min(len(others), draw.choice([0, 1, 1, 2]))))
+            else:
+                pairs.update((one, node) for one in others if one != self.references[node] or draw.random() < 0.1)
+            pairs.update((node, two) for two in self.receivers if double < listens + 3 or draw.random() < 0.2)
+        return pairs
+
+    def told_by(self, node):
+        """What an arbitrary node says where it is not silent: where it may be, for ever, in some double cycles or in those in which frames
+        are lost, in one cycle of each, to some nodes, or on one channel in even cycles and the other one in odd ones."""
+        rows, draw = self.said_by(node), self.draw
+        if self.kind != "silent":
+            return rows
+        how, half = draw.choice(["ever", "ever", "doubles", "losing", "losing", "cycle", "some", "channels"]), draw.randrange(2)
+        some = {"doubles": {double for double in range(self.doubles) if draw.random() < 0.5}, "losing": {at[0] // 2 for at in self.lost},
+                "some": {two for two in self.receivers if draw.random() < 0.5}}.get(how, ())
+
+        def is_silent(cycle, two, channel):
+            return (how == "ever" or cycle // 2 in some and how in ("doubles", "losing") or how == "cycle" and cycle % 2 == half
+                    or how == "some" and two in some or how == "channels" and (channel == "B") != cycle % 2)
+
+        return [row for row in rows for _, cycle, _, two, channel, *_ in [row.split(",")] if not is_silent(int(cycle), int(two), channel)]
 
     def said_by(self, node):
         """What an arbitrary node says: early to some and late to others, else in the odd cycle than in the even one; now and then nothing,
@@ -396,8 +470,11 @@ class Run(Traffic):
     def with_losses(self):
         """Double cycles in which some are."""
         draw, found, double = self.draw, [], self.draw.randrange(4)
-        if draw.random() < 0.15:
+        if draw.random() < (0.5 if self.kind == "eight" else 0.15):
             return range(self.doubles)
+        if self.kind == "around" and self.joins:
+            around = {listens + after for listens in self.joins.values() for after in range(-1, 6)}
+            return [double for double in range(self.doubles) if double in around and draw.random() < 0.7]
         while double < self.doubles:
             found += range(double, min(self.doubles, double + draw.choice([1, 1, 1, 2, 2, 3])))
             double = found[-1] + draw.choice([2, 3, 3, 4, 6])
@@ -528,10 +605,10 @@ def hold(run, series, trace, is_exact=False):
     assert perhaps.issuperset(before) and (first is None or first in synced), (first, synced, perhaps)
     since = first or 0
     numbers, later = run.numbers(since), heard[since:]
-    apart, reach = numbers.by([one.what for one in later], [double - since for double in run.joins.values()])
+    apart, reach = numbers.by([one.kinds for one in later], [double - since for double in run.joins.values()])
     deaf = [bool(run.lacking(double)) and not run.joins for double in range(since, run.doubles)]
     is_covered = run.outweighs() and run.bears(since) and numbers.follows(deaf) and numbers.hold(reach)
-    lost = [double for double, one in enumerate(later, since) if one.word != "all"]
+    lost = [double for double, one in enumerate(later, since) if not one.is_whole]
     told = series.lines["lost"]
     assert int(series.lines["flutter"][0]) == numbers.flutter, (series.lines["flutter"], numbers.flutter)
     kind = "beside" if run.arbitrary else "alone"
@@ -551,7 +628,7 @@ def hold(run, series, trace, is_exact=False):
         assert series.lines["sharp synced"][1] == ("on" if lasts is None else str(lasts)), series.lines["sharp synced"]
         end = run.doubles if lasts is None else min(run.doubles, first + lasts)
         share = keep(series, first, apart[:end - first])
-        count, losing = end - first, sum(one.word != "all" for one in heard[first:end])
+        count, losing = end - first, sum(not one.is_whole for one in heard[first:end])
         assert end < run.doubles or all(row[4] == "active" for cycle in rows[2 * first:] for row in cycle.values()), "a node is not active"
         left = [node for node, double in run.joins.items() if first <= double < min(end - 2, run.doubles - 3)
                 and node not in rows[2 * double + 6] and begins(run, rows, node)]

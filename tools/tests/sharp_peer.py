@@ -31,7 +31,7 @@ class Files(Traffic):
         super().__init__(nodes, (int(row[1]) for row in rows[2] if row[0] == "arbitrary"), gone["lose"] | gone[DAMAGED],
                          gone[DAMAGED], gone["say"])
         self.joins.update((int(row[2]), int(row[1])) for row in rows[2] if row[0] == "join" and int(row[2]) not in self.arbitrary)
-        self.beside = any(self.nodes[node][0] for node in self.arbitrary)
+        self.beside = bool(self.liars)
 
     def length(self, node, cycle):
         return at(self.lengths.get(node, {}), cycle, MILLION)
@@ -65,7 +65,7 @@ class Files(Traffic):
         """The first gap of each kind of the double cycles from one on, in their order, as their words."""
         v, first, end, found = self.values, 2 * since, 2 * self.doubles, []
         correct = sum(node not in self.joins for node in self.senders)
-        liars = sum(bool(self.nodes[node][0]) for node in self.arbitrary)
+        liars = len(self.liars)
         if liars > 2 or correct < (1, 3, 6)[liars]:
             found.append(f"count {correct} {liars}")
         lengths = [(node, cycle, self.length(node, cycle)) for node in sorted(self.receivers) for cycle in range(first, end)]
@@ -168,8 +168,10 @@ class Texts:
         self.gaps = self.numbers.failing(bool(files.joins)) + gaps
         self.heard = [files.heard(double) for double in self.doubles]
         later = self.heard[self.since:]
-        apart, reach = self.numbers.by([one.what for one in later], [double - self.since for double in files.joins.values()])
-        is_through = files.bears(self.since) and self.numbers.hold(reach) and all(gap.startswith("link") for gap in gaps)
+        apart, reach = self.numbers.by([one.kinds for one in later], [double - self.since for double in files.joins.values()])
+        deaf = [bool(files.lacking(double)) and not files.joins for double in range(self.since, files.doubles)]
+        is_through = (files.bears(self.since) and self.numbers.follows(deaf) and self.numbers.hold(reach)
+                      and all(gap.startswith("link") for gap in gaps))
         self.bounds = apart if is_through else []
         self.skews = [self.rows.skews(cycle) for cycle in range(2 * files.doubles)]
         self.older = older_numbers(files.values)
@@ -204,7 +206,7 @@ class Texts:
 
     def lost(self):
         """(how many double cycles lose frames, the last one, the greatest number, the first double cycle with it)."""
-        lost = [double for double in self.doubles if double >= self.since and self.heard[double].word != "all"]
+        lost = [double for double in self.doubles if double >= self.since and not self.heard[double].is_whole]
         most = max(self.bounds, default=None)
         return len(lost), lost[-1] if lost else None, most, None if most is None else self.since + self.bounds.index(most)
 

@@ -655,9 +655,11 @@ class Losses(Case):
         return starts + lengths + act * (lengths + self.changes) // p["gMacroPerCycle"] + self.longest
 
     def step(self, alone, heard, starts, lengths):
+        """By what is heard of both kinds of values, or of offsets and of rates."""
+        offsets, rates = (heard, heard) if isinstance(heard, str) else heard
         behind = lengths + alone.pi - alone.lambda_
-        return {"all": (behind, alone.lambda_), "any": (starts + lengths + behind, lengths + alone.lambda_ - self.longest),
-                "most": ((starts + lengths + 2 * behind + self.longest) // 2, (lengths + 2 * alone.lambda_) // 2)}[heard]
+        return ({"all": behind, "any": starts + lengths + behind, "most": (starts + lengths + 2 * behind + self.longest) // 2}[offsets],
+                {"all": alone.lambda_, "any": lengths + alone.lambda_ - self.longest, "most": (lengths + 2 * alone.lambda_) // 2}[rates])
 
     def costs(self, alone, pattern):
         """The numbers of the double cycles of a pattern, and the greatest reach."""
@@ -695,6 +697,9 @@ class Losses(Case):
                 self.assertEqual([(one.number, one.left, one.right) for one in told.checks[2:]], self.sides(alone, reach))
                 self.assertEqual([one.holds for one in told.checks[2:]],
                                  [least.holds(number, least.Sides(left, right)) for number, left, right in self.sides(alone, reach)])
+                crossing, far_crossing = self.costs(alone, ["any"] * count + [("all", "any")] + ["all"] * 4)
+                self.assertEqual((told.crossing, told.crossing_holds), (max(crossing), self.holds(alone, far_crossing)))
+                self.assertEqual([ticks > alone.precision for ticks in crossing], [True] * (count + 3) + [False] * 2)
                 self.assertEqual((told.every_second, told.every_second_holds),
                                  (max(max(apart) for apart, _ in seconds), self.holds(alone, max(reach for _, reach in seconds))))
                 self.assertEqual((told.meeting, told.missed, told.meeting_holds), (beside.precision, 2, self.holds(alone, far)))
@@ -706,17 +711,21 @@ class Losses(Case):
     @needs_series
     def test_what_a_run_loses(self):
         """Its numbers by what is heard in each double cycle, from the first one in sync on, are stepped here too. Where node 2 misses node 1
-        alone lists meet all the same; where each node misses three others they do not."""
+        alone lists meet all the same, and where each misses two or three others, the same ones. Where four miss three of the others, and these
+        three of them, lists do not meet. A frame of an odd cycle gives an offset value, and both a rate value."""
         self.longest = 1_000_000 + self.p["xRateBound"]
         self.changes = 2 * (self.p["pMicroPerCycle"] + self.p["pRateCorrectionOut"]) * self.p["xChangeBound"]
         folder = os.path.join(REPOSITORY, "examples", "sharp")
         alone = self.told(0)["alone"]
         two_each, three_each = ([(one, two) for two in range(1, 9) for one in [one for one in range(1, 9) if one != two][:share]]
                                 for share in (2, 3))
-        for lost, missed, heard in (((), [], "all"), *(((3,), [(1, 2)], "most"), ((0, 9), [(1, 2)], "most"), (range(10), [(1, 2)], "most")),
-                                    *((lost, two_each, "most") for lost in ((3,), range(2, 10))),
-                                    *((lost, three_each, "any") for lost in ((3,), (3, 4), (0, 9), (3, 4, 5)))):
-            script = "".join(f"lose,{2 * double},{one},{two},{channel},,\n" for double in lost for one, two in missed for channel in "AB")
+        cliques = [(one, two) for two in range(1, 9) for one in ((5, 6, 7) if two < 5 else (1, 2, 3))]
+        cases = [((), [], "all"), ((3,), [(1, 2)], "most"), ((0, 9), [(1, 2)], "most"), (range(10), [(1, 2)], "most"),
+                 *((lost, missed, "most") for missed in (two_each, three_each) for lost in ((3,), range(2, 10))),
+                 *((lost, cliques, "any") for lost in ((3,), (3, 4), (0, 9), (3, 4, 5)))]
+        for (lost, missed, heard), within in itertools.product(cases, ((0,), (1,), (0, 1))):
+            script = "".join(f"lose,{2 * double + cycle},{one},{two},{channel},,\n"
+                             for double in lost for cycle in within for one, two in missed for channel in "AB")
             path = self.write("script.csv", script)
             told = texts.sharp_series(subprocess.run(
                 [SERIES, os.path.join(folder, "params.csv"), os.path.join(folder, "drift.csv"), path, "sharp"],
@@ -724,9 +733,10 @@ class Losses(Case):
             doubles, since = len(told.cycles) // 2, 2
             words = [heard if double in lost else "all" for double in range(doubles)]
             counted = [double for double in lost if double >= since]
-            apart, reach = self.costs(alone, words[since:])
+            kinds = [(word if 1 in within else "all", word) for word in words]
+            apart, reach = self.costs(alone, kinds[since:])
             bound = (max(apart), since + apart.index(max(apart))) if self.holds(alone, reach) else (None, None)
-            with self.subTest(lost=lost, heard=heard):
+            with self.subTest(lost=lost, heard=heard, within=within):
                 self.assertEqual(told.sharp_synced, since)
                 self.assertEqual(told.losses, (len(counted), max(counted, default=None), *bound))
                 self.assertEqual(told.sharp_covered, not counted)

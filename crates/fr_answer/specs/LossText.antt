@@ -3,6 +3,7 @@
 use Rattle.std.specs.Prelude.{ℕ, zero, suc, ◌+◌, Bool, true, false, List, [], ◌++◌, codes, Option, Some, None}
 use Rattle.std.specs.Fmt.{decimal}
 use Rattle.fr_cluster.specs.Values.{Values}
+use Rattle.fr_sharp.specs.declared.loss_costs.CrossingCost.{CrossingCost}
 use Rattle.fr_sharp.specs.declared.loss_costs.SecondCost.{SecondCost}
 use Rattle.fr_sharp.specs.declared.meeting_costs.MeetingCost.{MeetingCost}
 use Rattle.fr_sharp.specs.LossCosts.{heard_behind, limits_hold}
@@ -40,11 +41,16 @@ loss_check_line number flutter reach p = line (
     ++ decimal (sharp_left_of number p) ++ codes " " ++ decimal (sharp_right_of number flutter reach p)
     )
 
--- how far macroticks may lie apart where frames are lost in every second double cycle, and whether a check from the third on fails
--- with the reach of that
+-- whether a check from the third on fails with a reach
 abbrev pub fails_text : Bool → List ℕ
 fails_text true = []
 fails_text false = codes " fails"
+
+-- how far macroticks may lie apart where so many odd cycles and the even ones behind them lose frames; and where every second double cycle
+-- does
+abbrev pub crossing_line : Values → ℕ → CrossingCost → List ℕ
+crossing_line p flutter crossing =
+    line (codes "crossing " ++ decimal crossing.peak ++ fails_text (limits_hold flutter crossing.reach p))
 
 abbrev pub second_line : Values → ℕ → SecondCost → List ℕ
 second_line p flutter second =
@@ -74,6 +80,7 @@ loss_figures_text p flutter figures =
     ++ loss_check_line 5 flutter figures.row.reach p
     ++ lasts_text false p flutter
     ++ line (codes "back " ++ decimal figures.row.back)
+    ++ crossing_line p flutter figures.crossing
     ++ second_line p flutter figures.second
     ++ meeting_line p flutter figures.meeting
     ++ longest_line figures.longest

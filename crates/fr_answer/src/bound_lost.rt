@@ -2,7 +2,7 @@ ghost use Rattle.std.specs.Prelude.{◌≡◌, ◌≤◌, ◌+◌, ◌++◌, cod
 ghost use Rattle.std.specs.Fmt.{decimal};
 ghost use Rattle.fr_base.specs.Device.{Puts};
 ghost use Rattle.fr_sharp.specs.Losses.{lost_apart};
-ghost use Rattle.fr_sharp.specs.LossCosts.{heard_behind};
+ghost use Rattle.fr_sharp.specs.LossCosts.{heard_behind, limits_hold};
 ghost use Rattle.fr_sharp.specs.LossSteps.{most_lost};
 ghost use Rattle.fr_bound.specs.SharpBounds.{most_flutter};
 ghost use Rattle.fr_text.specs.Lines.{joined_lines};
@@ -10,9 +10,9 @@ ghost use Rattle.fr_text.specs.Pieces.{line};
 ghost use Rattle.fr_program.specs.Around.{around_of};
 ghost use Rattle.fr_program.specs.Command.{CommandEnds};
 ghost use Rattle.fr_program.specs.Failure.{EndingWritesNothing};
-ghost use Rattle.fr_answer.specs.LossAnswer.{AreLossFigures, loss_command};
+ghost use Rattle.fr_answer.specs.LossAnswer.{AreLossFigures, AreReachesSmall, loss_command};
 ghost use Rattle.fr_answer.specs.LossText.{fails_text, longest_line, loss_apart_line, loss_apart_lines, loss_bounds_text};
-ghost use Rattle.fr_answer.specs.LossText.{loss_check_line, loss_figures_text, loss_text, meeting_line, second_line};
+ghost use Rattle.fr_answer.specs.LossText.{loss_check_line, loss_figures_text, loss_text, meeting_line};
 
 use crate::bound::value_line;
 use crate::bound_sharp::{lambda_line, lasts_line, pi_line, precision_line};
@@ -21,8 +21,8 @@ use fr_cluster::Params;
 use fr_params::ParamsFile;
 use fr_program::Failure;
 use fr_sharp::{
-    Digits, LossCost, LossSides, LossSpread, MeetingCost, SecondCost, every_second_cost,
-    heard_behind, limits_hold, longest_loss, loss_cost, loss_side, meeting_cost,
+    CrossingCost, Digits, LossCost, LossSides, LossSpread, MeetingCost, SecondCost, crossing_cost,
+    every_second_cost, heard_behind, limits_hold, longest_loss, loss_cost, loss_side, meeting_cost,
 };
 use fr_text::Piece::{Natural, Word};
 use fr_text::{Line, accepted, line_of, put_line, put_lines};
@@ -33,6 +33,8 @@ use std::alloc::Global;
 pub struct LossFigures {
     /// So many double cycles in a row.
     pub row: LossCost,
+    /// So many odd cycles and the even ones behind them.
+    pub crossing: CrossingCost,
     /// Every second double cycle for ever.
     pub second: SecondCost,
     /// Each double cycle for ever where lists meet.
@@ -41,10 +43,10 @@ pub struct LossFigures {
     pub longest: Option<u32>,
 }
 
-/// Reads the parameters in the file, and writes how far clocks may lie apart where any frames may be lost in so many
-/// double cycles in a row, 1 to 1000, without arbitrary sync nodes, and delays flutter by no more than so many ticks, 0 to
-/// 1,000,000,000; with the checks for that, each line in one put. It loads the file once. A failure comes where the file
-/// can't be loaded, is not accepted, or memory runs out (`Stopped`), or where the sink counted a fault (`WriteFault`).
+/// Reads the parameters in the file, and writes how far clocks may lie apart where any frames may be lost in so many double
+/// cycles in a row, 1 to 1000, without arbitrary sync nodes, and delays flutter by no more than so many ticks, 0 to 10^9; with
+/// the checks for that, each line in one put. It loads the file once. A failure comes where the file can't be loaded, is not
+/// accepted, or memory runs out (`Stopped`), or where the sink counted a fault (`WriteFault`).
 pub fn answer_bound_lost<S: Shelf, O: Sink>(
     alloc: Global,
     file: &str,
@@ -71,12 +73,12 @@ fn figures_of(params: &Params, flutter: u64, count: u32) -> LossFigures
     requires from { 1 ≤ count }
     requires to { count ≤ 1000 }
     ensures are { AreLossFigures params.now flutter count result }
-    ensures row { result.row.reach ≤ most_lost }
-    ensures second { result.second.reach ≤ most_lost }
+    ensures reaches { AreReachesSmall result }
     ensures back { result.row.back ≤ 1002 }
 {
     LossFigures {
         row: loss_cost(params, flutter, count),
+        crossing: crossing_cost(params, flutter, count),
         second: every_second_cost(params, flutter),
         meeting: meeting_cost(params, flutter),
         longest: longest_loss(params, flutter),
@@ -91,8 +93,7 @@ fn print_losses<O: Sink>(
     out: &mut O,
 ) -> Result<(), PutFault>
     requires flutter { flutter ≤ most_flutter }
-    requires row { figures.now.row.reach ≤ most_lost }
-    requires second { figures.now.second.reach ≤ most_lost }
+    requires reaches { AreReachesSmall figures.now }
     requires back { figures.now.row.back ≤ 1002 }
     ensures { Puts result (O.state out.old) (O.state out.new) (loss_text params.now flutter count figures.now) }
 {
@@ -109,8 +110,7 @@ fn put_behind<O: Sink>(
     out: &mut O,
 ) -> Result<(), PutFault>
     requires flutter { flutter ≤ most_flutter }
-    requires row { figures.now.row.reach ≤ most_lost }
-    requires second { figures.now.second.reach ≤ most_lost }
+    requires reaches { AreReachesSmall figures.now }
     requires back { figures.now.row.back ≤ 1002 }
     ensures { Puts result (O.state out.old) (O.state out.new)
         (loss_apart_lines params.now flutter count 0 (figures.now.row.back + 1)
@@ -172,13 +172,13 @@ fn apart_line(double: u32, apart: u128) -> Line
 }
 
 // The peak, the reach, the checks with it, how long the walk lasts, and the way back; and what is of the parameters alone.
-fn figure_lines(params: &Params, flutter: u64, figures: &LossFigures) -> [Option<Line>; 12]
+fn figure_lines(params: &Params, flutter: u64, figures: &LossFigures) -> [Option<Line>; 13]
     requires flutter { flutter ≤ most_flutter }
-    requires row { figures.now.row.reach ≤ most_lost }
-    requires second { figures.now.second.reach ≤ most_lost }
+    requires reaches { AreReachesSmall figures.now }
     ensures { joined_lines result ≡ loss_figures_text params.now flutter figures.now }
 {
     let reach = figures.row.reach;
+    let (crossing, second) = (figures.crossing, figures.second);
     [
         Some(wide_line(b"peak ", figures.row.peak)),
         Some(wide_line(b"reach ", reach)),
@@ -189,7 +189,8 @@ fn figure_lines(params: &Params, flutter: u64, figures: &LossFigures) -> [Option
         Some(check_line(params, flutter, reach, 5)),
         Some(lasts_line(params, false, flutter)),
         Some(value_line(b"back ", u64::from(figures.row.back))),
-        Some(second_line(params, flutter, &figures.second)),
+        Some(peak_line(b"crossing ", params, flutter, crossing.peak, crossing.reach)),
+        Some(peak_line(b"every second ", params, flutter, second.peak, second.reach)),
         Some(meeting_line(params, flutter, &figures.meeting)),
         Some(longest_line(figures.longest)),
     ]
@@ -222,17 +223,16 @@ fn check_line(params: &Params, flutter: u64, reach: u128, number: u8) -> Line
     ])
 }
 
-fn second_line(params: &Params, flutter: u64, second: &SecondCost) -> Line
+// How far macroticks may lie apart in some case, and whether a check of the limits fails with the reach of that.
+fn peak_line(label: &[u8], params: &Params, flutter: u64, peak: u128, reach: u128) -> Line
+    requires label { length label.now ≤ 20 }
     requires flutter { flutter ≤ most_flutter }
-    requires reach { second.now.reach ≤ most_lost }
-    ensures { result ≡ second_line params.now flutter second.now }
+    requires reach { reach ≤ most_lost }
+    ensures { result ≡ line (label.now ++ decimal peak ++ fails_text (limits_hold flutter reach params.now)) }
 {
-    let digits = Digits::of(second.peak);
-    line_of(&[
-        Word(b"every second "),
-        Word(digits.bytes()),
-        Word(fails(limits_hold(params, flutter, second.reach))),
-    ])
+    let digits = Digits::of(peak);
+    let holds = limits_hold(params, flutter, reach);
+    line_of(&[Word(label), Word(digits.bytes()), Word(fails(holds))])
 }
 
 fn meeting_line(params: &Params, flutter: u64, meeting: &MeetingCost) -> Line

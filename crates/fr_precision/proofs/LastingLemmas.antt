@@ -1,5 +1,5 @@
 -- Many double cycles, by the step.
-use Rattle.std.proofs.Common.{◌≡◌, ℕ, zero, suc, ◌+◌, ◌*◌, ◌-◌, ◌<◌, ◌≤◌, Bool, true, false, ℤ, pos, Option, Some, None, IfSome, List, map, All, inl, inr, sym, subst, arith}
+use Rattle.std.proofs.Common.{◌≡◌, ℕ, zero, suc, ◌+◌, ◌*◌, ◌-◌, ◌<◌, ◌≤◌, Bool, true, ℤ, pos, Option, Some, None, IfSome, List, map, All, sym, subst, arith}
 use Rattle.std.specs.Prelude.{◌+ℤ◌, ◌*ℤ◌, ◌≤ℤ◌, ◌/◌, Contains}
 use Rattle.std.proofs.lemmas.Int.{ints}
 use Rattle.std.proofs.lemmas.List.Elements.{All-contains_itself, All-map}
@@ -12,7 +12,7 @@ use Rattle.fr_cluster.specs.Values.{amount, Values}
 use Rattle.fr_cluster.specs.Sane.{IsSane}
 use Rattle.fr_cluster.specs.declared.names.ParamName.TheVariants as name
 use Rattle.fr_time.specs.Position.{floor_of}
-use Rattle.fr_bound.specs.Bounds.{cycle_change, longest_micro}
+use Rattle.fr_bound.specs.Bounds.{longest_micro}
 use Rattle.fr_bound.specs.Checks.{holds_of}
 use Rattle.fr_precision.specs.Offsets.{LimitSuffices}
 use Rattle.fr_precision.specs.Rows.{Sender}
@@ -22,20 +22,18 @@ use Rattle.fr_precision.specs.Step.{IsFollowed, Member}
 use Rattle.fr_precision.proofs.Senders.{All-along}
 use Rattle.fr_bound.specs.SharpBounds.{last_action, near_by, odd_spread, precision_by, rate_walk, sharp_lambda, sharp_near, sharp_pi, walk_lasts}
 use Rattle.fr_bound.specs.SharpChecks.{SharpChecksHold}
-use Rattle.fr_bound.specs.declared.judging.Heard.{Heard}
-use Rattle.fr_bound.specs.declared.judging.Heard.TheVariants.{Clean, Meeting, Poor}
 use Rattle.fr_precision.specs.Lengths.{walked_after}
 use Rattle.fr_bound.specs.SharpSpreads.{sharply_apart_in}
 use Rattle.fr_bound.specs.SharpSpreads.{IsSharplySettled}
 use Rattle.fr_precision.specs.SharpSettling.{sharp_spread_after}
-use Rattle.fr_precision.specs.SharpStep.{ActInReach, AreSharp, ComeSharply, ComputesSharply, DrawsTo, IsInSharpSync, IsSharpDouble, IsSharpLimit, IsSharpReach, StaySharp}
+use Rattle.fr_precision.specs.SharpStep.{ActInReach, AreSharp, ComeSharply, ComputesSharply, DrawsTo, IsInSharpSync, IsSharpDouble, IsSharpReach, StaySharp}
 use Rattle.fr_precision.specs.SharpRun.{lengths_from, starts_from, AllUncut, AreSharpDoubles, BeginSharp, BeginWithin, DrawInReach, IsNextDouble, KeepsSharp, KeepsToSpreads, SharpDoublesDraw, SharpSpreadsKeep, SharpSyncIsReached, SharpSyncLasts, StaysInSharpSync, WalkLastsAfter, WalkLastsUpTo}
-use Rattle.fr_precision.specs.Among.{AreLossyDoubles, ComputesOwn, GoesTo, GoInReach, HeardSo, LossyDoublesKeep, LossyDoublesStayApart}
-use Rattle.fr_precision.proofs.AmongSteps.{deaf_spreads_grow, regular_or}
+use Rattle.fr_precision.specs.Among.{AreLossyDoubles, GoInReach, LossyDoublesKeep, LossyDoublesStayApart}
+use Rattle.fr_precision.specs.declared.kinds.Kinds.{Kinds}
 use Rattle.fr_precision.proofs.BoundLemmas.{floor_is, key_slots_act_early, sharp_checks_suffice_lem, walk_is_held, walked_none}
-use Rattle.fr_precision.proofs.MeetingSteps.{comes_near_itself, meeting_spreads_draw}
+use Rattle.fr_precision.proofs.HeardSteps.{heard_spreads_go}
 use Rattle.fr_precision.proofs.SettlingLemmas.{next_spread_draws, next_starts_fit, settled_stays}
-use Rattle.fr_precision.proofs.StepLemmas.{act_in_reach, actions_lie_in_reach, macroticks_stay_sharp, next_is_near, sharp_is_wider, sharp_sync_draws, sharp_sync_is_kept_lem, spreads_shrink_in_reach}
+use Rattle.fr_precision.proofs.StepLemmas.{act_in_reach, actions_lie_in_reach, limit_of, macroticks_stay_sharp, next_is_near, sharp_is_wider, sharp_sync_draws, sharp_sync_is_kept_lem, spreads_shrink_in_reach}
 
 pub earlier : (p : Values) (flutter k : ℕ) → WalkLastsUpTo p flutter (suc k) → WalkLastsAfter p flutter k
 earlier p flutter k before = by (walk_lasts p flutter) before
@@ -315,52 +313,22 @@ sharp_sync_is_reached beside p flutter start rate reach doubles rest senders nod
 
 -- ---- by what is heard
 
-own_regular : (p : Values) (flutter : ℕ) (nodes : List Member) (last : ℤ) → ((node : Member) → Contains nodes node → ComputesOwn p flutter nodes last node) → All (λ (node : Member). IsRegular p node.even node.odd) nodes
-own_regular p flutter nodes last computes =
-    All-along (Contains nodes) (λ (node : Member). IsRegular p node.even node.odd) nodes (λ node here. (computes node here).regular) (All-contains_itself nodes)
+regular_by : (nodes : List Member) (p : Values) → ((node : Member) → Contains nodes node → IsRegular p node.even node.odd) → All (λ (node : Member). IsRegular p node.even node.odd) nodes
+regular_by nodes p regular = All-along (Contains nodes) (λ (node : Member). IsRegular p node.even node.odd) nodes (λ node here. regular node here) (All-contains_itself nodes)
 
-regular_by : (what : Heard) (some_keep : Bool) (p : Values) (flutter : ℕ) (senders : List Sender) (nodes : List Member) (last : ℤ) → HeardSo what some_keep p flutter senders nodes last → All (λ (node : Member). IsRegular p node.even node.odd) nodes
-regular_by Clean some_keep p flutter senders nodes last heard = all_regular false p flutter senders nodes last heard
-regular_by Meeting some_keep p flutter senders nodes last heard = own_regular p flutter nodes last heard.0
-regular_by Poor some_keep p flutter senders nodes last heard =
-    All-along (Contains nodes) (λ (node : Member). IsRegular p node.even node.odd) nodes (λ node here. regular_or some_keep p flutter nodes last node (heard node here)) (All-contains_itself nodes)
-
-module _
-    (some_keep : Bool) (p : Values) (flutter : ℕ) (senders : List Sender) (nodes : List Member) (starts lengths next_starts next_lengths : ℕ) (beyond walk next reach last : ℤ)
-    (is : IsSharpReach p flutter starts lengths beyond walk reach last) (next_from : pos 0 ≤ℤ next) (to_next : (beyond +ℤ walk) ≤ℤ next)
-    (further : some_keep ≡ true → (beyond +ℤ pos (2 * cycle_change p)) ≤ℤ next)
-    (sharp : AreSharp p starts lengths beyond (map (λ (node : Member). node.even) nodes)) where
-  limit : IsSharpLimit p flutter beyond walk reach last
-  limit = record { sane = is.sane; walks = is.walks; suffices = is.suffices; early = is.early }
-
-  acting_by : (what : Heard) → HeardSo what some_keep p flutter senders nodes last → ActInReach p reach last nodes
-  acting_by what heard is_odd x y action at also from to =
-      actions_lie_in_reach p flutter starts lengths beyond walk reach last action is_odd nodes x y is sharp (regular_by what some_keep p flutter senders nodes last heard) at also from to
-
-  come_so : (what : Heard) (one other : Member) → GoesTo what p flutter starts lengths next_starts next_lengths → HeardSo what some_keep p flutter senders nodes last
-      → Contains nodes one → Contains nodes other → ComeSharply p next_starts next_lengths next one other
-  come_so Clean one other goes heard here there =
-      spreads_shrink_in_reach false p flutter senders nodes starts lengths next_starts next_lengths beyond walk next reach last one other limit (acting_by Clean heard) next_from to_next goes sharp heard here there
-  come_so Meeting one other goes heard here there = elim (heard.1 one other here there) [
-    | inl same ↦
-        let With : Member → Type 0 = λ node. ComeSharply p next_starts next_lengths next one node in
-        subst With same
-        (comes_near_itself p flutter nodes starts lengths next_starts next_lengths beyond walk next reach last one limit (acting_by Meeting heard) next_from to_next goes sharp heard.0 here)
-    | inr common ↦
-        meeting_spreads_draw p flutter nodes starts lengths next_starts next_lengths beyond walk next reach last one other limit (acting_by Meeting heard) next_from to_next goes sharp
-        (own_regular p flutter nodes last heard.0) here there common
-  ]
-  come_so Poor one other goes heard here there =
-      deaf_spreads_grow some_keep p flutter nodes starts lengths next_starts next_lengths beyond walk next reach last one other limit (acting_by Poor heard) next_from to_next further goes.0 goes.1 sharp heard here there
-
-module _ (p : Values) (flutter doubles : ℕ) (what : ℕ → Heard) (keeps : ℕ → Bool) (beyond : ℕ → ℤ) (starts lengths : ℕ → ℕ) (senders : ℕ → List Sender) (nodes : ℕ → List Member) (reach last : ℤ)
+module _ (p : Values) (flutter doubles : ℕ) (what : ℕ → Kinds) (keeps : ℕ → Bool) (beyond : ℕ → ℤ) (starts lengths : ℕ → ℕ) (senders : ℕ → List Sender) (nodes : ℕ → List Member) (reach last : ℤ)
     (are : AreLossyDoubles p flutter doubles what keeps beyond starts lengths senders nodes last) (go : GoInReach p flutter doubles what keeps beyond starts lengths reach last) where
   lossy_come : (k : ℕ) → k < doubles → WalkLastsAfter p flutter k → BeginSharp p beyond starts lengths nodes k → (one other : Member) → Contains (nodes k) one → Contains (nodes k) other
       → ComeSharply p (starts (suc k)) (lengths (suc k)) (beyond (suc k)) one other
   lossy_come k short before begin one other here there =
-      come_so (keeps k) p flutter (senders k) (nodes k) (starts k) (lengths k) (starts (suc k)) (lengths (suc k)) (beyond k) (rate_walk p flutter) (beyond (suc k)) reach last
-      (record { sane = are.sane; walks = go.walks k short before; suffices = go.suffices; early = go.early; fits = go.fits k short }) (go.from_range k short before) (go.takes_walk k short before) (go.takes_changes k short before)
-      begin.sharp (what k) one other (go.goes k) (are.heard k short before begin) here there
+      let heard = are.heard k short before begin in
+      let is : IsSharpReach p flutter (starts k) (lengths k) (beyond k) (rate_walk p flutter) reach last =
+      record { sane = are.sane; walks = go.walks k short before; suffices = go.suffices; early = go.early; fits = go.fits k short } in
+      heard_spreads_go (what k) (keeps k) p flutter (senders k) (nodes k) (starts k) (lengths k) (starts (suc k)) (lengths (suc k)) (beyond k) (rate_walk p flutter) (beyond (suc k)) reach last one other
+      (limit_of p flutter (starts k) (lengths k) (beyond k) (rate_walk p flutter) reach last is)
+      (λ is_odd x y action at also from to.
+      actions_lie_in_reach p flutter (starts k) (lengths k) (beyond k) (rate_walk p flutter) reach last action is_odd (nodes k) x y is begin.sharp (regular_by (nodes k) p heard.regular) at also from to)
+      (go.from_range k short before) (go.takes_walk k short before) (go.takes_changes k short before) (go.goes k) begin.sharp heard here there
 
   lossy_begins : AreSharp p (starts 0) (lengths 0) (beyond 0) (map (λ (node : Member). node.even) (nodes 0)) → (k : ℕ) → k < doubles → WalkLastsUpTo p flutter k → BeginSharp p beyond starts lengths nodes k
   unfolding Active_in
@@ -392,4 +360,4 @@ lossy_doubles_stay_apart p flutter doubles what keeps beyond starts lengths send
     let kept = lossy_doubles_keep p flutter doubles what keeps beyond starts lengths senders nodes reach last are go first k short in
     let begin = kept.begins (up_to p flutter k before) in
     macroticks_stay_sharp p (starts k) (lengths k) (starts (suc k)) (lengths (suc k)) (beyond k) (beyond (suc k)) (nodes k) one other apart macrotick is_odd are.sane begin.sharp
-    (regular_by (what k) (keeps k) p flutter (senders k) (nodes k) last (are.heard k short before begin)) here there (kept.come before one other here there) fits ends_fit from to
+    (regular_by (nodes k) p (are.heard k short before begin).regular) here there (kept.come before one other here there) fits ends_fit from to

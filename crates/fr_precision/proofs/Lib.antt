@@ -32,6 +32,7 @@ pub mod HearingLemmas
 pub mod StepLemmas
 pub mod AmongSteps
 pub mod MeetingSteps
+pub mod HeardSteps
 pub mod RoundLemmas
 pub mod AlikeLemmas
 pub mod SettlingLemmas

@@ -1,9 +1,9 @@
 -- The step of a double cycle in which lists meet: two nodes that have enough senders in common come half as near.
-use Rattle.std.proofs.Common.{◌≡◌, ℕ, ◌+◌, ◌*◌, ◌≤◌, true, ℤ, pos, List, [], ◌∷◌, ◌++◌, length, map, All, refl, arith}
-use Rattle.std.specs.Prelude.{◌+ℤ◌, ◌-ℤ◌, ◌*ℤ◌, ◌≤ℤ◌, Contains}
+use Rattle.std.proofs.Common.{◌≡◌, ℕ, ◌+◌, ◌*◌, ◌≤◌, true, ℤ, pos, List, [], ◌∷◌, ◌++◌, length, All, refl, arith}
+use Rattle.std.specs.Prelude.{◌+ℤ◌, ◌-ℤ◌, ◌*ℤ◌, ◌≤ℤ◌}
 use Rattle.std.proofs.lemmas.Int.{ints}
 use Rattle.std.proofs.lemmas.List.{length-append}
-use Rattle.std.proofs.lemmas.List.Elements.{All-append, All-cons, All-contains, All-head, All-nil, All-tail}
+use Rattle.std.proofs.lemmas.List.Elements.{All-append, All-cons, All-head, All-nil, All-tail}
 use Rattle.fr_base.specs.declared.node_row.NodeRow.{NodeRow}
 use Rattle.fr_base.specs.Within.{IsBetween, IsWithin}
 use Rattle.fr_cluster.specs.Values.{Values, amount}
@@ -13,24 +13,21 @@ use Rattle.fr_midpoint.specs.Midpoint.{discarded}
 use Rattle.fr_midpoint.specs.Receivers.{place_at}
 use Rattle.fr_bound.specs.Bounds.{arrival_error, cycle_change, longest_micro}
 use Rattle.fr_bound.specs.SharpBounds.{odd_spread, sharp_lambda, steady_error, wide_change}
-use Rattle.fr_bound.specs.SharpSpreads.{lost_lengths, lost_starts}
 use Rattle.fr_bound.specs.Sync.{cycle_length_of}
 use Rattle.fr_precision.specs.Rows.{corrected_end_of, Sender}
 use Rattle.fr_precision.specs.Instants.{LieNear}
 use Rattle.fr_precision.specs.Offsets.{IsDeviation, IsOffsetRound}
-use Rattle.fr_precision.specs.Placement.{IsRegular}
 use Rattle.fr_precision.specs.Step.{IsAmong, Member}
-use Rattle.fr_precision.proofs.OffsetLaws.{micro_lasts, offset_terms_are_uncut}
+use Rattle.fr_precision.proofs.OffsetLaws.{micro_lasts}
 use Rattle.fr_precision.specs.Ends.{EndsCome, TakesOffsets}
 use Rattle.fr_precision.specs.Lengths.{CanWalk, EvensAreAbout, IsNextEven, IsSteadyRound, LengthsCome}
 use Rattle.fr_precision.specs.Steady.{between_actions, placed_length, PlacesEven}
-use Rattle.fr_precision.specs.SharpStep.{ActInReach, AreSharp, ComeSharply, DrawsTo, IsSharpLimit}
-use Rattle.fr_precision.specs.Among.{ComputesOwn, MeetingSpreadsDraw}
-use Rattle.fr_precision.proofs.AmongSteps.{lost_spreads_grow, odds, sends, takes_of, two, widen}
+use Rattle.fr_precision.specs.SharpStep.{ActInReach, IsSharpLimit}
+use Rattle.fr_precision.proofs.AmongSteps.{sends, two, widen}
 use Rattle.fr_precision.proofs.EndLemmas.{beside_ends, corrected, cross_value, ends_at, pair_of, same_value}
-use Rattle.fr_precision.proofs.LengthLemmas.{beside_sum, cross_sum, damping_is, far_of, far_to, next_near, range_walks, rates_at, round_of, same_sum}
+use Rattle.fr_precision.proofs.LengthLemmas.{beside_sum, cross_sum, damping_is, far_of, far_to, next_near, rates_at, round_of, same_sum}
 use Rattle.fr_precision.proofs.MeetingReceivers.{two_meeting, Meet}
-use Rattle.fr_precision.proofs.StepLemmas.{ends_by, lengths_by, le_itself, nodes_near, senders_about, Double}
+use Rattle.fr_precision.proofs.StepLemmas.{senders_about, Double}
 
 -- ---- a list and its parts
 
@@ -51,7 +48,7 @@ pub of_other : {X : Type 0} (P : X → Type 0) (common own other : List X) → A
 of_other P common own other all =
     All-append P common other (front P common (own ++ other) all) (back P own other (back P common (own ++ other) all))
 
-some_of : {X : Type 0} (k k' : ℕ) (common own : List X) → k + k' + 1 ≤ length common → 1 ≤ length (common ++ own)
+pub some_of : {X : Type 0} (k k' : ℕ) (common own : List X) → k + k' + 1 ≤ length common → 1 ≤ length (common ++ own)
 some_of k k' common own enough = omega (arith, length-append common own, enough)
 
 module _
@@ -181,47 +178,6 @@ module _
         first.mid second.mid ends_meet first.middle second.middle
         )
 
-pub meeting_spreads_draw : MeetingSpreadsDraw
-meeting_spreads_draw p flutter nodes starts lengths next_starts next_lengths beyond walk next reach last one other is acting next_from to_next draws sharp regular here there common =
-    let double : Double p starts lengths beyond nodes = record {
-      sane = is.sane;
-      sharp = sharp;
-      regular = λ node at. All-contains (λ (node : Member). IsRegular p node.even node.odd) nodes node regular at;
-    } in
-    let offsets = of_one (IsAmong nodes) common.offset_common common.offset_own common.offset_other common.offsets_among in
-    let acts = of_one (λ sender. IsBetween (pos 0) last sender.action) common.offset_common common.offset_own common.offset_other common.acts in
-    let other_offsets = of_other (IsAmong nodes) common.offset_common common.offset_own common.offset_other common.offsets_among in
-    let other_acts = of_other (λ sender. IsBetween (pos 0) last sender.action) common.offset_common common.offset_own common.offset_other common.acts in
-    let rates = of_one (IsAmong nodes) common.rate_common common.rate_own common.rate_other common.rates_among in
-    let takes =
-    takes_of p flutter nodes starts lengths beyond walk reach last is acting double one here (common.offset_common ++ common.offset_own) offsets acts common.by_offset in
-    record {
-      uncut =
-          offset_terms_are_uncut p (common.offset_common ++ common.offset_own) reach one.odd one.offsets one.offset_term is.sane is.suffices
-          (some_of (discarded (length one.offsets)) (discarded (length other.offsets)) common.offset_common common.offset_own common.enough_offsets) takes.reached common.by_offset;
-      range =
-          range_walks p flutter (common.rate_common ++ common.rate_own) beyond walk next one.odd one.rates one.rate_term is.sane is.walks
-          (some_of (discarded (length one.rates)) (discarded (length other.rates)) common.rate_common common.rate_own common.enough_rates)
-          (senders_about p starts lengths beyond nodes (common.rate_common ++ common.rate_own) double rates) common.by_rate next_from to_next;
-      ends =
-          ends_by true p flutter starts lengths next_starts next_lengths (corrected_end_of p one.odd -ℤ corrected_end_of p other.odd) draws
-          (
-          ends_come p flutter nodes starts lengths beyond walk reach last is acting double one other (odd_spread p lengths) (le_itself (odd_spread p lengths))
-          (odds p flutter nodes starts lengths beyond walk reach last is acting double one here) (odds p flutter nodes starts lengths beyond walk reach last is acting double other there)
-          (nodes_near p starts lengths beyond nodes double one other here there).by_odd common.offset_common common.offset_own common.offset_other
-          offsets other_offsets acts other_acts common.enough_offsets takes
-          (takes_of p flutter nodes starts lengths beyond walk reach last is acting double other there (common.offset_common ++ common.offset_other) other_offsets other_acts common.other_by_offset)
-          );
-      lengths =
-          λ even other_even after other_after.
-          lengths_by true p flutter starts lengths next_starts next_lengths (cycle_length_of p even -ℤ cycle_length_of p other_even) draws
-          (
-          lengths_come p flutter nodes starts lengths beyond walk reach last is acting double one other common.rate_common common.rate_own common.rate_other
-          rates (of_other (IsAmong nodes) common.rate_common common.rate_own common.rate_other common.rates_among)
-          common.enough_rates common.by_rate common.other_by_rate even other_even after other_after
-          );
-    }
-
 -- ---- a node and itself
 
 -- two next even cycles of one node differ by what its damping and its changes leave
@@ -247,23 +203,3 @@ lengths_itself p flutter senders lengths next_lengths beyond walk one even other
   where
     itself : (a : ℤ) → a ≤ℤ a
     itself a = omega (arith, ints)
-
-pub comes_near_itself : (p : Values) (flutter : ℕ) (nodes : List Member) (starts lengths next_starts next_lengths : ℕ) (beyond walk next reach last : ℤ) (one : Member)
-    → IsSharpLimit p flutter beyond walk reach last → ActInReach p reach last nodes → pos 0 ≤ℤ next → (beyond +ℤ walk) ≤ℤ next
-    → DrawsTo true p flutter starts lengths next_starts next_lengths → AreSharp p starts lengths beyond (map (λ (node : Member). node.even) nodes)
-    → ((node : Member) → Contains nodes node → ComputesOwn p flutter nodes last node) → Contains nodes one → ComeSharply p next_starts next_lengths next one one
-comes_near_itself p flutter nodes starts lengths next_starts next_lengths beyond walk next reach last one is acting next_from to_next draws sharp computes here =
-    let own = computes one here in
-    let double : Double p starts lengths beyond nodes = record { sane = is.sane; sharp = sharp; regular = λ node at. (computes node at).regular } in
-    let grown =
-    lost_spreads_grow p flutter nodes starts lengths (lost_starts p starts lengths) (lost_lengths p flutter lengths) beyond walk next reach last one one is acting next_from to_next
-    (le_itself (lost_starts p starts lengths)) (le_itself (lost_lengths p flutter lengths)) sharp computes here here in
-    record {
-      uncut = grown.uncut;
-      range = grown.range;
-      ends = none_apart next_starts (corrected_end_of p one.odd);
-      lengths =
-          λ even other_even after other_after.
-          lengths_itself p flutter own.rate_senders lengths next_lengths beyond walk one even other_even is.sane is.walks draws.1 own.some_rates (senders_about p starts lengths beyond nodes own.rate_senders double own.rates_among)
-          own.by_rate after other_after;
-    }

@@ -1,5 +1,5 @@
 -- What two receivers make of the values of senders of whom each has heard its own: whatever was lost on the way.
-use Rattle.std.specs.Prelude.{◌≡◌, ◌⊎◌, ◌+◌, ◌*◌, ◌≤◌, ◌<◌, ℕ, zero, suc, max, Bool, ℤ, pos, ◌+ℤ◌, ◌-ℤ◌, ◌*ℤ◌, ◌≤ℤ◌, true, false, List, ◌++◌, length, map, All, Contains}
+use Rattle.std.specs.Prelude.{◌≡◌, ◌⊎◌, ◌+◌, ◌*◌, ◌≤◌, ◌<◌, ℕ, zero, suc, max, nat_lt, if◌then◌else◌, Bool, ℤ, pos, ◌+ℤ◌, ◌-ℤ◌, ◌*ℤ◌, ◌≤ℤ◌, true, false, List, ◌++◌, length, map, All, Contains}
 use Rattle.fr_base.specs.declared.node_row.NodeRow.{NodeRow}
 use Rattle.fr_base.specs.Within.{IsBetween, IsWithin}
 use Rattle.fr_cluster.specs.Values.{Values, amount}
@@ -308,6 +308,27 @@ MeetingStays =
     (beside : Bool) (p : Values) (flutter : ℕ) (what : ℕ → Kinds)
     → ((k : ℕ) → IsNot heard.Poor (what k))
     → (k : ℕ) → ((spread_through_losses beside p flutter what k).starts ≤ sharp_pi true p flutter) × ((spread_through_losses beside p flutter what k).lengths ≤ sharp_lambda true p flutter)
+
+-- ---- a burst that does not begin with a double cycle
+
+-- one that takes frames of so many odd cycles and of the even ones behind them: of offsets so many double cycles are poor, of rates one more
+abbrev pub poor_up_to : ℕ → ℕ → Heard
+poor_up_to count double = if nat_lt double count then heard.Poor else heard.Clean
+
+abbrev pub crossing : ℕ → ℕ → Kinds
+crossing count double = record { offsets = poor_up_to count double; rates = poor_up_to (count + 1) double }
+
+-- what it costs from sharp sync without arbitrary nodes, where it takes one odd cycle and the next even one: behind the first double cycle as
+-- much as one that loses anything; then the sharper precision and five lambda, less five microticks; then it and two lambda, less two; and
+-- then it is back
+abbrev pub CrossingCosts : Type 0
+CrossingCosts =
+    (p : Values) (flutter : ℕ)
+    → (apart_through_losses false p flutter (crossing 1) 1
+    ≡ sharp_precision false p flutter + 4 * sharp_lambda false p flutter + 2 * arrival_error p + 2 * cycle_change p + longest_micro p)
+    × (apart_through_losses false p flutter (crossing 1) 2 + 5 * longest_micro p ≡ sharp_precision false p flutter + 5 * sharp_lambda false p flutter)
+    × (apart_through_losses false p flutter (crossing 1) 3 + 2 * longest_micro p ≡ sharp_precision false p flutter + 2 * sharp_lambda false p flutter)
+    × ((k : ℕ) → IsSharplySettled false p flutter (spread_through_losses false p flutter (crossing 1) (4 + k)))
 
 -- ---- the same where all is heard or nothing is asked, without arbitrary nodes
 

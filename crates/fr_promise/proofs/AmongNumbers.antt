@@ -7,10 +7,10 @@ use Rattle.fr_bound.specs.declared.settling.Spread.{Spread}
 use Rattle.fr_bound.specs.Bounds.{arrival_error, cycle_change, longest_micro}
 use Rattle.fr_bound.specs.SharpBounds.{odd_spread, precision_by, sharp_lambda, sharp_pi, steady_error}
 use Rattle.fr_bound.specs.SharpSpreads.{lost_lengths, lost_starts, next_lost_spread}
-use Rattle.fr_precision.specs.Among.{all_or_any, every_second, lost_spread, EverySecondCosts, GoesTo, HeardAgain, LostSpreadGoes}
+use Rattle.fr_precision.specs.Among.{all_or_any, both, every_second, lost_spread, EverySecondCosts, GoesTo, HeardAgain, LostSpreadGoes}
 use Rattle.fr_promise.proofs.HeardNumbers.{lambda_alone as lambda_is}
 
-goes_by : (whole : Bool) (p : Values) (flutter : ℕ) (s : Spread) → GoesTo (all_or_any whole) p flutter s.starts s.lengths (next_lost_spread whole p flutter s).starts (next_lost_spread whole p flutter s).lengths
+goes_by : (whole : Bool) (p : Values) (flutter : ℕ) (s : Spread) → GoesTo (both (all_or_any whole)) p flutter s.starts s.lengths (next_lost_spread whole p flutter s).starts (next_lost_spread whole p flutter s).lengths
 goes_by true p flutter s = (itself (odd_spread p s.lengths + 2 * arrival_error p + 3 * longest_micro p), itself (sharp_lambda false p flutter))
   where
     itself : (n : ℕ) → n ≤ n

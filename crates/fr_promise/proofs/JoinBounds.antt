@@ -12,9 +12,8 @@ use Rattle.fr_bound.specs.Checks.{back_need_of, front_need_of, left_of, right_of
 use Rattle.fr_precision.proofs.Figures.{nat_le-true}
 use Rattle.fr_bound.specs.SharpBounds.{last_action, near_by, odd_spread, precision_by, sharp_lambda, sharp_near, sharp_pi, steady_error, wide_change}
 use Rattle.fr_bound.specs.SharpChecks.{SharpChecksHold}
-use Rattle.fr_bound.specs.declared.judging.Heard.{Heard}
-use Rattle.fr_bound.specs.Judged.{heard_spread}
-use Rattle.fr_precision.specs.Among.{spread_through_losses, GoesTo}
+use Rattle.fr_precision.specs.declared.kinds.Kinds.{Kinds}
+use Rattle.fr_precision.specs.Among.{both, kinds_spread, spread_through_losses, GoesTo}
 use Rattle.fr_promise.specs.SharpJoining.{all_heard, counted_error, first_apart_by, first_lengths_by, group_spread_through, second_apart_by, sharp_first_apart, sharp_first_lengths, sharp_join_right_of, sharp_reach, sharp_second_apart, FollowersComeNearer, GroupSpreadsGo, NextGroupSpreadGoes, OlderJoinChecksSuffice, SharpGroupSpreadGoes, SharpJoinChecksHold, SharpJoinChecksSuffice}
 use Rattle.fr_precision.proofs.BoundLemmas.{near_is_below, sharp_checks_suffice_lem, sharp_is_below, wide_le}
 use Rattle.fr_promise.proofs.HeardNumbers.{goes_by}
@@ -25,7 +24,7 @@ at_most a b c h k = omega arith
 
 -- ---- a node that follows comes nearer
 
-share_grows : (a b k : ℕ) → 0 < k → a ≤ b → a / k ≤ b / k
+pub share_grows : (a b k : ℕ) → 0 < k → a ≤ b → a / k ≤ b / k
 share_grows a b k some le = (le-div_iff_mul-le some).1 (at_most (a / k * k) a b (div-mul-le_self a k) le)
 
 -- greater numbers, greater reach
@@ -90,15 +89,15 @@ next_group_spread_goes what p flutter s wide = (
   record {
     rows = goes_by what p flutter s.rows;
     wide = wide;
-    seconds = itself (second_apart_by what p s.rows.starts s.rows.lengths s.firsts.lengths);
+    seconds = itself (second_apart_by what.offsets p s.rows.starts s.rows.lengths s.firsts.lengths);
     first_starts = itself (first_apart_by p flutter s.rows.starts s.rows.lengths);
-    first_lengths = le-max_left (first_lengths_by p flutter s.rows.lengths) (heard_spread what p flutter s.rows).lengths;
+    first_lengths = le-max_left (first_lengths_by p flutter s.rows.lengths) (kinds_spread what p flutter s.rows).lengths;
   },
-  le-max_right (first_lengths_by p flutter s.rows.lengths) (heard_spread what p flutter s.rows).lengths,
+  le-max_right (first_lengths_by p flutter s.rows.lengths) (kinds_spread what p flutter s.rows).lengths,
 )
 
 stays : (beside : Bool) (p : Values) (flutter : ℕ)
-    → GoesTo (all_heard beside) p flutter (sharp_pi beside p flutter) (sharp_lambda beside p flutter) (sharp_pi beside p flutter) (sharp_lambda beside p flutter)
+    → GoesTo (both (all_heard beside)) p flutter (sharp_pi beside p flutter) (sharp_lambda beside p flutter) (sharp_pi beside p flutter) (sharp_lambda beside p flutter)
 stays false p flutter = sharp_sync_draws false p flutter
 stays true p flutter = sharp_sync_draws true p flutter
 
@@ -111,15 +110,15 @@ sharp_group_spread_goes beside p flutter = record {
   first_lengths = itself (sharp_first_lengths beside p flutter);
 }
 
-stays_wide : (beside : Bool) (p : Values) (flutter : ℕ) (what : ℕ → Heard) (k : ℕ) → (group_spread_through beside p flutter what k).rows.lengths ≤ (group_spread_through beside p flutter what k).firsts.lengths
+stays_wide : (beside : Bool) (p : Values) (flutter : ℕ) (what : ℕ → Kinds) (k : ℕ) → (group_spread_through beside p flutter what k).rows.lengths ≤ (group_spread_through beside p flutter what k).firsts.lengths
 unfolding group_spread_through
 stays_wide beside p flutter what zero = lengths_nearer beside p flutter
 stays_wide beside p flutter what (suc k) = (next_group_spread_goes (what k) p flutter (group_spread_through beside p flutter what k) (stays_wide beside p flutter what k)).1
 
-rows_through : (beside : Bool) (p : Values) (flutter : ℕ) (what : ℕ → Heard) (k : ℕ) → (group_spread_through beside p flutter what k).rows ≡ spread_through_losses beside p flutter what k
+rows_through : (beside : Bool) (p : Values) (flutter : ℕ) (what : ℕ → Kinds) (k : ℕ) → (group_spread_through beside p flutter what k).rows ≡ spread_through_losses beside p flutter what k
 unfolding group_spread_through spread_through_losses
 rows_through beside p flutter what zero = refl
-rows_through beside p flutter what (suc k) = ap (heard_spread (what k) p flutter) (rows_through beside p flutter what k)
+rows_through beside p flutter what (suc k) = ap (kinds_spread (what k) p flutter) (rows_through beside p flutter what k)
 
 pub group_spreads_go : GroupSpreadsGo
 unfolding group_spread_through

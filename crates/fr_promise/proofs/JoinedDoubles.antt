@@ -13,6 +13,7 @@ use Rattle.fr_precision.specs.Reception.{LeavesRoom}
 use Rattle.fr_precision.specs.Round.{senders_of, Hearer}
 use Rattle.fr_precision.specs.Rows.{Sender}
 use Rattle.fr_precision.specs.Step.{IsAmong, Member}
+use Rattle.fr_precision.specs.Among.{both}
 use Rattle.fr_history.specs.Cycles.{Cycle, Cycles}
 use Rattle.fr_history.specs.History.{row_for}
 use Rattle.fr_history.specs.Standing.{following_nodes, follows, follows_by, row_nodes}
@@ -39,7 +40,7 @@ use Rattle.fr_promise.proofs.JoinBounds.{followers_come_nearer_lem, sharp_group_
 use Rattle.fr_runs.proofs.RowsSupplied.{double_within, members_regular, rates_in_limit, round_in_reach, row_regular, supplied_at as row_supplied, timed_rows_from, LawfulRows}
 use Rattle.fr_promise.proofs.RunDoubles.{evens_are}
 use Rattle.fr_promise.proofs.SharpFollowed.{steady_rounds_are_followed}
-use Rattle.fr_promise.proofs.SharpGrouped.{apart_reached, hears_all, steady_groups_are_kept}
+use Rattle.fr_promise.proofs.SharpGrouped.{all_is_heard_of_both_lem, apart_reached, steady_groups_are_kept}
 use Rattle.fr_precision.proofs.StepLemmas.{ends_fit, le_itself, nodes_near, Double}
 
 pub joined_part : (beside : Bool) (x : Setting) (from flutter : ℕ) (h : Cycles) → IsSteadyJoinedFrom beside x from flutter h → IsTimedPartFrom x from flutter h
@@ -165,11 +166,10 @@ module _
 pub followed_doubles_hear : FollowedDoublesHear
 followed_doubles_hear beside x from flutter h double earlier even odd now reach beyond walk part late d may links walks room takes g =
     let s = timed_rows_from x from flutter h part double late earlier even odd d in
-    hears_all beside x.params flutter _ (group_of x.params (hearers_of x earlier even odd double))
-    (
+    let followed =
     steady_rounds_are_followed beside (round_at x earlier even odd) flutter now beyond walk (hearers_of x earlier even odd double) reach
-    (round_followed x flutter now earlier even odd double beyond s g reach room takes beside may links walk walks)
-    ).1
+    (round_followed x flutter now earlier even odd double beyond s g reach room takes beside may links walk walks) in
+    all_is_heard_of_both_lem beside x.params flutter (senders_of (round_at x earlier even odd)) (group_of x.params (hearers_of x earlier even odd double)) followed.0.among followed.0.acts followed.1
 
 pub followed_doubles_are_kept : FollowedDoublesAreKept
 followed_doubles_are_kept what x from flutter h double earlier even odd now to apart reach beyond walk next part late d walks next_from next_to takes hears goes fits ends g =
@@ -211,7 +211,7 @@ sharp_takes beside x from flutter h g w =
 
 pub sharp_hears : (beside : Bool) (x : Setting) (from flutter : ℕ) (h : Cycles) (double : ℕ) (earlier : Cycles) (even odd : Cycle) (beyond walk : ℤ) → IsSteadyJoinedFrom beside x from flutter h
     → from ≤ double → IsDoubleOf h double earlier even odd → CanWalk x.params flutter beyond walk → IsJoinedDouble beside x flutter beyond earlier even odd double
-    → IsFollowedHearing (all_heard beside) x flutter earlier even odd double
+    → IsFollowedHearing (both (all_heard beside)) x flutter earlier even odd double
 sharp_hears beside x from flutter h double earlier even odd beyond walk w late d walks g =
     let p = x.params in
     let part = joined_part beside x from flutter h w in
@@ -223,7 +223,7 @@ pub joined_doubles_are_kept : JoinedDoublesAreKept
 joined_doubles_are_kept beside x from flutter h double earlier even odd beyond walk next w late d n g =
     let p = x.params in
     let sharp = sharp_group_spread beside p flutter in
-    followed_doubles_are_kept (all_heard beside) x from flutter h double earlier even odd sharp sharp (sharp_precision beside p flutter) (pos (sharp_reach beside p flutter)) beyond walk next (joined_part beside x from flutter h w)
+    followed_doubles_are_kept (both (all_heard beside)) x from flutter h double earlier even odd sharp sharp (sharp_precision beside p flutter) (pos (sharp_reach beside p flutter)) beyond walk next (joined_part beside x from flutter h w)
     late d n.walks n.from n.to (sharp_takes beside x from flutter h (group_of p (hearers_of x earlier even odd double)) w)
     (sharp_hears beside x from flutter h double earlier even odd beyond walk w late d n.walks g)
     (sharp_group_spread_goes beside p flutter) (le_itself (sharp_precision beside p flutter)) (ends_fit beside p flutter) g

@@ -10,6 +10,7 @@ pub mod AmongNumbers
 pub mod StrayLemmas
 pub mod LossOrder
 pub mod HeardNumbers
+pub mod CrossingNumbers
 pub mod WayLemmas
 pub mod OneWay
 pub mod RunDoubles

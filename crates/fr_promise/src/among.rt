@@ -1,5 +1,5 @@
 ghost use Rattle.fr_precision.specs.Lengths.{LaterStraysLess, NoneStrays, WalkIsHeldThrough};
-ghost use Rattle.fr_precision.specs.Among.{CleanAgain, EndsComeAmong, EverySecondCosts, HeardAgain, HeardSpreadsGo, LaterSpreadsAreLess, LengthsComeAmong, LostIsBy, LostSpreadGoes, LossyDoublesKeep, LossyDoublesStayApart, MeetingStays, OneLossCosts, SpreadsAreBelowLost, SpreadsGo};
+ghost use Rattle.fr_precision.specs.Among.{CleanAgain, CrossingCosts, EndsComeAmong, EverySecondCosts, HeardAgain, HeardSpreadsGo, LaterSpreadsAreLess, LengthsComeAmong, LostIsBy, LostSpreadGoes, LossyDoublesKeep, LossyDoublesStayApart, MeetingStays, OneLossCosts, SpreadsAreBelowLost, SpreadsGo};
 
 /// The laws of losses: whichever senders two nodes have heard, their next lengths and their next starts, in ticks,
 /// lie no further apart than those of the senders, and some.
@@ -11,10 +11,11 @@ pub fn nodes_come_among()
 /// The law of a double cycle by what is heard in it: any two of its nodes come so near, in ticks, their next starts by what is
 /// heard of offsets and their next lengths by what is heard of rates. Nodes that keep their rates come no less near than where
 /// anything may be lost, and lie further beyond their range by no more than two changes of a cycle. And what one such double
-/// cycle costs from sharp sync, without arbitrary nodes.
+/// cycle costs from sharp sync, without arbitrary nodes, and a burst over an odd cycle and the next even one.
 pub fn losses_cost()
     ensures step { HeardSpreadsGo }
     ensures cost { OneLossCosts }
+    ensures crossing { CrossingCosts }
 {}
 
 /// The law of many double cycles in some of which anything may be lost: nodes keep to numbers that go on by what was

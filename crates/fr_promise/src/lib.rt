@@ -19,11 +19,10 @@ mod tested;
 mod way;
 
 pub use among::{
-    heard_numbers, losses_cost, losses_last, lost_numbers, nodes_come_among,
-    strays_are_held,
+    heard_numbers, losses_cost, losses_last, lost_numbers, nodes_come_among, strays_are_held,
 };
 pub use following::followers_hear_steadily;
-pub use grouping::{sharp_groups_are_kept, steady_groups_are_kept};
+pub use grouping::{all_is_heard_of_both, sharp_groups_are_kept, steady_groups_are_kept};
 pub use join_checking::{first_rates_last, sharp_join_checks, sharp_join_side, sharp_reach};
 pub use joined::{followed_doubles_go_on, joined_doubles_go_on};
 pub use joined_histories::joined_histories_keep_sharp_sync;

@@ -1,6 +1,6 @@
--- Where the lists of any two correct nodes meet, none is deaf: each trusts its lists.
-use Rattle.std.proofs.Common.{◌≡◌, ℕ, ◌+◌, ◌*◌, ◌==◌, ◌≤◌, ◌&&◌, ◌||◌, Bool, true, false, not, List, [], ◌∷◌, refl, ap, arith, if◌then◌else◌}
-use Rattle.std.specs.Prelude.{Contains, count_by, nat_lt}
+-- A node that surely has a value is not deaf; so none is where the lists of any two correct nodes meet.
+use Rattle.std.proofs.Common.{◌≡◌, ℕ, ◌+◌, ◌*◌, ◌==◌, ◌&&◌, ◌||◌, Bool, true, false, not, List, [], ◌∷◌, refl, ◌∙◌, arith, if◌then◌else◌}
+use Rattle.std.specs.Prelude.{Contains, count_by, nat_le}
 use Rattle.std.specs.List.{list_all, list_any}
 use Rattle.std.proofs.lemmas.Bool.{and_parts, not-true}
 use Rattle.std.proofs.lemmas.Bool.Decides.{nat_tests}
@@ -8,17 +8,14 @@ use Rattle.fr_base.specs.Event.{Event}
 use Rattle.fr_base.specs.declared.channel.Channel.{Channel}
 use Rattle.fr_base.specs.declared.channel.Channel.TheVariants.{A, B}
 use Rattle.fr_cluster.specs.Setting.{Setting, correct_nodes}
-use Rattle.fr_cluster.specs.Values.{Values}
 use Rattle.fr_runs.proofs.Nodes.{correct_node}
 use Rattle.fr_sharp.specs.Bearing.{ThroughIsApart}
 use Rattle.fr_cluster.specs.declared.nodes.NodeSpec.{NodeSpec}
 use Rattle.fr_cluster.proofs.Elements.{Contains-here, Contains-there}
 use Rattle.fr_coverage.specs.Links.{is_sync, shares}
-use Rattle.fr_midpoint.specs.Midpoint.{discarded}
-use Rattle.fr_precision.proofs.Counting.{count_cons, one_if}
-use Rattle.fr_traffic.specs.Traffic.{all_bear, all_trusted, bears, comes, costs_of, has_value, is_correct_sender, is_deaf, is_trusted, lacks_values, lists_meet, may_lack, may_reach, may_say, missed_or_discarded, most_count, sender_count, trusts, trusts_or_lacks, value_on, Traffic, none_lacks, traffic_of}
+use Rattle.fr_precision.proofs.Counting.{count_no}
+use Rattle.fr_traffic.specs.Traffic.{comes, has_and_meets, has_begun, has_value, is_correct_sender, is_deaf, lacks_values, lists_meet, may_reach, may_receive, may_say, meets_each, none_lacks, stays, sure_count, traffic_of, value_on, Traffic}
 use Rattle.fr_runs.proofs.KeyedCounts.{all_pass}
-use Rattle.fr_traffic.proofs.GreatestCosts.{one_cost}
 
 -- ---- what may not come surely does not
 
@@ -55,41 +52,41 @@ surely_none rate t double b a fails =
     let three = none_of (a.id == b.id) (value_on rate false t a b double A) (value_on rate false t a b double B) fails in
     rw (three.0, none_on rate t a b double A three.1, none_on rate t a b double B three.2) refl
 
--- ---- a deaf node misses each sender
+-- ---- a deaf node has no value of any sender
 
 both_none : (a b : Bool) → (a || b) ≡ false → (a ≡ false) × (b ≡ false)
 both_none false b fails = (refl, fails)
 both_none true b fails = absurd (cc)
 
 misses : (rate : Bool) (t : Traffic) (double : ℕ) (b : NodeSpec) (nodes : List NodeSpec) → list_any (λ (a : NodeSpec). is_sync a && may_reach rate t double b a) nodes ≡ false
-    → count_by (λ (a : NodeSpec). is_correct_sender t a && true) nodes ≤ count_by (λ (a : NodeSpec). is_correct_sender t a && not (has_value rate true t double b a)) nodes
-misses rate t double b [] none = omega arith
+    → count_by (λ (a : NodeSpec). is_correct_sender t a && (stays t a && has_value rate true t double b a)) nodes ≡ 0
+misses rate t double b [] none = refl
 misses rate t double b (a ∷ nodes) none =
     let both = both_none (is_sync a && may_reach rate t double b a) (list_any (λ (c : NodeSpec). is_sync c && may_reach rate t double b c) nodes) none in
     let rest = misses rate t double b nodes both.1 in
-    let sent = count_cons (λ (c : NodeSpec). is_correct_sender t c && true) a nodes in
-    let missed = count_cons (λ (c : NodeSpec). is_correct_sender t c && not (has_value rate true t double b c)) a nodes in
     let said = may_say rate t a b double A || may_say rate t a b double B in
-    let one = each (is_sync a) (t.is_arbitrary a.id) said (has_value rate false t double b a) (has_value rate true t double b a) (surely_none rate t double b a) both.0 in
-    omega (arith, rest, sent, missed, one)
+    let one = each (is_sync a) (t.is_arbitrary a.id) said (has_value rate false t double b a) (stays t a) (has_value rate true t double b a) (surely_none rate t double b a) both.0 in
+    count_no (λ (c : NodeSpec). is_correct_sender t c && (stays t c && has_value rate true t double b c)) a nodes one ∙ rest
   where
-    each : (a c said m v : Bool) → (m ≡ false → v ≡ false) → (a && (if c then said else m)) ≡ false → one_if ((a && not c) && true) ≤ one_if ((a && not c) && not v)
-    each false c said m v less fails = omega arith
-    each true true said m v less fails = omega arith
-    each true false said m v less fails = let e : one_if (not v) ≡ 1 = ap (λ (b : Bool). one_if (not b)) (less fails) in omega (arith, e)
+    each : (a c said m e v : Bool) → (m ≡ false → v ≡ false) → (a && (if c then said else m)) ≡ false → ((a && not c) && (e && v)) ≡ false
+    each false c said m e v less fails = refl
+    each true true said m e v less fails = refl
+    each true false said m false v less fails = refl
+    each true false said m true v less fails = less fails
 
--- so where lists meet it is none
-none_is_deaf : (rate : Bool) (t : Traffic) (double : ℕ) (b : NodeSpec) → lists_meet rate t double ≡ true → Contains t.nodes b → t.is_arbitrary b.id ≡ false → is_deaf rate t double b ≡ true → ⊥
-none_is_deaf rate t double b meet here correct deaf =
-    let test : NodeSpec → Bool = λ a. is_sync a && may_reach rate t double b a in
-    let none = not-true (list_any test t.nodes) (and_parts (not (is_sync b)) (not (list_any test t.nodes)) deaf).1 in
-    let most = one_cost (λ (n : NodeSpec). t.is_arbitrary n.id) (missed_or_discarded rate t double) t.nodes b here correct in
-    let all = misses rate t double b t.nodes none in
-    never (costs_of rate t double t.nodes).most (costs_of rate t double t.nodes).second (sender_count t (λ (a : NodeSpec). true)) (sender_count t (λ (a : NodeSpec). not (has_value rate true t double b a)))
-    (discarded (most_count rate t double b)) meet most all
+-- so a node that surely has a value is none
+pub sure_is_awake : (rate : Bool) (t : Traffic) (double : ℕ) (b : NodeSpec) → nat_le 1 (sure_count rate t double b) ≡ true → is_deaf rate t double b ≡ false
+sure_is_awake rate t double b some = by (is_deaf rate t double b) refl
   where
-    never : (m n count missed discards : ℕ) → nat_lt (m + n) count ≡ true → missed + discards ≤ m → count ≤ missed → ⊥
-    never m n count missed discards meet cost all = grind (arith, nat_tests)
+    never : (n : ℕ) → n ≡ 0 → nat_le 1 n ≡ true → ⊥
+    never n none some = grind (arith, nat_tests)
+
+    by : (deaf : Bool) → is_deaf rate t double b ≡ deaf → deaf ≡ false
+    by false is = refl
+    by true is =
+        let test : NodeSpec → Bool = λ a. is_sync a && may_reach rate t double b a in
+        let none = not-true (list_any test t.nodes) (and_parts (not (is_sync b)) (not (list_any test t.nodes)) is).1 in
+        absurd (never (sure_count rate t double b) (misses rate t double b t.nodes none) some)
 
 all_of : {X : Type 0} (test : X → Bool) (xs : List X) → ((x : X) → Contains xs x → test x ≡ true) → list_all test xs ≡ true
 all_of test [] each = refl
@@ -98,37 +95,27 @@ all_of test (x ∷ xs) each =
     let rest = all_of test xs (λ y among. each y (Contains-there x xs y among)) in
     rw (here, rest) refl
 
-pub meeting_trusts : (p : Values) (t : Traffic) (double : ℕ) → all_bear p t double ≡ true → lists_meet false t double ≡ true → lists_meet true t double ≡ true → all_trusted t double ≡ true
-meeting_trusts p t double bear offsets rates = all_of (trusts t double) t.nodes (λ b here. by b here (t.is_arbitrary b.id) refl (all_pass (bears p t double) t.nodes b bear here))
+-- where the lists of both kinds of any two meet that have begun, and all have, none lacks values
+pub meeting_is_awake : (t : Traffic) (double : ℕ) → ((b : NodeSpec) → Contains t.nodes b → t.is_arbitrary b.id ≡ false → has_begun (t.join b.id) double ≡ true)
+    → lists_meet false t double ≡ true → lists_meet true t double ≡ true → none_lacks t double ≡ true
+meeting_is_awake t double begun offsets rates = all_of (λ (b : NodeSpec). t.is_arbitrary b.id || not (lacks_values t double b)) t.nodes (λ b here. by b here (t.is_arbitrary b.id) refl)
   where
-    trusted : (rate : Bool) (b : NodeSpec) → Contains t.nodes b → t.is_arbitrary b.id ≡ false → lists_meet rate t double ≡ true → (deaf : Bool) → is_deaf rate t double b ≡ deaf
-        → (deaf || is_trusted rate t double b) ≡ true → is_trusted rate t double b ≡ true
-    trusted rate b here correct meet true is either = absurd (none_is_deaf rate t double b meet here correct is)
-    trusted rate b here correct meet false is either = either
+    right : (a b : Bool) → a ≡ true → (not a || b) ≡ true → b ≡ true
+    right true b is either = either
+    right false b is either = absurd (cc)
 
-    by : (b : NodeSpec) → Contains t.nodes b → (arbitrary : Bool) → t.is_arbitrary b.id ≡ arbitrary
-        → (arbitrary || ((trusts_or_lacks false t double b && trusts_or_lacks true t double b) && (not (lacks_values t double b) || may_lack p t double b))) ≡ true → trusts t double b ≡ true
-    by b here true is either = rw is refl
-    by b here false is either =
-        let both = and_parts (trusts_or_lacks false t double b && trusts_or_lacks true t double b) (not (lacks_values t double b) || may_lack p t double b) either in
-        let two = and_parts (trusts_or_lacks false t double b) (trusts_or_lacks true t double b) both.0 in
-        let one = trusted false b here is offsets (is_deaf false t double b) refl two.0 in
-        let other = trusted true b here is rates (is_deaf true t double b) refl two.1 in
-        rw (is, one, other) refl
-
--- where both kinds of lists meet none lacks values
-pub meeting_is_awake : (t : Traffic) (double : ℕ) → lists_meet false t double ≡ true → lists_meet true t double ≡ true → none_lacks t double ≡ true
-meeting_is_awake t double offsets rates = all_of (λ (b : NodeSpec). t.is_arbitrary b.id || not (lacks_values t double b)) t.nodes (λ b here. by b here (t.is_arbitrary b.id) refl)
-  where
-    not_so : (b : Bool) → (b ≡ true → ⊥) → b ≡ false
-    not_so true never = absurd (never refl)
-    not_so false never = refl
+    awake : (rate : Bool) (b : NodeSpec) → Contains t.nodes b → t.is_arbitrary b.id ≡ false → lists_meet rate t double ≡ true → is_deaf rate t double b ≡ false
+    awake rate b here correct meet =
+        let receives : may_receive t double b ≡ true = rw (correct, begun b here correct) refl in
+        let either = all_pass (λ (c : NodeSpec). not (may_receive t double c) || has_and_meets rate t double c) t.nodes b meet here in
+        let has = right (may_receive t double b) (has_and_meets rate t double b) receives either in
+        sure_is_awake rate t double b (and_parts (nat_le 1 (sure_count rate t double b)) (meets_each rate t double b) has).0
 
     by : (b : NodeSpec) → Contains t.nodes b → (arbitrary : Bool) → t.is_arbitrary b.id ≡ arbitrary → (arbitrary || not (lacks_values t double b)) ≡ true
     by b here true is = refl
     by b here false is =
-        let one = not_so (is_deaf false t double b) (none_is_deaf false t double b offsets here is) in
-        let other = not_so (is_deaf true t double b) (none_is_deaf true t double b rates here is) in
+        let one = awake false b here is offsets in
+        let other = awake true b here is rates in
         rw (one, other) refl
 
 -- where none lacks values each has values of both kinds

@@ -1,6 +1,6 @@
 -- The run that files decide where frames are lost: it is as the law of losses asks for, so it keeps to the numbers by what is heard.
-use Rattle.std.proofs.Common.{◌≡◌, ℕ, zero, suc, ◌+◌, ◌-◌, ◌<◌, ◌≤◌, ℤ, pos, Option, Some, None, IfSome, Bool, true, false, not, ◌==◌, ◌&&◌, ◌||◌, refl, ap, sym, ◌∙◌, subst, arith}
-use Rattle.std.specs.Prelude.{◌+ℤ◌, ◌≤ℤ◌, nat_eq, nat_le, if◌then◌else◌}
+use Rattle.std.proofs.Common.{◌≡◌, ℕ, zero, suc, ◌+◌, ◌-◌, ◌<◌, ◌≤◌, ℤ, pos, Option, Some, None, IfSome, Bool, true, false, not, ◌==◌, ◌&&◌, ◌||◌, refl, ap, ap₂, sym, ◌∙◌, subst, arith}
+use Rattle.std.specs.Prelude.{◌+ℤ◌, ◌≤ℤ◌, nat_eq, nat_le}
 use Rattle.std.proofs.lemmas.Bool.{and_parts}
 use Rattle.std.proofs.lemmas.Bool.Decides.{nat_tests}
 use Rattle.std.proofs.lemmas.Int.{ints}
@@ -9,14 +9,14 @@ use Rattle.fr_cluster.specs.declared.nodes.NodeSpec.{NodeSpec}
 use Rattle.fr_drift.specs.Questions.{doubles_of}
 use Rattle.fr_drift.specs.View.{DriftView}
 use Rattle.fr_script.specs.View.{ScriptView, is_arbitrary, join_of}
-use Rattle.fr_bound.specs.Judged.{heard_spread}
 use Rattle.fr_bound.specs.declared.settling.Spread.{Spread}
 use Rattle.fr_bound.specs.declared.judging.Heard.{Heard}
 use Rattle.fr_bound.specs.declared.judging.Heard.TheVariants as heard
 use Rattle.fr_coverage.specs.Decided.{setting_of}
 use Rattle.fr_coverage.specs.Flutter.{flutter_from}
 use Rattle.fr_coverage.specs.Links.{is_sync}
-use Rattle.fr_precision.specs.Among.{spread_through_losses, LaterSpreadsAreLess}
+use Rattle.fr_precision.specs.Among.{both, kinds_spread, spread_through_losses, IsNot, LaterSpreadsAreLess}
+use Rattle.fr_precision.specs.declared.kinds.Kinds.{Kinds}
 use Rattle.fr_bound.specs.Checks.{left_of, right_of}
 use Rattle.fr_bound.specs.SharpBounds.{walk_lasts}
 use Rattle.fr_bound.specs.SharpChecks.{RateSuffices}
@@ -26,12 +26,13 @@ use Rattle.fr_promise.proofs.StrayLemmas.{later_strays_less}
 use Rattle.fr_sharp.specs.Losses.{HistoriesKeepThroughLosses}
 use Rattle.fr_sharp.specs.LossStatement.{run_strayed, spread_since, without_losses, CoveredFilesAreAwake, CoveredFilesKeepThroughLosses, FilesKeepThroughLosses, LossyFilesGiveRuns}
 use Rattle.fr_traffic.specs.Reaching.{whole_in}
-use Rattle.fr_traffic.specs.Traffic.{all_bear, all_linked, arbitrary_count, heard_in, lists_meet, none_lacks, some_keep, traffic_in, Traffic}
+use Rattle.fr_traffic.specs.Traffic.{all_bear, all_have, arbitrary_count, heard_in, kind_by, kind_in, lists_meet, none_lacks, some_keep, traffic_in, Traffic}
 use Rattle.fr_bound.specs.SharpSpreads.{sharply_near_in}
 use Rattle.fr_sharp.specs.SharpStatement.{has_arbitrary}
 use Rattle.fr_runs.specs.SteadyRuns.{IsTimedFrom}
 use Rattle.fr_sharp.proofs.FromFiles.{arbitrary_is_told, files_are_steady}
 use Rattle.fr_promise.proofs.JoinBounds.{near_grows}
+use Rattle.fr_traffic.proofs.HeardLists.{linked_have}
 use Rattle.fr_traffic.proofs.TrafficCounts.{some_counted}
 
 -- what is stated of oscillators and delays does not speak of what is lost
@@ -88,57 +89,64 @@ covered_files_are_awake p d s from flutter reach covered short =
 
 -- ---- beside arbitrary nodes nothing is clean
 
-clean_only : (b few meet : Bool) → (if b && few then heard.Clean else (if meet then heard.Meeting else heard.Poor)) ≡ heard.Clean → few ≡ true
+clean_only : (all none meet : Bool) → kind_by all none meet ≡ heard.Clean → none ≡ true
 clean_only true true meet is = refl
-clean_only true false true is = absurd (cc)
-clean_only true false false is = absurd (cc)
-clean_only false few true is = absurd (cc)
-clean_only false few false is = absurd (cc)
+clean_only true false meet is = absurd (cc)
+clean_only false none true is = absurd (cc)
+clean_only false none false is = absurd (cc)
 
-pub some_is_not_none : (p : Values) (s : ScriptView) → has_arbitrary p s ≡ true → nat_eq (arbitrary_count (traffic_in p s)) 0 ≡ true → ⊥
+some_is_not_none : (p : Values) (s : ScriptView) → has_arbitrary p s ≡ true → nat_eq (arbitrary_count (traffic_in p s)) 0 ≡ true → ⊥
 some_is_not_none p s beside none =
     never (arbitrary_count (traffic_in p s)) none (some_counted (λ (a : NodeSpec). is_sync a && is_arbitrary s a.id) p.nodes ∙ beside)
   where
     never : (n : ℕ) → nat_eq n 0 ≡ true → nat_le 1 n ≡ true → ⊥
     never n none some = grind (arith, nat_tests)
 
-pub none_is_clean : (p : Values) (s : ScriptView) → has_arbitrary p s ≡ true → (double : ℕ) → heard_in (traffic_in p s) double ≡ heard.Clean → ⊥
-none_is_clean p s beside double clean =
-    let t : Traffic = traffic_in p s in
-    some_is_not_none p s beside (clean_only (all_linked t double) (nat_eq (arbitrary_count t) 0) (lists_meet false t double && lists_meet true t double) clean)
-
--- and without them each in which all is heard is
-both_clean : (b few meet : Bool) → b ≡ true → few ≡ true → (if b && few then heard.Clean else (if meet then heard.Meeting else heard.Poor)) ≡ heard.Clean
-both_clean true true meet one other = refl
-both_clean true false meet one other = absurd (cc)
-both_clean false few meet one other = absurd (cc)
-
-pub whole_is_clean : (p : Values) (s : ScriptView) → has_arbitrary p s ≡ false → (double : ℕ) → whole_in p s double ≡ true → heard_in (traffic_in p s) double ≡ heard.Clean
-whole_is_clean p s alone double whole =
-    let t : Traffic = traffic_in p s in
-    both_clean (all_linked t double) (nat_eq (arbitrary_count t) 0) (lists_meet false t double && lists_meet true t double) whole
-    (none (arbitrary_count t) (some_counted (λ (a : NodeSpec). is_sync a && is_arbitrary s a.id) p.nodes ∙ alone))
+pub none_is_clean : (p : Values) (s : ScriptView) → has_arbitrary p s ≡ true → (double : ℕ) → IsNot heard.Clean (heard_in (traffic_in p s) double)
+none_is_clean p s beside double = (of_kind false, of_kind true)
   where
+    of_kind : (rate : Bool) → kind_in rate (traffic_in p s) double ≡ heard.Clean → ⊥
+    of_kind rate clean =
+        let t : Traffic = traffic_in p s in
+        some_is_not_none p s beside (clean_only (all_have rate t double) (nat_eq (arbitrary_count t) 0) (lists_meet rate t double) clean)
+
+-- ---- without them all is, of both kinds, in each in which one channel carries the frames of both cycles of any two nodes
+
+pub whole_is_clean : (p : Values) (s : ScriptView) → has_arbitrary p s ≡ false → (double : ℕ) → whole_in p s double ≡ true → heard_in (traffic_in p s) double ≡ both heard.Clean
+whole_is_clean p s alone double whole = ap₂ (λ (a b : Heard). made a b) (of_kind false) (of_kind true)
+  where
+    made : Heard → Heard → Kinds
+    made a b = record { offsets = a; rates = b }
+
     none : (n : ℕ) → nat_le 1 n ≡ false → nat_eq n 0 ≡ true
     none n few = grind (arith, nat_tests)
+
+    both_clean : (all none meet : Bool) → all ≡ true → none ≡ true → kind_by all none meet ≡ heard.Clean
+    both_clean all none meet one other = rw (one, other) refl
+
+    of_kind : (rate : Bool) → kind_in rate (traffic_in p s) double ≡ heard.Clean
+    of_kind rate =
+        let t : Traffic = traffic_in p s in
+        both_clean (all_have rate t double) (nat_eq (arbitrary_count t) 0) (lists_meet rate t double) (linked_have rate t double whole)
+        (none (arbitrary_count t) (some_counted (λ (a : NodeSpec). is_sync a && is_arbitrary s a.id) p.nodes ∙ alone))
 
 -- ---- what was heard since a later double cycle says no more than what was heard since an earlier one
 
 -- the numbers do not look beyond what is heard
-same_heard : (beside : Bool) (p : Values) (flutter : ℕ) (one other : ℕ → Heard) → ((m : ℕ) → one m ≡ other m) → (k : ℕ)
+same_heard : (beside : Bool) (p : Values) (flutter : ℕ) (one other : ℕ → Kinds) → ((m : ℕ) → one m ≡ other m) → (k : ℕ)
     → spread_through_losses beside p flutter one k ≡ spread_through_losses beside p flutter other k
 unfolding spread_through_losses
 same_heard beside p flutter one other same zero = refl
 same_heard beside p flutter one other same (suc k) =
-    ap (λ (w : Heard). heard_spread w p flutter (spread_through_losses beside p flutter one k)) (same k)
-    ∙ ap (heard_spread (other k) p flutter) (same_heard beside p flutter one other same k)
+    ap (λ (w : Kinds). kinds_spread w p flutter (spread_through_losses beside p flutter one k)) (same k)
+    ∙ ap (kinds_spread (other k) p flutter) (same_heard beside p flutter one other same k)
 
-pub later_since : LaterSpreadsAreLess → (beside : Bool) (p : Values) (from flutter : ℕ) (what : ℕ → Heard) (double k : ℕ) → from ≤ double → (beside ≡ true → (m : ℕ) → what m ≡ heard.Clean → ⊥)
+pub later_since : LaterSpreadsAreLess → (beside : Bool) (p : Values) (from flutter : ℕ) (what : ℕ → Kinds) (double k : ℕ) → from ≤ double → (beside ≡ true → (m : ℕ) → IsNot heard.Clean (what m))
     → ((spread_through_losses beside p flutter (λ m. what (double + m)) k).starts ≤ (spread_since beside p from flutter what (double + k)).starts)
     × ((spread_through_losses beside p flutter (λ m. what (double + m)) k).lengths ≤ (spread_since beside p from flutter what (double + k)).lengths)
 later_since later beside p from flutter what double k late none =
     let gap : ℕ = double - from in
-    let less = later beside p flutter (λ m. what (from + m)) gap k (λ some m clean. none some (from + m) clean) in
+    let less = later beside p flutter (λ m. what (from + m)) gap k (λ some m. none some (from + m)) in
     let same : spread_through_losses beside p flutter (λ m. what (from + (gap + m))) k ≡ spread_through_losses beside p flutter (λ m. what (double + m)) k =
     same_heard beside p flutter (λ m. what (from + (gap + m))) (λ m. what (double + m)) (λ m. let at : from + (gap + m) ≡ double + m = omega (arith, late) in ap what at) k in
     let end : gap + k ≡ (double + k) - from = omega (arith, late) in
@@ -154,7 +162,7 @@ module _ (keep : HistoriesKeepThroughLosses) (later : LaterSpreadsAreLess) where
       keep (has_arbitrary p s) (setting_of p d s) from flutter h double reach (lossy_files_give_runs p d s from flutter reach h sane covered run) late covered.checks near strays sync awake passed
       within before
     where
-      what : ℕ → Heard
+      what : ℕ → Kinds
       what m = heard_in (traffic_in p s) m
 
       near : (k : ℕ) → double + k < doubles_of d → sharply_near_in p (spread_through_losses (has_arbitrary p s) p flutter (λ m. heard_in (traffic_in p s) (double + m)) k) ≤ reach

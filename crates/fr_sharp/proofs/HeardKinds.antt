@@ -1,5 +1,5 @@
--- What it says of a double cycle that all is heard in it, or that lists meet.
-use Rattle.std.proofs.Common.{◌≡◌, ℕ, suc, ◌+◌, ◌*◌, ◌&&◌, ◌||◌, Bool, true, false, not, refl, ap, ◌∙◌, inl, inr, arith, if◌then◌else◌}
+-- What it says of a double cycle that all is heard in it, and that no sync node is arbitrary.
+use Rattle.std.proofs.Common.{◌≡◌, ℕ, suc, ◌+◌, ◌*◌, ◌&&◌, ◌||◌, Bool, true, false, not, refl, ap, ◌∙◌, inl, inr, arith}
 use Rattle.std.specs.Prelude.{nat_eq}
 use Rattle.std.specs.List.{list_all}
 use Rattle.std.proofs.lemmas.Bool.{and_parts, ne_eqb, or_cases}
@@ -8,40 +8,15 @@ use Rattle.fr_base.specs.declared.channel.Channel.{Channel}
 use Rattle.fr_base.specs.declared.channel.Channel.TheVariants.{A, B}
 use Rattle.fr_cluster.specs.Setting.{Setting}
 use Rattle.fr_cluster.specs.declared.nodes.NodeSpec.{NodeSpec}
-use Rattle.fr_bound.specs.declared.judging.Heard.{Heard}
-use Rattle.fr_bound.specs.declared.judging.Heard.TheVariants.{Clean, Meeting, Poor}
 use Rattle.fr_coverage.specs.Links.{is_regular, shares}
 use Rattle.fr_runs.specs.Links.{IsCarried}
 use Rattle.fr_runs.proofs.Nodes.{correct_node}
 use Rattle.fr_runs.specs.SteadyRuns.{IsWhole, MayHaveArbitrary}
-use Rattle.fr_traffic.specs.Traffic.{all_linked, arbitrary_count, heard_in, bears_on, lists_meet, rate_on, traffic_of}
+use Rattle.fr_traffic.specs.Traffic.{all_linked, arbitrary_count, bears_on, rate_on, traffic_of}
 use Rattle.fr_runs.proofs.KeyedCounts.{all_pass}
 use Rattle.fr_traffic.proofs.HeardEvents.{regular_of}
 use Rattle.fr_sharp.specs.JoinedLossStatement.{comes_in_both}
-use Rattle.fr_sharp.proofs.HeardSurely.{share_of}
-
-by_tests : Bool → Bool → Bool → Bool → Heard
-by_tests all none offsets rates = if all && none then Clean else (if offsets && rates then Meeting else Poor)
-
-tests_clean : (a b c d : Bool) → by_tests a b c d ≡ Clean → (a ≡ true) × (b ≡ true)
-unfolding by_tests
-tests_clean true true c d is = (refl, refl)
-tests_clean true false true true is = absurd (cc)
-tests_clean true false true false is = absurd (cc)
-tests_clean true false false d is = absurd (cc)
-tests_clean false b true true is = absurd (cc)
-tests_clean false b true false is = absurd (cc)
-tests_clean false b false d is = absurd (cc)
-
-tests_meeting : (a b c d : Bool) → by_tests a b c d ≡ Meeting → (c ≡ true) × (d ≡ true)
-unfolding by_tests
-tests_meeting true true c d is = absurd (cc)
-tests_meeting true false true true is = (refl, refl)
-tests_meeting true false true false is = absurd (cc)
-tests_meeting true false false d is = absurd (cc)
-tests_meeting false b true true is = (refl, refl)
-tests_meeting false b true false is = absurd (cc)
-tests_meeting false b false d is = absurd (cc)
+use Rattle.fr_traffic.proofs.HeardSurely.{share_of}
 
 -- where all is heard one channel carries the frames of both cycles of any two nodes, and no sync node is arbitrary
 module _ (x : Setting) (double : ℕ) where
@@ -86,17 +61,3 @@ module _ (x : Setting) (double : ℕ) where
     where
       zero_of : (n : ℕ) → nat_eq n 0 ≡ true → n ≡ 0
       zero_of n is = grind (arith, nat_tests)
-
-  pub clean_is : heard_in (traffic_of x) double ≡ Clean → IsWhole x double × MayHaveArbitrary false x
-  unfolding by_tests
-  clean_is is =
-      let t = traffic_of x in
-      let both = tests_clean (all_linked t double) (nat_eq (arbitrary_count t) 0) (lists_meet false t double) (lists_meet true t double) is in
-      (all_carried both.0, none_arbitrary both.1)
-
-  -- and lists meet where it says so
-  pub meeting_is : heard_in (traffic_of x) double ≡ Meeting → (lists_meet false (traffic_of x) double ≡ true) × (lists_meet true (traffic_of x) double ≡ true)
-  unfolding by_tests
-  meeting_is is =
-      let t = traffic_of x in
-      tests_meeting (all_linked t double) (nat_eq (arbitrary_count t) 0) (lists_meet false t double) (lists_meet true t double) is

@@ -18,13 +18,13 @@ use Rattle.fr_runs.proofs.Nodes.{correct_node, node_there}
 use Rattle.fr_script.specs.Files.{ScriptFits}
 use Rattle.fr_script.specs.View.{join_of, ScriptView}
 use Rattle.fr_bound.specs.Bounds.{arrival_error, cycle_change, longest_micro}
-use Rattle.fr_bound.specs.Judged.{heard_spread}
 use Rattle.fr_bound.specs.SharpBounds.{near_by, sharp_lambda, sharp_pi, steady_error}
 use Rattle.fr_bound.specs.declared.judging.Heard.{Heard}
 use Rattle.fr_bound.specs.declared.judging.Heard.TheVariants.{Clean, Meeting, Poor}
 use Rattle.fr_bound.specs.declared.settling.Spread.{Spread}
 use Rattle.fr_coverage.specs.Decided.{setting_of}
-use Rattle.fr_precision.specs.Among.{apart_through_losses, spread_through_losses, LaterSpreadsAreLess}
+use Rattle.fr_precision.specs.Among.{apart_through_losses, kinds_spread, spread_through_losses, IsNot, LaterSpreadsAreLess}
+use Rattle.fr_precision.specs.declared.kinds.Kinds.{Kinds}
 use Rattle.fr_promise.specs.JoinedHistories.{FirstRatesLast, IsJoinedUpTo}
 use Rattle.fr_promise.specs.SharpJoined.{IsReferenceCarried}
 use Rattle.fr_promise.specs.SharpTested.{IsUnfollowedSharpSyncAt}
@@ -37,11 +37,10 @@ use Rattle.fr_sharp.specs.JoinedLosses.{IsLossyJoinedFrom, JoinedHistoriesKeepTh
 use Rattle.fr_sharp.specs.JoinedLossStatement.{comes_in_both, group_since, CoveredFilesKeepJoinedThroughLosses, IsCoveredToJoinThroughLosses, JoinedFilesKeepThroughLosses, LossyFilesGiveJoinedRuns}
 use Rattle.fr_sharp.specs.LossStatement.{apart_since, without_losses}
 use Rattle.fr_sharp.specs.SharpStatement.{has_arbitrary}
-use Rattle.fr_traffic.specs.JoinedTraffic.{heard_to_join, lists_meet_to_join}
-use Rattle.fr_traffic.specs.Traffic.{all_linked, arbitrary_count, traffic_in, Traffic}
-use Rattle.fr_sharp.proofs.FromFiles.{files_are_steady}
+use Rattle.fr_traffic.specs.Traffic.{heard_in, traffic_in}
+use Rattle.fr_sharp.proofs.FromFiles.{arbitrary_is_told, files_are_steady}
 use Rattle.fr_sharp.proofs.HeardKinds.{carried_in_both}
-use Rattle.fr_sharp.proofs.FromLossyFiles.{later_since, same_flutter, same_times, some_is_not_none}
+use Rattle.fr_sharp.proofs.FromLossyFiles.{later_since, none_is_clean, same_flutter, same_times}
 use Rattle.fr_sharp.proofs.LossBurstLaws.{apart_later}
 use Rattle.fr_sharp.proofs.JoinedFromFiles.{have_references, reference_starts, script_of_a_file_fits}
 
@@ -51,26 +50,12 @@ lossy_files_give_joined_runs p d s from flutter reach h sane fits covered run =
     let steady = files_are_steady p d (without_losses s) from flutter sane covered.none (subst Fits (sym (same_flutter p d s from)) covered.flutters) in
     record {
       covered = same_times p d s from flutter steady.timed;
+      arbitrary = arbitrary_is_told p d s;
       referenced = have_references p d s fits;
       lawful = run.lawful;
       whole = run.whole;
       hears = covered.hears;
     }
-
--- ---- beside arbitrary nodes nothing is clean
-
-pub none_is_clean_to_join : (p : Values) (s : ScriptView) → has_arbitrary p s ≡ true → (double : ℕ) → heard_to_join (traffic_in p s) (join_of s) double ≡ Clean → ⊥
-none_is_clean_to_join p s beside double clean =
-    let t : Traffic = traffic_in p s in
-    some_is_not_none p s beside
-    (only (all_linked t double) (nat_eq (arbitrary_count t) 0) (all_linked t double || (lists_meet_to_join false t (join_of s) double && lists_meet_to_join true t (join_of s) double)) clean)
-  where
-    only : (b few meets : Bool) → (if b && few then Clean else (if meets then Meeting else Poor)) ≡ Clean → few ≡ true
-    only true true meets is = refl
-    only true false true is = absurd (cc)
-    only true false false is = absurd (cc)
-    only false few true is = absurd (cc)
-    only false few false is = absurd (cc)
 
 -- ---- greater bounds go to greater ones
 
@@ -142,7 +127,7 @@ most_grow a b a' b' h k = grind arith
 
 -- ---- what was heard since a later double cycle says no more than what was heard since an earlier one
 
-module _ (later : LaterSpreadsAreLess) (beside : Bool) (p : Values) (from flutter : ℕ) (what : ℕ → Heard) (never : beside ≡ true → (m : ℕ) → what m ≡ Clean → ⊥) where
+module _ (later : LaterSpreadsAreLess) (beside : Bool) (p : Values) (from flutter : ℕ) (what : ℕ → Kinds) (never : beside ≡ true → (m : ℕ) → IsNot Clean (what m)) where
   rows_since : (double k n : ℕ) → from ≤ double → n ≡ (double + k) - from
       → ((group_spread_through beside p flutter (λ m. what (double + m)) k).rows.starts ≤ (group_spread_through beside p flutter (λ m. what (from + m)) n).rows.starts)
       × ((group_spread_through beside p flutter (λ m. what (double + m)) k).rows.lengths ≤ (group_spread_through beside p flutter (λ m. what (from + m)) n).rows.lengths)
@@ -171,12 +156,12 @@ module _ (later : LaterSpreadsAreLess) (beside : Bool) (p : Values) (from flutte
       record {
         starts = rows.0;
         lengths = rows.1;
-        seconds = sharp_seconds beside (what (from + n)) p flutter s.rows.starts s.rows.lengths s.firsts.lengths (λ some. never some (from + n)) before.starts before.lengths before.first_lengths;
+        seconds = sharp_seconds beside (what (from + n)).offsets p flutter s.rows.starts s.rows.lengths s.firsts.lengths (λ some. (never some (from + n)).0) before.starts before.lengths before.first_lengths;
         first_starts = first_starts_grow p flutter (sharp_pi beside p flutter) (sharp_lambda beside p flutter) s.rows.starts s.rows.lengths before.starts before.lengths;
         first_lengths =
-            at_most (sharp_first_lengths beside p flutter) (first_lengths_by p flutter s.rows.lengths) (max (first_lengths_by p flutter s.rows.lengths) (heard_spread (what (from + n)) p flutter s.rows).lengths)
+            at_most (sharp_first_lengths beside p flutter) (first_lengths_by p flutter s.rows.lengths) (max (first_lengths_by p flutter s.rows.lengths) (kinds_spread (what (from + n)) p flutter s.rows).lengths)
             (first_lengths_grow p flutter (sharp_lambda beside p flutter) s.rows.lengths before.lengths)
-            (le-max_left (first_lengths_by p flutter s.rows.lengths) (heard_spread (what (from + n)) p flutter s.rows).lengths);
+            (le-max_left (first_lengths_by p flutter s.rows.lengths) (kinds_spread (what (from + n)) p flutter s.rows).lengths);
       }
 
   group_is_below : (double k n : ℕ) → from ≤ double → n ≡ (double + k) - from
@@ -190,17 +175,17 @@ module _ (later : LaterSpreadsAreLess) (beside : Bool) (p : Values) (from flutte
       let s = group_spread_through beside p flutter (λ m. what (double + m)) k in
       let to = group_spread_through beside p flutter (λ m. what (from + m)) n in
       let same : double + k ≡ from + n = omega (arith, late, is) in
-      let Second : ℕ → Type 0 = λ j. second_apart_by (what (double + k)) p s.rows.starts s.rows.lengths s.firsts.lengths ≤ second_apart_by (what j) p to.rows.starts to.rows.lengths to.firsts.lengths in
+      let Second : ℕ → Type 0 = λ j. second_apart_by (what (double + k)).offsets p s.rows.starts s.rows.lengths s.firsts.lengths ≤ second_apart_by (what j).offsets p to.rows.starts to.rows.lengths to.firsts.lengths in
       record {
         starts = rows.0;
         lengths = rows.1;
         seconds =
             subst Second same
-            (seconds_grow (what (double + k)) p s.rows.starts s.rows.lengths s.firsts.lengths to.rows.starts to.rows.lengths to.firsts.lengths before.starts before.lengths before.first_lengths);
+            (seconds_grow (what (double + k)).offsets p s.rows.starts s.rows.lengths s.firsts.lengths to.rows.starts to.rows.lengths to.firsts.lengths before.starts before.lengths before.first_lengths);
         first_starts = first_starts_grow p flutter s.rows.starts s.rows.lengths to.rows.starts to.rows.lengths before.starts before.lengths;
         first_lengths =
-            most_grow (first_lengths_by p flutter s.rows.lengths) (heard_spread (what (double + k)) p flutter s.rows).lengths (first_lengths_by p flutter to.rows.lengths)
-            (heard_spread (what (from + n)) p flutter to.rows).lengths (first_lengths_grow p flutter s.rows.lengths to.rows.lengths before.lengths) rows.1;
+            most_grow (first_lengths_by p flutter s.rows.lengths) (kinds_spread (what (double + k)) p flutter s.rows).lengths (first_lengths_by p flutter to.rows.lengths)
+            (kinds_spread (what (from + n)) p flutter to.rows).lengths (first_lengths_grow p flutter s.rows.lengths to.rows.lengths before.lengths) rows.1;
       }
 
   group_later : (double k : ℕ) → from ≤ double
@@ -209,11 +194,11 @@ module _ (later : LaterSpreadsAreLess) (beside : Bool) (p : Values) (from flutte
 
 -- nor does the number of a double cycle
 pub joined_apart_later : LaterSpreadsAreLess → (p : Values) (s : ScriptView) (from flutter double passed : ℕ) → from ≤ double
-    → apart_through_losses (has_arbitrary p s) p flutter (λ m. heard_to_join (traffic_in p s) (join_of s) (double + m)) passed
-    ≤ apart_since (has_arbitrary p s) p from flutter (heard_to_join (traffic_in p s) (join_of s)) (double + passed)
+    → apart_through_losses (has_arbitrary p s) p flutter (λ m. heard_in (traffic_in p s) (double + m)) passed
+    ≤ apart_since (has_arbitrary p s) p from flutter (heard_in (traffic_in p s)) (double + passed)
 joined_apart_later later p s from flutter double passed late =
-    let what : ℕ → Heard = λ m. heard_to_join (traffic_in p s) (join_of s) m in
-    apart_later later (has_arbitrary p s) p from flutter what double passed late (none_is_clean_to_join p s)
+    let what : ℕ → Kinds = λ m. heard_in (traffic_in p s) m in
+    apart_later later (has_arbitrary p s) p from flutter what double passed late (none_is_clean p s)
 
 -- ---- the promise
 
@@ -237,14 +222,14 @@ module _ (keep : JoinedHistoriesKeepThroughLosses) (later : LaterSpreadsAreLess)
   stays_through p d s from flutter reach h double sane fits covered run late sync passed within lasting =
       keep (has_arbitrary p s) (setting_of p d s) from flutter h double reach (lossy_files_give_joined_runs p d s from flutter reach h sane fits covered run) late covered.checks takes sync passed within lasting
     where
-      what : ℕ → Heard
-      what m = heard_to_join (traffic_in p s) (join_of s) m
+      what : ℕ → Kinds
+      what m = heard_in (traffic_in p s) m
 
       takes : (k : ℕ) → double + k < doubles_of d
-          → TakesInJoining (setting_of p d s) (group_spread_through (has_arbitrary p s) p flutter (λ m. heard_to_join (traffic_in p s) (join_of s) (double + m)) k) (double + k) reach
+          → TakesInJoining (setting_of p d s) (group_spread_through (has_arbitrary p s) p flutter (λ m. heard_in (traffic_in p s) (double + m)) k) (double + k) reach
       takes k short =
-          let below = group_later later (has_arbitrary p s) p from flutter what (none_is_clean_to_join p s) double k late in
-          let now = group_spread_through (has_arbitrary p s) p flutter (λ m. heard_to_join (traffic_in p s) (join_of s) (double + m)) k in
+          let below = group_later later (has_arbitrary p s) p from flutter what (none_is_clean p s) double k late in
+          let now = group_spread_through (has_arbitrary p s) p flutter (λ m. heard_in (traffic_in p s) (double + m)) k in
           let all = group_since (has_arbitrary p s) p from flutter what (double + k) in
           let in_reach = covered.takes (double + k) (omega (arith, late)) short in
           record {
@@ -267,9 +252,9 @@ module _ (keep : JoinedHistoriesKeepThroughLosses) (later : LaterSpreadsAreLess)
       x = setting_of p d s
 
       spread : ℕ → GroupSpread
-      spread k = group_spread_through (has_arbitrary p s) p flutter (λ m. heard_to_join (traffic_in p s) (join_of s) (double + m)) k
+      spread k = group_spread_through (has_arbitrary p s) p flutter (λ m. heard_in (traffic_in p s) (double + m)) k
 
-      lossy : IsLossyJoinedFrom (setting_of p d s) from flutter h
+      lossy : IsLossyJoinedFrom (has_arbitrary p s) (setting_of p d s) from flutter h
       lossy = lossy_files_give_joined_runs p d s from flutter reach h sane fits covered run
 
       stays : (passed : ℕ) → double + passed < doubles_of d → ((m : ℕ) → m < passed → FirstRatesLast p flutter m)

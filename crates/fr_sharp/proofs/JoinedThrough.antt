@@ -1,7 +1,6 @@
 -- A lawful history that nodes join and in which frames are lost keeps to the bounds by what was heard.
-use Rattle.std.proofs.Common.{◌≡◌, ℕ, suc, ◌+◌, ◌<◌, ◌≤◌, ◌&&◌, ◌||◌, Bool, true, false, if◌then◌else◌, ℤ, pos, map, refl, sym, subst, lit≤, arith}
-use Rattle.std.specs.Prelude.{◌≤ℤ◌, Contains, max, nat_eq}
-use Rattle.std.proofs.lemmas.Bool.{and_parts}
+use Rattle.std.proofs.Common.{◌≡◌, ℕ, suc, ◌+◌, ◌<◌, ◌≤◌, Bool, true, ℤ, pos, map, sym, subst, lit≤, arith}
+use Rattle.std.specs.Prelude.{◌≤ℤ◌, Contains, max}
 use Rattle.std.proofs.lemmas.Int.{ints}
 use Rattle.fr_cluster.proofs.Elements.{filtered}
 use Rattle.fr_cluster.specs.Sane.{IsSane}
@@ -12,10 +11,9 @@ use Rattle.fr_bound.specs.Bounds.{longest_micro}
 use Rattle.fr_bound.specs.Checks.{holds_of}
 use Rattle.fr_bound.specs.SharpBounds.{near_by, precision_by, rate_walk}
 use Rattle.fr_bound.specs.SharpChecks.{SharpChecksHold}
-use Rattle.fr_bound.specs.declared.judging.Heard.{Heard}
-use Rattle.fr_bound.specs.declared.judging.Heard.TheVariants.{Clean, Meeting, Poor}
 use Rattle.fr_bound.specs.declared.settling.Spread.{Spread}
 use Rattle.fr_precision.specs.Among.{apart_through_losses, spread_through_losses}
+use Rattle.fr_precision.specs.declared.kinds.Kinds.{Kinds}
 use Rattle.fr_precision.specs.Lengths.{walked_after, CanWalk}
 use Rattle.fr_precision.specs.Offsets.{LimitSuffices}
 use Rattle.fr_precision.specs.Reception.{LeavesRoom}
@@ -36,19 +34,16 @@ use Rattle.fr_promise.specs.SharpJoined.{IsFollowedDouble, IsFollowedHearing, Is
 use Rattle.fr_promise.specs.SharpJoining.{group_spread_through, sharp_group_spread, GroupSpread}
 use Rattle.fr_promise.specs.SharpTested.{IsUnfollowedSharpSyncAt}
 use Rattle.fr_promise.proofs.JoinBounds.{group_spreads_go}
-use Rattle.fr_promise.proofs.JoinedDoubles.{followed_doubles_are_kept, followed_doubles_hear, unfollowed_is_followed}
+use Rattle.fr_promise.proofs.JoinedDoubles.{followed_doubles_are_kept, unfollowed_is_followed}
 use Rattle.fr_promise.proofs.FollowedRuns.{followed, followed_joins, followed_keeps, IsFollowedRun}
 use Rattle.fr_promise.proofs.JoinedRuns.{unfollowed_in, within_range}
-use Rattle.fr_sharp.specs.JoinedLosses.{IsLossyJoinedFrom, JoinedHistoriesKeepThroughLosses, TakesInJoining}
-use Rattle.fr_traffic.specs.JoinedTraffic.{all_trusted_to_join, heard_to_join, lists_meet_to_join}
-use Rattle.fr_traffic.specs.Traffic.{all_linked, arbitrary_count, traffic_of}
-use Rattle.fr_sharp.proofs.HeardKinds.{all_carried, none_arbitrary}
-use Rattle.fr_sharp.proofs.JoinedInPart.{followed_doubles_hear_in_part, followed_doubles_meet}
+use Rattle.fr_sharp.specs.JoinedLosses.{FollowedDoublesHearInPart, IsLossyJoinedFrom, JoinedHistoriesKeepThroughLosses, TakesInJoining}
+use Rattle.fr_traffic.specs.Traffic.{heard_in, traffic_of}
 
 -- ---- numbers
 
 -- how far macroticks may lie apart is as far as both ends say
-apart_fits : (beside : Bool) (p : Values) (flutter : ℕ) (what : ℕ → Heard) (k : ℕ)
+apart_fits : (beside : Bool) (p : Values) (flutter : ℕ) (what : ℕ → Kinds) (k : ℕ)
     → (precision_by p (group_spread_through beside p flutter what k).rows.starts (group_spread_through beside p flutter what k).rows.lengths ≤ apart_through_losses beside p flutter what k)
     × ((group_spread_through beside p flutter what (suc k)).rows.starts + longest_micro p ≤ apart_through_losses beside p flutter what k)
 apart_fits beside p flutter what k =
@@ -64,17 +59,17 @@ apart_fits beside p flutter what k =
 -- ---- a history
 
 module _
-    (beside : Bool) (x : Setting) (from flutter : ℕ) (h : Cycles) (double reach : ℕ) (w : IsLossyJoinedFrom x from flutter h) (late : from ≤ double) (checks : SharpChecksHold flutter reach x.params)
-    (fits : (k : ℕ) → double + k < x.doubles → TakesInJoining x (group_spread_through beside x.params flutter (λ m. heard_to_join (traffic_of x) x.join (double + m)) k) (double + k) reach)
+    (hear : FollowedDoublesHearInPart) (beside : Bool) (x : Setting) (from flutter : ℕ) (h : Cycles) (double reach : ℕ) (w : IsLossyJoinedFrom beside x from flutter h) (late : from ≤ double) (checks : SharpChecksHold flutter reach x.params)
+    (fits : (k : ℕ) → double + k < x.doubles → TakesInJoining x (group_spread_through beside x.params flutter (λ m. heard_in (traffic_of x) (double + m)) k) (double + k) reach)
     (begin : IsUnfollowedSharpSyncAt beside x.params flutter h double) where
-  abbrev on : ℕ → Heard
-  on k = heard_to_join (traffic_of x) x.join (double + k)
+  abbrev on : ℕ → Kinds
+  on k = heard_in (traffic_of x) (double + k)
 
   abbrev spread : ℕ → GroupSpread
-  spread k = group_spread_through beside x.params flutter (λ m. heard_to_join (traffic_of x) x.join (double + m)) k
+  spread k = group_spread_through beside x.params flutter (λ m. heard_in (traffic_of x) (double + m)) k
 
   abbrev apart : ℕ → ℕ
-  apart k = apart_through_losses beside x.params flutter (λ m. heard_to_join (traffic_of x) x.join (double + m)) k
+  apart k = apart_through_losses beside x.params flutter (λ m. heard_in (traffic_of x) (double + m)) k
 
   abbrev beyond : ℕ → ℤ
   beyond k = walked_after x.params flutter k
@@ -100,7 +95,7 @@ module _
   -- ---- one double cycle
 
   module _ (k : ℕ) (within : double + k < x.doubles) (last : FirstRatesLast x.params flutter k) (earlier : Cycles) (even odd : Cycle) (d : IsDoubleOf h (double + k) earlier even odd)
-      (g : IsFollowedDouble x (group_spread_through beside x.params flutter (λ m. heard_to_join (traffic_of x) x.join (double + m)) k) (walked_after x.params flutter k) earlier even odd (double + k)) where
+      (g : IsFollowedDouble x (group_spread_through beside x.params flutter (λ m. heard_in (traffic_of x) (double + m)) k) (walked_after x.params flutter k) earlier even odd (double + k)) where
     -- a node that follows listened before
     listened : (ago : ℕ) (node : Member) → Contains (map (member_from x.params) (map (λ (n : NodeSpec). follower_hearer x even odd n.id) (followers_since x earlier ago (double + k)))) node
         → (n : NodeSpec) × Contains (following_nodes x earlier) n × (listened_by (x.join n.id) ago (double + k) ≡ true)
@@ -129,31 +124,10 @@ module _
     walks : CanWalk x.params flutter (beyond k) (rate_walk x.params flutter)
     walks = (walk_is_held x.params flutter k sane second last.0).0
 
-    trusted : all_linked (traffic_of x) (double + k) ≡ false → all_trusted_to_join (traffic_of x) x.join (double + k) ≡ true
-    trusted linked = second_of (all_linked (traffic_of x) (double + k)) (all_trusted_to_join (traffic_of x) x.join (double + k)) linked (w.hears (double + k) (omega (arith, late)) within)
-      where
-        second_of : (a b : Bool) → a ≡ false → (a || b) ≡ true → b ≡ true
-        second_of false b is either = either
-        second_of true b is either = absurd (cc)
-
-    heard_by : (linked none meet : Bool) → all_linked (traffic_of x) (double + k) ≡ linked → nat_eq (arbitrary_count (traffic_of x)) 0 ≡ none
-        → (lists_meet_to_join false (traffic_of x) x.join (double + k) && lists_meet_to_join true (traffic_of x) x.join (double + k)) ≡ meet
-        → IsFollowedHearing (if linked && none then Clean else (if linked || meet then Meeting else Poor)) x flutter earlier even odd (double + k)
-    heard_by true true meet linked none lists =
-        followed_doubles_hear false x from flutter h (double + k) earlier even odd (spread k) (pos reach) (beyond k) (rate_walk x.params flutter) part (omega (arith, late)) d (none_arbitrary x (double + k) none)
-        (all_carried x (double + k) linked) walks room takes g
-    heard_by true false meet linked none lists =
-        followed_doubles_hear true x from flutter h (double + k) earlier even odd (spread k) (pos reach) (beyond k) (rate_walk x.params flutter) part (omega (arith, late)) d tt (all_carried x (double + k) linked) walks
-        room takes g
-    heard_by false none true linked is lists =
-        let both = and_parts (lists_meet_to_join false (traffic_of x) x.join (double + k)) (lists_meet_to_join true (traffic_of x) x.join (double + k)) lists in
-        followed_doubles_meet x from flutter h (double + k) earlier even odd (spread k) (pos reach) (beyond k) part (omega (arith, late)) d (trusted linked) both.0 both.1 room takes g
-    heard_by false none false linked is lists =
-        followed_doubles_hear_in_part x from flutter h (double + k) earlier even odd (spread k) (pos reach) (beyond k) part (omega (arith, late)) d (trusted linked) room takes g
-
     hears : IsFollowedHearing (on k) x flutter earlier even odd (double + k)
     hears =
-        heard_by (all_linked (traffic_of x) (double + k)) (nat_eq (arbitrary_count (traffic_of x)) 0) (lists_meet_to_join false (traffic_of x) x.join (double + k) && lists_meet_to_join true (traffic_of x) x.join (double + k)) refl refl refl
+        hear beside x from flutter h (double + k) earlier even odd (spread k) (pos reach) (beyond k) part w.arbitrary (omega (arith, late)) d (w.hears (double + k) (omega (arith, late)) within) room takes
+        g
 
     kept : IsFollowedKept x flutter (spread (suc k)) (apart k) (pos reach) (beyond k) (beyond (suc k)) earlier even odd (double + k)
     kept =
@@ -178,10 +152,10 @@ module _
   run : IsFollowedRun x from flutter h double spread apart (pos reach)
   run = record { part = part; whole = w.whole; referenced = w.referenced; late = late; second = second; first = first; kept = kept }
 
-pub joined_histories_keep_through_losses : JoinedHistoriesKeepThroughLosses
-joined_histories_keep_through_losses beside x from flutter h double reach w late checks fits begin passed within lasting =
-    let r = run beside x from flutter h double reach w late checks fits begin in
-    let on : ℕ → Heard = λ m. heard_to_join (traffic_of x) x.join (double + m) in
+pub joined_histories_keep_through_losses : FollowedDoublesHearInPart → JoinedHistoriesKeepThroughLosses
+joined_histories_keep_through_losses hear beside x from flutter h double reach w late checks fits begin passed within lasting =
+    let r = run hear beside x from flutter h double reach w late checks fits begin in
+    let on : ℕ → Kinds = λ m. heard_in (traffic_of x) (double + m) in
     let spread : ℕ → GroupSpread = λ k. group_spread_through beside x.params flutter on k in
     let apart : ℕ → ℕ = λ k. apart_through_losses beside x.params flutter on k in
     record {

@@ -343,7 +343,7 @@ module _ (x : Setting) (from flutter : ℕ) (h : Cycles) (double : ℕ) (known :
         by : (what : Heard) → ComputeBy what x.params flutter senders nodes last → AppliesMidpoints x.params node
         by Clean heard = sharply (All-contains (ComputesSharply x.params flutter senders) nodes node heard.computes here)
         by Meeting heard = sharply (All-contains (ComputesSharply x.params flutter senders) nodes node heard.computes here)
-        by Poor computes = let own = computes node here in with own.by_offset.is_term own.by_offset.applied own.by_rate.is_term
+        by Poor computes = let own = computes node here in with own.offsets.round.is_term own.offsets.round.applied own.rates.round.is_term
 
     -- ---- the next double cycle
 

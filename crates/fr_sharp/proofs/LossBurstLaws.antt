@@ -13,9 +13,9 @@ use Rattle.fr_drift.specs.Questions.{doubles_of}
 use Rattle.fr_drift.specs.View.{DriftView}
 use Rattle.fr_history.specs.Cycles.{Cycles}
 use Rattle.fr_bound.specs.SharpSpreads.{next_lost_spread}
-use Rattle.fr_bound.specs.declared.judging.Heard.{Heard}
 use Rattle.fr_bound.specs.declared.judging.Heard.TheVariants as heard
-use Rattle.fr_precision.specs.Among.{apart_through_losses, lost_spread, spread_through_losses, LaterSpreadsAreLess, SpreadsAreBelowLost}
+use Rattle.fr_precision.specs.Among.{apart_through_losses, both, lost_spread, spread_through_losses, IsNot, LaterSpreadsAreLess, SpreadsAreBelowLost}
+use Rattle.fr_precision.specs.declared.kinds.Kinds.{Kinds}
 use Rattle.fr_precision.specs.SharpRun.{WalkLastsAfter}
 use Rattle.fr_promise.specs.Statement.{IsRunOf}
 use Rattle.fr_script.specs.View.{ScriptView}
@@ -134,13 +134,13 @@ keeps_wider x h double apart wide le keeps = record { skew = λ macrotick is_odd
 
 -- macroticks lie no further apart by lesser spreads
 pub apart_below : (p : Values) (s t next other : Spread) → IsBelow s t → next.starts ≤ other.starts → max (Far p s) (next.starts + longest_micro p) ≤ max (Far p t) (other.starts + longest_micro p)
-apart_below p s t next other below le = both (Far p s) (Far p t) next.starts other.starts (longest_micro p) (far_grows p s t below) le
+apart_below p s t next other below le = further (Far p s) (Far p t) next.starts other.starts (longest_micro p) (far_grows p s t below) le
   where
-    both : (a b s t q : ℕ) → a ≤ b → s ≤ t → max a (s + q) ≤ max b (t + q)
-    both a b s t q h k = grind arith
+    further : (a b s t q : ℕ) → a ≤ b → s ≤ t → max a (s + q) ≤ max b (t + q)
+    further a b s t q h k = grind arith
 
 -- the number of a double cycle by what was heard since a later one is no greater than by what was heard since an earlier one
-pub apart_later : LaterSpreadsAreLess → (beside : Bool) (p : Values) (from flutter : ℕ) (what : ℕ → Heard) (double k : ℕ) → from ≤ double → (beside ≡ true → (m : ℕ) → what m ≡ heard.Clean → ⊥)
+pub apart_later : LaterSpreadsAreLess → (beside : Bool) (p : Values) (from flutter : ℕ) (what : ℕ → Kinds) (double k : ℕ) → from ≤ double → (beside ≡ true → (m : ℕ) → IsNot heard.Clean (what m))
     → apart_through_losses beside p flutter (λ m. what (double + m)) k ≤ apart_since beside p from flutter what (double + k)
 apart_later later beside p from flutter what double k late none =
     let now = later_since later beside p from flutter what double k late none in
@@ -152,7 +152,7 @@ apart_later later beside p from flutter what double k late none =
     (all (suc ((double + k) - from))) (record { start = now.0; long = now.1 }) (subst At one next.0)
 
 -- nor than where nothing is asked of double cycles in which not all is heard
-below_lost : SpreadsAreBelowLost → (p : Values) (flutter : ℕ) (what : ℕ → Heard) (whole : ℕ → Bool) (k : ℕ) → ((m : ℕ) → whole m ≡ true → what m ≡ heard.Clean)
+below_lost : SpreadsAreBelowLost → (p : Values) (flutter : ℕ) (what : ℕ → Kinds) (whole : ℕ → Bool) (k : ℕ) → ((m : ℕ) → whole m ≡ true → what m ≡ both heard.Clean)
     → apart_through_losses false p flutter what k ≤ lost_apart p flutter whole k
 below_lost below p flutter what whole k clean =
     let one = below p flutter what whole k clean in
@@ -180,7 +180,7 @@ within_costs : HistoriesKeepThroughLosses → LaterSpreadsAreLess → SpreadsAre
 within_costs keep later below p d s from flutter reach peak h double passed sane covered alone run late sync awake within lasts cost_is =
     let beside = has_arbitrary p s in
     let n : ℕ = (double + passed) - from in
-    let what : ℕ → Heard = λ m. heard_in (traffic_in p s) (from + m) in
+    let what : ℕ → Kinds = λ m. heard_in (traffic_in p s) (from + m) in
     let whole : ℕ → Bool = λ m. whole_in p s (from + m) in
     let now = apart_through_losses beside p flutter (λ m. heard_in (traffic_in p s) (double + m)) passed in
     let synced : IsInSharpSyncAt beside p flutter (pos 0) h double = subst (λ (b : Bool). IsInSharpSyncAt b p flutter (pos 0) h double) (sym alone) sync in

@@ -8,19 +8,17 @@ use Rattle.fr_cluster.specs.Values.{Values, amount}
 use Rattle.fr_cluster.specs.declared.names.ParamName.TheVariants as name
 use Rattle.fr_bound.specs.Bounds.{arrival_error, cycle_change, longest_micro}
 use Rattle.fr_bound.specs.declared.judging.Heard.TheVariants as heard
-use Rattle.fr_bound.specs.Judged.{heard_spread}
 use Rattle.fr_bound.specs.declared.settling.Spread.{Spread}
 use Rattle.fr_bound.specs.SharpSpreads.{next_lost_spread}
-use Rattle.fr_precision.specs.Among.{all_or_any, every_second, lost_spread}
+use Rattle.fr_precision.specs.Among.{all_or_any, both, every_second, kinds_spread, lost_spread}
 use Rattle.fr_sharp.specs.LossCosts.{apart_in_a_row, heard_behind, near_in_a_row, HearsEverySecond, IsBack, IsGreatest, IsGreatestEverySecond}
 use Rattle.fr_sharp.specs.LossSteps.{heard_apart}
-use Rattle.fr_sharp.specs.Losses.{lost_apart}
+use Rattle.fr_sharp.specs.Losses.{lost_apart, SharpAfterTwoWhole}
 use Rattle.fr_bound.specs.SharpBounds.{odd_spread, precision_by, sharp_lambda, sharp_pi, sharp_precision, wide_change}
 use Rattle.fr_bound.specs.SharpSpreads.{sharply_near_in}
-use Rattle.fr_promise.proofs.AmongNumbers.{holds, next_is, Holds, IsCalm, IsStirred}
+use Rattle.fr_promise.proofs.AmongNumbers.{heard_again, holds, next_is, Holds, IsCalm, IsStirred}
 use Rattle.fr_promise.proofs.JoinBounds.{near_grows}
 use Rattle.fr_promise.proofs.LossOrder.{added, always_wide, below_itself, lambda_by, lost_rises, through, whole_falls, IsBelow, IsWide}
-use Rattle.fr_sharp.proofs.LostHistories.{sharp_after_two_whole}
 
 -- ---- what is heard behind so many
 
@@ -53,15 +51,15 @@ starts_fit p s t below = step s.starts t.starts t.lengths (cycle_change p) (long
 greater_of : (a b c : ℕ) → a ≤ c → b ≤ c → max a b ≤ c
 greater_of a b c one two = grind arith
 
-pub apart_is : (p : Values) (flutter : ℕ) (whole : ℕ → Bool) (k : ℕ) → whole k ≡ true → lost_apart p flutter whole k ≡ heard_apart heard.Clean p flutter (lost_spread p flutter whole k)
+pub apart_is : (p : Values) (flutter : ℕ) (whole : ℕ → Bool) (k : ℕ) → whole k ≡ true → lost_apart p flutter whole k ≡ heard_apart (both heard.Clean) p flutter (lost_spread p flutter whole k)
 apart_is p flutter whole k is = ap (λ (s : Spread). max (Far p (lost_spread p flutter whole k)) (s.starts + longest_micro p)) (next_is p flutter whole k true is)
 
 -- the same steps by what is heard
-pub next_by : (all : Bool) (p : Values) (flutter : ℕ) (s : Spread) → heard_spread (all_or_any all) p flutter s ≡ next_lost_spread all p flutter s
+pub next_by : (all : Bool) (p : Values) (flutter : ℕ) (s : Spread) → kinds_spread (both (all_or_any all)) p flutter s ≡ next_lost_spread all p flutter s
 next_by true p flutter s = refl
 next_by false p flutter s = refl
 
-pub apart_by_all : (p : Values) (flutter : ℕ) (whole : ℕ → Bool) (k : ℕ) → lost_apart p flutter whole k ≡ heard_apart (all_or_any (whole k)) p flutter (lost_spread p flutter whole k)
+pub apart_by_all : (p : Values) (flutter : ℕ) (whole : ℕ → Bool) (k : ℕ) → lost_apart p flutter whole k ≡ heard_apart (both (all_or_any (whole k))) p flutter (lost_spread p flutter whole k)
 apart_by_all p flutter whole k =
     ap (λ (s : Spread). max (Far p (lost_spread p flutter whole k)) (s.starts + longest_micro p))
     (next_is p flutter whole k (whole k) refl ∙ sym (next_by (whole k) p flutter (lost_spread p flutter whole k)))
@@ -78,6 +76,22 @@ far_within p flutter whole k = le-max_left (Far p (lost_spread p flutter whole k
 
 next_within : (p : Values) (flutter : ℕ) (whole : ℕ → Bool) (k : ℕ) → (lost_spread p flutter whole (suc k)).starts + longest_micro p ≤ lost_apart p flutter whole k
 next_within p flutter whole k = le-max_right (Far p (lost_spread p flutter whole k)) ((lost_spread p flutter whole (suc k)).starts + longest_micro p)
+
+-- ---- back in sharp sync
+
+pub sharp_after_two_whole : SharpAfterTwoWhole
+sharp_after_two_whole p flutter whole passed first second third =
+    let now = heard_again p flutter whole passed first second in
+    let later = heard_again p flutter whole (suc passed) second third in
+    let pi = sharp_pi false p flutter in
+    let Apart : ℕ → ℕ → ℕ → Type 0 = λ s l n. max (precision_by p s l) (n + longest_micro p) ≡ sharp_precision false p flutter in
+    let By_next : ℕ → Type 0 = λ n. Apart pi (sharp_lambda false p flutter) n in
+    let By_lengths : ℕ → Type 0 = λ l. Apart pi l (lost_spread p flutter whole (suc (suc (suc passed)))).starts in
+    let By_starts : ℕ → Type 0 = λ s. Apart s (lost_spread p flutter whole (suc (suc passed))).lengths (lost_spread p flutter whole (suc (suc (suc passed)))).starts in
+    subst By_starts (sym now.1) (subst By_lengths (sym now.0) (subst By_next (sym later.1) (settled pi (sharp_lambda false p flutter) (odd_spread p (sharp_lambda false p flutter)) (longest_micro p))))
+  where
+    settled : (s l o q : ℕ) → max (s + l + o + 2 * q) (s + q) ≡ s + l + o + 2 * q
+    settled s l o q = grind arith
 
 -- ---- in a row: the spread is widest behind the last that loses frames
 
@@ -137,14 +151,14 @@ module _ (p : Values) (flutter : ℕ) where
         subst At whole (falls count (n - count))
   ]
 
-  pub peak_behind : (count : ℕ) → IsGreatest (apart_in_a_row p flutter count) (heard_apart heard.Clean p flutter (at count count))
+  pub peak_behind : (count : ℕ) → IsGreatest (apart_in_a_row p flutter count) (heard_apart (both heard.Clean) p flutter (at count count))
   peak_behind count =
       let is = apart_is p flutter (heard_behind count) count (heard_then count count (itself count)) in
       record {
         greatest = λ n.
             let one = apart_under p flutter (heard_behind count) n (at count count) (under count n) (under count (suc n)) in
             let other = far_within p flutter (heard_behind count) count in
-            up_to (lost_apart p flutter (heard_behind count) n) (Far p (at count count)) (lost_apart p flutter (heard_behind count) count) (heard_apart heard.Clean p flutter (at count count)) one other is;
+            up_to (lost_apart p flutter (heard_behind count) n) (Far p (at count count)) (lost_apart p flutter (heard_behind count) count) (heard_apart (both heard.Clean) p flutter (at count count)) one other is;
         place = count;
         reached = is;
       }
@@ -330,16 +344,16 @@ module _ (p : Values) (flutter : ℕ) where
   every_under : (whole : ℕ → Bool) → HearsEverySecond whole → (k : ℕ) → IsBelow (lost_spread p flutter whole k) widest
   every_under whole every k = held_under whole k (holds p flutter whole every k)
 
-  pub every_peak : IsGreatestEverySecond (lost_apart p flutter) (heard_apart heard.Clean p flutter widest)
+  pub every_peak : IsGreatestEverySecond (lost_apart p flutter) (heard_apart (both heard.Clean) p flutter widest)
   every_peak = record {
     greatest = λ whole every k.
         let one = apart_under p flutter whole k widest (every_under whole every k) (every_under whole every (suc k)) in
         let other = le-max_left (Far p widest) ((next_lost_spread true p flutter widest).starts + longest_micro p) in
-        up_to (lost_apart p flutter whole k) (Far p widest) (heard_apart heard.Clean p flutter widest) one other;
+        up_to (lost_apart p flutter whole k) (Far p widest) (heard_apart (both heard.Clean) p flutter widest) one other;
     heard = every_other;
     every = hears_every_other;
     place = 3;
-    reached = apart_is p flutter every_other 3 heard_fourth ∙ ap (heard_apart heard.Clean p flutter) widest_is;
+    reached = apart_is p flutter every_other 3 heard_fourth ∙ ap (heard_apart (both heard.Clean) p flutter) widest_is;
   }
     where
       up_to : (a b c : ℕ) → a ≤ b → b ≤ c → a ≤ c
@@ -358,7 +372,7 @@ module _ (p : Values) (flutter : ℕ) where
   }
 
   -- it is what a loss adds to the sharper precision, and lambda
-  pub every_peak_is : heard_apart heard.Clean p flutter widest ≡ every_second p flutter
+  pub every_peak_is : heard_apart (both heard.Clean) p flutter widest ≡ every_second p flutter
   every_peak_is =
       step widest.starts widest.lengths (sharp_pi false p flutter) (sharp_lambda false p flutter) (added p flutter) (cycle_change p) (arrival_error p) (longest_micro p) widest_starts widest_lengths (lambda_by p flutter)
       (ends (Far p widest) ((next_lost_spread true p flutter widest).starts + longest_micro p) (starts_fit p (next_lost_spread true p flutter widest) widest (whole_falls p flutter widest (subst (IsWide p flutter) widest_is (always_wide p flutter every_other 3)))))

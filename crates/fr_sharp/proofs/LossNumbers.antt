@@ -10,14 +10,14 @@ use Rattle.fr_cluster.specs.Values.{Values, amount}
 use Rattle.fr_cluster.specs.declared.names.ParamName.TheVariants as name
 use Rattle.fr_bound.specs.Bounds.{arrival_error, longest_micro, nominal, shortest_micro, widest}
 use Rattle.fr_bound.specs.Checks.{back_need_of, front_need_of, left_of}
-use Rattle.fr_bound.specs.declared.judging.Heard.{Heard}
 use Rattle.fr_bound.specs.declared.judging.Heard.TheVariants as heard
 use Rattle.fr_bound.specs.declared.settling.Spread.{Spread}
 use Rattle.fr_precision.proofs.Figures.{nat_le-true}
 use Rattle.fr_sharp.specs.declared.loss_costs.LossCost.{LossCost}
 use Rattle.fr_sharp.specs.declared.loss_costs.SecondCost.{SecondCost}
 use Rattle.fr_bound.specs.SharpSpreads.{next_lost_spread}
-use Rattle.fr_precision.specs.Among.{lost_spread, spread_through_losses}
+use Rattle.fr_precision.specs.Among.{both, lost_spread, spread_through_losses}
+use Rattle.fr_precision.specs.declared.kinds.Kinds.{Kinds}
 use Rattle.fr_sharp.specs.LossCosts.{apart_in_a_row, heard_behind, limits_hold, near_in_a_row, EverySecondIsReached, HoldInARow, IsBack, IsGreatest, IsGreatestEverySecond, IsLongest, IsLongestRow, IsLossCost, IsSecondCost, OneLongest, OneLossCost, OneSecondCost, SomeLongest, SomeLossCost, SomeSecondCost}
 use Rattle.fr_sharp.specs.LossSteps.{heard_apart}
 use Rattle.fr_bound.specs.SharpBounds.{sharp_lambda, sharp_pi, sharp_precision}
@@ -90,8 +90,8 @@ needs_more p flutter reach (suc (suc (suc (suc (suc (suc n)))))) one two three f
 abbrev pub never : ℕ → Bool
 never double = false
 
-abbrev pub never_heard : ℕ → Heard
-never_heard double = heard.Poor
+abbrev pub never_heard : ℕ → Kinds
+never_heard double = both heard.Poor
 
 module _ (p : Values) (flutter : ℕ) where
   -- it is the same as long as it lasts
@@ -254,7 +254,7 @@ module _ (p : Values) (flutter : ℕ) where
 
 -- ---- each is one
 
-one_greatest : (f : ℕ → ℕ) (a b : ℕ) → IsGreatest f a → IsGreatest f b → a ≡ b
+pub one_greatest : (f : ℕ → ℕ) (a b : ℕ) → IsGreatest f a → IsGreatest f b → a ≡ b
 one_greatest f a b one other =
     let le : a ≤ b = let w = other.greatest one.place in let is = one.reached in omega (arith, w, is) in
     let ge : b ≤ a = let w = one.greatest other.place in let is = other.reached in omega (arith, w, is) in
@@ -309,7 +309,7 @@ one_longest p flutter (Some a) (Some b) here there = elim (order a b) [
 
 -- ---- and is there
 
-pub cost_of_row : (p : Values) (flutter count peak reach : ℕ) → IsSane p → 1 ≤ count → peak ≡ heard_apart heard.Clean p flutter (lost_spread p flutter (heard_behind count) count)
+pub cost_of_row : (p : Values) (flutter count peak reach : ℕ) → IsSane p → 1 ≤ count → peak ≡ heard_apart (both heard.Clean) p flutter (lost_spread p flutter (heard_behind count) count)
     → reach ≡ sharply_near_in p (lost_spread p flutter (heard_behind count) count) → IsLossCost p flutter count (record { peak = peak; reach = reach; back = count + 2 })
 cost_of_row p flutter count peak reach sane some peak_is reach_is = record {
   peak = subst (IsGreatest (apart_in_a_row p flutter count)) (sym peak_is) (peak_behind p flutter count);
@@ -320,11 +320,11 @@ cost_of_row p flutter count peak reach sane some peak_is reach_is = record {
 pub some_loss_cost : SomeLossCost
 some_loss_cost p flutter count sane some =
     let s : Spread = lost_spread p flutter (heard_behind count) count in (
-      record { peak = heard_apart heard.Clean p flutter s; reach = sharply_near_in p s; back = count + 2 },
+      record { peak = heard_apart (both heard.Clean) p flutter s; reach = sharply_near_in p s; back = count + 2 },
       record { peak = peak_behind p flutter count; reach = reach_behind p flutter count sane; back = back_behind p flutter count some },
     )
 
-pub cost_of_widest : (p : Values) (flutter : ℕ) (cost : SecondCost) → IsSane p → cost.peak ≡ heard_apart heard.Clean p flutter (widest_spread p flutter) → cost.reach ≡ sharply_near_in p (widest_spread p flutter) → IsSecondCost p flutter cost
+pub cost_of_widest : (p : Values) (flutter : ℕ) (cost : SecondCost) → IsSane p → cost.peak ≡ heard_apart (both heard.Clean) p flutter (widest_spread p flutter) → cost.reach ≡ sharply_near_in p (widest_spread p flutter) → IsSecondCost p flutter cost
 cost_of_widest p flutter cost sane peak reach = record {
   peak = subst (IsGreatestEverySecond _) (sym peak) (every_peak p flutter);
   reach = subst (IsGreatestEverySecond _) (sym reach) (every_reach p flutter sane);
@@ -333,11 +333,11 @@ cost_of_widest p flutter cost sane peak reach = record {
 pub some_second_cost : SomeSecondCost
 some_second_cost p flutter sane =
     let s : Spread = widest_spread p flutter in
-    (record { peak = heard_apart heard.Clean p flutter s; reach = sharply_near_in p s }, record { peak = every_peak p flutter; reach = every_reach p flutter sane })
+    (record { peak = heard_apart (both heard.Clean) p flutter s; reach = sharply_near_in p s }, record { peak = every_peak p flutter; reach = every_reach p flutter sane })
 
 pub every_second_is_reached : EverySecondIsReached
 every_second_is_reached p flutter cost sane is =
-    one_every _ cost.peak (heard_apart heard.Clean p flutter (widest_spread p flutter)) is.peak (every_peak p flutter) ∙ every_peak_is p flutter
+    one_every _ cost.peak (heard_apart (both heard.Clean) p flutter (widest_spread p flutter)) is.peak (every_peak p flutter) ∙ every_peak_is p flutter
 
 -- the first number of which a test fails
 first_failing : (test : ℕ → Bool) (n : ℕ) → ((k : ℕ) → k < n → test k ≡ true) ⊎ ((m : ℕ) × (test m ≡ false) × ((k : ℕ) → k < m → test k ≡ true))

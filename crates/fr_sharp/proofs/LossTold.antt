@@ -25,8 +25,8 @@ use Rattle.fr_coverage.specs.declared.gap.Gap.{Gap}
 use Rattle.fr_coverage.specs.declared.gap.Gap.TheVariants as gap
 use Rattle.fr_bound.specs.declared.settling.Spread.{Spread}
 use Rattle.fr_bound.specs.SharpBounds.{near_by}
-use Rattle.fr_bound.specs.declared.judging.Heard.{Heard}
 use Rattle.fr_precision.specs.Among.{apart_through_losses, spread_through_losses, LaterSpreadsAreLess}
+use Rattle.fr_precision.specs.declared.kinds.Kinds.{Kinds}
 use Rattle.fr_history.specs.Cycles.{Cycles}
 use Rattle.fr_runs.specs.Gathered.{listened_by}
 use Rattle.fr_promise.specs.JoinedHistories.{FirstRatesLast, KeepsJoined}
@@ -44,8 +44,7 @@ use Rattle.fr_traffic.specs.Reaching.{whole_in}
 use Rattle.fr_bound.specs.SharpChecks.{sharp_holds_of, SharpChecksHold}
 use Rattle.fr_bound.specs.SharpSpreads.{sharply_near_in}
 use Rattle.fr_sharp.specs.SharpStatement.{has_arbitrary}
-use Rattle.fr_traffic.specs.JoinedTraffic.{heard_of, heard_to_join, is_borne_to_join}
-use Rattle.fr_traffic.specs.Traffic.{all_bear_from, heard_in, traffic_in}
+use Rattle.fr_traffic.specs.Traffic.{all_bear_from, heard_in, is_borne_to_join, traffic_in}
 use Rattle.fr_sharp.specs.declared.losses_of_runs.RunLosses.{RunLosses}
 use Rattle.fr_sharp.proofs.FromLossyFiles.{covered_files_keep_through_losses, none_is_clean}
 use Rattle.fr_sharp.proofs.LossBurstLaws.{apart_later, keeps_wider}
@@ -119,7 +118,7 @@ last_next whole from n true behind is (Some last) before =
     by k later (inr earlier) = before.3 k later earlier
 last_next whole from n false behind is o before = (behind, omega arith, is, λ k later less. absurd (omega (arith, later, less)))
 
-module _ (beside : Bool) (p : Values) (from flutter : ℕ) (whole : ℕ → Bool) (what : ℕ → Heard) (trusted : ℕ → Bool) (near : ℕ → ℕ) where
+module _ (beside : Bool) (p : Values) (from flutter : ℕ) (whole : ℕ → Bool) (what : ℕ → Kinds) (trusted : ℕ → Bool) (near : ℕ → ℕ) where
   abbrev at : ℕ → RunLosses
   at n = losses_by beside p from flutter whole what trusted near n
 
@@ -227,31 +226,31 @@ pub no_more_than_one : (heard : Bool) (count n : ℕ) → count ≤ n → (if he
 no_more_than_one true count n few = omega (arith, few)
 no_more_than_one false count n few = omega (arith, few)
 
-next_group : (beside : Bool) (p : Values) (flutter : ℕ) (what : ℕ → Heard) (n : ℕ) → next_group_spread (what n) p flutter (group_spread_through beside p flutter what n) ≡ group_spread_through beside p flutter what (suc n)
+next_group : (beside : Bool) (p : Values) (flutter : ℕ) (what : ℕ → Kinds) (n : ℕ) → next_group_spread (what n) p flutter (group_spread_through beside p flutter what n) ≡ group_spread_through beside p flutter what (suc n)
 unfolding group_spread_through
 next_group beside p flutter what n = refl
 
-pub group_on : (beside : Bool) (p : Values) (flutter : ℕ) (what : ℕ → Heard) (n : ℕ) (hears : Heard) (now next : GroupSpread) → hears ≡ what n → now ≡ group_spread_through beside p flutter what n
+pub group_on : (beside : Bool) (p : Values) (flutter : ℕ) (what : ℕ → Kinds) (n : ℕ) (hears : Kinds) (now next : GroupSpread) → hears ≡ what n → now ≡ group_spread_through beside p flutter what n
     → next ≡ next_group_spread hears p flutter now → next ≡ group_spread_through beside p flutter what (n + 1)
 group_on beside p flutter what n hears now next is now_is goes =
-    goes ∙ ap (λ (h : Heard). next_group_spread h p flutter now) is ∙ ap (next_group_spread (what n) p flutter) now_is ∙ next_group beside p flutter what n
+    goes ∙ ap (λ (h : Kinds). next_group_spread h p flutter now) is ∙ ap (next_group_spread (what n) p flutter) now_is ∙ next_group beside p flutter what n
     ∙ ap (group_spread_through beside p flutter what) (sym (add-one n))
 
-here_apart : (beside : Bool) (p : Values) (flutter : ℕ) (what : ℕ → Heard) (n : ℕ) → heard_apart (what n) p flutter (spread_through_losses beside p flutter what n) ≡ apart_through_losses beside p flutter what n
+here_apart : (beside : Bool) (p : Values) (flutter : ℕ) (what : ℕ → Kinds) (n : ℕ) → heard_apart (what n) p flutter (spread_through_losses beside p flutter what n) ≡ apart_through_losses beside p flutter what n
 unfolding spread_through_losses
 here_apart beside p flutter what n = refl
 
 -- of the nodes with rows they are those of a run that no node joins
-rows_are : (beside : Bool) (p : Values) (flutter : ℕ) (what : ℕ → Heard) (n : ℕ) → (group_spread_through beside p flutter what n).rows ≡ spread_through_losses beside p flutter what n
+rows_are : (beside : Bool) (p : Values) (flutter : ℕ) (what : ℕ → Kinds) (n : ℕ) → (group_spread_through beside p flutter what n).rows ≡ spread_through_losses beside p flutter what n
 rows_are beside p flutter what n = (group_spreads_go beside p flutter what n).1
 
-apart_on : (beside : Bool) (p : Values) (flutter : ℕ) (what : ℕ → Heard) (n : ℕ) (hears : Heard) (now : GroupSpread) (apart : ℕ) → hears ≡ what n → now ≡ group_spread_through beside p flutter what n
+apart_on : (beside : Bool) (p : Values) (flutter : ℕ) (what : ℕ → Kinds) (n : ℕ) (hears : Kinds) (now : GroupSpread) (apart : ℕ) → hears ≡ what n → now ≡ group_spread_through beside p flutter what n
     → apart ≡ heard_apart hears p flutter now.rows → apart ≡ apart_through_losses beside p flutter what n
 apart_on beside p flutter what n hears now apart is now_is far =
-    far ∙ ap (λ (h : Heard). heard_apart h p flutter now.rows) is ∙ ap (λ (s : GroupSpread). heard_apart (what n) p flutter s.rows) now_is
+    far ∙ ap (λ (h : Kinds). heard_apart h p flutter now.rows) is ∙ ap (λ (s : GroupSpread). heard_apart (what n) p flutter s.rows) now_is
     ∙ ap (heard_apart (what n) p flutter) (rows_are beside p flutter what n) ∙ here_apart beside p flutter what n
 
-module _ (beside : Bool) (p : Values) (from flutter : ℕ) (whole : ℕ → Bool) (what : ℕ → Heard) (trusted : ℕ → Bool) (near : ℕ → ℕ) where
+module _ (beside : Bool) (p : Values) (from flutter : ℕ) (whole : ℕ → Bool) (what : ℕ → Kinds) (trusted : ℕ → Bool) (near : ℕ → ℕ) where
   next_by : (k : ℕ)
       → next_losses (whole (from + k)) (trusted (from + k)) (from + k) (apart_through_losses beside p flutter (λ m. what (from + m)) k) (near k)
       (losses_by beside p from flutter whole what trusted near k)
@@ -259,12 +258,12 @@ module _ (beside : Bool) (p : Values) (from flutter : ℕ) (whole : ℕ → Bool
   unfolding losses_by
   next_by k = refl
 
-  pub losses_on : (n : ℕ) (all trust : Bool) (hears : Heard) (apart close : ℕ) (now : GroupSpread) (was : RunLosses) → all ≡ whole (from + n) → trust ≡ trusted (from + n) → hears ≡ what (from + n)
+  pub losses_on : (n : ℕ) (all trust : Bool) (hears : Kinds) (apart close : ℕ) (now : GroupSpread) (was : RunLosses) → all ≡ whole (from + n) → trust ≡ trusted (from + n) → hears ≡ what (from + n)
       → now ≡ group_spread_through beside p flutter (λ m. what (from + m)) n → apart ≡ heard_apart hears p flutter now.rows → close ≡ near n
       → was ≡ losses_by beside p from flutter whole what trusted near n → next_losses all trust (from + n) apart close was ≡ losses_by beside p from flutter whole what trusted near (n + 1)
   losses_on n all trust hears apart close now was all_is trust_is is now_is apart_is close_is was_is =
       let double : ℕ = from + n in
-      let since : ℕ → Heard = λ m. what (from + m) in
+      let since : ℕ → Kinds = λ m. what (from + m) in
       let far : apart ≡ apart_through_losses beside p flutter since n = apart_on beside p flutter since n hears now apart is now_is apart_is in
       ap (λ (b : Bool). next_losses b trust double apart close was) all_is ∙ ap (λ (b : Bool). next_losses (whole double) b double apart close was) trust_is
       ∙ ap (λ (a : ℕ). next_losses (whole double) (trusted double) double a close was) far
@@ -274,12 +273,12 @@ module _ (beside : Bool) (p : Values) (from flutter : ℕ) (whole : ℕ → Bool
 
 pub losses_are_told_lem : LossesAreTold
 losses_are_told_lem p d s from flutter some =
-    are_losses (has_arbitrary p s) p from flutter (whole_in p s) (heard_of p s) (is_borne_of p s from flutter) (near_passed p s from flutter) (told_near p s from flutter) same (doubles_of d) some
+    are_losses (has_arbitrary p s) p from flutter (whole_in p s) (heard_in (traffic_in p s)) (is_borne_of p s from flutter) (near_passed p s from flutter) (told_near p s from flutter) same (doubles_of d) some
   where
     same : (k : ℕ) → from ≤ k → told_near p s from flutter k ≡ near_passed p s from flutter (k - from)
     same k late =
         let here : k ≡ from + (k - from) = omega (arith, late) in
-        ap (λ (n : ℕ). near_in_group p s n (group_since (has_arbitrary p s) p from flutter (heard_of p s) k)) here
+        ap (λ (n : ℕ). near_in_group p s n (group_since (has_arbitrary p s) p from flutter (heard_in (traffic_in p s)) k)) here
 
 -- ---- the run without what it loses
 
@@ -560,24 +559,18 @@ hold_checks p flutter reach hold =
     (both_true (sharp_holds_of 3 flutter reach p) (sharp_holds_of 4 flutter reach p && sharp_holds_of 5 flutter reach p) (hold 3 (omega arith) (omega arith))
     (both_true (sharp_holds_of 4 flutter reach p) (sharp_holds_of 5 flutter reach p) (hold 4 (omega arith) (omega arith)) (hold 5 (omega arith) (omega arith))))
 
--- what is heard where no correct node joins, and where one does
-heard_alone : (p : Values) (s : ScriptView) → some_join p s ≡ false → heard_of p s ≡ heard_in (traffic_in p s)
-heard_alone p s alone = λ i m. cond-false (some_join p s) (heard_to_join (traffic_in p s) (join_of s) m) (heard_in (traffic_in p s) m) alone i
-
-heard_joined : (p : Values) (s : ScriptView) → some_join p s ≡ true → heard_of p s ≡ heard_to_join (traffic_in p s) (join_of s)
-heard_joined p s joins = λ i m. cond-true (some_join p s) (heard_to_join (traffic_in p s) (join_of s) m) (heard_in (traffic_in p s) m) joins i
-
+-- whether it is borne where no correct node joins, and where one does
 borne_alone : (p : Values) (s : ScriptView) (from flutter double : ℕ) → some_join p s ≡ false → is_borne_of p s from flutter double ≡ is_borne p s from flutter double
-borne_alone p s from flutter double alone = cond-false (some_join p s) (is_borne_to_join p s double) (is_borne p s from flutter double) alone
+borne_alone p s from flutter double alone = cond-false (some_join p s) (is_borne_to_join (traffic_in p s) double) (is_borne p s from flutter double) alone
 
-borne_joined : (p : Values) (s : ScriptView) (from flutter double : ℕ) → some_join p s ≡ true → is_borne_of p s from flutter double ≡ is_borne_to_join p s double
-borne_joined p s from flutter double joins = cond-true (some_join p s) (is_borne_to_join p s double) (is_borne p s from flutter double) joins
+borne_joined : (p : Values) (s : ScriptView) (from flutter double : ℕ) → some_join p s ≡ true → is_borne_of p s from flutter double ≡ is_borne_to_join (traffic_in p s) double
+borne_joined p s from flutter double joins = cond-true (some_join p s) (is_borne_to_join (traffic_in p s) double) (is_borne p s from flutter double) joins
 
 module _ (p : Values) (d : DriftView) (s : ScriptView) (from flutter : ℕ) (finds : FindsGapFrom p d s from) (some : from < doubles_of d) where
   abbrev losses : RunLosses
   losses = losses_of p d s from flutter
 
-  told : AreLosses (has_arbitrary p s) p from flutter (whole_in p s) (heard_of p s) (is_borne_of p s from flutter) (told_near p s from flutter) (doubles_of d) losses
+  told : AreLosses (has_arbitrary p s) p from flutter (whole_in p s) (heard_in (traffic_in p s)) (is_borne_of p s from flutter) (told_near p s from flutter) (doubles_of d) losses
   told = losses_are_told_lem p d s from flutter some
 
   -- what it is to be borne, and the second check
@@ -588,17 +581,14 @@ module _ (p : Values) (d : DriftView) (s : ScriptView) (from flutter : ℕ) (fin
   -- the nodes with rows lie as near as in a run that no node joins
   near_alone : some_join p s ≡ false → (double : ℕ) → from ≤ double → double < doubles_of d → sharply_near_in p (run_spread p s from flutter double) ≤ losses.reach
   near_alone alone double late less =
-      let taken = (near_is_taken_in p d s double losses.reach (group_since (has_arbitrary p s) p from flutter (heard_of p s) double)).1 (told.near double late less) in
+      let taken = (near_is_taken_in p d s double losses.reach (group_since (has_arbitrary p s) p from flutter (heard_in (traffic_in p s)) double)).1 (told.near double late less) in
       let Near : Spread → Type 0 = λ rows. sharply_near_in p rows ≤ losses.reach in
-      let Heard : (ℕ → Heard) → Type 0 = λ what. sharply_near_in p (spread_since (has_arbitrary p s) p from flutter what double) ≤ losses.reach in
-      subst Heard (heard_alone p s alone) (subst Near (rows_are (has_arbitrary p s) p flutter (λ m. heard_of p s (from + m)) (double - from)) taken.rows)
+      subst Near (rows_are (has_arbitrary p s) p flutter (λ m. heard_in (traffic_in p s) (from + m)) (double - from)) taken.rows
 
   -- what is heard, and each node that may follow, is taken in
   near_joined : some_join p s ≡ true → (double : ℕ) → from ≤ double → double < doubles_of d → TakesInJoining (setting_of p d s) (run_group p d s from flutter double) double losses.reach
   near_joined joins double late less =
-      let Takes : (ℕ → Heard) → Type 0 = λ what. TakesInJoining (setting_of p d s) (group_since (has_arbitrary p s) p from flutter what double) double losses.reach in
-      subst Takes (heard_joined p s joins)
-      ((near_is_taken_in p d s double losses.reach (group_since (has_arbitrary p s) p from flutter (heard_of p s) double)).1 (told.near double late less))
+      (near_is_taken_in p d s double losses.reach (group_since (has_arbitrary p s) p from flutter (heard_in (traffic_in p s)) double)).1 (told.near double late less)
 
   pub through_is_covered : flutter_from p d s from ≤ flutter → is_through_losses p s flutter (gap_from p d s from) losses ≡ true → IsThroughLosses p d s from flutter losses.reach
   through_is_covered flutters is = record {
@@ -669,12 +659,11 @@ module _ (p : Values) (d : DriftView) (s : ScriptView) (from flutter : ℕ) (fin
 pub runs_keep_their_bounds : HistoriesKeepThroughLosses → LaterSpreadsAreLess → RunsKeepTheirBounds
 runs_keep_their_bounds keep later p d s from flutter h double passed sane covered run late sync awake within lasts =
     let reach = (losses_of p d s from flutter).reach in
-    let what : ℕ → Heard = λ m. heard_in (traffic_in p s) m in
+    let what : ℕ → Kinds = λ m. heard_in (traffic_in p s) m in
     let now = apart_through_losses (has_arbitrary p s) p flutter (λ m. heard_in (traffic_in p s) (double + m)) passed in
     let all = told_apart p s from flutter (double + passed) in
     let keeps = covered_files_keep_through_losses keep later p d s from flutter reach h double sane covered run late sync awake passed within lasts in
-    let Less : (ℕ → Heard) → Type 0 = λ w. now ≤ apart_since (has_arbitrary p s) p from flutter w (double + passed) in
-    let le = subst Less (sym (heard_alone p s covered.none_joins)) (apart_later later (has_arbitrary p s) p from flutter what double passed late (none_is_clean p s)) in
+    let le = apart_later later (has_arbitrary p s) p from flutter what double passed late (none_is_clean p s) in
     let bound = keeps_wider (setting_of p d s) h (double + passed) now all le keeps in
     let told = losses_are_told_lem p d s from flutter (omega (arith, late, within)) in
     let most = told.greatest (double + passed) (omega (arith, late)) within in
@@ -702,8 +691,7 @@ joined_runs_keep_their_bounds keep later p d s from flutter h double sane drift_
 
     bound : (passed : ℕ) → double + passed < doubles_of d → ((m : ℕ) → m ≤ passed → FirstRatesLast p flutter m) → KeepsJoined (setting_of p d s) h (double + passed) (told_apart p s from flutter (double + passed))
     bound passed within lasting =
-        let now = apart_through_losses (has_arbitrary p s) p flutter (λ m. heard_to_join (traffic_in p s) (join_of s) (double + m)) passed in
+        let now = apart_through_losses (has_arbitrary p s) p flutter (λ m. heard_in (traffic_in p s) (double + m)) passed in
         let stays = promise.stays passed within (λ m less. lasting m (omega (arith, less))) in
-        let Less : (ℕ → Heard) → Type 0 = λ w. now ≤ apart_since (has_arbitrary p s) p from flutter w (double + passed) in
-        let le = subst Less (sym (heard_joined p s joins)) (joined_apart_later later p s from flutter double passed late) in
+        let le = joined_apart_later later p s from flutter double passed late in
         joined_wider (setting_of p d s) h (double + passed) now (told_apart p s from flutter (double + passed)) le (stays.keeps (lasting passed (omega arith)))

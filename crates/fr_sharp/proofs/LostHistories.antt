@@ -1,12 +1,9 @@
 -- A lawful history in which frames are lost keeps to the numbers by what was heard.
-use Rattle.std.proofs.Common.{◌≡◌, ◌⊎◌, ℕ, zero, suc, ◌+◌, ◌-◌, ◌*◌, ◌<◌, ◌≤◌, ◌||◌, Bool, true, false, not, ℤ, pos, List, [], ◌∷◌, ◌++◌, All, length, map, inl, inr, refl, ap, ap₂, sym, ◌∙◌, subst, lit≤, arith, if◌then◌else◌}
+use Rattle.std.proofs.Common.{◌≡◌, ◌⊎◌, ℕ, zero, suc, ◌+◌, ◌-◌, ◌*◌, ◌<◌, ◌≤◌, ◌||◌, Bool, true, false, not, ℤ, pos, List, [], ◌∷◌, All, map, inl, inr, refl, ap, sym, ◌∙◌, subst, lit≤, arith, if◌then◌else◌}
 use Rattle.std.specs.Prelude.{◌+ℤ◌, ◌≤ℤ◌, Contains, max, nat_lt}
 use Rattle.std.proofs.lemmas.Bool.{cases_eq}
 use Rattle.std.proofs.lemmas.Bool.Decides.{nat_tests}
-use Rattle.std.proofs.lemmas.List.{length-append}
 use Rattle.std.proofs.lemmas.List.Elements.{All-contains, All-contains_itself}
-use Rattle.std.proofs.lemmas.List.Sorted.{length_permutation}
-use Rattle.std.proofs.lemmas.Slice.Zip.{AllZip-long}
 use Rattle.fr_base.specs.declared.node_row.NodeRow.{NodeRow}
 use Rattle.fr_base.specs.declared.state.Outcome.TheVariants.{Within, Missing}
 use Rattle.fr_base.specs.declared.state.State.TheVariants.{Active}
@@ -16,23 +13,20 @@ use Rattle.fr_cluster.specs.Setting.{Setting, correct_nodes}
 use Rattle.fr_cluster.specs.Values.{Values, amount}
 use Rattle.fr_cluster.specs.declared.names.ParamName.TheVariants as name
 use Rattle.fr_cluster.specs.declared.nodes.NodeSpec.{NodeSpec}
-use Rattle.fr_cluster.proofs.Elements.{Contains-here, Contains-there}
 use Rattle.fr_correct.specs.Terms.{offset_term_of, rate_term_of}
 use Rattle.fr_correct.specs.declared.term.Term.{Term}
 use Rattle.fr_correct.proofs.There.{offset_term_is_there, rate_term_is_there}
 use Rattle.fr_measure.specs.Deviations.{rate_values_by}
 use Rattle.fr_measure.specs.Values.{offset_at, rate_at}
-use Rattle.fr_midpoint.specs.Receivers.{Hears}
 use Rattle.fr_poc.specs.Control.{Status, step_of}
 use Rattle.fr_poc.specs.Limits.{limits_of}
 use Rattle.fr_bound.specs.Bounds.{cycle_change, longest_micro}
 use Rattle.fr_bound.specs.Checks.{holds_of}
-use Rattle.fr_precision.specs.Offsets.{IsDeviation, LimitSuffices}
+use Rattle.fr_precision.specs.Offsets.{LimitSuffices}
 use Rattle.fr_precision.specs.Reception.{LeavesRoom}
 use Rattle.fr_precision.specs.Round.{offsets_of, rates_of}
 use Rattle.fr_precision.specs.Rows.{Sender}
 use Rattle.fr_precision.specs.SharpRound.{as_member}
-use Rattle.fr_precision.specs.Steady.{PlacesEven}
 use Rattle.fr_precision.specs.Step.{IsFollowed, Member}
 use Rattle.fr_precision.proofs.Senders.{All-along}
 use Rattle.fr_history.specs.Cycles.{Cycle, Cycles, told_of}
@@ -52,36 +46,30 @@ use Rattle.fr_precision.proofs.RoundLemmas.{contains_map, map_contains}
 use Rattle.fr_runs.proofs.Rows.{each_row, has_row as row_there, row_runs_by}
 use Rattle.fr_runs.proofs.RowsSupplied.{LawfulRows}
 use Rattle.fr_runs.proofs.Whole.{prior_of}
-use Rattle.fr_bound.specs.declared.judging.Heard.{Heard}
-use Rattle.fr_bound.specs.declared.judging.Heard.TheVariants.{Clean, Meeting, Poor}
-use Rattle.fr_precision.specs.Among.{apart_through_losses, lost_spread, spread_through_losses, AreLossyDoubles, ComputesOrKeeps, ComputesOwn, GoInReach, HearInCommon, HeardSo, LossyDoublesKeep, LossyDoublesStayApart, SpreadsGo}
+use Rattle.fr_precision.specs.Among.{apart_through_losses, spread_through_losses, AreLossyDoubles, GoInReach, HeardSo, LossyDoublesKeep, LossyDoublesStayApart, SpreadsGo}
+use Rattle.fr_precision.specs.declared.kinds.Kinds.{Kinds}
 use Rattle.fr_sharp.specs.Bearing.{borne, borne_outcome, KeepsThrough}
 use Rattle.fr_runs.specs.SharpHistories.{IsLawfulStatedRunFrom}
 use Rattle.fr_precision.specs.Lengths.{walked_through, CanWalk}
-use Rattle.fr_sharp.specs.Losses.{HistoriesKeepThroughLosses, IsLossyRunFrom, SharpAfterTwoWhole}
-use Rattle.fr_bound.specs.SharpBounds.{last_action, odd_spread, precision_by, rate_walk, sharp_lambda, sharp_pi, sharp_precision}
+use Rattle.fr_sharp.specs.Losses.{HistoriesKeepThroughLosses, IsLossyRunFrom, RowsHear}
+use Rattle.fr_bound.specs.SharpBounds.{last_action, precision_by, rate_walk, sharp_lambda, sharp_pi}
 use Rattle.fr_bound.specs.SharpChecks.{RateSuffices, SharpChecksHold}
 use Rattle.fr_runs.specs.SharpHistories.{members_at, senders_at, BeginsActive, IsInSharpSyncAt}
 use Rattle.fr_precision.specs.SharpRun.{AllUncut, AreActiveAfter, BeginSharp, IsNextDouble, KeepsSharp, WalkLastsAfter}
 use Rattle.fr_bound.specs.SharpSpreads.{sharply_near_in}
-use Rattle.fr_precision.specs.SharpStep.{ActInReach, AreSharp, ComputesSharply, IsInSharpSync, IsSharpDouble}
+use Rattle.fr_precision.specs.SharpStep.{ActInReach, AreSharp, IsInSharpSync}
 use Rattle.fr_runs.specs.SteadyRuns.{row_members, AreRowsInReach}
-use Rattle.fr_traffic.specs.Traffic.{all_trusted, bears, heard_in, is_deaf, lacking_for, lacks_values, lists_meet, may_lack, none_lacks, some_keep, traffic_of, trusts_or_lacks}
-use Rattle.fr_promise.proofs.AmongNumbers.{heard_again}
+use Rattle.fr_traffic.specs.Traffic.{bears, heard_in, is_deaf, lacking_for, lacks_values, may_lack, none_lacks, some_keep, traffic_of, trusts_or_lacks}
 use Rattle.fr_precision.proofs.BoundLemmas.{key_slots_act_early, sharp_checks_suffice_lem}
 use Rattle.fr_precision.proofs.LastingLemmas.{earlier as earlier_walk, near_fits, up_to}
 use Rattle.fr_promise.proofs.StrayLemmas.{in_range, none_strayed, walk_is_held_through}
-use Rattle.fr_sharp.proofs.BearingKinds.{meeting_trusts}
-use Rattle.fr_sharp.proofs.BearingRows.{bears_at, is_trusted_there, kept_member, kept_offset, kept_rate, no_values, rows_bear}
+use Rattle.fr_sharp.proofs.BearingRows.{bears_at, is_trusted_there, kept_offset, kept_rate, no_values}
 use Rattle.fr_sharp.proofs.BearingStatus.{calm_outcome, limits_in_order, stands_on, stands_within, StandsBy}
 use Rattle.fr_runs.proofs.KeyedCounts.{all_pass}
-use Rattle.fr_sharp.proofs.HeardInCommon.{rows_meet}
-use Rattle.fr_sharp.proofs.HeardInPart.{heard_some}
-use Rattle.fr_sharp.proofs.HeardKinds.{clean_is, meeting_is}
-use Rattle.fr_sharp.proofs.RowsInPart.{rows_compute_own}
-use Rattle.fr_promise.proofs.RunDoubles.{all_among, all_have, evens_are, followed_at, member_among, members_found, next_row, next_rows_are, none_early, none_late, odds_are, AllHave, IsCalm}
+use Rattle.fr_traffic.proofs.HeardInPart.{heard_some}
+use Rattle.fr_promise.proofs.RunDoubles.{all_among, all_have, evens_are, followed_at, member_among, members_found, next_row, next_rows_are, none_early, none_late, odds_are, senders_found, AllHave, IsCalm}
 use Rattle.fr_promise.proofs.RunSync.{none_cuts}
-use Rattle.fr_promise.proofs.TimedRuns.{acting_with, active_in_sync, active_of, found_of, heard_of, lawful_run, members_in_sync, part, rates_of_double, rows_of, spread_in}
+use Rattle.fr_promise.proofs.TimedRuns.{acting_with, active_in_sync, active_of, found_of, lawful_run, members_in_sync, part, rates_of_double, rows_of, spread_in}
 
 -- the rows of nodes are the same as they are borne
 evens_same : (ns : List Member) → map (λ (node : Member). node.even) (map borne ns) ≡ map (λ (node : Member). node.even) ns
@@ -95,37 +83,6 @@ plain_active zero ns active = tt
 plain_active (suc k) ns active =
     let Are : List NodeRow → Type 0 = λ rows. All (λ (row : NodeRow). row.state ≡ Active) rows in
     (subst Are (evens_same ns) active.0, subst Are (odds_same ns) active.1)
-
--- where each is borne as it is, all are
-same_members : (ns : List Member) → ((node : Member) → Contains ns node → borne node ≡ node) → map borne ns ≡ ns
-same_members [] each = refl
-same_members (node ∷ ns) each =
-    let one = each node (Contains-here node ns) in
-    let rest = same_members ns (λ n among. each n (Contains-there node ns n among)) in
-    ap₂ (λ (n : Member) (more : List Member). n ∷ more) one rest
-
-some_values : (Says : Sender → ℤ → Type 0) (senders : List Sender) (values : List ℤ) → Hears Sender Says senders values → 1 ≤ length senders → 1 ≤ length values
-some_values Says senders values hears some =
-    let long = AllZip-long Says senders hears.said hears.each in
-    let size = length_permutation (hears.said ++ hears.further) values hears.parts in
-    let both = length-append hears.said hears.further in
-    omega (arith, some, long, size, both)
-
-kept_own : (p : Values) (flutter : ℕ) (ns : List Member) (last : ℤ) (node : Member) → ComputesOwn p flutter ns last node → borne node ≡ node
-kept_own p flutter ns last node own =
-    let offsets = some_values (λ sender value. IsDeviation p true sender.action node.odd sender.odd value) own.offset_senders node.offsets own.by_offset.hears own.some_offsets in
-    let rates = some_values (λ sender value. PlacesEven p flutter sender node.odd value) own.rate_senders node.rates own.by_rate.hears own.some_rates in
-    kept_member node offsets (kept_offset p.offset_limit node.offsets node.offset_term offsets own.by_offset.is_term)
-    (kept_rate node.odd.rate p.damping p.rate_limit node.rates node.rate_term rates own.by_rate.is_term)
-
-kept_clean : (p : Values) (flutter : ℕ) (senders : List Sender) (ns : List Member) (last : ℤ) → IsSharpDouble false p flutter senders ns last → (node : Member) → Contains ns node → borne node ≡ node
-kept_clean p flutter senders ns last double node here =
-    let own = All-contains (ComputesSharply p flutter senders) ns node double.computes here in
-    let some = (double.keep node node here here).0.0 in
-    let offsets = some_values (λ sender value. IsDeviation p true sender.action node.odd sender.odd value) senders node.offsets own.by_offset.hears some in
-    let rates = some_values (λ sender value. PlacesEven p flutter sender node.odd value) senders node.rates own.by_rate.hears some in
-    kept_member node offsets (kept_offset p.offset_limit node.offsets node.offset_term offsets own.by_offset.is_term)
-    (kept_rate node.odd.rate p.damping p.rate_limit node.rates node.rate_term rates own.by_rate.is_term)
 
 borne_follows : (p : Values) (node : Member) (even odd : NodeRow) → IsFollowed p node even odd → IsFollowed p (borne node) even odd
 borne_follows p node even odd is = record {
@@ -142,12 +99,12 @@ borne_follows p node even odd is = record {
   active_odd = is.active_odd;
 }
 
-module _ (keep : LossyDoublesKeep) (stay : LossyDoublesStayApart) (goes : SpreadsGo) (beside : Bool) (x : Setting) (from flutter : ℕ) (h : Cycles) (double reach : ℕ) (w : IsLossyRunFrom beside x from flutter h) (late : from ≤ double)
+module _ (hear : RowsHear) (keep : LossyDoublesKeep) (stay : LossyDoublesStayApart) (goes : SpreadsGo) (beside : Bool) (x : Setting) (from flutter : ℕ) (h : Cycles) (double reach : ℕ) (w : IsLossyRunFrom beside x from flutter h) (late : from ≤ double)
     (checks : SharpChecksHold flutter reach x.params)
     (fits : (k : ℕ) → double + k < x.doubles → sharply_near_in x.params (spread_through_losses beside x.params flutter (λ m. heard_in (traffic_of x) (double + m)) k) ≤ reach)
     (strays : (k : ℕ) → double + k < x.doubles → WalkLastsAfter x.params flutter k → RateSuffices x.params (walked_through x.params flutter (λ m. some_keep (traffic_of x) (double + m)) (suc k)))
     (sync : IsInSharpSyncAt beside x.params flutter (pos 0) h double) (awake : none_lacks (traffic_of x) double ≡ true) (short : double < x.doubles) where
-  abbrev on : ℕ → Heard
+  abbrev on : ℕ → Kinds
   on k = heard_in (traffic_of x) (double + k)
 
   abbrev keeps_in : ℕ → Bool
@@ -231,67 +188,21 @@ module _ (keep : LossyDoublesKeep) (stay : LossyDoublesStayApart) (goes : Spread
         acts = subst Acts (members_found x h (double + k) earlier even odd d) (acting k within before begin);
       }
 
-  -- where each trusts its lists
-  own_at : (k : ℕ) → all_trusted (traffic_of x) (double + k) ≡ true → double + k < x.doubles → WalkLastsAfter x.params flutter k → BeginSharp x.params beyond starts lengths nodes k → (node : Member) → Contains (plain k) node
-      → ComputesOwn x.params flutter (plain k) last node
-  own_at k trusted within before begin node here =
-      let p : Values = x.params in
+  -- the nodes with rows hear what is said of it
+  heard_by : (k : ℕ) → double + k < x.doubles → WalkLastsAfter x.params flutter k → BeginSharp x.params beyond starts lengths nodes k
+      → HeardSo (on k) (keeps_in k) x.params flutter (senders k) (nodes k) last
+  heard_by k within before begin =
       let f = found_of x from flutter h run (double + k) within in
-      let same = members_found x h (double + k) f.earlier f.even f.odd f.is in
-      let Has : List Member → Type 0 = λ some. Contains some node in
-      let Own : List Member → Type 0 = λ some. ComputesOwn p flutter some last node in
-      subst Own (sym same)
+      let Nodes : List Member → Type 0 = λ some. HeardSo (on k) (keeps_in k) x.params flutter (senders k) (map borne some) last in
+      let Senders : List Sender → Type 0 = λ some. HeardSo (on k) (keeps_in k) x.params flutter some (map borne (row_members x f.earlier f.even f.odd)) last in
+      subst Nodes (sym (members_found x h (double + k) f.earlier f.even f.odd f.is))
       (
-      rows_compute_own x from flutter h f.earlier f.even f.odd (double + k) (pos reach) node w.run.none_joins (part x from flutter h run) (omega (arith, late)) f.is trusted
-      (rows_in_reach k within before begin f.earlier f.even f.odd f.is) (subst Has same here)
-      )
-
-  meet_at : (k : ℕ) → all_trusted (traffic_of x) (double + k) ≡ true → lists_meet false (traffic_of x) (double + k) ≡ true → lists_meet true (traffic_of x) (double + k) ≡ true → double + k < x.doubles
-      → WalkLastsAfter x.params flutter k → BeginSharp x.params beyond starts lengths nodes k → (one other : Member) → Contains (plain k) one → Contains (plain k) other
-      → (one ≡ other) ⊎ HearInCommon x.params flutter (plain k) last one other
-  meet_at k trusted offsets rates within before begin one other here there =
-      let p : Values = x.params in
-      let f = found_of x from flutter h run (double + k) within in
-      let same = members_found x h (double + k) f.earlier f.even f.odd f.is in
-      let Has : Member → List Member → Type 0 = λ node some. Contains some node in
-      let Meet : List Member → Type 0 = λ some. (one ≡ other) ⊎ HearInCommon p flutter some last one other in
-      subst Meet (sym same)
+      subst Senders (sym (senders_found x h (double + k) f.earlier f.even f.odd f.is))
       (
-      rows_meet x from flutter h f.earlier f.even f.odd (double + k) (pos reach) one other w.run.none_joins (part x from flutter h run) (omega (arith, late)) f.is trusted offsets rates
-      (rows_in_reach k within before begin f.earlier f.even f.odd f.is) (subst (Has one) same here) (subst (Has other) same there)
+      hear beside x from flutter h f.earlier f.even f.odd (double + k) (pos reach) w.run.none_joins (part x from flutter h run) w.arbitrary (omega (arith, late)) f.is
+      (w.borne (double + k) (omega (arith, late)) within) (rows_in_reach k within before begin f.earlier f.even f.odd f.is)
       )
-
-  bear_at : (k : ℕ) → double + k < x.doubles → WalkLastsAfter x.params flutter k → BeginSharp x.params beyond starts lengths nodes k → (node : Member) → Contains (nodes k) node
-      → ComputesOrKeeps (some_keep (traffic_of x) (double + k)) x.params flutter (nodes k) last node
-  bear_at k within before begin node here =
-      let p : Values = x.params in
-      let f = found_of x from flutter h run (double + k) within in
-      let same = members_found x h (double + k) f.earlier f.even f.odd f.is in
-      let Has : List Member → Type 0 = λ some. Contains (map borne some) node in
-      let Own : List Member → Type 0 = λ some. ComputesOrKeeps (some_keep (traffic_of x) (double + k)) p flutter (map borne some) last node in
-      subst Own (sym same)
-      (
-      rows_bear x from flutter h f.earlier f.even f.odd (double + k) (pos reach) node w.run.none_joins (part x from flutter h run) (omega (arith, late)) f.is (w.borne (double + k) (omega (arith, late)) within)
-      (rows_in_reach k within before begin f.earlier f.even f.odd f.is) (subst Has same here)
       )
-
-  heard_by : (k : ℕ) (what : Heard) → on k ≡ what → double + k < x.doubles → WalkLastsAfter x.params flutter k → BeginSharp x.params beyond starts lengths nodes k
-      → HeardSo what (keeps_in k) x.params flutter (senders k) (nodes k) last
-  heard_by k Clean is within before begin =
-      let clean = clean_is x (double + k) is in
-      let own =
-      heard_of x from flutter h run false (double + k) (beyond k) (pos reach) (omega (arith, late)) clean.1 within clean.0 limit room
-      (suffices k within before) (active_at k begin) (plain_begin k begin).sharp.about (acting k within before begin) in
-      let Sharp : List Member → Type 0 = λ some. IsSharpDouble false x.params flutter (senders k) some last in
-      subst Sharp (sym (same_members (plain k) (kept_clean x.params flutter (senders k) (plain k) last own))) own
-  heard_by k Meeting is within before begin =
-      let meet = meeting_is x (double + k) is in
-      let trusted = meeting_trusts x.params (traffic_of x) (double + k) (w.borne (double + k) (omega (arith, late)) within) meet.0 meet.1 in
-      let own = own_at k trusted within before begin in
-      let same = same_members (plain k) (λ node here. kept_own x.params flutter (plain k) last node (own node here)) in
-      let So : List Member → Type 0 = λ some. HeardSo Meeting (keeps_in k) x.params flutter (senders k) some last in
-      subst So (sym same) (own, λ one other here there. meet_at k trusted meet.0 meet.1 within before begin one other here there)
-  heard_by k Poor is within before begin = λ node here. bear_at k within before begin node here
 
   -- ---- how a double cycle ends
 
@@ -497,7 +408,7 @@ module _ (keep : LossyDoublesKeep) (stay : LossyDoublesStayApart) (goes : Spread
     unfolding Until
     are = record {
       sane = sane;
-      heard = λ k less before begin. heard_by k (on k) refl (within_of k less) before begin;
+      heard = λ k less before begin. heard_by k (within_of k less) before begin;
       follows = λ k less before begin uncut.
           let here = sooner_than k n less in
           follows_stood k (within_of (suc k) less) before begin uncut (until k here.0 (within_of k here.1) before);
@@ -650,22 +561,6 @@ module _ (keep : LossyDoublesKeep) (stay : LossyDoublesStayApart) (goes : Spread
       most : (a b : ℕ) → (a ≤ max a b) × (b ≤ max a b)
       most a b = (grind arith, grind arith)
 
-pub histories_keep_through_losses_lem : LossyDoublesKeep → LossyDoublesStayApart → SpreadsGo → HistoriesKeepThroughLosses
-histories_keep_through_losses_lem keep stay goes beside x from flutter h double reach w late checks fits strays sync awake passed within before =
-    keeps_through keep stay goes beside x from flutter h double reach w late checks fits strays sync awake (omega (arith, within)) passed within before
-
--- ---- back in sharp sync
-
-pub sharp_after_two_whole : SharpAfterTwoWhole
-sharp_after_two_whole p flutter whole passed first second third =
-    let now = heard_again p flutter whole passed first second in
-    let later = heard_again p flutter whole (suc passed) second third in
-    let pi = sharp_pi false p flutter in
-    let Apart : ℕ → ℕ → ℕ → Type 0 = λ s l n. max (precision_by p s l) (n + longest_micro p) ≡ sharp_precision false p flutter in
-    let By_next : ℕ → Type 0 = λ n. Apart pi (sharp_lambda false p flutter) n in
-    let By_lengths : ℕ → Type 0 = λ l. Apart pi l (lost_spread p flutter whole (suc (suc (suc passed)))).starts in
-    let By_starts : ℕ → Type 0 = λ s. Apart s (lost_spread p flutter whole (suc (suc passed))).lengths (lost_spread p flutter whole (suc (suc (suc passed)))).starts in
-    subst By_starts (sym now.1) (subst By_lengths (sym now.0) (subst By_next (sym later.1) (settled pi (sharp_lambda false p flutter) (odd_spread p (sharp_lambda false p flutter)) (longest_micro p))))
-  where
-    settled : (s l o q : ℕ) → max (s + l + o + 2 * q) (s + q) ≡ s + l + o + 2 * q
-    settled s l o q = grind arith
+pub histories_keep_through_losses_lem : RowsHear → LossyDoublesKeep → LossyDoublesStayApart → SpreadsGo → HistoriesKeepThroughLosses
+histories_keep_through_losses_lem hear keep stay goes beside x from flutter h double reach w late checks fits strays sync awake passed within before =
+    keeps_through hear keep stay goes beside x from flutter h double reach w late checks fits strays sync awake (omega (arith, within)) passed within before

@@ -27,17 +27,14 @@ use Rattle.fr_runs.proofs.Going.{is_row_node}
 use Rattle.fr_runs.proofs.Nodes.{correct_node}
 use Rattle.fr_precision.proofs.RoundLemmas.{contains_map, map_contains}
 use Rattle.fr_runs.proofs.RowsHeard.{RowLink}
-use Rattle.fr_sharp.specs.RoundsInPart.{IsRoundInPart, IsSuppliedInPart, IsTrustedOf}
-use Rattle.fr_sharp.specs.Losses.{RowsComputeOwn}
-use Rattle.fr_traffic.specs.Traffic.{all_trusted, traffic_of}
+use Rattle.fr_traffic.specs.RoundsInPart.{IsRoundInPart, IsSuppliedInPart, IsTrustedOf}
 use Rattle.fr_bound.specs.SharpBounds.{last_action}
 use Rattle.fr_precision.specs.Among.{ComputesOwn}
 use Rattle.fr_runs.specs.SteadyRuns.{row_hearers, row_members, AreRowsInReach, HearsSome, MayHaveArbitrary, NoneIsDeaf}
-use Rattle.fr_sharp.proofs.HeardInPart.{both_trusted, heard_some, placed_of, rounds_in_part_compute_own, IsPlacedInPart}
-use Rattle.fr_sharp.proofs.HeardSurely.{change_some, least_some, mean_some, own_of, own_or_other, own_there}
-use Rattle.fr_sharp.proofs.HeardValues.{rows_trusted}
-use Rattle.fr_runs.proofs.RowsSupplied.{few_in, frames_stored, looked_up, odd_active, pairs_steady, row_regular, rows_heard_in_part, timed_rows_from, LawfulRows}
-use Rattle.fr_promise.proofs.RunDoubles.{all_among, all_have, AllHave}
+use Rattle.fr_traffic.proofs.HeardInPart.{both_trusted, rounds_in_part_compute_own}
+use Rattle.fr_traffic.proofs.HeardSurely.{change_some, least_some, mean_some, own_of, own_or_other, own_there}
+use Rattle.fr_runs.proofs.RowsSupplied.{few_in, frames_stored, looked_up, odd_active, pairs_steady, row_regular, rows_heard_in_part, LawfulRows}
+use Rattle.fr_promise.proofs.RunDoubles.{all_among, AllHave}
 
 -- ---- a list of values is not empty
 
@@ -67,27 +64,13 @@ module _ (x : Setting) (flutter : ℕ) (h : Cycles) (even odd : Cycle) (double :
   sane : IsSane x.params
   sane = s.covered.sane
 
-  pub row_placed : (node : NodeSpec) → Contains (row_nodes x h) node → IsPlacedInPart (round_at x h even odd) flutter (row_hearer x even odd node.id)
+  pub row_placed : (node : NodeSpec) → Contains (row_nodes x h) node → IsSuppliedInPart (round_at x h even odd) flutter (row_hearer x even odd node.id)
   row_placed node among = record {
     regular = row_regular x flutter h even odd double s r.rates node among;
     applied = row_applied x h even odd node s.two (odd_length (length h) double s.counted) among (odd_active x flutter h even odd double reach s r node among);
     hears = rows_heard_in_part x flutter h even odd double reach s r node among;
     steady = pairs_steady x flutter h even odd double reach s r node among;
   }
-
-  -- a node that has values is supplied
-  supplied_with : (node : NodeSpec) → Contains (row_nodes x h) node → 1 ≤ length (offsets_of (row_hearer x even odd node.id)) → 1 ≤ length (rates_of (row_hearer x even odd node.id))
-      → IsSuppliedInPart (round_at x h even odd) flutter (row_hearer x even odd node.id)
-  supplied_with node among some_offsets some_rates =
-      let placed = row_placed node among in
-      record {
-        regular = placed.regular;
-        applied = placed.applied;
-        hears = placed.hears;
-        steady = placed.steady;
-        some_offsets = some_offsets;
-        some_rates = some_rates;
-      }
 
   pub round_is : IsRound (round_at x h even odd)
   round_is = record {
@@ -152,48 +135,26 @@ module _ (x : Setting) (flutter : ℕ) (h : Cycles) (even odd : Cycle) (double :
             let indexed = key_index_is p slot (key_among p.nodes node slot correct.there is) in
             own_values node (rank_of p slot) among (own_of p node sane correct.there ∙ ap (index_in p) is ∙ indexed)
 
-    -- both its lists are trusted
-    abbrev Trusted : Hearer → Type 0
-    Trusted n = IsTrustedOf (round_at x h even odd) (offset_at n.look n.own) × IsTrustedOf (round_at x h even odd) (rate_at n.look n.own)
-
-    round_with : ((node : NodeSpec) → Contains (row_nodes x h) node → IsSuppliedInPart (round_at x h even odd) flutter (row_hearer x even odd node.id))
-        → ((node : NodeSpec) → Contains (row_nodes x h) node → Trusted (row_hearer x even odd node.id)) → IsRoundInPart (round_at x h even odd) flutter (row_hearers x h even odd)
-    round_with supplied trusted =
+    -- where no node is deaf, without arbitrary sync nodes
+    pub round_in_part : MayHaveArbitrary false x → NoneIsDeaf x double → IsRoundInPart (round_at x h even odd) flutter (row_hearers x h even odd)
+    round_in_part none hears =
         let at : NodeSpec → Hearer = λ n. row_hearer x even odd n.id in
+        let Trusted : Hearer → Type 0 = λ n. IsTrustedOf (round_at x h even odd) (offset_at n.look n.own) × IsTrustedOf (round_at x h even odd) (rate_at n.look n.own) in
         record {
           round = round_is;
           trusted = λ n here. let found = map_contains at (row_nodes x h) n here in subst Trusted found.2 (trusted found.0 found.1);
           supplied = λ n here.
               let found = map_contains at (row_nodes x h) n here in
-              subst (IsSuppliedInPart (round_at x h even odd) flutter) found.2 (supplied found.0 found.1);
+              subst (IsSuppliedInPart (round_at x h even odd) flutter) found.2 (row_placed found.0 found.1);
           among = senders_among;
         }
-
-    -- where no node is deaf, without arbitrary sync nodes
-    pub round_in_part : MayHaveArbitrary false x → NoneIsDeaf x double → IsRoundInPart (round_at x h even odd) flutter (row_hearers x h even odd)
-    round_in_part none hears =
-        round_with supplied (λ node among.
-        let own = supplied node among in
-        let n = row_hearer x even odd node.id in
-        both_trusted (round_at x h even odd) flutter n round_is (placed_of (round_at x h even odd) flutter n own) none own.some_offsets own.some_rates)
       where
-        supplied : (node : NodeSpec) → Contains (row_nodes x h) node → IsSuppliedInPart (round_at x h even odd) flutter (row_hearer x even odd node.id)
-        supplied node among =
+        trusted : (node : NodeSpec) → Contains (row_nodes x h) node
+            → IsTrustedOf (round_at x h even odd) (offset_at (row_hearer x even odd node.id).look (row_hearer x even odd node.id).own)
+            × IsTrustedOf (round_at x h even odd) (rate_at (row_hearer x even odd node.id).look (row_hearer x even odd node.id).own)
+        trusted node among =
             let some = has_values node among (hears node (is_correct_row x h node among)) in
-            supplied_with node among some.0 some.1
-
-    -- where each correct node trusts its lists
-    pub round_trusted : all_trusted (traffic_of x) double ≡ true → IsRoundInPart (round_at x h even odd) flutter (row_hearers x h even odd)
-    round_trusted all_trust =
-        round_with
-        (λ node among.
-        let both = trusted node among in
-        let n = row_hearer x even odd node.id in
-        supplied_with node among (heard_some (round_at x h even odd) (offset_at n.look n.own) both.0.some) (heard_some (round_at x h even odd) (rate_at n.look n.own) both.1.some))
-        trusted
-      where
-        trusted : (node : NodeSpec) → Contains (row_nodes x h) node → Trusted (row_hearer x even odd node.id)
-        trusted node among = rows_trusted x flutter h even odd double reach s r all all_trust node among
+            both_trusted (round_at x h even odd) flutter (row_hearer x even odd node.id) round_is (row_placed node among) none some.0 some.1
 
 -- each of the nodes with rows computes its terms from some of theirs
 pub computes_own : (x : Setting) (flutter : ℕ) (earlier : Cycles) (even odd : Cycle) (double : ℕ) (reach : ℤ) (s : LawfulRows x flutter earlier even odd double) (r : AreRowsInReach x earlier even odd reach) (node : Member)
@@ -202,8 +163,3 @@ pub computes_own : (x : Setting) (flutter : ℕ) (earlier : Cycles) (even odd : 
 computes_own x flutter earlier even odd double reach s r node all none hears here =
     rounds_in_part_compute_own (round_at x earlier even odd) flutter (row_hearers x earlier even odd) node
     (round_in_part x flutter earlier even odd double reach s r all none hears) here
-
-pub rows_compute_own : RowsComputeOwn
-rows_compute_own x from flutter h earlier even odd double reach node none_joins w late d trusted r here =
-    rounds_in_part_compute_own (round_at x earlier even odd) flutter (row_hearers x earlier even odd) node
-    (round_trusted x flutter earlier even odd double reach (timed_rows_from x from flutter h w double late earlier even odd d) r (all_have x earlier none_joins) trusted) here

@@ -1,6 +1,6 @@
 -- A run that nodes join and in which frames are lost: what a node with a row still makes of those that come, and one that follows, and
 -- how far clocks then lie apart.
-use Rattle.std.specs.Prelude.{◌≡◌, ◌≤◌, ◌<◌, ℕ, ℤ, ◌+◌, ◌*◌, Bool, true, false, length, Contains}
+use Rattle.std.specs.Prelude.{◌≡◌, ◌≤◌, ◌<◌, ℕ, ℤ, ◌+◌, ◌*◌, Bool, true, length, Contains}
 use Rattle.fr_cluster.specs.Setting.{Setting, correct_nodes}
 use Rattle.fr_cluster.specs.declared.nodes.NodeSpec.{NodeSpec}
 use Rattle.fr_bound.specs.SharpBounds.{near_by}

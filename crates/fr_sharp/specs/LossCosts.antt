@@ -1,12 +1,14 @@
 -- What it costs, in ticks, where any frames may be lost in some double cycles from one in sharp sync on, without arbitrary sync
--- nodes: in so many in a row, or in every second one for ever; and how many in a row the limits of the parameters bear.
+-- nodes: in so many in a row, in so many odd cycles and the even ones behind them, or in every second one for ever; and how many in a row
+-- the limits of the parameters bear.
 use Rattle.std.specs.Prelude.{◌≡◌, ◌⊎◌, ◌&&◌, ℕ, suc, ◌<◌, ◌≤◌, nat_le, Bool, true, false, Option, Some, None}
 use Rattle.fr_cluster.specs.Sane.{IsSane}
 use Rattle.fr_cluster.specs.Values.{Values}
 use Rattle.fr_sharp.specs.declared.loss_checks.LossSides.{LossSides}
 use Rattle.fr_sharp.specs.declared.loss_costs.LossCost.{LossCost}
 use Rattle.fr_sharp.specs.declared.loss_costs.SecondCost.{SecondCost}
-use Rattle.fr_precision.specs.Among.{every_second, lost_spread}
+use Rattle.fr_sharp.specs.declared.loss_costs.CrossingCost.{CrossingCost}
+use Rattle.fr_precision.specs.Among.{apart_through_losses, crossing, every_second, lost_spread, spread_through_losses}
 use Rattle.fr_sharp.specs.Losses.{lost_apart}
 use Rattle.fr_bound.specs.SharpBounds.{sharp_precision}
 use Rattle.fr_bound.specs.SharpChecks.{sharp_holds_of, sharp_left_of, sharp_right_of}
@@ -41,6 +43,21 @@ pub record IsLossCost (p : Values) (flutter count : ℕ) (cost : LossCost) : Typ
   pub peak : IsGreatest (apart_in_a_row p flutter count) cost.peak
   pub reach : IsGreatest (near_in_a_row p flutter count) cost.reach
   pub back : IsBack p flutter count cost.back
+
+-- ---- so many odd cycles and the even ones behind them
+
+-- how far macroticks and action points may lie apart in each double cycle where a burst does not begin with one, counted from the first of
+-- which it takes frames
+abbrev pub apart_crossing : Values → ℕ → ℕ → ℕ → ℕ
+apart_crossing p flutter count double = apart_through_losses false p flutter (crossing count) double
+
+abbrev pub near_crossing : Values → ℕ → ℕ → ℕ → ℕ
+near_crossing p flutter count double = sharply_near_in p (spread_through_losses false p flutter (crossing count) double)
+
+-- the peak and the reach
+pub record IsCrossingCost (p : Values) (flutter count : ℕ) (cost : CrossingCost) : Type 0 where
+  pub peak : IsGreatest (apart_crossing p flutter count) cost.peak
+  pub reach : IsGreatest (near_crossing p flutter count) cost.reach
 
 -- ---- every second double cycle
 
@@ -101,6 +118,11 @@ OneSecondCost =
     (p : Values) (flutter : ℕ) (one other : SecondCost)
     → IsSecondCost p flutter one → IsSecondCost p flutter other → one ≡ other
 
+abbrev pub OneCrossingCost : Type 0
+OneCrossingCost =
+    (p : Values) (flutter count : ℕ) (one other : CrossingCost)
+    → IsCrossingCost p flutter count one → IsCrossingCost p flutter count other → one ≡ other
+
 abbrev pub OneLongest : Type 0
 OneLongest =
     (p : Values) (flutter : ℕ) (one other : Option ℕ) → IsLongest p flutter one → IsLongest p flutter other → one ≡ other
@@ -111,6 +133,10 @@ SomeLossCost =
 
 abbrev pub SomeSecondCost : Type 0
 SomeSecondCost = (p : Values) (flutter : ℕ) → IsSane p → (cost : SecondCost) × IsSecondCost p flutter cost
+
+abbrev pub SomeCrossingCost : Type 0
+SomeCrossingCost =
+    (p : Values) (flutter count : ℕ) → IsSane p → 1 ≤ count → (cost : CrossingCost) × IsCrossingCost p flutter count cost
 
 abbrev pub SomeLongest : Type 0
 SomeLongest = (p : Values) (flutter : ℕ) → IsSane p → (longest : Option ℕ) × IsLongest p flutter longest

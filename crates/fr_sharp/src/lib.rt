@@ -44,10 +44,12 @@ pub use losing::{
 };
 pub use loss_checks::{LossSides, limits_hold, loss_side};
 pub use loss_cost_laws::{
-    bursts_keep_the_peak, costs_are_one, costs_are_there, every_second_keeps_the_peak,
+    bursts_keep_the_peak, costs_are_one, costs_are_there, crossing_bursts_keep_the_peak,
+    every_second_keeps_the_peak,
 };
 pub use loss_costs::{
-    LossCost, SecondCost, every_second_cost, heard_behind, longest_loss, loss_cost,
+    CrossingCost, LossCost, SecondCost, crossing_cost, every_second_cost, heard_behind,
+    longest_loss, loss_cost,
 };
 pub use loss_steps::LossSpread;
 pub use losses_of_runs::{RunLosses, losses_are_told, run_losses};

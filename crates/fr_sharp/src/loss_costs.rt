@@ -1,6 +1,6 @@
 ghost use Rattle.std.specs.Prelude.{◌≡◌, ◌≤◌, ◌<◌, ◌+◌, ◌-◌, None, Some};
 ghost use Rattle.fr_precision.specs.Among.{all_or_any, both, lost_spread};
-ghost use Rattle.fr_sharp.specs.LossCosts.{IsLongest, IsLossCost, IsSecondCost, heard_behind};
+ghost use Rattle.fr_sharp.specs.LossCosts.{IsCrossingCost, IsLongest, IsLossCost, IsSecondCost, heard_behind};
 ghost use Rattle.fr_sharp.specs.LossSteps.{most_lost};
 ghost use Rattle.fr_bound.specs.SharpBounds.{most_flutter};
 
@@ -21,6 +21,15 @@ pub struct LossCost {
     /// From which double cycle on, counted from the first of them, macroticks lie no further apart than the sharper
     /// precision.
     pub back: u32,
+}
+
+/// What it costs, in ticks, where any frames may be lost in so many odd cycles and the even ones behind them.
+#[derive(Clone, Copy, Debug, PartialEq, Eq)]
+pub struct CrossingCost {
+    /// How far macroticks may lie apart in these cycles and behind them.
+    pub peak: u128,
+    /// How far instants of the same action point may lie apart there.
+    pub reach: u128,
 }
 
 /// What it costs, in ticks, where they may be lost in every second double cycle for ever.
@@ -66,13 +75,39 @@ pub fn heard_behind(count: u32, double: u32) -> Kinds
 fn behind(params: &Params, flutter: u64, count: u32) -> LossSpread
     requires count { count ≤ 1000 }
     requires flutter { flutter ≤ most_flutter }
-    ensures { result.spread ≡ lost_spread params.now flutter (heard_behind count) count }
+    ensures spread { result.spread ≡ lost_spread params.now flutter (heard_behind count) count }
+    ensures passed { result.passed ≡ count }
 {
     let mut spread = LossSpread::first(params, false, flutter);
     for _double in 0..count {
         spread.step(params, flutter, Kinds::both(Heard::Poor));
     }
     spread
+}
+
+/// What it costs where any frames may be lost in so many odd cycles, 1 to 1000, and the even ones behind them: in so many
+/// double cycles no offset value need come, and in one more no rate value. Delays flutter by no more than so many ticks, 0 to
+/// 1,000,000,000.
+pub fn crossing_cost(params: &Params, flutter: u64, count: u32) -> CrossingCost
+    requires from { 1 ≤ count }
+    requires to { count ≤ 1000 }
+    requires flutter { flutter ≤ most_flutter }
+    ensures is { IsCrossingCost params.now flutter count result }
+    ensures most { result.reach ≤ most_lost }
+{
+    let _macros = params.value(ParamName::gMacroPerCycle);
+    let crossed = Kinds {
+        offsets: Heard::Clean,
+        rates: Heard::Poor,
+    };
+    let mut spread = behind(params, flutter, count);
+    let peak = spread.apart(params, flutter, crossed);
+    let reach = spread.near(params);
+    spread.step(params, flutter, crossed);
+    CrossingCost {
+        peak: peak.max(spread.apart(params, flutter, Kinds::both(Heard::Clean))),
+        reach: reach.max(spread.near(params)),
+    }
 }
 
 /// What it costs where they may be lost in every second double cycle, so that of any two adjacent ones all is heard in

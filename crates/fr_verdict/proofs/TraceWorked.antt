@@ -19,7 +19,7 @@ use Rattle.fr_precision.proofs.Worked as step
 use Rattle.fr_precision.proofs.Worked.{two}
 use Rattle.fr_trace.specs.Fits.{HistoryFits, IsAboutOther, IsProperJoin, TraceFits}
 use Rattle.fr_trace.specs.Lasting.{IsTrace, IsTracedRecord, IsTracedRow}
-use Rattle.fr_verdict.specs.Worked.{active_row, both, cluster, even_rows, odd_row, odd_rows, record_with, worked}
+use Rattle.fr_verdict.specs.Worked.{active_row, both_heard, cluster, even_rows, odd_row, odd_rows, record_with, worked}
 use Rattle.fr_verdict.proofs.Finding.{none_found_is_lawful}
 use Rattle.fr_verdict.proofs.Gaps.{no_gap_found_is_covered}
 use Rattle.fr_verdict.proofs.Syncing.{first_synced_is}
@@ -44,10 +44,10 @@ pair R one other is = AllPairs-cons R one (other ∷ []) (All-cons (R one) other
 within : {bound z : ℤ} → neg_ℤ bound ≤ℤ z → z ≤ℤ bound → IsWithin bound z
 within low high = record { low = low; high = high }
 
-devs_ascend : AreAscendingDevs both
+devs_ascend : AreAscendingDevs both_heard
 devs_ascend = pair IsEarlierDev (dev_with 1 2 A (pos 2)) (dev_with 2 1 A (negsuc 2)) (inl (lit< tt))
 
-record_is : (one other : NodeRow) → one.node ≡ 1 → other.node ≡ 2 → IsTracedRow one → IsTracedRow other → IsTracedRecord (record_with (one ∷ other ∷ []) both)
+record_is : (one other : NodeRow) → one.node ≡ 1 → other.node ≡ 2 → IsTracedRow one → IsTracedRow other → IsTracedRecord (record_with (one ∷ other ∷ []) both_heard)
 record_is one other first second here there = record {
   few = lit≤ tt;
   rows_ascend = pair (λ (a b : NodeRow). a.node < b.node) one other (rw (first, second) (lit< tt));
@@ -80,14 +80,14 @@ is_trace = record {
   joins_few = lit≤ tt;
   joins_ascend = search rules;
   records =
-      two IsTracedRecord (record_with (odd_rows odd_row) both) (record_with even_rows both)
+      two IsTracedRecord (record_with (odd_rows odd_row) both_heard) (record_with even_rows both_heard)
       (record_is odd_row (active_row 2 (pos 200_002_500_000) (negsuc 0)) refl refl (row_is odd_row (record { le = tt }) (record { le = tt }) refl refl)
       (row_is (active_row 2 (pos 200_002_500_000) (negsuc 0)) (record { le = tt }) (record { le = tt }) refl refl))
       (record_is (active_row 1 (pos 0) (pos 0)) (active_row 2 (pos 2_500_000) (pos 0)) refl refl (row_is (active_row 1 (pos 0) (pos 0)) (record { le = tt }) (record { le = tt }) refl refl)
       (row_is (active_row 2 (pos 2_500_000) (pos 0)) (record { le = tt }) (record { le = tt }) refl refl));
 }
 
-devs_about : All (IsAboutOther cluster) both
+devs_about : All (IsAboutOther cluster) both_heard
 devs_about =
     two (IsAboutOther cluster) (dev_with 1 2 A (pos 2)) (dev_with 2 1 A (negsuc 2))
     (record { sender = step.node 2; key = refl; other = λ e. absurd (omega (arith, e)); common = refl })
@@ -123,8 +123,8 @@ fits = record {
 in_sync : IsRecordedInSharpSync false cluster (pos 0) worked.history 0
 unfolding record_at
 in_sync = record {
-  even = record_with even_rows both;
-  odd = record_with (odd_rows odd_row) both;
+  even = record_with even_rows both_heard;
+  odd = record_with (odd_rows odd_row) both_heard;
   has_even = refl;
   has_odd = refl;
   in_sync = record {

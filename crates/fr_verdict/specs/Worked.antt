@@ -66,8 +66,8 @@ abbrev pub trace_with : Record → Record → TraceView
 trace_with even odd = record { doubles = 1; arbitrary = []; joins = []; history = odd ∷ even ∷ [] }
 
 -- node 2 begins 2,500,000 ticks after node 1, so that node 1 measures 2 microticks of 1,000,000 ticks and node 2 measures -3
-abbrev pub both : List Dev
-both = dev_with 1 2 A (pos 2) ∷ dev_with 2 1 A (negsuc 2) ∷ []
+abbrev pub both_heard : List Dev
+both_heard = dev_with 1 2 A (pos 2) ∷ dev_with 2 1 A (negsuc 2) ∷ []
 
 abbrev pub even_rows : List NodeRow
 even_rows = active_row 1 (pos 0) (pos 0) ∷ active_row 2 (pos 2_500_000) (pos 0) ∷ []
@@ -80,11 +80,11 @@ abbrev pub odd_row : NodeRow
 odd_row = active_row 1 (pos 200_000_000_000) (pos 1)
 
 abbrev pub worked : TraceView
-worked = trace_with (record_with even_rows both) (record_with (odd_rows odd_row) both)
+worked = trace_with (record_with even_rows both_heard) (record_with (odd_rows odd_row) both_heard)
 
 -- with another row of node 1 in its sixth record
 abbrev pub worked_with : NodeRow → TraceView
-worked_with row = trace_with (record_with even_rows both) (record_with (odd_rows row) both)
+worked_with row = trace_with (record_with even_rows both_heard) (record_with (odd_rows row) both_heard)
 
 abbrev pub ItemsAreNumbered : Type 0
 ItemsAreNumbered =
@@ -133,14 +133,14 @@ cut_terms = record {
 abbrev pub TermsAreBroken : Type 0
 TermsAreBroken =
     (first_breach_of cluster (worked_with (active_row 1 (pos 200_000_000_000) (pos 2))) ≡ Some (unlawful.Offset 6 (pos 2) (pos 1)))
-    × (first_breach_of cluster (trace_with (record_with even_rows both) (record_with (odd_rows odd_row) (dev_with 1 2 A (pos 2) ∷ []))) ≡ Some (unlawful.Offset 8 (negsuc 0) (pos 0)))
+    × (first_breach_of cluster (trace_with (record_with even_rows both_heard) (record_with (odd_rows odd_row) (dev_with 1 2 A (pos 2) ∷ []))) ≡ Some (unlawful.Offset 8 (negsuc 0) (pos 0)))
     × (first_breach_of (cluster_with (pos 1)) cut_terms ≡ Some (unlawful.Turn 10 Active Halt))
 
 -- a deviation about a node that is not active, and one above what both rows allow
 abbrev pub DevsAreBroken : Type 0
 DevsAreBroken =
-    (first_breach_of cluster (trace_with (record_with (active_row 1 (pos 0) (pos 0) ∷ traced_row_with 2 (pos 2_500_000) (pos 0) (pos 0) Passive ∷ []) both) (record_with (odd_rows odd_row) both)) ≡ Some (unlawful.Silent 3 Passive))
-    × (first_breach_of cluster (trace_with (record_with even_rows (dev_with 1 2 A (pos 2) ∷ dev_with 2 1 A (negsuc 8) ∷ [])) (record_with (odd_rows odd_row) both)) ≡ Some (unlawful.Deviation 5 (negsuc 8) (negsuc 2) (negsuc 1)))
+    (first_breach_of cluster (trace_with (record_with (active_row 1 (pos 0) (pos 0) ∷ traced_row_with 2 (pos 2_500_000) (pos 0) (pos 0) Passive ∷ []) both_heard) (record_with (odd_rows odd_row) both_heard)) ≡ Some (unlawful.Silent 3 Passive))
+    × (first_breach_of cluster (trace_with (record_with even_rows (dev_with 1 2 A (pos 2) ∷ dev_with 2 1 A (negsuc 8) ∷ [])) (record_with (odd_rows odd_row) both_heard)) ≡ Some (unlawful.Deviation 5 (negsuc 8) (negsuc 2) (negsuc 1)))
 
 -- where nothing is measured, so that no offset is corrected
 abbrev pub quiet : TraceView

@@ -1,5 +1,7 @@
 use Rattle.std.proofs.Common.{◌≡◌, ◌∙◌, ℕ, true, false, ap, sym, arith, rules}
 use Rattle.fr_bound.specs.SharpSpreads.{next_lost_spread}
+use Rattle.fr_precision.specs.Among.{kinds_spread}
+use Rattle.fr_precision.specs.declared.kinds.Kinds.{Kinds}
 use Rattle.fr_sharp.specs.LossCosts.{limits_hold}
 use Rattle.fr_bound.specs.SharpSpreads.{sharply_near_in}
 use Rattle.fr_sharp.proofs.LossNumbers.{bears_further, bears_no_hundred, first_of, longest_by, never, never_heard, never_more, reach_of_row}
@@ -32,7 +34,9 @@ loop-count-preserved c =
     let holds : c.limits_hold.result ≡ true = search rules in
     let told : limits_hold t (reach_of_row p t n) p ≡ true = sym (ap (λ (r : ℕ). limits_hold t r p) near) ∙ sym c.limits_hold.ensures ∙ holds in
     record {
-      spread = c.step.ensures.spread ∙ ap (next_lost_spread false p t) was.spread ∙ never_more p t n;
+      spread =
+          c.step.ensures.spread ∙ ap (λ (what : Kinds). kinds_spread what p t c.loop-count.spread.spread) c.both.ensures
+          ∙ ap (next_lost_spread false p t) was.spread ∙ never_more p t n;
       passed = omega (arith, c.step.ensures.passed, was.passed);
       all = bears_further p t n was.all told;
     }

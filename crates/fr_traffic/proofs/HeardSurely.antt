@@ -1,5 +1,4 @@
--- What a receiver of a double cycle surely has of senders with rows, by what becomes of their frames, whether it has rows or follows:
--- counted, and trusted.
+-- What a receiver of a double cycle surely has of senders with rows, by what becomes of their frames, whether it has rows or follows.
 use Rattle.std.proofs.Common.{◌≡◌, ◌≢◌, ℕ, suc, ◌+◌, ◌*◌, ◌≤◌, ◌==◌, ◌&&◌, ◌||◌, Bool, true, false, not, ℤ, Option, Some, None, length, refl, ap, sym, ◌∙◌, inl, inr, arith, if◌then◌else◌}
 use Rattle.std.specs.Prelude.{Contains, IsSome, count_by, is_some, nat_le}
 use Rattle.std.specs.List.{range_with_len}
@@ -9,16 +8,15 @@ use Rattle.fr_base.specs.declared.channel.Channel.{Channel}
 use Rattle.fr_base.specs.declared.channel.Channel.TheVariants.{A, B}
 use Rattle.fr_cluster.specs.Questions.{has_channel, index_in, key_in, key_slot_of, own_index}
 use Rattle.fr_cluster.specs.Sane.{IsSane}
-use Rattle.fr_cluster.specs.Setting.{Setting, correct_nodes, is_correct}
+use Rattle.fr_cluster.specs.Setting.{Setting, is_correct}
 use Rattle.fr_cluster.specs.Values.{Values}
 use Rattle.fr_cluster.specs.declared.nodes.NodeSpec.{NodeSpec}
-use Rattle.fr_midpoint.specs.Midpoint.{discarded}
 use Rattle.fr_measure.specs.Values.{change_at, change_of, is_own, least_of, mean_of, offset_at, own_value_or, rate_at}
 use Rattle.fr_precision.specs.Round.{sender_at, Hearer, IsSender}
 use Rattle.fr_precision.specs.Rows.{Sender}
 use Rattle.fr_precision.proofs.Counting.{count_le}
 use Rattle.fr_precision.proofs.Parting.{filter_map_counts}
-use Rattle.fr_precision.proofs.RoundSenders.{sender_found}
+use Rattle.fr_precision.proofs.RoundSenders.{sender_found, sender_is}
 use Rattle.fr_precision.proofs.Values.{other_value, own_value}
 use Rattle.fr_history.specs.Cycles.{Cycle, Cycles}
 use Rattle.fr_time.proofs.Keys.{key_slot_has}
@@ -28,12 +26,11 @@ use Rattle.fr_runs.specs.Links.{Share, cycle_in}
 use Rattle.fr_runs.proofs.Fed.{follower_other, follower_receivers, row_receivers}
 use Rattle.fr_runs.proofs.Hearing.{hearer_from, looked, stored, IsReceiver, Receivers, RowsSend}
 use Rattle.fr_runs.proofs.Nodes.{node_there}
-use Rattle.fr_runs.proofs.Receivers.{is_correct_node}
 use Rattle.fr_coverage.specs.Links.{is_regular, is_sync, shares}
-use Rattle.fr_sharp.specs.RoundsInPart.{heard_at, senders_heard, IsTrustedOf}
-use Rattle.fr_traffic.specs.JoinedTraffic.{is_trusted_by, staying_count}
-use Rattle.fr_traffic.specs.Traffic.{arbitrary_count, has_value, is_correct_sender, traffic_of, value_on}
-use Rattle.fr_runs.proofs.KeyedCounts.{discards_more, is_passed, nodes_counted, passes_at}
+use Rattle.fr_traffic.specs.RoundsInPart.{heard_at, senders_heard}
+use Rattle.fr_traffic.specs.Traffic.{has_all, has_value, is_correct_sender, may_send, may_send_by, stays, sure_count, traffic_of, value_on}
+use Rattle.fr_runs.proofs.Covers.{stays_has}
+use Rattle.fr_runs.proofs.KeyedCounts.{all_pass, is_passed, nodes_counted, passes_at}
 use Rattle.fr_traffic.proofs.HeardEvents.{regular_of}
 
 -- the values of one of both kinds, by key index
@@ -125,6 +122,12 @@ pub follower_owns : (x : Setting) (h : Cycles) (even odd : Cycle) (node : NodeSp
 follower_owns x h even odd node runs among sender index slot from slot_is same =
     absurd (follower_other x h even odd node sender index slot runs among (record { sender = from; slot_is = slot_is; other = refl }) same)
 
+-- a receiver whose own values are those of its own frames, where it adds them
+pub record ReceivesOwn (x : Setting) (h : Cycles) (even odd : Cycle) (reach : ℤ) (rs : Receivers) (node : NodeSpec) : Type 0 where
+  pub is : IsReceiver x h even odd reach rs node
+  pub owns : KeepsOwn x h even odd rs node
+  pub owned : (index : ℕ) → is_own (rs.own node.id) index ≡ true → (slot : ℕ) × (node.key ≡ Some slot) × (key_slot_of x.params index ≡ Some slot)
+
 module _
     (x : Setting) (h : Cycles) (even odd : Cycle) (double : ℕ) (reach : ℤ) (s : Receivers) (node : NodeSpec)
     (sending : RowsSend x h even odd double reach) (receiving : IsReceiver x h even odd reach s node) (owns : KeepsOwn x h even odd s node) where
@@ -190,51 +193,58 @@ module _
             | inr b ↦ value_there rate sender index slot B from other slot_is b
           ]
 
-  -- ---- of senders that have rows: counted, and trusted
+  -- ---- of senders that stay on: counted
 
-  module _ (stays : ℕ → Bool) (have : (a : NodeSpec) → Contains (correct_nodes x) a → stays a.id ≡ true → has_row x h a.id ≡ true) where
-    abbrev sure : Bool → NodeSpec → Bool
-    sure rate a = is_correct_sender (traffic_of x) a && (stays a.id && has_value rate true (traffic_of x) double node a)
+  abbrev sure : Bool → NodeSpec → Bool
+  sure rate a = is_correct_sender (traffic_of x) a && (stays (traffic_of x) a && has_value rate true (traffic_of x) double node a)
 
-    pub surely_heard : (rate : Bool) (index : ℕ)
-        → passes_at x.params (λ (a : NodeSpec). is_correct_sender (traffic_of x) a && (stays a.id && has_value rate true (traffic_of x) double node a)) index ≡ true
-        → IsSome (value_by rate (hearer_from x s node.id) index) × (is_some (sender_at (round_at x h even odd) index) ≡ true)
-    surely_heard rate index is =
-        let of = is_passed x.params (sure rate) index sending.sane is in
-        let both = and_parts (is_correct_sender (traffic_of x) of.node) (stays of.node.id && has_value rate true (traffic_of x) double node of.node) of.passes in
-        let kind = and_parts (is_sync of.node) (not (x.is_arbitrary of.node.id)) both.0 in
-        let rest = and_parts (stays of.node.id) (has_value rate true (traffic_of x) double node of.node) both.1 in
-        let correct = is_correct_node x of.node of.there kind.1 in
-        let rows : (is_correct x of.node.id && has_row x h of.node.id) ≡ true = rw (kind.1, have of.node correct rest.0) refl in
-        let from : IsSender (round_at x h even odd) of.node of.slot = record { there = of.there; rows = rows; key = of.key } in (
-          sure_value rate of.node index of.slot from of.slot_is rest.1,
-          ap is_some (sender_found (round_at x h even odd) index of.slot of.node sending.sane from of.slot_is),
-        )
+  pub surely_heard : (rate : Bool) (index : ℕ)
+      → passes_at x.params (λ (a : NodeSpec). is_correct_sender (traffic_of x) a && (stays (traffic_of x) a && has_value rate true (traffic_of x) double node a)) index ≡ true
+      → IsSome (value_by rate (hearer_from x s node.id) index) × (is_some (sender_at (round_at x h even odd) index) ≡ true)
+  surely_heard rate index is =
+      let of = is_passed x.params (sure rate) index sending.sane is in
+      let both = and_parts (is_correct_sender (traffic_of x) of.node) (stays (traffic_of x) of.node && has_value rate true (traffic_of x) double node of.node) of.passes in
+      let kind = and_parts (is_sync of.node) (not (x.is_arbitrary of.node.id)) both.0 in
+      let rest = and_parts (stays (traffic_of x) of.node) (has_value rate true (traffic_of x) double node of.node) both.1 in
+      let rows : (is_correct x of.node.id && has_row x h of.node.id) ≡ true = rw (kind.1, stays_has x h of.node.id (x.join of.node.id) refl rest.0) refl in
+      let from : IsSender (round_at x h even odd) of.node of.slot = record { there = of.there; rows = rows; key = of.key } in (
+        sure_value rate of.node index of.slot from of.slot_is rest.1,
+        ap is_some (sender_found (round_at x h even odd) index of.slot of.node sending.sane from of.slot_is),
+      )
 
-    heard_enough : (rate : Bool) → staying_count stays rate (traffic_of x) double node ≤ length (senders_heard (round_at x h even odd) (value_by rate (hearer_from x s node.id)))
-    heard_enough rate =
-        let at = value_by rate (hearer_from x s node.id) in
-        let counted = senders_counted x (λ (a : NodeSpec). stays a.id && has_value rate true (traffic_of x) double node a) sending.sane in
-        let heard = filter_map_counts (heard_at (round_at x h even odd) at) (range_with_len 0 15) in
-        let le =
-        count_le (passes_at x.params (sure rate)) (λ i. is_some (heard_at (round_at x h even odd) at i)) (range_with_len 0 15)
-        (λ index is.
-        let has = surely_heard rate index is in
-        there (is_some (at index)) (sender_at (round_at x h even odd) index) has.0 has.1) in
-        omega (arith, counted, heard, le)
+  pub heard_enough : (rate : Bool) → sure_count rate (traffic_of x) double node ≤ length (senders_heard (round_at x h even odd) (value_by rate (hearer_from x s node.id)))
+  heard_enough rate =
+      let at = value_by rate (hearer_from x s node.id) in
+      let counted = senders_counted x (λ (a : NodeSpec). stays (traffic_of x) a && has_value rate true (traffic_of x) double node a) sending.sane in
+      let heard = filter_map_counts (heard_at (round_at x h even odd) at) (range_with_len 0 15) in
+      let le =
+      count_le (passes_at x.params (sure rate)) (λ i. is_some (heard_at (round_at x h even odd) at i)) (range_with_len 0 15)
+      (λ index is.
+      let has = surely_heard rate index is in
+      there (is_some (at index)) (sender_at (round_at x h even odd) index) has.0 has.1) in
+      omega (arith, counted, heard, le)
+    where
+      there : (b : Bool) (o : Option Sender) → b ≡ true → is_some o ≡ true → is_some (if b then o else None) ≡ true
+      there true o is also = also
+      there false o is also = absurd (cc)
+
+  -- ---- where it surely has a value of each sender that may send
+
+  module _ (may : (sender : NodeSpec) (slot : ℕ) → IsSender (round_at x h even odd) sender slot → may_send_by (x.join sender.id) double ≡ true) where
+    pub all_there : (rate : Bool) (index : ℕ) → has_all rate (traffic_of x) double node ≡ true → is_some (sender_at (round_at x h even odd) index) ≡ true
+        → IsSome (value_by rate (hearer_from x s node.id) index)
+    all_there rate index has there = by (sender_at (round_at x h even odd) index) refl there
       where
-        there : (b : Bool) (o : Option Sender) → b ≡ true → is_some o ≡ true → is_some (if b then o else None) ≡ true
-        there true o is also = also
-        there false o is also = absurd (cc)
+        right : (a b : Bool) → a ≡ true → (not a || b) ≡ true → b ≡ true
+        right true b is either = either
+        right false b is either = absurd (cc)
 
-    pub trusted_so : (rate : Bool) → is_trusted_by stays rate (traffic_of x) double node ≡ true → IsTrustedOf (round_at x h even odd) (value_by rate (hearer_from x s node.id))
-    trusted_so rate is =
-        let count = staying_count stays rate (traffic_of x) double node in
-        let others = arbitrary_count (traffic_of x) in
-        let both = and_parts (nat_le 1 count) (nat_le others (discarded (count + others))) is in
-        let some = at_most 1 count both.0 in
-        let few = at_most others (discarded (count + others)) both.1 in
-        let heard = length (senders_heard (round_at x h even odd) (value_by rate (hearer_from x s node.id))) in
-        let enough : count ≤ heard = heard_enough rate in
-        let more = discards_more (count + others) (heard + others) (omega (arith, enough)) in
-        record { few = omega (arith, few, more); some = omega (arith, some, enough) }
+        by : (o : Option Sender) → sender_at (round_at x h even odd) index ≡ o → is_some o ≡ true → IsSome (value_by rate (hearer_from x s node.id) index)
+        by None is some = absurd (cc)
+        by (Some sender) is some =
+            let t = traffic_of x in
+            let of = sender_is (round_at x h even odd) index sender is in
+            let rows = and_parts (is_correct x of.node.id) (has_row x h of.node.id) of.from.rows in
+            let sends : may_send t double of.node ≡ true = rw (of.from.key, rows.0, may of.node of.slot of.from) refl in
+            let one = all_pass (λ (a : NodeSpec). not (may_send t double a) || has_value rate true t double node a) x.params.nodes of.node has of.from.there in
+            sure_value rate of.node index of.slot of.from of.slot_is (right (may_send t double of.node) (has_value rate true t double node of.node) sends one)

@@ -21,24 +21,24 @@ use Rattle.fr_midpoint.specs.Receivers.{Hears}
 use Rattle.fr_measure.specs.Values.{change_at, is_own, least_of, mean_of, offset_at, rate_at, values_of}
 use Rattle.fr_correct.proofs.There.{offset_term_is_there, rate_term_is_there}
 use Rattle.fr_correct.specs.Terms.{offset_term_of, rate_term_of}
-use Rattle.fr_precision.specs.Lengths.{IsSteadyRound}
+use Rattle.fr_precision.specs.Lengths.{IsSteadyRound, KeepSenders}
 use Rattle.fr_precision.specs.Offsets.{IsDeviation, IsOffsetRound}
-use Rattle.fr_precision.specs.Placement.{IsRegular}
-use Rattle.fr_precision.specs.Round.{offsets_of, rates_of, sender_at, sender_with, sync_count, Hearer, IsRound, IsSender, Round}
+use Rattle.fr_precision.specs.Round.{offsets_of, rates_of, sender_at, sender_with, senders_of, sync_count, Hearer, IsRound, IsSender, Round}
 use Rattle.fr_precision.specs.Rows.{Sender}
 use Rattle.fr_precision.specs.Step.{IsAmong, Member}
+use Rattle.std.proofs.lemmas.Bool.{and_parts}
 use Rattle.fr_precision.proofs.OffsetLaws.{micro_lasts, own_value_is_deviation}
 use Rattle.fr_precision.proofs.Counting.{count_le}
 use Rattle.fr_precision.proofs.Parting.{filter_map_counts, parted, AreTold, IsParted}
-use Rattle.fr_precision.proofs.RoundSenders.{sender_found, sender_is, IsFrom}
+use Rattle.fr_precision.proofs.RoundSenders.{hears_values, marked, marked_is, sender_found, sender_is, sized, some_senders, values_keep_one, AreValues, IsFrom}
 use Rattle.fr_precision.proofs.Values.{acts_before, change_from, other_of, other_value, own_value, own_is}
-use Rattle.fr_precision.specs.Among.{ComputesOwn}
-use Rattle.fr_precision.specs.Hearing.{AreSteadyPairs, IsHeardInPart}
-use Rattle.fr_sharp.specs.RoundsInPart.{heard_at, senders_heard, IsSuppliedInPart, IsTrustedOf, RoundsInPartComputeOwn}
+use Rattle.fr_precision.specs.Among.{ComputesOwn, OwnOffsets, OwnRates}
+use Rattle.fr_precision.specs.Hearing.{AllowsArbitrary, IsHeardInPart}
+use Rattle.fr_traffic.specs.RoundsInPart.{heard_at, senders_heard, IsSuppliedInPart, IsTrustedOf, RoundsInPartComputeOwn}
 use Rattle.fr_bound.specs.SharpBounds.{last_action}
 use Rattle.fr_precision.specs.SharpRound.{as_member}
 use Rattle.fr_precision.specs.Steady.{PlacesEven}
-use Rattle.fr_runs.proofs.KeyedCounts.{fewer_discarded, nodes_counted, passes_at, passes_is}
+use Rattle.fr_runs.proofs.KeyedCounts.{fewer_discarded, is_passed, nodes_counted, passes_at, passes_is}
 use Rattle.fr_precision.proofs.HearingLemmas.{acts_regularly, no_less}
 use Rattle.fr_precision.proofs.RoundLemmas.{acts_early, all_given, map_contains, sender_among}
 use Rattle.fr_precision.proofs.SteadyLemmas.{half_places_even, own_value_places_even, steady_values_place_lem}
@@ -119,6 +119,12 @@ others_counted r sane =
     nodes_counted r.params (λ (node : NodeSpec). is_some node.key && r.is_arbitrary node.id) sane
     (λ node none. ap (λ (o : Option ℕ). is_some o && r.is_arbitrary node.id) none)
 
+other_marked : (r : Round) (index : ℕ) → IsSane r.params → is_other r index ≡ true → marked r index ≡ true
+other_marked r index sane is =
+    let of = is_passed r.params (λ (node : NodeSpec). is_some node.key && r.is_arbitrary node.id) index sane is in
+    let both = and_parts (is_some of.node.key) (r.is_arbitrary of.node.id) of.passes in
+    marked_is r index of.slot of.node of.slot_is (key_node_is r.params of.node of.slot sane of.there of.key) both.1
+
 module _ (r : Round) (n : Hearer) (is : IsRound r) (hears : IsHeardInPart r n) where
   -- each value is of a sender, or of an arbitrary node
   of_sender : (index : ℕ) (is_odd : Bool) (channel : Channel) (value : ℤ) → n.look index is_odd channel ≡ Some value → sender_at r index ≡ None → is_other r index ≡ true
@@ -186,36 +192,45 @@ module _ (r : Round) (n : Hearer) (is : IsRound r) (hears : IsHeardInPart r n) w
     pub hears_heard : IsTrustedOf r at → Hears Sender Says (senders_heard r at) (values_of at)
     hears_heard trusted =
         let At : ℕ → Type 0 = λ m. length (parts.further) ≤ discarded m in
+        let same = as_many in
+        let at_most = trusted.at_most in
+        let further : length (parts.further) ≤ trusted.most = omega (arith, same, at_most) in
         record {
           said = parts.said;
           further = parts.further;
           parts = parts.parts;
-          few =
-              subst At as_many
-              (fewer_discarded (length (senders_heard r at)) (length (parts.further)) (sync_count r.params r.is_arbitrary) few_further trusted.few);
+          few = subst At as_many (fewer_discarded (length (senders_heard r at)) (length (parts.further)) trusted.most further trusted.few);
           each = parts.each;
         }
 
     -- without arbitrary sync nodes a list with a value is trusted
     pub trusted_alone : sync_count r.params r.is_arbitrary ≡ 0 → 1 ≤ length (values_of at) → IsTrustedOf r at
-    trusted_alone none some = record {
-      few = omega (arith, none);
-      some = (let same = as_many in let few = few_further in omega (arith, none, some, same, few));
+    trusted_alone none some =
+        let same = as_many in
+        let few = few_further in
+        record {
+          most = 0;
+          at_most = omega (arith, none, same, few);
+          few = omega arith;
+          some = omega (arith, none, some, same, few);
+        }
+
+    -- where there is one of each sender: the values are those of all, and few others
+    pub told_of_all : ((index : ℕ) → is_some (sender_at r index) ≡ true → is_some (at index) ≡ true) → AreValues r Says at
+    told_of_all all = record {
+      said = λ index sender some.
+          let has = value_of (at index) (all index (ap is_some some)) in
+          (has.0, has.1, said index sender has.0 (sender_is r index sender some) has.1);
+      other = λ index v no_one some. other_marked r index is.sane (other index v some no_one);
     }
+      where
+        value_of : (o : Option ℤ) → is_some o ≡ true → (v : ℤ) × (o ≡ Some v)
+        value_of None there = absurd (cc)
+        value_of (Some v) there = (v, refl)
 
 -- ---- offsets and rates
 
--- a receiver whose deviations are placed, however many it has
-pub record IsPlacedInPart (r : Round) (flutter : ℕ) (n : Hearer) : Type 0 where
-  pub regular : IsRegular r.params n.even n.odd
-  pub applied : n.odd.offset ≡ (offset_term_of r.params.offset_limit (offsets_of n)).value
-  pub hears : IsHeardInPart r n
-  pub steady : AreSteadyPairs r flutter n
-
-pub placed_of : (r : Round) (flutter : ℕ) (n : Hearer) → IsSuppliedInPart r flutter n → IsPlacedInPart r flutter n
-placed_of r flutter n s = record { regular = s.regular; applied = s.applied; hears = s.hears; steady = s.steady }
-
-module _ (r : Round) (flutter : ℕ) (n : Hearer) (is : IsRound r) (s : IsPlacedInPart r flutter n) where
+module _ (r : Round) (flutter : ℕ) (n : Hearer) (is : IsRound r) (s : IsSuppliedInPart r flutter n) where
   Offset : Sender → ℤ → Type 0
   Offset sender value = IsDeviation r.params true sender.action n.odd sender.odd value
 
@@ -353,32 +368,93 @@ module _ (r : Round) (flutter : ℕ) (n : Hearer) (is : IsRound r) (s : IsPlaced
         none some_rates,
   )
 
+  -- ---- where it has a value of each sender
+
+  module _ (all : (index : ℕ) → is_some (sender_at r index) ≡ true → is_some (offset_at n.look n.own index) ≡ true) where
+    pub all_offsets_told : AreValues r (λ sender value. IsDeviation r.params true sender.action n.odd sender.odd value) (offset_at n.look n.own)
+    unfolding Offset
+    all_offsets_told =
+        told_of_all r n is s.hears (λ sender value. IsDeviation r.params true sender.action n.odd sender.odd value) offsets
+        (λ index sender v from some. offset_by index sender v (is_own n.own index) from refl some) (λ index v some no_sender. offset_other index v (is_own n.own index) refl some no_sender) all
+
+    pub all_offset_round : IsOffsetRound r.params (senders_of r) n.odd (offsets_of n) (offset_term_of r.params.offset_limit (offsets_of n))
+    all_offset_round = record {
+      micro = s.regular.odd_micro;
+      hears = hears_values r (λ sender value. IsDeviation r.params true sender.action n.odd sender.odd value) offsets is all_offsets_told;
+      is_term = offset_term_is_there r.params.offset_limit (offsets_of n);
+      applied = s.applied;
+    }
+
+  module _ (all : (index : ℕ) → is_some (sender_at r index) ≡ true → is_some (rate_at n.look n.own index) ≡ true) where
+    pub all_rates_told : AreValues r (λ sender value. PlacesEven r.params flutter sender n.odd value) (rate_at n.look n.own)
+    unfolding Rate
+    all_rates_told =
+        told_of_all r n is s.hears (λ sender value. PlacesEven r.params flutter sender n.odd value) rates
+        (λ index sender v from some. rate_by index sender v (is_own n.own index) from refl some) (λ index v some no_sender. rate_other index v (is_own n.own index) refl some no_sender) all
+
+    pub all_rate_round : IsSteadyRound r.params flutter (senders_of r) n.odd (rates_of n) (rate_term_of n.odd.rate r.params.damping r.params.rate_limit (rates_of n))
+    all_rate_round = record {
+      micro = s.regular.odd_micro;
+      hears = hears_values r (λ sender value. PlacesEven r.params flutter sender n.odd value) rates is all_rates_told;
+      is_term = rate_term_is_there n.odd.rate r.params.damping r.params.rate_limit (rates_of n);
+    }
+
+-- two lists of which each has a value of each sender keep them: beside arbitrary nodes one in common, and without any all and no others
+pub lists_keep : (beside : Bool) (r : Round) (Says Others : Sender → ℤ → Type 0) (at other : ℕ → Option ℤ) → IsRound r → AllowsArbitrary beside r → AreValues r Says at → AreValues r Others other
+    → KeepSenders beside (senders_of r) (values_of at) (values_of other)
+lists_keep false r Says Others at other is none one two = (some_senders r is, no_others Says at one, no_others Others other two)
+  where
+    step : (a b h c : ℕ) → a ≡ b + h → h ≤ c → c ≡ 0 → a ≡ b
+    step a b h c d e f = omega arith
+
+    no_others : (Says : Sender → ℤ → Type 0) (at : ℕ → Option ℤ) → AreValues r Says at → length (values_of at) ≡ length (senders_of r)
+    no_others Says at are =
+        let one = sized r Says at is are in
+        step (length (values_of at)) (length (senders_of r)) one.heard (sync_count r.params r.is_arbitrary) one.size one.few none
+lists_keep true r Says Others at other is any one two = values_keep_one r Says Others at other is one two
+
 -- ---- a round
 
--- a receiver supplied so that trusts both its lists computes its terms from the values of senders of its own, some of those with rows,
--- whether it has rows or not
-pub computes_in_part : (r : Round) (flutter : ℕ) (rows : List Hearer) (n : Hearer) → IsRound r
-    → ((node : NodeSpec) (slot : ℕ) → IsSender r node slot → (n : Hearer) × Contains rows n × (n.even ≡ r.even node.id) × (n.odd ≡ r.odd node.id)) → IsSuppliedInPart r flutter n
+-- each sender is one of the receivers with rows
+abbrev pub HaveSenders : Round → List Hearer → Type 0
+HaveSenders r rows =
+    (node : NodeSpec) (slot : ℕ) → IsSender r node slot → (n : Hearer) × Contains rows n × (n.even ≡ r.even node.id) × (n.odd ≡ r.odd node.id)
+
+-- a receiver that trusts a list of its own computes its term from the values of senders of its own, some of those with rows, whether it
+-- has rows or not
+pub own_offsets : (r : Round) (flutter : ℕ) (rows : List Hearer) (n : Hearer) → IsRound r → HaveSenders r rows → IsSuppliedInPart r flutter n → IsTrustedOf r (offset_at n.look n.own)
+    → OwnOffsets r.params (map (as_member r.params) rows) (pos (last_action r.params)) (as_member r.params n)
+own_offsets r flutter rows n is have supplied trusted =
+    let p = r.params in
+    let offsets = offset_at n.look n.own in
+    record {
+      senders = senders_heard r offsets;
+      some = trusted.some;
+      among = all_heard r offsets (IsAmong (map (as_member p) rows)) (sender_among r rows have);
+      acts = all_heard r offsets (λ (sender : Sender). IsBetween (pos 0) (pos (last_action p)) sender.action) (acts_early r is.sane);
+      round = offset_round r flutter n is supplied trusted;
+    }
+
+pub own_rates : (r : Round) (flutter : ℕ) (rows : List Hearer) (n : Hearer) → IsRound r → HaveSenders r rows → IsSuppliedInPart r flutter n → IsTrustedOf r (rate_at n.look n.own)
+    → OwnRates r.params flutter (map (as_member r.params) rows) (as_member r.params n)
+own_rates r flutter rows n is have supplied trusted =
+    let p = r.params in
+    let rates = rate_at n.look n.own in
+    record {
+      senders = senders_heard r rates;
+      some = trusted.some;
+      among = all_heard r rates (IsAmong (map (as_member p) rows)) (sender_among r rows have);
+      round = rate_round r flutter n is supplied trusted;
+    }
+
+pub computes_in_part : (r : Round) (flutter : ℕ) (rows : List Hearer) (n : Hearer) → IsRound r → HaveSenders r rows → IsSuppliedInPart r flutter n
     → IsTrustedOf r (offset_at n.look n.own) × IsTrustedOf r (rate_at n.look n.own)
     → ComputesOwn r.params flutter (map (as_member r.params) rows) (pos (last_action r.params)) (as_member r.params n)
-computes_in_part r flutter rows n is have supplied trusted =
-    let p = r.params in
-    let nodes = map (as_member p) rows in
-    let offsets = offset_at n.look n.own in
-    let rates = rate_at n.look n.own in
-    let placed = placed_of r flutter n supplied in
-    record {
-      regular = supplied.regular;
-      offset_senders = senders_heard r offsets;
-      rate_senders = senders_heard r rates;
-      some_offsets = trusted.0.some;
-      some_rates = trusted.1.some;
-      offsets_among = all_heard r offsets (IsAmong nodes) (sender_among r rows have);
-      rates_among = all_heard r rates (IsAmong nodes) (sender_among r rows have);
-      acts = all_heard r offsets (λ (sender : Sender). IsBetween (pos 0) (pos (last_action p)) sender.action) (acts_early r is.sane);
-      by_offset = offset_round r flutter n is placed trusted.0;
-      by_rate = rate_round r flutter n is placed trusted.1;
-    }
+computes_in_part r flutter rows n is have supplied trusted = record {
+  regular = supplied.regular;
+  offsets = own_offsets r flutter rows n is have supplied trusted.0;
+  rates = own_rates r flutter rows n is have supplied trusted.1;
+}
 
 pub rounds_in_part_compute_own : RoundsInPartComputeOwn
 rounds_in_part_compute_own r flutter rows node s here =

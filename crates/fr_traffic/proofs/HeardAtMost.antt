@@ -1,7 +1,7 @@
--- What receivers of a double cycle may have, whether they have rows or follow, by what becomes of frames: counted, and none where nothing
--- can reach them.
+-- What receivers of a double cycle may have, whether they have rows or follow, by what becomes of frames: counted, trusted, and none where
+-- nothing can reach them.
 use Rattle.std.proofs.Common.{◌≡◌, ◌≢◌, ◌⊎◌, ℕ, suc, ◌+◌, ◌*◌, ◌≤◌, ◌==◌, ◌&&◌, ◌||◌, Bool, true, false, not, ℤ, Option, Some, None, List, [], ◌∷◌, length, refl, ap, sym, ◌∙◌, inl, inr, arith, if◌then◌else◌}
-use Rattle.std.specs.Prelude.{Contains, is_some}
+use Rattle.std.specs.Prelude.{Contains, count_by, is_some, nat_le}
 use Rattle.std.specs.List.{list_any, range_with_len}
 use Rattle.std.proofs.lemmas.Bool.{and_parts, not-true}
 use Rattle.fr_base.specs.declared.channel.Channel.{Channel}
@@ -15,20 +15,24 @@ use Rattle.fr_cluster.proofs.KeyNodes.{Contains-cons_cases}
 use Rattle.fr_time.specs.Senders.{key_node_of}
 use Rattle.fr_time.proofs.Keys.{key_node_has, key_node_is, slot_of_index}
 use Rattle.fr_measure.specs.Values.{change_at, is_own, least_of, mean_of, values_of}
-use Rattle.fr_precision.specs.Round.{IsSender}
+use Rattle.fr_precision.specs.Round.{sender_at, sender_with, IsSender}
+use Rattle.fr_precision.specs.Rows.{Sender}
+use Rattle.fr_precision.proofs.RoundSenders.{sender_found}
 use Rattle.fr_precision.proofs.Parting.{filter_map_counts}
-use Rattle.fr_precision.proofs.Values.{change_from, other_value}
+use Rattle.fr_precision.proofs.Values.{change_from, other_value, own_is}
 use Rattle.fr_history.specs.Cycles.{Cycle, Cycles}
 use Rattle.fr_history.specs.Standing.{has_row}
 use Rattle.fr_runs.specs.Gathered.{round_at}
 use Rattle.fr_runs.specs.Links.{Share, cycle_in}
 use Rattle.fr_runs.proofs.Nodes.{correct_node}
 use Rattle.fr_coverage.specs.Links.{is_sync, shares}
-use Rattle.fr_traffic.specs.Traffic.{comes, has_value, is_deaf, may_reach, may_say, most_count, is_correct_sender, traffic_of, value_on}
-use Rattle.fr_runs.proofs.KeyedCounts.{count_two, passes_at, passes_is}
+use Rattle.fr_midpoint.specs.Midpoint.{discarded}
+use Rattle.fr_traffic.specs.RoundsInPart.{heard_at, senders_heard, IsTrustedOf}
+use Rattle.fr_traffic.specs.Traffic.{comes, further_count, has_value, is_deaf, is_trusted, may_be_said, may_reach, may_say, most_count, is_correct_sender, sure_count, traffic_of, value_on}
+use Rattle.fr_runs.proofs.KeyedCounts.{count_two, discards_more, nodes_counted, passes_at, passes_is}
 use Rattle.fr_traffic.proofs.HeardEvents.{may_come}
-use Rattle.fr_sharp.proofs.HeardSurely.{own_of, senders_counted, value_by}
-use Rattle.fr_sharp.proofs.HeardInPart.{is_other, least_there, mean_there, others_counted}
+use Rattle.fr_traffic.proofs.HeardSurely.{at_most, heard_enough, own_of, senders_counted, value_by, ReceivesOwn}
+use Rattle.fr_traffic.proofs.HeardInPart.{least_there, mean_there}
 use Rattle.fr_base.specs.Rows.{dev_in}
 use Rattle.fr_runs.specs.SteadyRuns.{is_silent}
 use Rattle.fr_runs.proofs.FramesCounted.{recorded_says}
@@ -139,13 +143,6 @@ module _
           let has = key_node_has x.params sender slot node_is in
           inr (record { slot = slot; sender = sender; slot_is = slot_is; node_is = node_is; there = has.0; key = has.1; arbitrary = arbitrary })
 
-  linked_at : (node : NodeSpec) (index : ℕ) (is_odd : Bool) (channel : Channel) (value : ℤ) → In node → is_own (rs.own node.id) index ≡ false
-      → (hearer_from x rs node.id).look index is_odd channel ≡ Some value → IsLinkedAt node index ⊎ (is_other (round_at x h even odd) index ≡ true)
-  linked_at node index is_odd channel value among other is = elim (from_at node index is_odd channel value among other is) [
-    | inl at ↦ inl at
-    | inr at ↦ inr (passes_is x.params (λ (one : NodeSpec). is_some one.key && x.is_arbitrary one.id) index at.slot at.sender at.slot_is at.node_is ∙ rw (at.key, at.arbitrary) refl)
-  ]
-
   -- of a deviation both nodes have the channel, and the frame was not silent
   may_store : (node : NodeSpec) (index : ℕ) (is_odd : Bool) (channel : Channel) (value : ℤ) (at : IsLinkedAt node index) → (hearer_from x rs node.id).look index is_odd channel ≡ Some value
       → (shares at.sender node channel ≡ true) × (comes false (x.event (cycle_in is_odd double) at.sender.id node.id channel) ≡ true)
@@ -186,53 +183,6 @@ module _
       let odd : comes false (x.event (2 * double + 1) at.sender.id node.id channel) ≡ true = ap (λ (c : ℕ). comes false (x.event c at.sender.id node.id channel)) odd_number ∙ two.1 in
       rw (one.0, one.1, odd) refl
 
-  offset_may : (node : NodeSpec) (index : ℕ) (channel : Channel) (value : ℤ) (at : IsLinkedAt node index) → (hearer_from x rs node.id).look index true channel ≡ Some value
-      → passes_at x.params (may false node) index ≡ true
-  offset_may node index channel value at is = may_pass false node index channel at (offset_on_may node index channel value at is)
-
-  rate_may : (node : NodeSpec) (index : ℕ) (channel : Channel) (early late : ℤ) (at : IsLinkedAt node index) → (hearer_from x rs node.id).look index false channel ≡ Some early
-      → (hearer_from x rs node.id).look index true channel ≡ Some late → passes_at x.params (may true node) index ≡ true
-  rate_may node index channel early late at is also = may_pass true node index channel at (rate_on_may node index channel early late at is also)
-
-  maybe_value : (rate : Bool) (node : NodeSpec) (index : ℕ) (value : ℤ) (own : Bool) → In node → is_own (rs.own node.id) index ≡ own
-      → value_by rate (hearer_from x rs node.id) index ≡ Some value → (passes_at x.params (may rate node) index ≡ true) ⊎ (is_other (round_at x h even odd) index ≡ true)
-  maybe_value rate node index value true among own is = inl (own_passes rate node index among own)
-  maybe_value false node index value false among other is =
-      let n = hearer_from x rs node.id in
-      let least : least_of (n.look index true A) (n.look index true B) ≡ Some value = sym (other_value n.own index (least_of (n.look index true A) (n.look index true B)) other) ∙ is in
-      by (least_there (n.look index true A) (n.look index true B) value least)
-    where
-      on : (channel : Channel) (v : ℤ) → (hearer_from x rs node.id).look index true channel ≡ Some v → (passes_at x.params (may false node) index ≡ true) ⊎ (is_other (round_at x h even odd) index ≡ true)
-      on channel v there = elim (linked_at node index true channel v among other there) [
-        | inl at ↦ inl (offset_may node index channel v at there)
-        | inr arbitrary ↦ inr arbitrary
-      ]
-
-      by : ((v : ℤ) × ((hearer_from x rs node.id).look index true A ≡ Some v)) ⊎ ((v : ℤ) × ((hearer_from x rs node.id).look index true B ≡ Some v))
-          → (passes_at x.params (may false node) index ≡ true) ⊎ (is_other (round_at x h even odd) index ≡ true)
-      by (inl one) = on A one.0 one.1
-      by (inr one) = on B one.0 one.1
-  maybe_value true node index value false among other is =
-      let n = hearer_from x rs node.id in
-      let mean : mean_of (change_at n.look index A) (change_at n.look index B) ≡ Some value = sym (other_value n.own index (mean_of (change_at n.look index A) (change_at n.look index B)) other) ∙ is in
-      by (mean_there (change_at n.look index A) (change_at n.look index B) value mean)
-    where
-      on : (channel : Channel) (v : ℤ) → change_at (hearer_from x rs node.id).look index channel ≡ Some v → (passes_at x.params (may true node) index ≡ true) ⊎ (is_other (round_at x h even odd) index ≡ true)
-      on channel v there =
-          let n = hearer_from x rs node.id in
-          let both = change_from (n.look index false channel) (n.look index true channel) v there in
-          elim (linked_at node index true channel both.1.0 among other both.1.2) [
-            | inl at ↦ inl (rate_may node index channel both.0 both.1.0 at both.1.1 both.1.2)
-            | inr arbitrary ↦ inr arbitrary
-          ]
-
-      by : ((v : ℤ) × (change_at (hearer_from x rs node.id).look index A ≡ Some v)) ⊎ ((v : ℤ) × (change_at (hearer_from x rs node.id).look index B ≡ Some v))
-          → (passes_at x.params (may true node) index ≡ true) ⊎ (is_other (round_at x h even odd) index ≡ true)
-      by (inl one) = on A one.0 one.1
-      by (inr one) = on B one.0 one.1
-
-  -- ---- a node that hears nothing
-
   -- of an arbitrary node it said something
   says_at : (node : NodeSpec) (index : ℕ) (is_odd : Bool) (channel : Channel) (value : ℤ) → In node → (at : IsSaidAt node index)
       → (hearer_from x rs node.id).look index is_odd channel ≡ Some value → comes false (x.event (cycle_in is_odd double) at.sender.id node.id channel) ≡ true
@@ -249,6 +199,100 @@ module _
       by true stored =
           ap (λ (n : ℕ). is_silent (x.event (suc n) at.sender.id node.id channel)) (sym sending.counted)
           ∙ recorded_says x (odd_exchange x h even odd rs) at.sender node at.slot channel value sending.sane hears.odds at.there at.key at.arbitrary hears.hears_odd stored
+
+  odd_says : (node : NodeSpec) (index : ℕ) (channel : Channel) (value : ℤ) → In node → (at : IsSaidAt node index) → (hearer_from x rs node.id).look index true channel ≡ Some value
+      → comes false (x.event (2 * double + 1) at.sender.id node.id channel) ≡ true
+  odd_says node index channel value among at is = ap (λ (c : ℕ). comes false (x.event c at.sender.id node.id channel)) odd_number ∙ says_at node index true channel value among at is
+
+  some_sender : (index slot : ℕ) (sender : NodeSpec) → IsSender (round_at x h even odd) sender slot → key_slot_of x.params index ≡ Some slot → sender_at (round_at x h even odd) index ≡ None → ⊥
+  some_sender index slot sender from slot_is none =
+      let e : Some (sender_with (round_at x h even odd) slot sender.id) ≡ None = sym (sender_found (round_at x h even odd) index slot sender sending.sane from slot_is) ∙ none in
+      cc
+
+  -- what it has is of a sender whose frames may have come, or of an arbitrary node that may have said something
+  record IsLinkedOn (rate : Bool) (node : NodeSpec) (index : ℕ) : Type 0 where
+    at : IsLinkedAt node index
+    channel : Channel
+    comes_on : value_on rate false (traffic_of x) at.sender node double channel ≡ true
+
+  record IsSaidOn (rate : Bool) (node : NodeSpec) (index : ℕ) : Type 0 where
+    at : IsSaidAt node index
+    channel : Channel
+    says_on : may_say rate (traffic_of x) at.sender node double channel ≡ true
+
+  value_from : (rate : Bool) (node : NodeSpec) (index : ℕ) (value : ℤ) → In node → is_own (rs.own node.id) index ≡ false
+      → value_by rate (hearer_from x rs node.id) index ≡ Some value → IsLinkedOn rate node index ⊎ IsSaidOn rate node index
+  value_from false node index value among other is =
+      let n = hearer_from x rs node.id in
+      let least : least_of (n.look index true A) (n.look index true B) ≡ Some value = sym (other_value n.own index (least_of (n.look index true A) (n.look index true B)) other) ∙ is in
+      by (least_there (n.look index true A) (n.look index true B) value least)
+    where
+      on : (channel : Channel) (v : ℤ) → (hearer_from x rs node.id).look index true channel ≡ Some v → IsLinkedOn false node index ⊎ IsSaidOn false node index
+      on channel v there = elim (from_at node index true channel v among other there) [
+        | inl at ↦ inl (record { at = at; channel = channel; comes_on = offset_on_may node index channel v at there })
+        | inr at ↦ inr (record { at = at; channel = channel; says_on = odd_says node index channel v among at there })
+      ]
+
+      by : ((v : ℤ) × ((hearer_from x rs node.id).look index true A ≡ Some v)) ⊎ ((v : ℤ) × ((hearer_from x rs node.id).look index true B ≡ Some v)) → IsLinkedOn false node index ⊎ IsSaidOn false node index
+      by (inl one) = on A one.0 one.1
+      by (inr one) = on B one.0 one.1
+  value_from true node index value among other is =
+      let n = hearer_from x rs node.id in
+      let mean : mean_of (change_at n.look index A) (change_at n.look index B) ≡ Some value = sym (other_value n.own index (mean_of (change_at n.look index A) (change_at n.look index B)) other) ∙ is in
+      by (mean_there (change_at n.look index A) (change_at n.look index B) value mean)
+    where
+      on : (channel : Channel) (v : ℤ) → change_at (hearer_from x rs node.id).look index channel ≡ Some v → IsLinkedOn true node index ⊎ IsSaidOn true node index
+      on channel v there =
+          let n = hearer_from x rs node.id in
+          let both = change_from (n.look index false channel) (n.look index true channel) v there in
+          elim (from_at node index true channel both.1.0 among other both.1.2) [
+            | inl at ↦ inl (record { at = at; channel = channel; comes_on = rate_on_may node index channel both.0 both.1.0 at both.1.1 both.1.2 })
+            | inr at ↦ inr (record { at = at; channel = channel; says_on = rw (says_at node index false channel both.0 among at both.1.1, odd_says node index channel both.1.0 among at both.1.2) refl })
+          ]
+
+      by : ((v : ℤ) × (change_at (hearer_from x rs node.id).look index A ≡ Some v)) ⊎ ((v : ℤ) × (change_at (hearer_from x rs node.id).look index B ≡ Some v)) → IsLinkedOn true node index ⊎ IsSaidOn true node index
+      by (inl one) = on A one.0 one.1
+      by (inr one) = on B one.0 one.1
+
+  -- ---- by key index
+
+  -- an arbitrary node whose frames may have come
+  abbrev further : Bool → NodeSpec → NodeSpec → Bool
+  further rate node sender = (is_sync sender && (traffic_of x).is_arbitrary sender.id) && may_be_said rate (traffic_of x) double node sender
+
+  further_passes : (rate : Bool) (node : NodeSpec) (index : ℕ) → IsSaidOn rate node index → passes_at x.params (further rate node) index ≡ true
+  further_passes rate node index on =
+      passes_is x.params (further rate node) index on.at.slot on.at.sender on.at.slot_is on.at.node_is
+      ∙ whole (is_sync on.at.sender) (x.is_arbitrary on.at.sender.id) (may_say rate (traffic_of x) on.at.sender node double) on.channel (ap is_some on.at.key) on.at.arbitrary on.says_on
+    where
+      whole : (a b : Bool) (on : Channel → Bool) (channel : Channel) → a ≡ true → b ≡ true → on channel ≡ true → ((a && b) && (on A || on B)) ≡ true
+      whole a b on A one two three = rw (one, two, three) refl
+      whole a b on B one two three = rw (one, two) (by (on A) three)
+        where
+          by : (c : Bool) → on B ≡ true → (c || on B) ≡ true
+          by true is = refl
+          by false is = is
+
+  maybe_value : (rate : Bool) (node : NodeSpec) (index : ℕ) (value : ℤ) (own : Bool) → In node → is_own (rs.own node.id) index ≡ own
+      → value_by rate (hearer_from x rs node.id) index ≡ Some value → (passes_at x.params (may rate node) index ≡ true) ⊎ (passes_at x.params (further rate node) index ≡ true)
+  maybe_value rate node index value true among own is = inl (own_passes rate node index among own)
+  maybe_value rate node index value false among other is = elim (value_from rate node index value among other is) [
+    | inl on ↦ inl (may_pass rate node index on.channel on.at on.comes_on)
+    | inr on ↦ inr (further_passes rate node index on)
+  ]
+
+  -- of no sender, it is of such an arbitrary node
+  further_value : (rate : Bool) (node : NodeSpec) (index : ℕ) (value : ℤ) (own : Bool) → In node → is_own (rs.own node.id) index ≡ own
+      → value_by rate (hearer_from x rs node.id) index ≡ Some value → sender_at (round_at x h even odd) index ≡ None → passes_at x.params (further rate node) index ≡ true
+  further_value rate node index value true among own is none =
+      let itself = (receives node among).itself index (own_is (rs.own node.id) index own) in
+      absurd (some_sender index itself.0 itself.1.0 itself.1.1.sender itself.1.1.slot_is none)
+  further_value rate node index value false among other is none = elim (value_from rate node index value among other is) [
+    | inl on ↦ absurd (some_sender index on.at.slot on.at.sender on.at.from on.at.slot_is none)
+    | inr on ↦ further_passes rate node index on
+  ]
+
+  -- ---- a node that hears nothing
 
   -- each value comes of a sync node that may reach it
   record IsReached (rate : Bool) (node : NodeSpec) : Type 0 where
@@ -292,43 +336,12 @@ module _
           by true is = refl
           by false is = is
 
-  odd_says : (node : NodeSpec) (index : ℕ) (channel : Channel) (value : ℤ) → In node → (at : IsSaidAt node index) → (hearer_from x rs node.id).look index true channel ≡ Some value
-      → comes false (x.event (2 * double + 1) at.sender.id node.id channel) ≡ true
-  odd_says node index channel value among at is = ap (λ (c : ℕ). comes false (x.event c at.sender.id node.id channel)) odd_number ∙ says_at node index true channel value among at is
-
   reached_by : (rate : Bool) (node : NodeSpec) (index : ℕ) (value : ℤ) → In node → is_own (rs.own node.id) index ≡ false
       → value_by rate (hearer_from x rs node.id) index ≡ Some value → IsReached rate node
-  reached_by false node index value among other is =
-      let n = hearer_from x rs node.id in
-      let least : least_of (n.look index true A) (n.look index true B) ≡ Some value = sym (other_value n.own index (least_of (n.look index true A) (n.look index true B)) other) ∙ is in
-      by (least_there (n.look index true A) (n.look index true B) value least)
-    where
-      on : (channel : Channel) (v : ℤ) → (hearer_from x rs node.id).look index true channel ≡ Some v → IsReached false node
-      on channel v there = elim (from_at node index true channel v among other there) [
-        | inl at ↦ by_link false node index channel at (offset_on_may node index channel v at there)
-        | inr at ↦ by_saying false node index channel at (odd_says node index channel v among at there)
-      ]
-
-      by : ((v : ℤ) × ((hearer_from x rs node.id).look index true A ≡ Some v)) ⊎ ((v : ℤ) × ((hearer_from x rs node.id).look index true B ≡ Some v)) → IsReached false node
-      by (inl one) = on A one.0 one.1
-      by (inr one) = on B one.0 one.1
-  reached_by true node index value among other is =
-      let n = hearer_from x rs node.id in
-      let mean : mean_of (change_at n.look index A) (change_at n.look index B) ≡ Some value = sym (other_value n.own index (mean_of (change_at n.look index A) (change_at n.look index B)) other) ∙ is in
-      by (mean_there (change_at n.look index A) (change_at n.look index B) value mean)
-    where
-      on : (channel : Channel) (v : ℤ) → change_at (hearer_from x rs node.id).look index channel ≡ Some v → IsReached true node
-      on channel v there =
-          let n = hearer_from x rs node.id in
-          let both = change_from (n.look index false channel) (n.look index true channel) v there in
-          elim (from_at node index true channel both.1.0 among other both.1.2) [
-            | inl at ↦ by_link true node index channel at (rate_on_may node index channel both.0 both.1.0 at both.1.1 both.1.2)
-            | inr at ↦ by_saying true node index channel at (rw (says_at node index false channel both.0 among at both.1.1, odd_says node index channel both.1.0 among at both.1.2) refl)
-          ]
-
-      by : ((v : ℤ) × (change_at (hearer_from x rs node.id).look index A ≡ Some v)) ⊎ ((v : ℤ) × (change_at (hearer_from x rs node.id).look index B ≡ Some v)) → IsReached true node
-      by (inl one) = on A one.0 one.1
-      by (inr one) = on B one.0 one.1
+  reached_by rate node index value among other is = elim (value_from rate node index value among other is) [
+    | inl on ↦ by_link rate node index on.channel on.at on.comes_on
+    | inr on ↦ by_saying rate node index on.channel on.at on.says_on
+  ]
 
   -- so a deaf node has none
   pub no_value : (rate : Bool) (node : NodeSpec) (index : ℕ) (value : ℤ) → In node → is_deaf rate (traffic_of x) double node ≡ true
@@ -357,18 +370,63 @@ module _
 
   -- ---- counted
 
+  further_counted : (rate : Bool) (node : NodeSpec) → further_count rate (traffic_of x) double node ≡ count_by (passes_at x.params (further rate node)) (range_with_len 0 15)
+  further_counted rate node =
+      nodes_counted x.params (further rate node) sending.sane
+      (λ one none. ap (λ (o : Option ℕ). (is_some o && x.is_arbitrary one.id) && may_be_said rate (traffic_of x) double node one) none)
+
+  value_of : (o : Option ℤ) → is_some o ≡ true → (v : ℤ) × (o ≡ Some v)
+  value_of None is = absurd (cc)
+  value_of (Some v) is = (v, refl)
+
   pub most_values : (rate : Bool) (node : NodeSpec) → In node → length (values_of (value_by rate (hearer_from x rs node.id))) ≤ most_count rate (traffic_of x) double node
   unfolding values_of
   most_values rate node among =
       let at = value_by rate (hearer_from x rs node.id) in
       let senders = senders_counted x (has_value rate false (traffic_of x) double node) sending.sane in
-      let others = others_counted (round_at x h even odd) sending.sane in
+      let others = further_counted rate node in
       let values = filter_map_counts at (range_with_len 0 15) in
       let le =
-      count_two (λ i. is_some (at i)) (passes_at x.params (may rate node)) (is_other (round_at x h even odd)) (range_with_len 0 15)
+      count_two (λ i. is_some (at i)) (passes_at x.params (may rate node)) (passes_at x.params (further rate node)) (range_with_len 0 15)
       (λ index some. let v = value_of (at index) some in maybe_value rate node index v.0 (is_own (rs.own node.id) index) among refl v.1) in
       omega (arith, senders, others, values, le)
+
+  -- no more than of the senders of whom it has one, and of arbitrary nodes that may say something
+  pub few_further : (rate : Bool) (node : NodeSpec) → In node
+      → length (values_of (value_by rate (hearer_from x rs node.id))) ≤ length (senders_heard (round_at x h even odd) (value_by rate (hearer_from x rs node.id))) + further_count rate (traffic_of x) double node
+  unfolding values_of
+  few_further rate node among =
+      let at = value_by rate (hearer_from x rs node.id) in
+      let heard = filter_map_counts (heard_at (round_at x h even odd) at) (range_with_len 0 15) in
+      let others = further_counted rate node in
+      let values = filter_map_counts at (range_with_len 0 15) in
+      let le =
+      count_two (λ i. is_some (at i)) (λ i. is_some (heard_at (round_at x h even odd) at i)) (passes_at x.params (further rate node)) (range_with_len 0 15)
+      (λ index some. by index (value_of (at index) some) (sender_at (round_at x h even odd) index) refl some) in
+      omega (arith, heard, others, values, le)
     where
-      value_of : (o : Option ℤ) → is_some o ≡ true → (v : ℤ) × (o ≡ Some v)
-      value_of None is = absurd (cc)
-      value_of (Some v) is = (v, refl)
+      by : (index : ℕ) → (v : ℤ) × (value_by rate (hearer_from x rs node.id) index ≡ Some v) → (o : Option Sender) → sender_at (round_at x h even odd) index ≡ o
+          → is_some (value_by rate (hearer_from x rs node.id) index) ≡ true
+          → (is_some (heard_at (round_at x h even odd) (value_by rate (hearer_from x rs node.id)) index) ≡ true) ⊎ (passes_at x.params (further rate node) index ≡ true)
+      by index v None none some = inr (further_value rate node index v.0 (is_own (rs.own node.id) index) among refl v.1 none)
+      by index v (Some sender) is some = inl (ap (λ (b : Bool). is_some (if b then sender_at (round_at x h even odd) index else None)) some ∙ ap is_some is)
+
+-- ---- trusted
+
+pub trusted_so : (x : Setting) (h : Cycles) (even odd : Cycle) (double : ℕ) (reach : ℤ) (rs : Receivers) (node : NodeSpec) → RowsSend x h even odd double reach → ReceivesOwn x h even odd reach rs node
+    → (rate : Bool) → is_trusted rate (traffic_of x) double node ≡ true → IsTrustedOf (round_at x h even odd) (value_by rate (hearer_from x rs node.id))
+trusted_so x h even odd double reach rs node sending r rate is =
+    let count = sure_count rate (traffic_of x) double node in
+    let others = further_count rate (traffic_of x) double node in
+    let both = and_parts (nat_le 1 count) (nat_le others (discarded (count + others))) is in
+    let some = at_most 1 count both.0 in
+    let few = at_most others (discarded (count + others)) both.1 in
+    let heard = length (senders_heard (round_at x h even odd) (value_by rate (hearer_from x rs node.id))) in
+    let enough : count ≤ heard = heard_enough x h even odd double reach rs node sending r.is r.owns rate in
+    let more = discards_more (count + others) (heard + others) (omega (arith, enough)) in
+    record {
+      most = others;
+      at_most = few_further x h even odd double reach rs (λ n. ReceivesOwn x h even odd reach rs n) sending (λ n has. has.is) (λ n index has own. has.owned index own) rate node r;
+      few = omega (arith, few, more);
+      some = omega (arith, some, enough);
+    }

@@ -1,15 +1,15 @@
 -- A round in which frames may be lost: what a receiver makes of those that come. Of links nothing is asked but that it has a value of each
--- kind, and discards at each end as many as there may be of arbitrary nodes.
+-- kind, and discards at each end as many as it may have of arbitrary nodes.
 use Rattle.std.specs.Prelude.{◌≡◌, ◌+◌, ◌≤◌, ℕ, ℤ, pos, if◌then◌else◌, List, length, map, Contains, Option, None, is_some}
 use Rattle.std.specs.List.{filter_map, range_with_len}
 use Rattle.fr_cluster.specs.declared.nodes.NodeSpec.{NodeSpec}
 use Rattle.fr_correct.specs.Terms.{offset_term_of}
 use Rattle.fr_precision.specs.Placement.{IsRegular}
-use Rattle.fr_precision.specs.Round.{offsets_of, rates_of, sender_at, sync_count, Hearer, IsRound, IsSender, Round}
+use Rattle.fr_precision.specs.Round.{offsets_of, sender_at, Hearer, IsRound, IsSender, Round}
 use Rattle.fr_precision.specs.Rows.{Sender}
 use Rattle.fr_precision.specs.Step.{Member}
 use Rattle.fr_midpoint.specs.Midpoint.{discarded}
-use Rattle.fr_measure.specs.Values.{offset_at, rate_at}
+use Rattle.fr_measure.specs.Values.{offset_at, rate_at, values_of}
 use Rattle.fr_precision.specs.Among.{ComputesOwn}
 use Rattle.fr_precision.specs.Hearing.{AreSteadyPairs, IsHeardInPart}
 use Rattle.fr_bound.specs.SharpBounds.{last_action}
@@ -22,18 +22,18 @@ heard_at r at index = if is_some (at index) then sender_at r index else None
 abbrev pub senders_heard : Round → (ℕ → Option ℤ) → List Sender
 senders_heard r at = filter_map (heard_at r at) (range_with_len 0 15)
 
--- a receiver with regular rows, whose clock applies the offset term of what came; it has at least one offset value and one rate value
+-- a receiver with regular rows, whose clock applies the offset term of what came, however much that is
 pub record IsSuppliedInPart (r : Round) (flutter : ℕ) (n : Hearer) : Type 0 where
   pub regular : IsRegular r.params n.even n.odd
   pub applied : n.odd.offset ≡ (offset_term_of r.params.offset_limit (offsets_of n)).value
   pub hears : IsHeardInPart r n
   pub steady : AreSteadyPairs r flutter n
-  pub some_offsets : 1 ≤ length (offsets_of n)
-  pub some_rates : 1 ≤ length (rates_of n)
 
--- of a list by key index: a value is of a sender, and at each end as many are discarded as there may be of arbitrary nodes
+-- of a list by key index: a value is of a sender, and at each end as many are discarded as there are at most besides those of senders
 pub record IsTrustedOf (r : Round) (at : ℕ → Option ℤ) : Type 0 where
-  pub few : sync_count r.params r.is_arbitrary ≤ discarded (length (senders_heard r at) + sync_count r.params r.is_arbitrary)
+  pub most : ℕ
+  pub at_most : length (values_of at) ≤ length (senders_heard r at) + most
+  pub few : most ≤ discarded (length (senders_heard r at) + most)
   pub some : 1 ≤ length (senders_heard r at)
 
 -- a round in which each receiver is supplied so, and trusts both its lists
