@@ -44,6 +44,7 @@ pub mod FarWorked
 pub mod FarFound
 pub mod FilesWorked
 pub mod LossesWorked
+pub mod CrossingWorked
 pub mod MeetingWorked
 pub mod JoinWorked
 pub mod JoinedFilesWorked
