@@ -45,6 +45,7 @@ pub mod FarFound
 pub mod FilesWorked
 pub mod LossesWorked
 pub mod MeetingWorked
+pub mod JoiningLossesKeep
 pub mod JoinWorked
 pub mod JoinedFilesWorked
 pub mod JudgedWorked
