@@ -1,7 +1,6 @@
 -- The run that files decide where frames are lost: it is as the law of losses asks for, so it keeps to the numbers by what is heard.
-use Rattle.std.proofs.Common.{◌≡◌, ℕ, zero, suc, ◌+◌, ◌-◌, ◌*◌, ◌<◌, ◌≤◌, ℤ, pos, Option, Some, None, IfSome, Bool, true, false, not, ◌==◌, ◌&&◌, ◌||◌, List, [], ◌∷◌, refl, ap, ap₂, sym, ◌∙◌, subst, arith}
-use Rattle.std.specs.Prelude.{◌+ℤ◌, ◌≤ℤ◌, Contains, nat_eq, nat_le}
-use Rattle.std.specs.List.{list_all}
+use Rattle.std.proofs.Common.{◌≡◌, ℕ, zero, suc, ◌+◌, ◌-◌, ◌<◌, ◌≤◌, ℤ, pos, Option, Some, None, IfSome, Bool, true, false, not, ◌==◌, ◌&&◌, ◌||◌, refl, ap, ap₂, sym, ◌∙◌, subst, arith}
+use Rattle.std.specs.Prelude.{◌+ℤ◌, ◌≤ℤ◌, nat_eq, nat_le}
 use Rattle.std.proofs.lemmas.Bool.{and_parts}
 use Rattle.std.proofs.lemmas.Bool.Decides.{nat_tests}
 use Rattle.std.proofs.lemmas.Int.{ints}
@@ -15,11 +14,7 @@ use Rattle.fr_bound.specs.declared.judging.Heard.{Heard}
 use Rattle.fr_bound.specs.declared.judging.Heard.TheVariants as heard
 use Rattle.fr_coverage.specs.Decided.{setting_of}
 use Rattle.fr_coverage.specs.Flutter.{flutter_from}
-use Rattle.fr_coverage.specs.Links.{is_sync, shares}
-use Rattle.fr_cluster.proofs.Elements.{Contains-here, Contains-there}
-use Rattle.fr_base.specs.declared.channel.Channel.{Channel}
-use Rattle.fr_base.specs.declared.channel.Channel.TheVariants as channel
-use Rattle.fr_runs.proofs.KeyedCounts.{all_pass}
+use Rattle.fr_coverage.specs.Links.{is_sync}
 use Rattle.fr_precision.specs.Among.{both, kinds_spread, spread_through_losses, IsNot, LaterSpreadsAreLess}
 use Rattle.fr_precision.specs.declared.kinds.Kinds.{Kinds}
 use Rattle.fr_bound.specs.Checks.{left_of, right_of}
@@ -31,12 +26,13 @@ use Rattle.fr_promise.proofs.StrayLemmas.{later_strays_less}
 use Rattle.fr_sharp.specs.Losses.{HistoriesKeepThroughLosses}
 use Rattle.fr_sharp.specs.LossStatement.{run_strayed, spread_since, without_losses, CoveredFilesAreAwake, CoveredFilesKeepThroughLosses, FilesKeepThroughLosses, LossyFilesGiveRuns}
 use Rattle.fr_traffic.specs.Reaching.{whole_in}
-use Rattle.fr_traffic.specs.Traffic.{all_bear, all_have, all_linked, arbitrary_count, bears_on, comes, has_all, has_begun, has_value, heard_in, is_correct_sender, kind_by, kind_in, lists_meet, may_receive, may_send, may_send_by, none_lacks, rate_on, some_keep, traffic_in, value_on, Traffic}
+use Rattle.fr_traffic.specs.Traffic.{all_bear, all_have, arbitrary_count, heard_in, kind_by, kind_in, lists_meet, none_lacks, some_keep, traffic_in, Traffic}
 use Rattle.fr_bound.specs.SharpSpreads.{sharply_near_in}
 use Rattle.fr_sharp.specs.SharpStatement.{has_arbitrary}
 use Rattle.fr_runs.specs.SteadyRuns.{IsTimedFrom}
 use Rattle.fr_sharp.proofs.FromFiles.{arbitrary_is_told, files_are_steady}
 use Rattle.fr_promise.proofs.JoinBounds.{near_grows}
+use Rattle.fr_traffic.proofs.HeardLists.{linked_have}
 use Rattle.fr_traffic.proofs.TrafficCounts.{some_counted}
 
 -- what is stated of oscillators and delays does not speak of what is lost
@@ -115,61 +111,6 @@ none_is_clean p s beside double = (of_kind false, of_kind true)
         some_is_not_none p s beside (clean_only (all_have rate t double) (nat_eq (arbitrary_count t) 0) (lists_meet rate t double) clean)
 
 -- ---- without them all is, of both kinds, in each in which one channel carries the frames of both cycles of any two nodes
-
-pub each_passes : {X : Type 0} (test : X → Bool) (xs : List X) → ((x : X) → Contains xs x → test x ≡ true) → list_all test xs ≡ true
-each_passes test [] all = refl
-each_passes test (y ∷ xs) all =
-    let here = all y (Contains-here y xs) in
-    let rest = each_passes test xs (λ x among. all x (Contains-there y xs x among)) in
-    rw (here, rest) refl
-
-pub one_of : (a b : Bool) → (not a || b) ≡ true → a ≡ true → b ≡ true
-one_of true b is one = is
-one_of false b is one = absurd (cc)
-
-pub unless : (a b : Bool) → (a ≡ true → b ≡ true) → (not a || b) ≡ true
-unless true b then_is = then_is refl
-unless false b then_is = refl
-
--- then each receiver has a value of each sender
-value_of_pair : (rate : Bool) (t : Traffic) (a b : NodeSpec) (double : ℕ) (ch : Channel) → rate_on true t a b double ch ≡ true → value_on rate true t a b double ch ≡ true
-value_of_pair true t a b double ch is = is
-value_of_pair false t a b double ch is = ends (shares a b ch) (comes true (t.event (2 * double) a.id b.id ch)) (comes true (t.event (2 * double + 1) a.id b.id ch)) is
-  where
-    ends : (x y z : Bool) → (x && y && z) ≡ true → (x && z) ≡ true
-    ends true true z is = is
-    ends true false z is = absurd (cc)
-    ends false y z is = absurd (cc)
-
-linked_have : (rate : Bool) (t : Traffic) (double : ℕ) → all_linked t double ≡ true → all_have rate t double ≡ true
-linked_have rate t double linked =
-    each_passes (λ (b : NodeSpec). not (may_receive t double b) || has_all rate t double b) t.nodes
-    (λ b there. unless (may_receive t double b) (has_all rate t double b)
-    (λ receives. each_passes (λ (a : NodeSpec). not (may_send t double a) || has_value rate true t double b a) t.nodes
-    (λ a here. unless (may_send t double a) (has_value rate true t double b a) (λ sends. has a b here there sends receives (a.id == b.id) refl))))
-  where
-    has : (a b : NodeSpec) → Contains t.nodes a → Contains t.nodes b → may_send t double a ≡ true → may_receive t double b ≡ true → (same : Bool) → (a.id == b.id) ≡ same
-        → has_value rate true t double b a ≡ true
-    has a b here there sends receives true is = rw is refl
-    has a b here there sends receives false is =
-        let of_a = all_pass (λ (a : NodeSpec). list_all (λ (b : NodeSpec). not (bears_on t a b) || (rate_on true t a b double channel.A || rate_on true t a b double channel.B)) t.nodes) t.nodes a linked here in
-        let either = all_pass (λ (b : NodeSpec). not (bears_on t a b) || (rate_on true t a b double channel.A || rate_on true t a b double channel.B)) t.nodes b of_a there in
-        let sender = and_parts (is_correct_sender t a) (may_send_by (t.join a.id) double) sends in
-        let receiver = and_parts (not (t.is_arbitrary b.id)) (has_begun (t.join b.id) double) receives in
-        let bears : bears_on t a b ≡ true = all_four (is_sync a) (not (t.is_arbitrary a.id)) (not (t.is_arbitrary b.id)) (a.id == b.id) sender.0 receiver.0 is in
-        let comes_so = one_of (bears_on t a b) (rate_on true t a b double channel.A || rate_on true t a b double channel.B) either bears in
-        any (a.id == b.id) (rate_on true t a b double channel.A) (rate_on true t a b double channel.B) (value_on rate true t a b double channel.A) (value_on rate true t a b double channel.B)
-        (value_of_pair rate t a b double channel.A) (value_of_pair rate t a b double channel.B) comes_so
-      where
-        all_four : (w x y z : Bool) → (w && x) ≡ true → y ≡ true → z ≡ false → (w && x && y && not z) ≡ true
-        all_four w x y z one two three = rw (one, two, three) refl
-
-        any : (same x y v w : Bool) → (x ≡ true → v ≡ true) → (y ≡ true → w ≡ true) → (x || y) ≡ true → (same || (v || w)) ≡ true
-        any true x y v w one two is = refl
-        any false true y v w one two is = rw (one refl) refl
-        any false false true true w one two is = refl
-        any false false true false w one two is = two refl
-        any false false false v w one two is = absurd (cc)
 
 pub whole_is_clean : (p : Values) (s : ScriptView) → has_arbitrary p s ≡ false → (double : ℕ) → whole_in p s double ≡ true → heard_in (traffic_in p s) double ≡ both heard.Clean
 whole_is_clean p s alone double whole = ap₂ (λ (a b : Heard). made a b) (of_kind false) (of_kind true)

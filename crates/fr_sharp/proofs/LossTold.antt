@@ -46,7 +46,7 @@ use Rattle.fr_bound.specs.SharpSpreads.{sharply_near_in}
 use Rattle.fr_sharp.specs.SharpStatement.{has_arbitrary}
 use Rattle.fr_traffic.specs.Traffic.{all_bear_from, heard_in, is_borne_to_join, traffic_in}
 use Rattle.fr_sharp.specs.declared.losses_of_runs.RunLosses.{RunLosses}
-use Rattle.fr_sharp.proofs.FromLossyFiles.{covered_files_keep_through_losses, each_passes, none_is_clean, one_of, unless}
+use Rattle.fr_sharp.proofs.FromLossyFiles.{covered_files_keep_through_losses, none_is_clean}
 use Rattle.fr_sharp.proofs.LossBurstLaws.{apart_later, keeps_wider}
 use Rattle.fr_sharp.proofs.JoinedFromLossyFiles.{joined_apart_later}
 use Rattle.fr_runs.proofs.KeyedCounts.{all_pass}
@@ -282,10 +282,23 @@ losses_are_told_lem p d s from flutter some =
 
 -- ---- the run without what it loses
 
+each_passes : {X : Type 0} (test : X → Bool) (xs : List X) → ((x : X) → Contains xs x → test x ≡ true) → list_all test xs ≡ true
+each_passes test [] all = refl
+each_passes test (y ∷ xs) all = both_true (test y) (list_all test xs) (all y (Contains-here y xs)) (each_passes test xs (λ x among. all x (Contains-there y xs x among)))
+
+
 neither : (a b : Bool) → (a || b) ≡ false → (a ≡ false) × (b ≡ false)
 neither false false is = (refl, refl)
 neither false true is = absurd (cc)
 neither true b is = absurd (cc)
+
+one_of : (a b : Bool) → (not a || b) ≡ true → a ≡ true → b ≡ true
+one_of true b is one = is
+one_of false b is one = absurd (cc)
+
+unless : (a b : Bool) → (a ≡ true → b ≡ true) → (not a || b) ≡ true
+unless true b then_is = then_is refl
+unless false b then_is = refl
 
 free : (s : ScriptView) (sender receiver : ℕ) (ch : Channel) (cycle : ℕ) → is_arbitrary s sender ≡ false → is_free (without_losses s) sender receiver ch cycle ≡ true
 unfolding is_arbitrary event_of deed_of deed_in

@@ -57,12 +57,7 @@ fn bears(params: &Params, script: &Script, double: u32, node: &NodeSpec) -> bool
                 || may_lack(params, script, double, node)))
 }
 
-fn trusts_or_lacks(
-    nodes: &NodeList,
-    script: &Script,
-    kind: (bool, u32),
-    node: &NodeSpec,
-) -> bool
+fn trusts_or_lacks(nodes: &NodeList, script: &Script, kind: (bool, u32), node: &NodeSpec) -> bool
     requires double { kind.1 ≤ 100_000 }
     requires few { length nodes.now ≤ 64 }
     ensures { result ≡ trusts_or_lacks kind.0 (traffic_with nodes.now script.now) kind.1 node.now }

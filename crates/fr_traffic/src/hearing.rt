@@ -11,8 +11,8 @@ use fr_precision::Kinds;
 use fr_script::Script;
 
 /// What the correct nodes of a run hear in a double cycle, 0 to 100,000, by its files, of offsets and of rates: all of all,
-/// without arbitrary sync nodes; all of all beside them, or of any two nodes enough in common; or what there is. Of nodes that
-/// join nothing less than all is counted on. It is known whether one channel carries the frames of both its cycles of any two
+/// without arbitrary sync nodes; all of all beside them, or of any two nodes enough in common; or what there is. Senders that
+/// join count only where all is heard. It is known whether one channel carries the frames of both its cycles of any two
 /// nodes.
 pub fn heard_in(params: &Params, script: &Script, double: u32, whole: bool) -> Kinds
     requires double { double ≤ 100_000 }
@@ -65,7 +65,8 @@ pub fn is_borne_to_join(params: &Params, script: &Script, double: u32, whole: bo
 {
     let _few = params.value(ParamName::gMacroPerCycle);
     let nodes = &params.nodes;
-    bears_kind(nodes, script, false, double, whole) && bears_kind(nodes, script, true, double, whole)
+    bears_kind(nodes, script, false, double, whole)
+        && bears_kind(nodes, script, true, double, whole)
 }
 
 fn bears_kind(nodes: &NodeList, script: &Script, rate: bool, double: u32, whole: bool) -> bool
@@ -96,7 +97,13 @@ fn all_have(nodes: &NodeList, script: &Script, rate: bool, double: u32) -> bool
 }
 
 // A node has not begun, or has all.
-fn has_all_begun(nodes: &NodeList, script: &Script, rate: bool, double: u32, node: &NodeSpec) -> bool
+fn has_all_begun(
+    nodes: &NodeList,
+    script: &Script,
+    rate: bool,
+    double: u32,
+    node: &NodeSpec,
+) -> bool
     requires { double ≤ 100_000 }
     ensures { result ≡ (not (may_receive (traffic_with nodes.now script.now) double node.now)
         || has_all rate (traffic_with nodes.now script.now) double node.now) }

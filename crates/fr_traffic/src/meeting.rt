@@ -105,7 +105,13 @@ pub(crate) fn lists_meet(nodes: &NodeList, script: &Script, rate: bool, double: 
     all_meet(receivers.as_slice())
 }
 
-fn receiver_of(nodes: &NodeList, script: &Script, rate: bool, double: u32, node: &NodeSpec) -> Receiver
+fn receiver_of(
+    nodes: &NodeList,
+    script: &Script,
+    rate: bool,
+    double: u32,
+    node: &NodeSpec,
+) -> Receiver
     requires double { double ≤ 100_000 }
     requires few { length nodes.now ≤ 64 }
     ensures { result ≡ receiver_of rate (traffic_with nodes.now script.now) double node.now }
@@ -175,5 +181,6 @@ fn meets(one: Receiver, other: Receiver) -> bool
 {
     !other.begun
         || one.id == other.id
-        || u32::from(one.discards) + u32::from(other.discards) < (one.sure & other.sure).count_ones()
+        || u32::from(one.discards) + u32::from(other.discards)
+            < (one.sure & other.sure).count_ones()
 }

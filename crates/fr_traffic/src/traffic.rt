@@ -100,7 +100,13 @@ fn has_begun(join: Option<Join>, double: u32) -> bool
 // ---- one receiver
 
 // Of how many senders that stay on a receiver surely has a value.
-pub(crate) fn sure_count(nodes: &NodeList, script: &Script, rate: bool, double: u32, receiver: &NodeSpec) -> u64
+pub(crate) fn sure_count(
+    nodes: &NodeList,
+    script: &Script,
+    rate: bool,
+    double: u32,
+    receiver: &NodeSpec,
+) -> u64
     requires double { double ≤ 100_000 }
     requires few { length nodes.now ≤ 64 }
     ensures value { result ≡ sure_count rate (traffic_with nodes.now script.now) double receiver.now }
@@ -122,7 +128,12 @@ pub(crate) fn sure_count(nodes: &NodeList, script: &Script, rate: bool, double: 
 }
 
 // A sender that stays on, of whom a receiver surely has such a value.
-pub(crate) fn is_relied_on(script: &Script, asked: Asked, receiver: &NodeSpec, sender: &NodeSpec) -> bool
+pub(crate) fn is_relied_on(
+    script: &Script,
+    asked: Asked,
+    receiver: &NodeSpec,
+    sender: &NodeSpec,
+) -> bool
     requires { asked.double ≤ 100_000 }
     ensures { (nodes : List NodeSpec) → result ≡ (is_correct_sender (traffic_with nodes script.now) sender.now
         && (stays (traffic_with nodes script.now) sender.now
@@ -132,7 +143,13 @@ pub(crate) fn is_relied_on(script: &Script, asked: Asked, receiver: &NodeSpec, s
 }
 
 // How many values there may be in its list.
-pub(crate) fn most_count(nodes: &NodeList, script: &Script, rate: bool, double: u32, receiver: &NodeSpec) -> u64
+pub(crate) fn most_count(
+    nodes: &NodeList,
+    script: &Script,
+    rate: bool,
+    double: u32,
+    receiver: &NodeSpec,
+) -> u64
     requires double { double ≤ 100_000 }
     requires few { length nodes.now ≤ 64 }
     ensures value { result ≡ most_count rate (traffic_with nodes.now script.now) double receiver.now }
@@ -174,7 +191,13 @@ fn is_heard(script: &Script, asked: Asked, receiver: &NodeSpec, sender: &NodeSpe
 }
 
 // Of how many arbitrary nodes a receiver may have a value.
-pub(crate) fn further_count(nodes: &NodeList, script: &Script, rate: bool, double: u32, receiver: &NodeSpec) -> u64
+pub(crate) fn further_count(
+    nodes: &NodeList,
+    script: &Script,
+    rate: bool,
+    double: u32,
+    receiver: &NodeSpec,
+) -> u64
     requires double { double ≤ 100_000 }
     requires few { length nodes.now ≤ 64 }
     ensures value { result ≡ further_count rate (traffic_with nodes.now script.now) double receiver.now }
@@ -205,7 +228,13 @@ fn may_add(script: &Script, rate: bool, double: u32, receiver: &NodeSpec, sender
 }
 
 // Something may come of what an arbitrary node says, on one channel or the other.
-pub(crate) fn may_be_said(script: &Script, rate: bool, double: u32, receiver: &NodeSpec, sender: &NodeSpec) -> bool
+pub(crate) fn may_be_said(
+    script: &Script,
+    rate: bool,
+    double: u32,
+    receiver: &NodeSpec,
+    sender: &NodeSpec,
+) -> bool
     requires { double ≤ 100_000 }
     ensures { (nodes : List NodeSpec) → result ≡
         may_be_said rate (traffic_with nodes script.now) double receiver.now sender.now }
@@ -236,7 +265,13 @@ fn may_say(
 }
 
 // It has a value, and discards at each end as many as may be of arbitrary nodes.
-pub(crate) fn is_trusted(nodes: &NodeList, script: &Script, rate: bool, double: u32, receiver: &NodeSpec) -> bool
+pub(crate) fn is_trusted(
+    nodes: &NodeList,
+    script: &Script,
+    rate: bool,
+    double: u32,
+    receiver: &NodeSpec,
+) -> bool
     requires double { double ≤ 100_000 }
     requires few { length nodes.now ≤ 64 }
     ensures { result ≡ is_trusted rate (traffic_with nodes.now script.now) double receiver.now }

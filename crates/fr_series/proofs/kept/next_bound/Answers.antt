@@ -1,6 +1,6 @@
 use Rattle.std.proofs.Common.{◌≡◌, Option, ◌+◌, ◌∙◌, ap, sym, subst}
 use Rattle.fr_cluster.specs.Values.{Values}
-use Rattle.fr_bound.specs.Judged.{heard_spread}
+use Rattle.fr_precision.specs.Among.{kinds_spread}
 use Rattle.fr_sharp.specs.LossSteps.{heard_apart}
 use Rattle.fr_series.specs.SharpLosses.{bound_since, from_of, IsHeldSince, IsHeldBy}
 use Rattle.fr_series.specs.declared.basis.Basis.{Basis}
@@ -27,4 +27,4 @@ returns-in-Some-clause-held c =
     let held : IsHeldBy w.params w.drift w.script c.args.double b c.args.spread.now = subst H c.in-Some.is c.requires.held in
     subst G (sym c.in-Some.is)
     (held_more w.params w.drift w.script c.args.double b c.args.spread.now c.args.heard held c.requires.heard c.step.new.self c.step.ensures.passed
-    (c.step.ensures.spread ∙ ap (λ (q : Values). heard_spread c.args.heard q b.flutter c.args.spread.now.spread) c.params-in-Some.ensures.value))
+    (c.step.ensures.spread ∙ ap (λ (q : Values). kinds_spread c.args.heard q b.flutter c.args.spread.now.spread) c.params-in-Some.ensures.value))

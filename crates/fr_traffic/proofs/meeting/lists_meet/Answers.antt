@@ -19,7 +19,7 @@ returns-then-not-has_some c =
     let less : c.loop-place.place < length c.args.nodes.now = ltb-true _ _ (sym c.in-Some.ensures.0) in
     let none : c.has_some.result ≡ false = search rules in
     let is : test node ≡ false =
-        sym (some_is c.args.rate t c.args.double node) ∙ sym (ap (λ (one : Receiver). has_some one.begun one.sure) c.receiver_of-receiver.ensures) ∙ sym c.has_some.ensures ∙ none in
+    sym (some_is c.args.rate t c.args.double node) ∙ sym (ap (λ (one : Receiver). has_some one.begun one.sure) c.receiver_of-receiver.ensures) ∙ sym c.has_some.ensures ∙ none in
     let here : test (get_or c.args.nodes.now c.loop-place.place node) ≡ false = ap test (sym c.in-Some.ensures.1) ∙ is in
     meet_not c.args.rate t c.args.double (list_all_at test c.args.nodes.now c.loop-place.place node less here)
 
@@ -34,7 +34,7 @@ loop-place-preserved c = elim c.match-get.branch [
       let less : c.loop-place.place < length c.args.nodes.now = ltb-true _ _ (sym w.in-Some.ensures.0) in
       let some : w.has_some.result ≡ true = search rules in
       let is : test node ≡ true =
-          sym (some_is c.args.rate t c.args.double node) ∙ sym (ap (λ (r : Receiver). has_some r.begun r.sure) w.receiver_of-receiver.ensures) ∙ sym w.has_some.ensures ∙ some in
+      sym (some_is c.args.rate t c.args.double node) ∙ sym (ap (λ (r : Receiver). has_some r.begun r.sure) w.receiver_of-receiver.ensures) ∙ sym w.has_some.ensures ∙ some in
       let here : test (get_or c.args.nodes.now c.loop-place.place node) ≡ true = ap test (sym w.in-Some.ensures.1) ∙ is in
       let now : c.match-get.receivers ≡ c.loop-place.receivers ++ one ∷ [] = search rules in
       let long : length (c.loop-place.receivers ++ one ∷ []) ≡ length c.loop-place.receivers + 1 = length-append c.loop-place.receivers (one ∷ []) in

@@ -10,7 +10,7 @@ invariant-loop-place l = record {
   double : l.asked.double ≡ l.double;
   value : l.count ≡ count_by
       (λ a. is_correct_sender (traffic_with l.nodes l.script) a
-          && (stays (traffic_with l.nodes l.script) a && has_value l.rate true (traffic_with l.nodes l.script) l.double l.receiver a))
+      && (stays (traffic_with l.nodes l.script) a && has_value l.rate true (traffic_with l.nodes l.script) l.double l.receiver a))
       (take l.place l.nodes);
   few : l.count ≤ l.place;
 }
