@@ -1,5 +1,5 @@
 -- The files of a run that node 5 joins and that loses frames while it follows and when it has come to take part, and what they promise.
-use Rattle.std.specs.Prelude.{◌≡◌, ℕ, [], ◌∷◌, ◌++◌, codes, Bool, false}
+use Rattle.std.specs.Prelude.{◌≡◌, ℕ, [], ◌∷◌, ◌++◌, codes, false}
 use Rattle.fr_bound.specs.declared.judging.Heard.TheVariants as heard
 use Rattle.fr_cluster.specs.Sane.{IsSane}
 use Rattle.fr_drift.specs.Files.{IsDriftFile}
@@ -17,6 +17,7 @@ use Rattle.fr_promise.specs.Statement.{IsRunOf}
 use Rattle.fr_runs.specs.Stated.{all_cycles}
 use Rattle.fr_runs.specs.Whole.{IsJoined}
 use Rattle.fr_sharp.specs.JoinedLossStatement.{IsCoveredToJoinThroughLosses, KeepsJoinedThroughLosses}
+use Rattle.fr_sharp.specs.SharpStatement.{has_arbitrary}
 use Rattle.fr_traffic.specs.Traffic.{heard_in, traffic_in}
 use Rattle.fr_worked.specs.Files.{no_arbitrary}
 use Rattle.fr_worked.specs.RunFiles.{RunFiles, run_of_files}
@@ -70,7 +71,7 @@ pub record JoiningFilesLose : Type 0 where
 -- so their run, which is in sharp sync in double cycle 0, keeps from there on what is promised of it, by these numbers, in ticks; and
 -- node 5 follows in cycles 2 to 5 and takes part from cycle 6 on
 pub record JoiningFilesKeep (h : Cycles) : Type 0 where
-  pub synced : IsUnfollowedSharpSyncAt false wide_cluster 250 h 0
+  pub synced : IsUnfollowedSharpSyncAt (has_arbitrary wide_cluster joining_files.script) wide_cluster 250 h 0
   pub keeps : KeepsJoinedThroughLosses wide_cluster wide_drift joining_files.script 250 h 0
   pub keeps_0 : KeepsJoined (run_of_files joining_files) h 0 39_009_094
   pub keeps_1 : KeepsJoined (run_of_files joining_files) h 1 42_009_494
