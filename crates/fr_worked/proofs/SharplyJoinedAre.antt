@@ -1,6 +1,6 @@
 -- The files whose delays flutter, and which node 5 joins: they are accepted and sharply covered to join, and their run begins in sharp
 -- sync.
-use Rattle.std.proofs.Common.{◌≡◌, ◌<◌, ◌≤◌, ◌*◌, ℕ, ◌==◌, Bool, true, false, ◌||◌, [], ◌∷◌, Some, None, length, refl, sym, ◌∙◌, subst, lit≤, lit<, arith}
+use Rattle.std.proofs.Common.{◌≡◌, ◌≤◌, ◌*◌, ℕ, ◌==◌, Bool, true, false, ◌||◌, [], ◌∷◌, Some, None, length, refl, sym, ◌∙◌, subst, lit≤, lit<, arith}
 use Rattle.std.specs.Prelude.{cond, Contains}
 use Rattle.std.specs.Ordering.{nat_cmp}
 use Rattle.std.proofs.lemmas.Int.{ints}

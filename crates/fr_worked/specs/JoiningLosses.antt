@@ -1,5 +1,5 @@
 -- The files of a run that node 5 joins and that loses frames while it follows and when it has come to take part, and what they promise.
-use Rattle.std.specs.Prelude.{◌≡◌, ℕ, [], ◌∷◌, ◌++◌, codes, false}
+use Rattle.std.specs.Prelude.{◌≡◌, ℕ, [], ◌∷◌, ◌++◌, codes}
 use Rattle.fr_bound.specs.declared.judging.Heard.TheVariants as heard
 use Rattle.fr_cluster.specs.Sane.{IsSane}
 use Rattle.fr_drift.specs.Files.{IsDriftFile}
