@@ -34,12 +34,12 @@ use Rattle.fr_runs.specs.Gathered.{listened_by}
 use Rattle.fr_script.specs.Deeds.{deed_in, passage_cmp, DeedsAscend}
 use Rattle.fr_script.specs.Events.{event_of}
 use Rattle.fr_script.specs.Files.{IsScriptFile}
-use Rattle.fr_script.specs.Reasons.{deed_by, is_named_in, is_same_passage, join_by, script_reason_after}
+use Rattle.fr_script.specs.Reasons.{deed_by, is_same_passage, script_reason_after}
 use Rattle.fr_script.specs.Rows.{script_row_of}
 use Rattle.fr_script.specs.View.{deed_of, deeds_on, is_arbitrary, join_of, AreDeeds, ScriptView}
 use Rattle.fr_script.specs.declared.deeds.Passage.{Passage}
 use Rattle.fr_sharp.specs.JoinedLosses.{TakesInJoining}
-use Rattle.fr_sharp.specs.JoinedLossStatement.{comes_in_both, run_group, IsCoveredToJoinThroughLosses, JoinedFilesKeepThroughLosses, KeepsJoinedThroughLosses}
+use Rattle.fr_sharp.specs.JoinedLossStatement.{run_group, IsCoveredToJoinThroughLosses, JoinedFilesKeepThroughLosses, KeepsJoinedThroughLosses}
 use Rattle.fr_sharp.specs.LossStatement.{without_losses}
 use Rattle.fr_sharp.specs.SharpStatement.{has_arbitrary}
 use Rattle.fr_sharp.proofs.FromLossyFiles.{same_flutter}
@@ -62,10 +62,6 @@ x = run_of_files joining_files
 
 -- ---- the script
 
-accepted : are_accepted (script_reason_after wide_cluster) [] (records_of joining_files.script_file) ≡ true
-unfolding are_accepted records_of strip_bom records_from next_record script_row_of looked_up
-accepted = refl
-
 lost_deeds : AreDeeds script.on_a
 unfolding AllKept
 lost_deeds = are_deeds script.on_a tt (tt, (tt, (tt, (tt, (tt, (tt, (tt, (tt, (tt, (tt, (tt, (tt, (tt, (tt, (tt, (tt, (tt, (tt, (tt, tt)))))))))))))))))))
@@ -79,26 +75,19 @@ deeds_ascend : (ch : Channel) → DeedsAscend (deeds_on script ch)
 deeds_ascend A = lost_deeds.ascending
 deeds_ascend B = no_deeds.ascending
 
-none_arbitrary : (node : ℕ) → is_arbitrary script node ≡ is_named_in node (records_of joining_files.script_file)
-unfolding is_arbitrary records_of strip_bom records_from next_record script_row_of looked_up
-none_arbitrary node = none_marked 65 node
-
 joins_are : (node : ℕ) → join_of script node ≡ cond (5 == node) (Some join_of_5) None
 unfolding join_of
 joins_are node = one_differs 5 59 node (Some join_of_5) None
 
-joins_said : (node : ℕ) → join_of script node ≡ join_by node (records_of joining_files.script_file)
-unfolding records_of strip_bom records_from next_record script_row_of looked_up
-joins_said node = joins_are node ∙ said_once (5 == node) join_of_5
-
 script_is : IsScriptFile wide_cluster script joining_files.script_file
+unfolding are_accepted is_arbitrary records_of strip_bom records_from next_record script_row_of looked_up
 script_is = record {
-  none_refused = none_refused (script_reason_after wide_cluster) (records_of joining_files.script_file) accepted;
+  none_refused = none_refused (script_reason_after wide_cluster) (records_of joining_files.script_file) refl;
   stands = record {
     long = refl;
     joins_long = refl;
-    nodes = λ node low. none_arbitrary node;
-    joins = λ node low. joins_said node;
+    nodes = λ node low. none_marked 65 node;
+    joins = λ node low. joins_are node ∙ said_once (5 == node) join_of_5;
     deeds = deeds_are;
     ascending = deeds_ascend;
   };
@@ -181,10 +170,6 @@ so_apart : (apart_at 0 ≡ 39_009_094) × (apart_at 1 ≡ 42_009_494) × (apart_
 unfolding spread_through_losses is_arbitrary join_of deed_of deed_in event_of
 so_apart = (refl, refl, refl, refl, refl)
 
-reference_comes : comes_in_both (traffic_in wide_cluster script) (on_a 1) (on_a 5) 0 ≡ true
-unfolding is_arbitrary deed_of deed_in event_of
-reference_comes = refl
-
 module _ (only : (x : Setting) (h : Cycles) → IsLawful x h → h ≡ cycles_of x (length h)) (promise : JoinedFilesKeepThroughLosses) (h : Cycles) (run : IsRunOf x h) where
   long : length h ≡ 10
   long = let whole : length h ≡ 2 * x.doubles = run.whole in let e = five in omega (arith, e, whole)
@@ -203,11 +188,11 @@ module _ (only : (x : Setting) (h : Cycles) → IsLawful x h → h ≡ cycles_of
   keeps passed apart less is = let e = five in subst (KeepsJoined x h (0 + passed)) is ((kept.stays passed (omega (arith, e, less)) (λ m early. first_rates m)).keeps (first_rates passed))
 
   joined : IsJoinedUpTo h 5 join_of_5 10
-  unfolding is_arbitrary join_of
+  unfolding is_arbitrary join_of deed_of deed_in event_of
   joined =
       let e = five in
       kept.joins_up_to 4 (omega (arith, e)) (λ m early. first_rates m) (on_a 5) (on_a 1) join_of_5 node_5 refl (lit≤ tt)
-      (Contains-here (on_a 1) (on_a 2 ∷ on_a 3 ∷ on_a 4 ∷ on_a 5 ∷ [])) refl reference_comes
+      (Contains-here (on_a 1) (on_a 2 ∷ on_a 3 ∷ on_a 4 ∷ on_a 5 ∷ [])) refl refl
 
   pub joining_files_keep : JoiningFilesKeep h
   joining_files_keep = record {

@@ -358,7 +358,7 @@ keep_sharply_from_the_start beside f flutter lawful long promise w =
           (promise f.params f.drift f.script f.drift_file f.script_file 0 flutter (all_cycles x) 0 w.sane w.drift w.script covered run (lit≤ tt) (subst At (sym w.kind) first.unfollowed));
     }
 
--- and node 5 joins
+-- node 5, which is one of the nodes of the first files, joins
 pub node_5 : Contains (on_a 1 ∷ on_a 2 ∷ on_a 3 ∷ on_a 4 ∷ on_a 5 ∷ []) (on_a 5)
 node_5 =
     Contains-there (on_a 1) (on_a 2 ∷ on_a 3 ∷ on_a 4 ∷ on_a 5 ∷ []) (on_a 5)
@@ -371,8 +371,7 @@ unfolding is_arbitrary join_of doubles_of
 alone_joins w = record {
   listens = refl;
   soon = lit< tt;
-  joined =
-      w.keeps.joins (w.keeps.on w.check) (on_a 5) (record { double = 0; reference = 1 }) node_5 refl (lit≤ tt);
+  joined = w.keeps.joins (w.keeps.on w.check) (on_a 5) (record { double = 0; reference = 1 }) node_5 refl (lit≤ tt);
 }
 
 pub beside_joins : KeepSharplyFromTheStart true beside_files 250 → JoinsInTime beside_files 5 (record { double = 0; reference = 1 })
