@@ -286,7 +286,6 @@ each_passes : {X : Type 0} (test : X → Bool) (xs : List X) → ((x : X) → Co
 each_passes test [] all = refl
 each_passes test (y ∷ xs) all = both_true (test y) (list_all test xs) (all y (Contains-here y xs)) (each_passes test xs (λ x among. all x (Contains-there y xs x among)))
 
-
 neither : (a b : Bool) → (a || b) ≡ false → (a ≡ false) × (b ≡ false)
 neither false false is = (refl, refl)
 neither false true is = absurd (cc)

@@ -48,8 +48,8 @@ pub use loss_cost_laws::{
     every_second_keeps_the_peak,
 };
 pub use loss_costs::{
-    CrossingCost, LossCost, SecondCost, crossing_cost, every_second_cost, heard_behind, longest_loss,
-    loss_cost,
+    CrossingCost, LossCost, SecondCost, crossing_cost, every_second_cost, heard_behind,
+    longest_loss, loss_cost,
 };
 pub use loss_steps::LossSpread;
 pub use losses_of_runs::{RunLosses, losses_are_told, run_losses};
