@@ -34,17 +34,10 @@ use Rattle.fr_promise.proofs.SharpWorked.{is_sane}
 
 -- ---- what is heard
 
-clean_0 : heard_in (traffic_in steady_cluster crossing_script) 0 ≡ both heard.Clean
+kinds : (heard_in (traffic_in steady_cluster crossing_script) 0 ≡ both heard.Clean) × (heard_in (traffic_in steady_cluster crossing_script) 1 ≡ both heard.Poor)
+    × (heard_in (traffic_in steady_cluster crossing_script) 2 ≡ record { offsets = heard.Clean; rates = heard.Poor })
 unfolding is_arbitrary join_of deed_of deed_in event_of
-clean_0 = refl
-
-poor_1 : heard_in (traffic_in steady_cluster crossing_script) 1 ≡ both heard.Poor
-unfolding is_arbitrary join_of deed_of deed_in event_of
-poor_1 = refl
-
-offsets_2 : heard_in (traffic_in steady_cluster crossing_script) 2 ≡ record { offsets = heard.Clean; rates = heard.Poor }
-unfolding is_arbitrary join_of deed_of deed_in event_of
-offsets_2 = refl
+kinds = (refl, refl, refl)
 
 -- ---- they are covered
 
@@ -90,7 +83,7 @@ covered = record {
 }
 
 pub crossing_files_are_covered : CrossingFilesAreCovered
-crossing_files_are_covered = (clean_0, poor_1, offsets_2, covered)
+crossing_files_are_covered = (kinds.0, kinds.1.0, kinds.1.1, covered)
 
 -- ---- what comes of it
 

@@ -36,17 +36,9 @@ use Rattle.fr_promise.proofs.CheckNumbers.{two_to_five}
 
 -- ---- what is heard
 
-whole_0 : whole_in steady_cluster losing_script 0 ≡ true
+whole : (whole_in steady_cluster losing_script 0 ≡ true) × (whole_in steady_cluster losing_script 1 ≡ false) × (whole_in steady_cluster losing_script 2 ≡ true)
 unfolding is_arbitrary deed_of deed_in event_of
-whole_0 = refl
-
-whole_1 : whole_in steady_cluster losing_script 1 ≡ false
-unfolding is_arbitrary deed_of deed_in event_of
-whole_1 = refl
-
-whole_2 : whole_in steady_cluster losing_script 2 ≡ true
-unfolding is_arbitrary deed_of deed_in event_of
-whole_2 = refl
+whole = (refl, refl, refl)
 
 -- ---- they are covered
 
@@ -70,27 +62,11 @@ pub checks_hold : SharpChecksHold 250 61_281_165 steady_cluster
 unfolding last_of
 checks_hold = two_to_five (λ k. sharp_holds_of k 250 61_281_165 steady_cluster) refl refl refl refl
 
--- the numbers of each double cycle
-abbrev near_at : ℕ → ℕ
-near_at double = sharply_near_in steady_cluster (run_spread steady_cluster losing_script 0 250 double)
-
-near_0 : near_at 0 ≤ 61_281_165
-unfolding spread_through_losses last_of is_arbitrary
-near_0 = lit≤ tt
-
-near_1 : near_at 1 ≤ 61_281_165
-unfolding spread_through_losses last_of is_arbitrary join_of deed_of deed_in event_of
-near_1 = lit≤ tt
-
-near_2 : near_at 2 ≤ 61_281_165
-unfolding spread_through_losses last_of is_arbitrary join_of deed_of deed_in event_of
-near_2 = lit≤ tt
-
-near_in : (double : ℕ) → 0 ≤ double → double < doubles_of fluttering_drift → near_at double ≤ 61_281_165
-unfolding doubles_of
-near_in zero late less = near_0
-near_in (suc zero) late less = near_1
-near_in (suc (suc zero)) late less = near_2
+near_in : (double : ℕ) → 0 ≤ double → double < doubles_of fluttering_drift → sharply_near_in steady_cluster (run_spread steady_cluster losing_script 0 250 double) ≤ 61_281_165
+unfolding doubles_of spread_through_losses last_of is_arbitrary join_of deed_of deed_in event_of
+near_in zero late less = lit≤ tt
+near_in (suc zero) late less = lit≤ tt
+near_in (suc (suc zero)) late less = lit≤ tt
 near_in (suc (suc (suc k))) late less = absurd (omega (arith, less))
 
 trusted : (double : ℕ) → 0 ≤ double → double < doubles_of fluttering_drift → all_bear_from steady_cluster (traffic_in steady_cluster losing_script) 0 double ≡ true
@@ -112,7 +88,7 @@ covered = record {
 }
 
 pub losing_files_are_covered : LosingFilesAreCovered
-losing_files_are_covered = (whole_0, whole_1, whole_2, covered)
+losing_files_are_covered = (whole.0, whole.1.0, whole.1.1, covered)
 
 -- ---- what comes of it
 

@@ -19,7 +19,6 @@ use Rattle.fr_sharp.specs.SettlingHistories.{AreStatedNear}
 use Rattle.fr_bound.specs.SharpBounds.{last_of, sharp_lambda, sharp_pi}
 use Rattle.fr_bound.specs.SharpChecks.{sharp_holds_of, SharpChecksHold}
 use Rattle.fr_runs.specs.SharpHistories.{IsInSharpSyncAt, KeepsApart}
-use Rattle.fr_precision.specs.SharpRun.{WalkLastsAfter}
 use Rattle.fr_bound.specs.SharpSpreads.{sharply_near_in}
 use Rattle.fr_sharp.specs.SharpStatement.{has_arbitrary}
 use Rattle.fr_sharp.proofs.StrayFits.{limit_follows}
@@ -27,6 +26,7 @@ use Rattle.fr_traffic.specs.Traffic.{all_bear_from, heard_in, lacking_for, none_
 use Rattle.fr_worked.specs.WorkedFiles.{fluttering_drift, marking_script}
 use Rattle.fr_worked.specs.WorkedLosses.{missing_script, BesideFilesAreCovered, BesideFilesKeep, MissingFilesAreCovered, MissingFilesKeep}
 use Rattle.fr_sharp.specs.WorkedRun.{steady_cluster}
+use Rattle.fr_worked.proofs.LossesWorked.{lasts, three}
 use Rattle.fr_worked.proofs.FilesWorked.{covered as sharply_covered, kind_is, stated_near, steady}
 use Rattle.fr_sharp.proofs.BearingKinds.{through_is_apart}
 use Rattle.fr_sharp.proofs.FromLossyFiles.{covered_files_keep_through_losses, lossy_files_give_runs}
@@ -106,9 +106,6 @@ near : AreStatedNear missing (sharp_pi false steady_cluster 250) (sharp_lambda f
 unfolding is_arbitrary join_of
 near = let n = stated_near false in record { starts = n.starts; lengths = n.lengths; about = n.about }
 
-lasts : (passed : ℕ) → WalkLastsAfter steady_cluster 250 passed
-lasts passed = tt
-
 abbrev apart_at : ScriptView → ℕ → ℕ
 apart_at s passed = apart_through_losses (has_arbitrary steady_cluster s) steady_cluster 250 (λ m. heard_in (traffic_in steady_cluster s) (0 + m)) passed
 
@@ -123,10 +120,6 @@ apart_1 = refl
 apart_2 : apart_at missing_script 2 ≡ 57_008_790
 unfolding spread_through_losses is_arbitrary join_of deed_of deed_in event_of
 apart_2 = refl
-
-three : doubles_of fluttering_drift ≡ 3
-unfolding doubles_of
-three = refl
 
 within : (n : ℕ) → n < 3 → 0 + n < doubles_of fluttering_drift
 within n is = let e = three in omega (arith, e, is)
