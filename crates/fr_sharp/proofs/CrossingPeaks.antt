@@ -56,7 +56,7 @@ clean_behind count n less = ap₂ (λ (a b : Bool). by_tests a b) (behind_it n c
 -- ---- the spreads
 
 module _ (p : Values) (flutter count : ℕ) where
-  abbrev at : ℕ → Spread
+  abbrev pub at : ℕ → Spread
   at n = spread_through_losses false p flutter (crossing count) n
 
   -- that of so many double cycles in a row
@@ -79,13 +79,13 @@ module _ (p : Values) (flutter count : ℕ) where
   same_yet (suc n) le =
       next_by n (both Poor) (poor_before count n (omega (arith, le))) ∙ ap (kinds_spread (both Poor) p flutter) (same_yet n (omega (arith, le))) ∙ sym (next_is p flutter never n false refl)
 
-  row_is : at count ≡ row
+  pub row_is : at count ≡ row
   row_is = same_yet count (omega arith)
 
-  behind_is : at (suc count) ≡ behind
+  pub behind_is : at (suc count) ≡ behind
   behind_is = next_by count crossed (crossed_at count) ∙ ap (kinds_spread crossed p flutter) row_is
 
-  clean_is : (n : ℕ) → count < n → at (suc n) ≡ kinds_spread (both Clean) p flutter (at n)
+  pub clean_is : (n : ℕ) → count < n → at (suc n) ≡ kinds_spread (both Clean) p flutter (at n)
   clean_is n less = next_by n (both Clean) (clean_behind count n less)
 
   settled : (n : ℕ) → suc count < n → IsSharplySettled false p flutter (at (suc n))
@@ -111,7 +111,7 @@ module _ (p : Values) (flutter count : ℕ) where
       at_most a b c same le = omega (arith, same, le)
 
 -- the one after that, where some frames were lost
-third_row : (p : Values) (flutter count : ℕ) → 1 ≤ count → IsBelow (at p flutter count (suc (suc count))) (row p flutter count)
+pub third_row : (p : Values) (flutter count : ℕ) → 1 ≤ count → IsBelow (at p flutter count (suc (suc count))) (row p flutter count)
 third_row p flutter zero some = absurd (omega (arith, some))
 third_row p flutter (suc n) some =
     let s : Spread = lost_spread p flutter never n in
@@ -183,13 +183,13 @@ module _ (p : Values) (flutter count : ℕ) (some : 1 ≤ count) where
       by (inr (inr (inl same))) other = subst (λ (m : ℕ). IsBelow (at p flutter count m) (row p flutter count)) same (third_row p flutter count some)
       by (inr (inr (inr less))) other = late n less
 
-  apart_at : apart_crossing p flutter count count ≡ heard_apart crossed p flutter (row p flutter count)
+  pub apart_at : apart_crossing p flutter count count ≡ heard_apart crossed p flutter (row p flutter count)
   apart_at =
       let q = longest_micro p in
       ap (λ (s : Spread). max (Far p s) ((at p flutter count (suc count)).starts + q)) (row_is p flutter count)
       ∙ ap (λ (s : Spread). max (Far p (row p flutter count)) (s.starts + q)) (behind_is p flutter count)
 
-  apart_next : apart_crossing p flutter count (suc count) ≡ heard_apart (both Clean) p flutter (behind p flutter count)
+  pub apart_next : apart_crossing p flutter count (suc count) ≡ heard_apart (both Clean) p flutter (behind p flutter count)
   apart_next =
       let q = longest_micro p in
       ap (λ (s : Spread). max (Far p (at p flutter count (suc count))) (s.starts + q)) (clean_is p flutter count (suc count) (omega arith))

@@ -23,6 +23,7 @@ pub mod HeldRuns
 pub mod FromFiles
 pub mod FromLossyFiles
 pub mod LossBurstLaws
+pub mod CrossingBursts
 pub mod StrayFits
 pub mod JoinedFromFiles
 pub mod JoinedFromLossyFiles

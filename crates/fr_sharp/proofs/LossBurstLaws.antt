@@ -37,14 +37,14 @@ use Rattle.fr_sharp.proofs.LossNumbers.{never, never_rises, same_yet}
 use Rattle.fr_promise.proofs.LossOrder.{always_wide, below_itself, calm, next_below, through, whole_below_lost, whole_falls, IsBelow, IsWide}
 
 module _ (p : Values) (flutter : ℕ) where
-  abbrev by_never : ℕ → Spread
+  abbrev pub by_never : ℕ → Spread
   by_never n = lost_spread p flutter never n
 
   same_below : (s t : Spread) → s.starts ≡ t.starts → s.lengths ≡ t.lengths → IsBelow s t
   same_below s t one other = record { start = omega (arith, one); long = omega (arith, other) }
 
   -- behind two double cycles in which all is heard, or at first
-  calm_below : (whole : ℕ → Bool) (start : ℕ) → ((k : ℕ) → k < start → start ≤ k + 2 → whole k ≡ true) → IsBelow (lost_spread p flutter whole start) (calm p flutter)
+  pub calm_below : (whole : ℕ → Bool) (start : ℕ) → ((k : ℕ) → k < start → start ≤ k + 2 → whole k ≡ true) → IsBelow (lost_spread p flutter whole start) (calm p flutter)
   unfolding lost_spread
   calm_below whole zero heard = below_itself (calm p flutter)
   calm_below whole (suc zero) heard =
@@ -62,7 +62,7 @@ module _ (p : Values) (flutter : ℕ) where
   no_further false s t whole k is below = next_below p flutter false s t below
 
   -- from a calm double cycle on
-  from_calm : (whole : ℕ → Bool) (start n : ℕ) → IsBelow (lost_spread p flutter whole start) (calm p flutter) → IsBelow (lost_spread p flutter whole (start + n)) (by_never n)
+  pub from_calm : (whole : ℕ → Bool) (start n : ℕ) → IsBelow (lost_spread p flutter whole start) (calm p flutter) → IsBelow (lost_spread p flutter whole (start + n)) (by_never n)
   unfolding lost_spread
   from_calm whole start zero below =
       let same : start ≡ start + 0 = omega arith in
@@ -172,28 +172,42 @@ from_there whole from count bursts k late lost =
       calm = λ earlier since less le. burst.calm (from + earlier) (omega arith) (omega (arith, less)) (omega (arith, less, le));
     }
 
--- a run keeps within each number that what is lost from there on costs no more than
-within_costs : HistoriesKeepThroughLosses → LaterSpreadsAreLess → SpreadsAreBelowLost → (p : Values) (d : DriftView) (s : ScriptView) (from flutter reach peak : ℕ) (h : Cycles) (double passed : ℕ)
+-- a run keeps within each number that what is heard from there on costs no more than
+pub within_heard : HistoriesKeepThroughLosses → LaterSpreadsAreLess → (p : Values) (d : DriftView) (s : ScriptView) (from flutter reach peak : ℕ) (h : Cycles) (double passed : ℕ)
     → IsSane p → IsCoveredThroughLosses p d s from flutter reach → has_arbitrary p s ≡ false → IsRunOf (setting_of p d s) h
     → from ≤ double → IsInSharpSyncAt false p flutter (pos 0) h double → none_lacks (traffic_in p s) double ≡ true → double + passed < doubles_of d → WalkLastsAfter p flutter passed
-    → lost_apart p flutter (λ m. whole_in p s (from + m)) ((double + passed) - from) ≤ peak → KeepsThrough (setting_of p d s) h (double + passed) peak
-within_costs keep later below p d s from flutter reach peak h double passed sane covered alone run late sync awake within lasts cost_is =
+    → apart_through_losses false p flutter (λ m. heard_in (traffic_in p s) (from + m)) ((double + passed) - from) ≤ peak → KeepsThrough (setting_of p d s) h (double + passed) peak
+within_heard keep later p d s from flutter reach peak h double passed sane covered alone run late sync awake within lasts cost_is =
     let beside = has_arbitrary p s in
     let n : ℕ = (double + passed) - from in
     let what : ℕ → Kinds = λ m. heard_in (traffic_in p s) (from + m) in
-    let whole : ℕ → Bool = λ m. whole_in p s (from + m) in
     let now = apart_through_losses beside p flutter (λ m. heard_in (traffic_in p s) (double + m)) passed in
     let synced : IsInSharpSyncAt beside p flutter (pos 0) h double = subst (λ (b : Bool). IsInSharpSyncAt b p flutter (pos 0) h double) (sym alone) sync in
     let keeps = covered_files_keep_through_losses keep later p d s from flutter reach h double sane covered run late synced awake passed within lasts in
     let one = apart_later later beside p from flutter (λ m. heard_in (traffic_in p s) m) double passed late (none_is_clean p s) in
     let same : apart_through_losses beside p flutter what n ≡ apart_through_losses false p flutter what n = ap (λ (b : Bool). apart_through_losses b p flutter what n) alone in
-    let other = below_lost below p flutter what whole n (λ m. whole_is_clean p s alone (from + m)) in
     keeps_wider (setting_of p d s) h (double + passed) now peak
-    (up now (apart_through_losses beside p flutter what n) (apart_through_losses false p flutter what n) (lost_apart p flutter whole n) peak one same other cost_is)
+    (up now (apart_through_losses beside p flutter what n) (apart_through_losses false p flutter what n) peak one same cost_is)
     keeps
   where
-    up : (a b c d e : ℕ) → a ≤ b → b ≡ c → c ≤ d → d ≤ e → a ≤ e
-    up a b c d e h is k m = omega (arith, h, is, k, m)
+    up : (a b c d : ℕ) → a ≤ b → b ≡ c → c ≤ d → a ≤ d
+    up a b c d h is k = omega (arith, h, is, k)
+
+-- so it does within each that what is lost from there on costs no more than
+within_costs : HistoriesKeepThroughLosses → LaterSpreadsAreLess → SpreadsAreBelowLost → (p : Values) (d : DriftView) (s : ScriptView) (from flutter reach peak : ℕ) (h : Cycles) (double passed : ℕ)
+    → IsSane p → IsCoveredThroughLosses p d s from flutter reach → has_arbitrary p s ≡ false → IsRunOf (setting_of p d s) h
+    → from ≤ double → IsInSharpSyncAt false p flutter (pos 0) h double → none_lacks (traffic_in p s) double ≡ true → double + passed < doubles_of d → WalkLastsAfter p flutter passed
+    → lost_apart p flutter (λ m. whole_in p s (from + m)) ((double + passed) - from) ≤ peak → KeepsThrough (setting_of p d s) h (double + passed) peak
+within_costs keep later below p d s from flutter reach peak h double passed sane covered alone run late sync awake within lasts cost_is =
+    let n : ℕ = (double + passed) - from in
+    let what : ℕ → Kinds = λ m. heard_in (traffic_in p s) (from + m) in
+    let whole : ℕ → Bool = λ m. whole_in p s (from + m) in
+    let heard_costs = below_lost below p flutter what whole n (λ m. whole_is_clean p s alone (from + m)) in
+    within_heard keep later p d s from flutter reach peak h double passed sane covered alone run late sync awake within lasts
+    (up (apart_through_losses false p flutter what n) (lost_apart p flutter whole n) peak heard_costs cost_is)
+  where
+    up : (a b c : ℕ) → a ≤ b → b ≤ c → a ≤ c
+    up a b c h k = omega (arith, h, k)
 
 pub bursts_keep_the_peak : HistoriesKeepThroughLosses → LaterSpreadsAreLess → SpreadsAreBelowLost → BurstsKeepThePeak
 bursts_keep_the_peak keep later below p d s from flutter count cost h double passed sane bursts is covered alone run late sync awake within lasts =
