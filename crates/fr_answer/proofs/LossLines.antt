@@ -2,11 +2,10 @@
 use Rattle.std.proofs.Common.{◌≡◌, ◌∙◌, ℕ, suc, ◌+◌, ◌-◌, ◌<◌, ◌≤◌, [], ◌++◌, refl, ap, sym, arith}
 use Rattle.std.specs.Prelude.{codes}
 use Rattle.std.specs.Fmt.{decimal}
-use Rattle.fr_bound.specs.Judged.{heard_spread}
 use Rattle.fr_bound.specs.declared.settling.Spread.{Spread}
 use Rattle.fr_cluster.specs.Values.{Values}
 use Rattle.fr_bound.specs.SharpSpreads.{next_lost_spread}
-use Rattle.fr_precision.specs.Among.{all_or_any, lost_spread}
+use Rattle.fr_precision.specs.Among.{all_or_any, both, kinds_spread, lost_spread}
 use Rattle.fr_sharp.specs.LossCosts.{heard_behind}
 use Rattle.fr_sharp.specs.LossSteps.{heard_apart}
 use Rattle.fr_sharp.specs.Losses.{lost_apart}
@@ -34,15 +33,15 @@ module _ (p : Values) (flutter count : ℕ) where
   lines_all doubles = let all : doubles - 0 ≡ doubles = omega arith in ap (λ (n : ℕ). loss_apart_lines p flutter count 0 n) all
 
   -- the line by the spread that was stepped there
-  pub line_is : (double apart : ℕ) (s : Spread) → s ≡ lost_spread p flutter (heard_behind count) double → apart ≡ heard_apart (all_or_any (heard_behind count double)) p flutter s
+  pub line_is : (double apart : ℕ) (s : Spread) → s ≡ lost_spread p flutter (heard_behind count) double → apart ≡ heard_apart (both (all_or_any (heard_behind count double))) p flutter s
       → line (codes "apart " ++ decimal double ++ codes " " ++ decimal apart) ≡ loss_apart_line p flutter count double
   line_is double apart s is apart_told =
       let here : apart ≡ lost_apart p flutter (heard_behind count) double =
-      apart_told ∙ ap (heard_apart (all_or_any (heard_behind count double)) p flutter) is ∙ sym (apart_by_all p flutter (heard_behind count) double) in
+      apart_told ∙ ap (heard_apart (both (all_or_any (heard_behind count double))) p flutter) is ∙ sym (apart_by_all p flutter (heard_behind count) double) in
       ap (λ (n : ℕ). line (codes "apart " ++ decimal double ++ codes " " ++ decimal n)) here
 
   pub spread_more : (double : ℕ) (s : Spread) → s ≡ lost_spread p flutter (heard_behind count) double
-      → heard_spread (all_or_any (heard_behind count double)) p flutter s ≡ lost_spread p flutter (heard_behind count) (double + 1)
+      → kinds_spread (both (all_or_any (heard_behind count double))) p flutter s ≡ lost_spread p flutter (heard_behind count) (double + 1)
   spread_more double s is =
       let next : suc double ≡ double + 1 = omega arith in
       next_by (heard_behind count double) p flutter s ∙ ap (next_lost_spread (heard_behind count double) p flutter) is ∙ sym (next_is p flutter (heard_behind count) double (heard_behind count double) refl)

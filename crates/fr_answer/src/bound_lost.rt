@@ -2,7 +2,7 @@ ghost use Rattle.std.specs.Prelude.{◌≡◌, ◌≤◌, ◌+◌, ◌++◌, cod
 ghost use Rattle.std.specs.Fmt.{decimal};
 ghost use Rattle.fr_base.specs.Device.{Puts};
 ghost use Rattle.fr_sharp.specs.Losses.{lost_apart};
-ghost use Rattle.fr_sharp.specs.LossCosts.{heard_behind};
+ghost use Rattle.fr_sharp.specs.LossCosts.{heard_behind, limits_hold};
 ghost use Rattle.fr_sharp.specs.LossSteps.{most_lost};
 ghost use Rattle.fr_bound.specs.SharpBounds.{most_flutter};
 ghost use Rattle.fr_text.specs.Lines.{joined_lines};

@@ -17,7 +17,7 @@ pub struct Kept {
     /// Whether all is heard in it: between any two nodes one channel carries the frames of both its cycles.
     pub whole: bool,
     /// What is heard in it, of offsets and of rates: all of all, without arbitrary sync nodes; of any two nodes enough in
-    /// common; or what there is. Of nodes that join nothing less than all is counted on.
+    /// common; or what there is. Senders that join count only where all is heard.
     pub heard: Kinds,
     /// How far macroticks may lie apart in it, in ticks, from the first double cycle in sharp sync on, where the run is
     /// covered through losses from there on, whoever joins.

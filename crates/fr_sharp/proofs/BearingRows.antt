@@ -43,10 +43,10 @@ use Rattle.fr_precision.proofs.RoundLemmas.{contains_map, map_contains}
 use Rattle.fr_runs.proofs.RowsSupplied.{LawfulRows}
 use Rattle.fr_promise.proofs.RunDoubles.{AllHave}
 use Rattle.fr_sharp.specs.Bearing.{borne, borne_outcome, borne_term, borne_values}
-use Rattle.fr_sharp.specs.RoundsInPart.{IsTrustedOf}
+use Rattle.fr_traffic.specs.RoundsInPart.{IsTrustedOf}
 use Rattle.fr_traffic.specs.Traffic.{bears, is_deaf, is_trusted, lacks_values, may_lack, none_lacks, some_keep, traffic_of, trusts_or_lacks}
 use Rattle.fr_sharp.proofs.BearingKinds.{none_is_deaf_of}
-use Rattle.fr_sharp.proofs.HeardSurely.{value_by}
+use Rattle.fr_traffic.proofs.HeardSurely.{value_by}
 use Rattle.fr_sharp.proofs.HeardValues.{no_value, trusted_of}
 use Rattle.fr_sharp.proofs.RowsInPart.{row_placed}
 

@@ -16,7 +16,7 @@ use Rattle.fr_traffic.specs.Traffic.{all_linked, arbitrary_count, bears_on, rate
 use Rattle.fr_runs.proofs.KeyedCounts.{all_pass}
 use Rattle.fr_traffic.proofs.HeardEvents.{regular_of}
 use Rattle.fr_sharp.specs.JoinedLossStatement.{comes_in_both}
-use Rattle.fr_sharp.proofs.HeardSurely.{share_of}
+use Rattle.fr_traffic.proofs.HeardSurely.{share_of}
 
 -- where all is heard one channel carries the frames of both cycles of any two nodes, and no sync node is arbitrary
 module _ (x : Setting) (double : ℕ) where

@@ -10,12 +10,12 @@ use Rattle.fr_history.specs.Cycles.{Cycle, Cycles}
 use Rattle.fr_history.specs.Standing.{row_nodes}
 use Rattle.fr_runs.specs.Gathered.{round_at, row_hearer}
 use Rattle.fr_runs.proofs.Courses.{is_correct_row}
-use Rattle.fr_sharp.specs.RoundsInPart.{IsTrustedOf}
+use Rattle.fr_traffic.specs.RoundsInPart.{IsTrustedOf}
 use Rattle.fr_runs.specs.SteadyRuns.{AreRowsInReach}
 use Rattle.fr_traffic.specs.Traffic.{is_deaf, is_trusted, traffic_of}
-use Rattle.fr_sharp.proofs.HeardAtMost.{no_value as none_reaches, row_owned, trusted_so}
-use Rattle.fr_sharp.proofs.HeardInCommon.{row_receives}
-use Rattle.fr_sharp.proofs.HeardSurely.{value_by}
+use Rattle.fr_traffic.proofs.HeardAtMost.{no_value as none_reaches, row_owned, trusted_so}
+use Rattle.fr_traffic.proofs.HeardInCommon.{row_receives}
+use Rattle.fr_traffic.proofs.HeardSurely.{value_by}
 use Rattle.fr_runs.proofs.Fed.{row_receivers}
 use Rattle.fr_runs.proofs.RowsSupplied.{receiving, sending, LawfulRows}
 use Rattle.fr_promise.proofs.RunDoubles.{AllHave}

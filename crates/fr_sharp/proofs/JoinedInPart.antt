@@ -39,7 +39,7 @@ use Rattle.fr_promise.proofs.FollowersSupplied.{follower_regular, pairs_steady a
 use Rattle.fr_promise.proofs.JoinedDoubles.{followers_in, rows_in}
 use Rattle.fr_sharp.specs.JoinedLosses.{FollowedDoublesHearInPart}
 use Rattle.fr_sharp.proofs.HeardKinds.{none_arbitrary}
-use Rattle.fr_sharp.proofs.HeardSurely.{follower_owns}
+use Rattle.fr_traffic.proofs.HeardSurely.{follower_owns}
 use Rattle.fr_sharp.proofs.ReceiversHear.{all_offsets, all_rates, meeting_offsets, meeting_rates, offsets_by, rates_by, row_hears, trusting_offsets, trusting_rates, IsHearing, IsMember}
 use Rattle.fr_traffic.specs.Traffic.{all_have, all_trust, arbitrary_count, bears_kind, has_begun, heard_in, is_borne_to_join, is_trusted, kind_in, lists_meet, may_receive, traffic_of, Traffic}
 

@@ -1,17 +1,14 @@
 pub mod DigitTexts
 pub mod LossLemmas
 pub mod LossNumbers
+pub mod CrossingPeaks
 pub mod LossRows
 pub mod MeetingNumbers
-pub mod HeardInPart
-pub mod HeardSurely
-pub mod HeardAtMost
 pub mod HeardValues
 pub mod RowsInPart
 pub mod ReceiversHear
 pub mod BearingRows
 pub mod RowsHear
-pub mod HeardInCommon
 pub mod HeardKinds
 pub mod JoinedInPart
 pub mod JoinedThrough
@@ -33,5 +30,4 @@ pub mod LossTold
 pub mod JudgedLaws
 pub mod JudgedCarried
 pub mod CheckGaps
-pub mod CrossingCosts
 pub mod SharpCovering

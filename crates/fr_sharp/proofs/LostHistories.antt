@@ -66,7 +66,7 @@ use Rattle.fr_promise.proofs.StrayLemmas.{in_range, none_strayed, walk_is_held_t
 use Rattle.fr_sharp.proofs.BearingRows.{bears_at, is_trusted_there, kept_offset, kept_rate, no_values}
 use Rattle.fr_sharp.proofs.BearingStatus.{calm_outcome, limits_in_order, stands_on, stands_within, StandsBy}
 use Rattle.fr_runs.proofs.KeyedCounts.{all_pass}
-use Rattle.fr_sharp.proofs.HeardInPart.{heard_some}
+use Rattle.fr_traffic.proofs.HeardInPart.{heard_some}
 use Rattle.fr_promise.proofs.RunDoubles.{all_among, all_have, evens_are, followed_at, member_among, members_found, next_row, next_rows_are, none_early, none_late, odds_are, senders_found, AllHave, IsCalm}
 use Rattle.fr_promise.proofs.RunSync.{none_cuts}
 use Rattle.fr_promise.proofs.TimedRuns.{acting_with, active_in_sync, active_of, found_of, lawful_run, members_in_sync, part, rates_of_double, rows_of, spread_in}

@@ -34,11 +34,11 @@ use Rattle.fr_runs.proofs.KeyedCounts.{all_pass}
 use Rattle.fr_runs.proofs.Nodes.{correct_node}
 use Rattle.fr_runs.proofs.RowsSupplied.{receiving, sending, LawfulRows}
 use Rattle.fr_traffic.specs.Traffic.{all_have, has_all, has_and_meets, has_begun, is_trusted, kind_by, lists_meet, may_receive, may_send_by, meets_each, sure_count, traffic_of, two_meet, Traffic}
-use Rattle.fr_sharp.specs.RoundsInPart.{IsSuppliedInPart}
-use Rattle.fr_sharp.proofs.HeardAtMost.{trusted_so}
-use Rattle.fr_sharp.proofs.HeardInCommon.{common_offsets, common_rates, enough_met, row_receives}
-use Rattle.fr_sharp.proofs.HeardInPart.{all_offset_round, all_offsets_told, all_rate_round, all_rates_told, lists_keep, own_offsets, own_rates}
-use Rattle.fr_sharp.proofs.HeardSurely.{all_there, value_by, ReceivesOwn}
+use Rattle.fr_traffic.specs.RoundsInPart.{IsSuppliedInPart}
+use Rattle.fr_traffic.proofs.HeardAtMost.{trusted_so}
+use Rattle.fr_traffic.proofs.HeardInCommon.{common_offsets, common_rates, enough_met, row_receives}
+use Rattle.fr_traffic.proofs.HeardInPart.{all_offset_round, all_offsets_told, all_rate_round, all_rates_told, lists_keep, own_offsets, own_rates}
+use Rattle.fr_traffic.proofs.HeardSurely.{all_there, value_by, ReceivesOwn}
 use Rattle.fr_sharp.proofs.RowsInPart.{round_is, row_placed, senders_among}
 
 -- ---- by the kind of what is heard

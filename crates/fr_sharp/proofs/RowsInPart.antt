@@ -27,12 +27,12 @@ use Rattle.fr_runs.proofs.Going.{is_row_node}
 use Rattle.fr_runs.proofs.Nodes.{correct_node}
 use Rattle.fr_precision.proofs.RoundLemmas.{contains_map, map_contains}
 use Rattle.fr_runs.proofs.RowsHeard.{RowLink}
-use Rattle.fr_sharp.specs.RoundsInPart.{IsRoundInPart, IsSuppliedInPart, IsTrustedOf}
+use Rattle.fr_traffic.specs.RoundsInPart.{IsRoundInPart, IsSuppliedInPart, IsTrustedOf}
 use Rattle.fr_bound.specs.SharpBounds.{last_action}
 use Rattle.fr_precision.specs.Among.{ComputesOwn}
 use Rattle.fr_runs.specs.SteadyRuns.{row_hearers, row_members, AreRowsInReach, HearsSome, MayHaveArbitrary, NoneIsDeaf}
-use Rattle.fr_sharp.proofs.HeardInPart.{both_trusted, rounds_in_part_compute_own}
-use Rattle.fr_sharp.proofs.HeardSurely.{change_some, least_some, mean_some, own_of, own_or_other, own_there}
+use Rattle.fr_traffic.proofs.HeardInPart.{both_trusted, rounds_in_part_compute_own}
+use Rattle.fr_traffic.proofs.HeardSurely.{change_some, least_some, mean_some, own_of, own_or_other, own_there}
 use Rattle.fr_runs.proofs.RowsSupplied.{few_in, frames_stored, looked_up, odd_active, pairs_steady, row_regular, rows_heard_in_part, LawfulRows}
 use Rattle.fr_promise.proofs.RunDoubles.{all_among, AllHave}
 

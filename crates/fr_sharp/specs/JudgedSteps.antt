@@ -18,7 +18,7 @@ use Rattle.fr_history.specs.Cycles.{Cycle, Cycles}
 use Rattle.fr_runs.specs.Gathered.{round_at}
 use Rattle.fr_runs.specs.Rounds.{IsDoubleOf}
 use Rattle.fr_precision.specs.Among.{ComputesOwn}
-use Rattle.fr_sharp.specs.RoundsInPart.{IsRoundInPart}
+use Rattle.fr_traffic.specs.RoundsInPart.{IsRoundInPart}
 use Rattle.fr_sharp.specs.SettlingHistories.{AreStatedNear}
 use Rattle.fr_runs.specs.SharpHistories.{members_at, senders_at, EachHasRow, IsInSharpSyncAt, IsKnownAt, IsLawfulStatedRunFrom, IsStatedRun, IsStatedRunFrom, KeepsApart}
 use Rattle.fr_precision.specs.SharpRound.{IsRoundInReach}

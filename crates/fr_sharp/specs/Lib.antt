@@ -9,7 +9,6 @@ pub mod LossBursts
 pub mod LossCosts
 pub mod LossRuns
 pub mod LossSteps
-pub mod RoundsInPart
 pub mod Losses
 pub mod LossStatement
 pub mod JoinedLossStatement

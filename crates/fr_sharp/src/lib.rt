@@ -44,7 +44,8 @@ pub use losing::{
 };
 pub use loss_checks::{LossSides, limits_hold, loss_side};
 pub use loss_cost_laws::{
-    bursts_keep_the_peak, costs_are_one, costs_are_there, every_second_keeps_the_peak,
+    bursts_keep_the_peak, costs_are_one, costs_are_there, crossing_bursts_keep_the_peak,
+    every_second_keeps_the_peak,
 };
 pub use loss_costs::{
     CrossingCost, LossCost, SecondCost, crossing_cost, every_second_cost, heard_behind,

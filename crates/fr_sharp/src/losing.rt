@@ -1,6 +1,6 @@
 ghost use Rattle.fr_sharp.specs.Bearing.{ThroughIsApart};
 ghost use Rattle.fr_sharp.specs.JoinedLosses.{FollowedDoublesHearInPart, JoinedHistoriesKeepThroughLosses};
-ghost use Rattle.fr_sharp.specs.RoundsInPart.{RoundsInPartComputeOwn};
+ghost use Rattle.fr_traffic.specs.RoundsInPart.{RoundsInPartComputeOwn};
 ghost use Rattle.fr_sharp.specs.Losses.{HistoriesKeepThroughLosses, RowsHear, SharpAfterTwoWhole};
 
 use fr_promise::{heard_numbers, losses_last};
@@ -32,8 +32,8 @@ pub fn histories_keep_through_losses()
 }
 
 /// The law of losses in a run that nodes join: from a double cycle in sharp sync in which no node follows, whatever frames are
-/// lost in whichever double cycles, as long as each correct node that has begun trusts what it has of the senders that do not
-/// join, macroticks of nodes with rows lie no further apart than the numbers by what was heard, in ticks, no term of them or of
+/// lost in whichever double cycles, as long as of each kind of values all is heard, or each correct node that has begun trusts
+/// what it has of the senders that do not join, macroticks of nodes with rows lie no further apart than the numbers by what was heard, in ticks, no term of them or of
 /// those that follow is cut or missing, and no follower is left behind, for as long as the rate limit holds the walk and
 /// suffices for first rates.
 pub fn joined_histories_keep_through_losses()

@@ -1,4 +1,4 @@
-ghost use Rattle.fr_sharp.specs.LossBursts.{BurstsCostNoMore, BurstsKeepThePeak, EverySecondCostsNoMore, EverySecondKeepsThePeak};
+ghost use Rattle.fr_sharp.specs.LossBursts.{BurstsCostNoMore, BurstsKeepThePeak, CrossingBurstsCostNoMore, CrossingBurstsKeepThePeak, EverySecondCostsNoMore, EverySecondKeepsThePeak};
 ghost use Rattle.fr_sharp.specs.LossCosts.{EverySecondIsReached, OneCrossingCost, OneLongest, OneLossCost, OneSecondCost, SomeCrossingCost, SomeLongest, SomeLossCost, SomeSecondCost};
 ghost use Rattle.fr_sharp.specs.MeetingCosts.{OneMeetingCost, SomeMeetingCost};
 
@@ -34,6 +34,19 @@ pub fn costs_are_there()
 pub fn bursts_keep_the_peak()
     ensures cost { BurstsCostNoMore }
     ensures keep { BurstsKeepThePeak }
+{
+    histories_keep_through_losses();
+    heard_numbers();
+}
+
+/// The promise where frames are lost in bursts that do not begin with a double cycle: each of no more than so many odd cycles
+/// and the even ones behind them, and behind two double cycles in which all is heard. No macroticks lie further apart than the
+/// peak of that, in ticks, and no action points than its reach. So a run of files that are covered through losses from a double
+/// cycle on with that reach, without arbitrary sync nodes, and that from there on loses frames so, keeps within that peak, as
+/// one that loses them in bursts of whole double cycles keeps within theirs.
+pub fn crossing_bursts_keep_the_peak()
+    ensures cost { CrossingBurstsCostNoMore }
+    ensures keep { CrossingBurstsKeepThePeak }
 {
     histories_keep_through_losses();
     heard_numbers();

@@ -33,7 +33,8 @@ pub struct RunLosses {
     pub reach: u128,
     /// Whether each correct node bears each double cycle: it has values, and discards as many as there may be of arbitrary
     /// nodes, or lacks some as it may; and the rate limit suffices for how far lengths then lie beyond their range. Where a
-    /// correct node joins: whether in each all is heard, or each that has begun has such values of senders that do not.
+    /// correct node joins: whether in each, of each kind of values, all is heard, or each that has begun has such values of
+    /// senders that do not join.
     pub trusted: bool,
 }
 
@@ -94,7 +95,7 @@ fn is_borne(
         && stray_fits(params, flutter, double + 1 - from, strayed)
 }
 
-// Where a correct node joins: all is heard in it, or each that has begun trusts what it has of those that do not join.
+// Where a correct node joins: of each kind all is heard in it, or each that has begun trusts what it has of those that do not.
 fn is_borne_of(params: &Params, script: &Script, double: u32, whole: bool, borne: bool) -> bool
     requires double { double ≤ 100_000 }
     requires whole { whole ≡ whole_in params.now script.now double }

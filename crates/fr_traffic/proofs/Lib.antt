@@ -3,3 +3,7 @@ pub mod HeardEvents
 pub mod BearingCounts
 pub mod HeardLists
 pub mod MeetingRows
+pub mod HeardInPart
+pub mod HeardSurely
+pub mod HeardAtMost
+pub mod HeardInCommon

@@ -7,7 +7,7 @@ use Rattle.std.proofs.lemmas.List.Sums.{sum_by-cons}
 use Rattle.std.proofs.lemmas.Nat.{and_block, ones_cat}
 use Rattle.fr_cluster.specs.declared.nodes.NodeSpec.{NodeSpec}
 use Rattle.fr_midpoint.specs.Midpoint.{discarded}
-use Rattle.fr_traffic.specs.Meeting.{all_meet, bits_of, has_own, has_some, is_sure, meets, meets_all, receiver_of, sure_bits, with_bit}
+use Rattle.fr_traffic.specs.Meeting.{all_meet, node_bits, has_own, has_some, is_sure, meets, meets_all, receiver_of, sure_bits, with_bit}
 use Rattle.fr_traffic.specs.Traffic.{common_count, has_and_meets, has_value, is_correct_sender, lists_meet, may_receive, meets_each, most_count, stays, sure_count, two_meet, Traffic}
 use Rattle.fr_traffic.specs.declared.meeting.Receiver.{Receiver}
 
@@ -56,7 +56,7 @@ unfolding lib.Count.ones
 none_set = refl
 
 -- so many bits are set as pass the test; and in both of two numbers as pass both tests
-pub ones_of : (p : NodeSpec → Bool) (xs : List NodeSpec) → count_ones (bits_of p xs) ≡ count_by p xs
+pub ones_of : (p : NodeSpec → Bool) (xs : List NodeSpec) → count_ones (node_bits p xs) ≡ count_by p xs
 ones_of p xs =
     let so = ones_from p xs 0 in
     let none = none_set in
@@ -70,7 +70,7 @@ both_from p q (x ∷ xs) m n =
     both_from p q xs (with_bit (p x) m) (with_bit (q x) n)
     ∙ ap (λ (k : ℕ). fold (λ bits a. with_bit (p a && q a) bits) k xs) (and_with (p x) (q x) m n)
 
-pub ones_of_both : (p q : NodeSpec → Bool) (xs : List NodeSpec) → count_ones (bit_and (bits_of p xs) (bits_of q xs)) ≡ count_by (λ a. p a && q a) xs
+pub ones_of_both : (p q : NodeSpec → Bool) (xs : List NodeSpec) → count_ones (bit_and (node_bits p xs) (node_bits q xs)) ≡ count_by (λ a. p a && q a) xs
 ones_of_both p q xs = ap count_ones (both_from p q xs 0 0) ∙ ones_of (λ a. p a && q a) xs
 
 -- ---- tests of all

@@ -1,4 +1,5 @@
 -- what the public contract cites
 pub mod Meeting
 pub mod Reaching
+pub mod RoundsInPart
 pub mod Traffic

@@ -10,15 +10,15 @@ use Rattle.fr_traffic.specs.declared.meeting.Receiver.{Receiver}
 abbrev pub with_bit : Bool → ℕ → ℕ
 with_bit set bits = if set then 2 * bits + 1 else 2 * bits
 
-abbrev pub bits_of : (NodeSpec → Bool) → List NodeSpec → ℕ
-bits_of test nodes = fold (λ bits a. with_bit (test a) bits) 0 nodes
+abbrev pub node_bits : (NodeSpec → Bool) → List NodeSpec → ℕ
+node_bits test nodes = fold (λ bits a. with_bit (test a) bits) 0 nodes
 
 -- a sender that stays on, of whom a receiver surely has a value
 abbrev pub is_sure : Bool → Traffic → ℕ → NodeSpec → NodeSpec → Bool
 is_sure rate t double b a = is_correct_sender t a && (stays t a && has_value rate true t double b a)
 
 abbrev pub sure_bits : Bool → Traffic → ℕ → NodeSpec → ℕ
-sure_bits rate t double b = bits_of (is_sure rate t double b) t.nodes
+sure_bits rate t double b = node_bits (is_sure rate t double b) t.nodes
 
 -- what is known of a receiver that has begun, and of one that has not
 abbrev pub receiver_of : Bool → Traffic → ℕ → NodeSpec → Receiver

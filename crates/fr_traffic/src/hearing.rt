@@ -11,8 +11,8 @@ use fr_precision::Kinds;
 use fr_script::Script;
 
 /// What the correct nodes of a run hear in a double cycle, 0 to 100,000, by its files, of offsets and of rates: all of all,
-/// without arbitrary sync nodes; all of all beside them, or of any two nodes enough in common; or what there is. Of nodes that
-/// join nothing less than all is counted on. It is known whether one channel carries the frames of both its cycles of any two
+/// without arbitrary sync nodes; all of all beside them, or of any two nodes enough in common; or what there is. Senders that
+/// join count only where all is heard. It is known whether one channel carries the frames of both its cycles of any two
 /// nodes.
 pub fn heard_in(params: &Params, script: &Script, double: u32, whole: bool) -> Kinds
     requires double { double ≤ 100_000 }

@@ -1,5 +1,6 @@
 //! What comes of the frames of a run where frames are lost, by its script: of which correct sync nodes a receiver has values in a
-//! double cycle, which nodes have none, and what is heard in it, for nodes that take part and for nodes that join.
+//! double cycle, which nodes have none, and what is heard in it, for nodes that take part and for nodes that join. And what a
+//! receiver makes of the values that it has.
 #![tactic(auto)]
 
 mod bearing;

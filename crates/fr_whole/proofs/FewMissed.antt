@@ -1,17 +1,20 @@
 -- Where each node misses the frames of few other sync nodes lists meet, so clocks keep as near as beside arbitrary nodes; and with one
 -- more there are some that do not.
-use Rattle.std.proofs.Common.{◌≡◌, ◌≢◌, ◌⊎◌, ◌∙◌, ℕ, zero, suc, ◌+◌, ◌*◌, ◌-◌, ◌<◌, ◌≤◌, ◌==◌, ◌&&◌, ◌||◌, Bool, true, false, not, pos, List, [], ◌∷◌, count_by, inl, inr, refl, ap, sym, subst, arith, eq-eqb, if◌then◌else◌}
-use Rattle.std.specs.Prelude.{max, nat_eq, nat_le, nat_lt, AllPairs, Contains}
+use Rattle.std.proofs.Common.{◌≡◌, ◌⊎◌, ◌∙◌, ℕ, zero, suc, ◌+◌, ◌*◌, ◌-◌, ◌<◌, ◌≤◌, ◌==◌, ◌&&◌, ◌||◌, Bool, true, false, not, pos, Option, Some, None, List, [], ◌∷◌, count_by, inl, inr, refl, ap, ap₂, sym, subst, arith, eq-eqb, if◌then◌else◌}
+use Rattle.std.specs.Prelude.{is_none, max, min, nat_eq, nat_le, nat_lt, AllPairs, Contains}
+use Rattle.std.proofs.lemmas.Bool.{and_parts, not-true}
 use Rattle.std.proofs.lemmas.Bool.Decides.{nat_tests}
 use Rattle.fr_base.specs.Event as event
 use Rattle.fr_base.specs.declared.channel.Channel.{Channel}
 use Rattle.fr_base.specs.declared.channel.Channel.TheVariants as channel
+use Rattle.fr_cluster.specs.Setting.{Setting, is_correct}
+use Rattle.fr_cluster.specs.declared.join.Join.{Join}
 use Rattle.fr_cluster.specs.declared.nodes.NodeSpec.{NodeSpec}
-use Rattle.fr_cluster.proofs.Elements.{Contains-here, Contains-there}
+use Rattle.fr_cluster.proofs.Elements.{kept_filtered, Contains-here, Contains-there}
 use Rattle.fr_cluster.proofs.KeyNodes.{AllPairs-first, AllPairs-rest}
 use Rattle.fr_midpoint.specs.Midpoint.{discarded}
-use Rattle.fr_bound.specs.declared.judging.Heard.{Heard}
 use Rattle.fr_bound.specs.declared.judging.Heard.TheVariants as heard
+use Rattle.fr_coverage.specs.Coverage.{some_join}
 use Rattle.fr_coverage.specs.Decided.{setting_of}
 use Rattle.fr_coverage.specs.Links.{is_sync, shares}
 use Rattle.fr_bound.specs.Bounds.{longest_micro}
@@ -19,25 +22,27 @@ use Rattle.fr_bound.specs.SharpBounds.{sharp_near, sharp_precision}
 use Rattle.fr_bound.specs.SharpSpreads.{sharp_spread, sharply_near_in}
 use Rattle.fr_bound.specs.declared.settling.Spread.{Spread}
 use Rattle.fr_cluster.specs.Values.{Values}
-use Rattle.fr_precision.specs.Among.{apart_through_losses, spread_through_losses, LaterSpreadsAreLess}
+use Rattle.fr_drift.specs.View.{DriftView}
+use Rattle.fr_precision.specs.Among.{apart_through_losses, spread_through_losses, IsNot, LaterSpreadsAreLess}
+use Rattle.fr_precision.specs.declared.kinds.Kinds.{Kinds}
 use Rattle.fr_promise.proofs.HeardNumbers.{meeting_below_beside}
 use Rattle.fr_promise.proofs.JoinBounds.{near_grows}
 use Rattle.fr_promise.proofs.LossOrder.{IsBelow}
 use Rattle.fr_sharp.proofs.LossLemmas.{far_grows, starts_fit, Far}
-use Rattle.fr_precision.proofs.Counting.{count_cons, count_no, count_yes, one_if}
+use Rattle.fr_precision.proofs.Counting.{count_cons, count_le, count_less, count_no, count_yes, one_if}
+use Rattle.fr_runs.proofs.KeyedCounts.{all_pass}
+use Rattle.fr_runs.proofs.Reach.{some_joins_by}
 use Rattle.fr_runs.specs.SharpHistories.{IsInSharpSyncAt}
-use Rattle.fr_script.specs.View.{is_arbitrary}
+use Rattle.fr_script.specs.View.{is_arbitrary, join_of, ScriptView}
 use Rattle.fr_sharp.specs.Losses.{HistoriesKeepThroughLosses}
 use Rattle.fr_sharp.specs.MeetingCosts.{may_miss, sync_nodes}
 use Rattle.fr_sharp.specs.SharpStatement.{has_arbitrary}
-use Rattle.fr_traffic.specs.Traffic.{all_linked, arbitrary_count, comes, costs_by, costs_of, has_value, heard_in, is_correct_sender, lists_meet, missed_or_discarded, none_lacks, sender_count, traffic_in, value_on, with_cost, Traffic}
-use Rattle.fr_traffic.specs.declared.traffic.Costs.{Costs}
+use Rattle.fr_traffic.specs.Traffic.{all_have, arbitrary_count, comes, common_count, further_count, has_and_meets, has_begun, has_value, heard_in, is_correct_sender, kind_by, kind_in, lists_meet, may_be_said, may_receive, meets_each, most_count, none_lacks, sender_count, staying_count, stays, sure_count, traffic_in, two_meet, value_on, Traffic}
 use Rattle.fr_sharp.proofs.BearingKinds.{meeting_is_awake, through_is_apart}
-use Rattle.fr_sharp.proofs.FromLossyFiles.{covered_files_keep_through_losses}
+use Rattle.fr_sharp.proofs.FromLossyFiles.{covered_files_keep_through_losses, each_passes, unless}
 use Rattle.fr_sharp.proofs.LossBurstLaws.{keeps_wider}
 use Rattle.fr_sharp.proofs.MeetingNumbers.{keys_counted, missed_more}
-use Rattle.fr_traffic.proofs.GreatestCosts.{two_cost}
-use Rattle.fr_traffic.proofs.TrafficCounts.{and_true, parted, some_counted}
+use Rattle.fr_traffic.proofs.TrafficCounts.{and_true, no_more, parted, parted_among, some_counted}
 use Rattle.fr_whole.specs.FewMissed.{traffic_losing, AllShare, FewMissedKeepThePeak, FewMissedMeet, LosesFew, MeetingCostsNoMore, OneMoreMayPart}
 
 count_same : {X : Type 0} (p q : X → Bool) (xs : List X) → ((x : X) → Contains xs x → p x ≡ q x) → count_by p xs ≡ count_by q xs
@@ -46,10 +51,10 @@ count_same p q (x ∷ xs) same =
     count_cons p x xs ∙ ap (λ (b : Bool). one_if b + count_by p xs) (same x (Contains-here x xs))
     ∙ ap (λ (n : ℕ). one_if (q x) + n) (count_same p q xs (λ y among. same y (Contains-there x xs y among))) ∙ sym (count_cons q x xs)
 
--- ---- what one node misses and discards
+-- ---- what one node has and discards
 
 -- without arbitrary sync nodes the senders are all that have a key slot
-pub all_send : (t : Traffic) → arbitrary_count t ≡ 0 → sender_count t (λ a. true) ≡ count_by is_sync t.nodes
+all_send : (t : Traffic) → arbitrary_count t ≡ 0 → sender_count t (λ a. true) ≡ count_by is_sync t.nodes
 all_send t none =
     let parts = parted is_sync (λ (a : NodeSpec). t.is_arbitrary a.id) t.nodes in
     and_true (is_correct_sender t) t.nodes ∙ rest (count_by (is_correct_sender t) t.nodes) (arbitrary_count t) (count_by is_sync t.nodes) parts none
@@ -57,66 +62,129 @@ all_send t none =
     rest : (a b c : ℕ) → a + b ≡ c → b ≡ 0 → a ≡ c
     rest a b c is zero_is = omega (arith, is, zero_is)
 
--- where none is damaged what it has is what it does not miss
-pub cost_by_missed : (rate : Bool) (t : Traffic) (missed double : ℕ) (b : NodeSpec) → arbitrary_count t ≡ 0 → LosesFew t missed double → Contains t.nodes b → t.is_arbitrary b.id ≡ false
-    → missed_or_discarded rate t double b
-    ≡ sender_count t (λ a. not (has_value rate true t double b a)) + discarded (sender_count t (λ a. true) - sender_count t (λ a. not (has_value rate true t double b a)))
-cost_by_missed rate t missed double b none misses among correct =
-    let lacked : ℕ = sender_count t (λ a. not (has_value rate true t double b a)) in
-    let sure : ℕ = sender_count t (has_value rate true t double b) in
-    let parts = parted (is_correct_sender t) (has_value rate true t double b) t.nodes in
-    let all = and_true (is_correct_sender t) t.nodes in
-    let same = count_same (λ (a : NodeSpec). is_correct_sender t a && has_value rate false t double b a) (λ (a : NodeSpec). is_correct_sender t a && has_value rate true t double b a) t.nodes
-    (λ a there. both (is_correct_sender t a) (has_value rate false t double b a) (has_value rate true t double b a) (misses.clear rate a b there among correct)) in
-    ap (λ (n : ℕ). lacked + discarded n) (left lacked sure (sender_count t (has_value rate false t double b)) (arbitrary_count t) (count_by (is_correct_sender t) t.nodes) (sender_count t (λ a. true)) parts same none all)
+-- of those of one kind no more fail one test or the other than fail the one and the other
+two_lacked : {X : Type 0} (k p q : X → Bool) (xs : List X) → count_by k xs ≤ count_by (λ x. k x && (p x && q x)) xs + (count_by (λ x. k x && not (p x)) xs + count_by (λ x. k x && not (q x)) xs)
+two_lacked k p q xs =
+    let parts = parted k p xs in
+    let more = parted_among k p q xs in
+    let less = count_le (λ x. k x && (p x && not (q x))) (λ x. k x && not (q x)) xs (λ x. fewer (k x) (p x) (q x)) in
+    step (count_by k xs) (count_by (λ x. k x && p x) xs) (count_by (λ x. k x && (p x && q x)) xs) (count_by (λ x. k x && (p x && not (q x))) xs) (count_by (λ x. k x && not (p x)) xs) (count_by (λ x. k x && not (q x)) xs) parts more less
   where
-    both : (c a b : Bool) → (c ≡ true → a ≡ b) → (c && a) ≡ (c && b)
-    both true a b same = same refl
-    both false a b same = refl
+    fewer : (k p q : Bool) → (k && (p && not q)) ≡ true → (k && not q) ≡ true
+    fewer true true q is = is
+    fewer true false q is = absurd (cc)
+    fewer false p q is = absurd (cc)
 
-    left : (m s h n c all : ℕ) → m + s ≡ c → h ≡ s → n ≡ 0 → all ≡ c → h + n ≡ all - m
-    left m s h n c all parts same none is = omega (arith, parts, same, none, is)
+    step : (all one two part less more : ℕ) → less + one ≡ all → part + two ≡ one → part ≤ more → all ≤ two + (less + more)
+    step all one two part less more parts halves le = omega (arith, parts, halves, le)
 
--- ---- then lists meet
+both_pass : (a b : Bool) → a ≡ true → b ≡ true → (a && b) ≡ true
+both_pass a b one other = rw (one, other) refl
 
-with_below : (bound cost : ℕ) (was : Costs) → cost ≤ bound → was.most ≤ bound → was.second ≤ bound → ((with_cost cost was).most ≤ bound) × ((with_cost cost was).second ≤ bound)
-with_below bound cost was le most second = by (nat_lt was.most cost) (nat_lt was.second cost)
-  where
-    by : (first next : Bool)
-        → ((if first then record { most = cost; second = was.most } else (if next then record { most = was.most; second = cost } else was)).most ≤ bound)
-        × ((if first then record { most = cost; second = was.most } else (if next then record { most = was.most; second = cost } else was)).second ≤ bound)
-    by true next = (le, most)
-    by false true = (most, le)
-    by false false = (most, second)
+-- of how many senders it surely has no value
+abbrev lacked : Bool → Traffic → ℕ → NodeSpec → ℕ
+lacked rate t double b = sender_count t (λ a. not (has_value rate true t double b a))
 
-costs_below : (rate : Bool) (t : Traffic) (double bound : ℕ) (nodes : List NodeSpec) → ((b : NodeSpec) → Contains nodes b → t.is_arbitrary b.id ≡ false → missed_or_discarded rate t double b ≤ bound)
-    → ((costs_of rate t double nodes).most ≤ bound) × ((costs_of rate t double nodes).second ≤ bound)
-unfolding costs_by
-costs_below rate t double bound [] all = (omega arith, omega arith)
-costs_below rate t double bound (b ∷ nodes) all = by (t.is_arbitrary b.id) refl (costs_below rate t double bound nodes (λ c among. all c (Contains-there b nodes c among)))
-  where
-    by : (arbitrary : Bool) → t.is_arbitrary b.id ≡ arbitrary → ((costs_of rate t double nodes).most ≤ bound) × ((costs_of rate t double nodes).second ≤ bound)
-        → ((if arbitrary then costs_of rate t double nodes else with_cost (missed_or_discarded rate t double b) (costs_of rate t double nodes)).most ≤ bound)
-        × ((if arbitrary then costs_of rate t double nodes else with_cost (missed_or_discarded rate t double b) (costs_of rate t double nodes)).second ≤ bound)
-    by true is rest = rest
-    by false is rest = with_below bound (missed_or_discarded rate t double b) (costs_of rate t double nodes) (all b (Contains-here b nodes) is) rest.0 rest.1
+abbrev all_of : Traffic → ℕ
+all_of t = sender_count t (λ a. true)
+
+module _ (t : Traffic) (missed double : ℕ) (none : arbitrary_count t ≡ 0) (misses : LosesFew t missed double) where
+  -- where none is damaged there are no more values in its list than it surely has
+  most_is : (rate : Bool) (b : NodeSpec) → Contains t.nodes b → t.is_arbitrary b.id ≡ false → most_count rate t double b ≡ all_of t - lacked rate t double b
+  most_is rate b among correct =
+      let sure : ℕ = sender_count t (has_value rate true t double b) in
+      let parts = parted (is_correct_sender t) (has_value rate true t double b) t.nodes in
+      let all = and_true (is_correct_sender t) t.nodes in
+      let same = count_same (λ (a : NodeSpec). is_correct_sender t a && has_value rate false t double b a) (λ (a : NodeSpec). is_correct_sender t a && has_value rate true t double b a) t.nodes
+      (λ a there. both (is_correct_sender t a) (has_value rate false t double b a) (has_value rate true t double b a) (misses.clear rate a b there among correct)) in
+      let further = no_more (λ (a : NodeSpec). is_sync a && t.is_arbitrary a.id) (may_be_said rate t double b) t.nodes in
+      left (lacked rate t double b) sure (sender_count t (has_value rate false t double b)) (further_count rate t double b) (arbitrary_count t) (count_by (is_correct_sender t) t.nodes) (all_of t) parts same further none all
+    where
+      both : (c a b : Bool) → (c ≡ true → a ≡ b) → (c && a) ≡ (c && b)
+      both true a b same = same refl
+      both false a b same = refl
+
+      left : (m s h f n c all : ℕ) → m + s ≡ c → h ≡ s → f ≤ n → n ≡ 0 → all ≡ c → h + f ≡ all - m
+      left m s h f n c all parts same le none is = omega (arith, parts, same, le, none, is)
+
+  module _ (alone : (a : NodeSpec) → Contains t.nodes a → is_correct_sender t a ≡ true → t.join a.id ≡ None) where
+    -- all senders stay on
+    staying : (test : NodeSpec → Bool) → staying_count t test ≡ sender_count t test
+    staying test =
+        count_same (λ (a : NodeSpec). is_correct_sender t a && (stays t a && test a)) (λ (a : NodeSpec). is_correct_sender t a && test a) t.nodes
+        (λ a there. by (is_correct_sender t a) (stays t a) (test a) (λ sends. ap is_none (alone a there sends)))
+      where
+        by : (c s v : Bool) → (c ≡ true → s ≡ true) → (c && (s && v)) ≡ (c && v)
+        by true s v on = rw (on refl) refl
+        by false s v on = refl
+
+    sure_is : (rate : Bool) (b : NodeSpec) → sure_count rate t double b + lacked rate t double b ≡ all_of t
+    sure_is rate b =
+        let parts = parted (is_correct_sender t) (has_value rate true t double b) t.nodes in
+        let all = and_true (is_correct_sender t) t.nodes in
+        let same = staying (has_value rate true t double b) in
+        step (sure_count rate t double b) (lacked rate t double b) (sender_count t (has_value rate true t double b)) (count_by (is_correct_sender t) t.nodes) (all_of t) parts all same
+      where
+        step : (s m h c all : ℕ) → m + h ≡ c → all ≡ c → s ≡ h → s + m ≡ all
+        step s m h c all parts is same = omega (arith, parts, is, same)
+
+    common_is : (rate : Bool) (b c : NodeSpec) → all_of t ≤ common_count rate t double b c + (lacked rate t double b + lacked rate t double c)
+    common_is rate b c =
+        let here : NodeSpec → Bool = has_value rate true t double b in
+        let there : NodeSpec → Bool = has_value rate true t double c in
+        let all = and_true (is_correct_sender t) t.nodes in
+        let le = two_lacked (is_correct_sender t) here there t.nodes in
+        let same = staying (λ a. here a && there a) in
+        step (common_count rate t double b c) (sender_count t (λ a. here a && there a)) (lacked rate t double b + lacked rate t double c) (count_by (is_correct_sender t) t.nodes) (all_of t) le all same
+      where
+        step : (s h m c all : ℕ) → c ≤ h + m → all ≡ c → s ≡ h → all ≤ s + m
+        step s h m c all le is same = omega (arith, le, is, same)
+
+    module _ (meets : may_miss (all_of t) missed ≡ true) where
+      discards : (rate : Bool) (b : NodeSpec) → Contains t.nodes b → t.is_arbitrary b.id ≡ false
+          → lacked rate t double b + discarded (all_of t - lacked rate t double b) ≤ missed + discarded (all_of t - missed)
+      discards rate b among correct = missed_more (all_of t) (lacked rate t double b) missed (misses.few rate b among correct)
+
+      has_some : (rate : Bool) (b : NodeSpec) → Contains t.nodes b → t.is_arbitrary b.id ≡ false → nat_le 1 (sure_count rate t double b) ≡ true
+      has_some rate b among correct =
+          let is = sure_is rate b in
+          let le = misses.few rate b among correct in
+          step (sure_count rate t double b) (lacked rate t double b) missed (discarded (all_of t - missed)) (all_of t) is le meets
+        where
+          step : (s l m d all : ℕ) → s + l ≡ all → l ≤ m → nat_lt (2 * (m + d)) all ≡ true → nat_le 1 s ≡ true
+          step s l m d all is le less = grind (arith, nat_tests)
+
+      have_enough : (rate : Bool) (b c : NodeSpec) → Contains t.nodes b → t.is_arbitrary b.id ≡ false → Contains t.nodes c → t.is_arbitrary c.id ≡ false → two_meet rate t double b c ≡ true
+      have_enough rate b c among correct there also =
+          let n : ℕ = all_of t in
+          ap₂ (λ (k m : ℕ). nat_lt (discarded k + discarded m) (common_count rate t double b c)) (most_is rate b among correct) (most_is rate c there also)
+          ∙ step n (lacked rate t double b) (lacked rate t double c) (discarded (n - lacked rate t double b)) (discarded (n - lacked rate t double c)) (missed + discarded (n - missed)) (common_count rate t double b c)
+          (discards rate b among correct) (discards rate c there also) (common_is rate b c) meets
+        where
+          step : (all b c x y z common : ℕ) → b + x ≤ z → c + y ≤ z → all ≤ common + (b + c) → nat_lt (2 * z) all ≡ true → nat_lt (x + y) common ≡ true
+          step all b c x y z common one other le less = grind (arith, nat_tests)
+
+      -- ---- then lists meet
+
+      all_meet : (rate : Bool) → lists_meet rate t double ≡ true
+      all_meet rate =
+          each_passes (λ (b : NodeSpec). not (may_receive t double b) || has_and_meets rate t double b) t.nodes
+          (λ b there. unless (may_receive t double b) (has_and_meets rate t double b) (λ receives.
+          let correct = correct_of b receives in
+          both_pass (nat_le 1 (sure_count rate t double b)) (meets_each rate t double b) (has_some rate b there correct)
+          (each_passes (λ (c : NodeSpec). not (may_receive t double c) || (b.id == c.id || two_meet rate t double b c)) t.nodes
+          (λ c here. unless (may_receive t double c) (b.id == c.id || two_meet rate t double b c)
+          (λ other. or_last (b.id == c.id) (two_meet rate t double b c) (have_enough rate b c there correct here (correct_of c other)))))))
+        where
+          correct_of : (b : NodeSpec) → may_receive t double b ≡ true → t.is_arbitrary b.id ≡ false
+          correct_of b receives = not-true (t.is_arbitrary b.id) (and_parts (not (t.is_arbitrary b.id)) (has_begun (t.join b.id) double) receives).0
+
+          or_last : (a b : Bool) → b ≡ true → (a || b) ≡ true
+          or_last true b is = refl
+          or_last false b is = is
 
 pub few_missed_meet : FewMissedMeet
-few_missed_meet t missed double none misses meets = (of false, of true)
-  where
-    of : (rate : Bool) → lists_meet rate t double ≡ true
-    of rate =
-        let all : ℕ = sender_count t (λ a. true) in
-        let bound : ℕ = missed + discarded (all - missed) in
-        let costs = costs_below rate t double bound t.nodes (λ b among correct.
-        let lacked : ℕ = sender_count t (λ a. not (has_value rate true t double b a)) in
-        let more = missed_more all lacked missed (misses.few rate b among correct) in
-        let is = cost_by_missed rate t missed double b none misses among correct in
-        omega (arith, more, is)) in
-        step (costs_of rate t double t.nodes).most (costs_of rate t double t.nodes).second bound all costs.0 costs.1 meets
-      where
-        step : (a b c n : ℕ) → a ≤ c → b ≤ c → nat_lt (2 * c) n ≡ true → nat_lt (a + b) n ≡ true
-        step a b c n one other less = grind (arith, nat_tests)
+few_missed_meet t missed double none alone misses meets = (all_meet t missed double none misses alone meets false, all_meet t missed double none misses alone meets true)
 
 -- ---- how far clocks lie apart
 
@@ -143,26 +211,41 @@ meeting_costs_no_more p flutter what cost k sane is never =
 
 -- ---- so does a run of files
 
-never_poor : (clean meet : Bool) → meet ≡ true → (if clean then heard.Clean else (if meet then heard.Meeting else heard.Poor)) ≡ heard.Poor → ⊥
-never_poor true meet meets poor = cc
-never_poor false true meets poor = cc
-never_poor false false meets poor = cc
+never_poor : (all none meet : Bool) → meet ≡ true → kind_by all none meet ≡ heard.Poor → ⊥
+never_poor true true meet meets poor = cc
+never_poor true false meet meets poor = cc
+never_poor false none true meets poor = cc
+never_poor false none false meets poor = cc
 
-both_pass : (a b : Bool) → a ≡ true → b ≡ true → (a && b) ≡ true
-both_pass a b one other = rw (one, other) refl
+-- no correct node joins
+none_is_joining : (p : Values) (d : DriftView) (s : ScriptView) (a : NodeSpec) → some_join p s ≡ false → Contains p.nodes a → is_arbitrary s a.id ≡ false → join_of s a.id ≡ None
+none_is_joining p d s a none there correct = by (join_of s a.id) refl
+  where
+    by : (join : Option Join) → join_of s a.id ≡ join → join ≡ None
+    by None at = refl
+    by (Some join) at =
+        let x : Setting = setting_of p d s in
+        let among = kept_filtered (λ (n : NodeSpec). is_correct x n.id) p.nodes a there (ap not correct) in
+        let e : true ≡ false = sym (some_joins_by x a join among at) ∙ none in
+        absurd (cc)
 
 pub few_missed_keep_the_peak : HistoriesKeepThroughLosses → LaterSpreadsAreLess → FewMissedKeepThePeak
 few_missed_keep_the_peak keep later p d s from flutter cost h double passed sane is misses covered alone run late sync within lasts =
     let t : Traffic = traffic_in p s in
-    let what : ℕ → Heard = λ m. heard_in t (double + m) in
+    let what : ℕ → Kinds = λ m. heard_in t (double + m) in
+    let alone_is : (a : NodeSpec) → Contains p.nodes a → is_arbitrary s a.id ≡ false → join_of s a.id ≡ None = λ a there correct. none_is_joining p d s a covered.none_joins there correct in
+    let sole : (a : NodeSpec) → Contains t.nodes a → is_correct_sender t a ≡ true → t.join a.id ≡ None = λ a there sends.
+    alone_is a there (not-true (t.is_arbitrary a.id) (and_parts (is_sync a) (not (t.is_arbitrary a.id)) sends).1) in
     let none : arbitrary_count t ≡ 0 = no_count (arbitrary_count t) (some_counted (λ (a : NodeSpec). is_sync a && is_arbitrary s a.id) p.nodes ∙ alone) in
     let senders : sync_nodes p ≡ sender_count t (λ a. true) = keys_counted p.nodes ∙ sym (all_send t none) in
     let meets : may_miss (sender_count t (λ a. true)) cost.missed ≡ true = subst (λ (n : ℕ). may_miss n cost.missed ≡ true) senders is.missed.meets in
-    let both : (k : ℕ) → from ≤ k → (lists_meet false t k ≡ true) × (lists_meet true t k ≡ true) = λ k later_on. few_missed_meet t cost.missed k none (misses k later_on) meets in
-    let awake : (k : ℕ) → from ≤ k → none_lacks t k ≡ true = λ k later_on. let lists = both k later_on in meeting_is_awake t k lists.0 lists.1 in
-    let never : (m : ℕ) → what m ≡ heard.Poor → ⊥ = λ m poor.
+    let both : (k : ℕ) → from ≤ k → (lists_meet false t k ≡ true) × (lists_meet true t k ≡ true) = λ k later_on. few_missed_meet t cost.missed k none sole (misses k later_on) meets in
+    let awake : (k : ℕ) → from ≤ k → none_lacks t k ≡ true = λ k later_on. let lists = both k later_on in meeting_is_awake t k (λ b there correct. ap (λ (join : Option Join). has_begun join k) (alone_is b there correct)) lists.0 lists.1 in
+    let never : (m : ℕ) → IsNot heard.Poor (what m) = λ m.
     let lists = both (double + m) (omega (arith, late)) in
-    never_poor (all_linked t (double + m) && nat_eq (arbitrary_count t) 0) (lists_meet false t (double + m) && lists_meet true t (double + m)) (both_pass (lists_meet false t (double + m)) (lists_meet true t (double + m)) lists.0 lists.1) poor in
+    let rich : (rate : Bool) → lists_meet rate t (double + m) ≡ true → kind_in rate t (double + m) ≡ heard.Poor → ⊥ = λ rate meet poor.
+    never_poor (all_have rate t (double + m)) (nat_eq (arbitrary_count t) 0) (lists_meet rate t (double + m)) meet poor in
+    (rich false lists.0, rich true lists.1) in
     let synced : IsInSharpSyncAt (has_arbitrary p s) p flutter (pos 0) h double = subst (λ (b : Bool). IsInSharpSyncAt b p flutter (pos 0) h double) (sym alone) sync in
     let keeps = covered_files_keep_through_losses keep later p d s from flutter cost.reach h double sane covered run late synced (awake double late) passed within lasts in
     let same : apart_through_losses (has_arbitrary p s) p flutter what passed ≡ apart_through_losses false p flutter what passed = ap (λ (b : Bool). apart_through_losses b p flutter what passed) alone in
@@ -204,35 +287,45 @@ and_false false = refl
 abbrev pick : (NodeSpec → Bool) → NodeSpec → List NodeSpec → ℕ → Bool → ℕ → Bool
 pick test x xs k b id = if b then (id == x.id) || chosen test xs k id else chosen test xs (suc k) id
 
-chosen_counted : (test : NodeSpec → Bool) (nodes : List NodeSpec) (k : ℕ) → Ascend nodes → k ≤ count_by test nodes → count_by (λ a. test a && chosen test nodes k a.id) nodes ≡ k
+-- as far as there are so many
+chosen_counted : (test : NodeSpec → Bool) (nodes : List NodeSpec) (k : ℕ) → Ascend nodes → count_by (λ a. test a && chosen test nodes k a.id) nodes ≡ min k (count_by test nodes)
 unfolding chosen
-chosen_counted test [] k apart le = omega (arith, le)
-chosen_counted test (x ∷ xs) zero apart le = count_nothing (λ (a : NodeSpec). test a && false) (x ∷ xs) (λ a. and_false (test a))
-chosen_counted test (x ∷ xs) (suc k) apart le =
-    let rest : Ascend xs = AllPairs-rest (λ a b. a.id < b.id) x xs apart in
-    by (test x) refl (λ few. chosen_counted test xs k rest few) (λ few. chosen_counted test xs (suc k) rest few)
+chosen_counted test [] k apart = grind arith
+chosen_counted test (x ∷ xs) zero apart = count_nothing (λ (a : NodeSpec). test a && false) (x ∷ xs) (λ a. and_false (test a)) ∙ least (count_by test (x ∷ xs))
   where
-    by : (b : Bool) → test x ≡ b → (k ≤ count_by test xs → count_by (λ a. test a && chosen test xs k a.id) xs ≡ k)
-        → (suc k ≤ count_by test xs → count_by (λ a. test a && chosen test xs (suc k) a.id) xs ≡ suc k) → count_by (λ a. test a && pick test x xs k (test x) a.id) (x ∷ xs) ≡ suc k
+    least : (n : ℕ) → 0 ≡ min 0 n
+    least n = grind arith
+chosen_counted test (x ∷ xs) (suc k) apart =
+    let rest : Ascend xs = AllPairs-rest (λ a b. a.id < b.id) x xs apart in
+    by (test x) refl (chosen_counted test xs k rest) (chosen_counted test xs (suc k) rest)
+  where
+    one_more : (k n m : ℕ) → m ≡ suc n → suc (min k n) ≡ min (suc k) m
+    one_more k n m is = grind arith
+
+    by : (b : Bool) → test x ≡ b → count_by (λ a. test a && chosen test xs k a.id) xs ≡ min k (count_by test xs)
+        → count_by (λ a. test a && chosen test xs (suc k) a.id) xs ≡ min (suc k) (count_by test xs)
+        → count_by (λ a. test a && pick test x xs k (test x) a.id) (x ∷ xs) ≡ min (suc k) (count_by test (x ∷ xs))
     by true is one other =
-        let few = count_yes test x xs is in
         let here : (test x && pick test x xs k (test x) x.id) ≡ true = rw (is, eq-eqb x.id x.id refl) refl in
         let same = count_same (λ (a : NodeSpec). test a && pick test x xs k (test x) a.id) (λ (a : NodeSpec). test a && chosen test xs k a.id) xs
         (λ a among. let apart_is = other_id x.id a.id (AllPairs-first (λ a b. a.id < b.id) x xs a apart among) in rw (is, apart_is) refl) in
-        count_yes (λ (a : NodeSpec). test a && pick test x xs k (test x) a.id) x xs here ∙ ap suc (same ∙ one (omega (arith, le, few)))
+        count_yes (λ (a : NodeSpec). test a && pick test x xs k (test x) a.id) x xs here ∙ ap suc (same ∙ one) ∙ one_more k (count_by test xs) (count_by test (x ∷ xs)) (count_yes test x xs is)
     by false is one other =
-        let few = count_no test x xs is in
         let here : (test x && pick test x xs k (test x) x.id) ≡ false = rw is refl in
         let same = count_same (λ (a : NodeSpec). test a && pick test x xs k (test x) a.id) (λ (a : NodeSpec). test a && chosen test xs (suc k) a.id) xs (λ a among. rw is refl) in
-        count_no (λ (a : NodeSpec). test a && pick test x xs k (test x) a.id) x xs here ∙ same ∙ other (omega (arith, le, few))
+        count_no (λ (a : NodeSpec). test a && pick test x xs k (test x) a.id) x xs here ∙ same ∙ other ∙ ap (λ (n : ℕ). min (suc k) n) (sym (count_no test x xs is))
 
--- the sync nodes with another identifier: no more than one has this one
+-- the sync nodes with another identifier
 abbrev others : ℕ → NodeSpec → Bool
 others id a = is_sync a && not (a.id == id)
 
-all_but_one : (id : ℕ) (nodes : List NodeSpec) → Ascend nodes → count_by is_sync nodes ≤ suc (count_by (others id) nodes)
-all_but_one id [] apart = omega arith
-all_but_one id (x ∷ xs) apart = by (x.id == id) refl (all_but_one id xs (AllPairs-rest (λ a b. a.id < b.id) x xs apart))
+-- those that pass a test; no more than one of these has this one
+abbrev without : (NodeSpec → Bool) → ℕ → NodeSpec → Bool
+without test id a = test a && not (a.id == id)
+
+all_but_one : (test : NodeSpec → Bool) (id : ℕ) (nodes : List NodeSpec) → Ascend nodes → count_by test nodes ≤ suc (count_by (without test id) nodes)
+all_but_one test id [] apart = omega arith
+all_but_one test id (x ∷ xs) apart = by (x.id == id) refl (all_but_one test id xs (AllPairs-rest (λ a b. a.id < b.id) x xs apart))
   where
     and_yes : (b : Bool) → b ≡ (b && not false)
     and_yes true = refl
@@ -242,23 +335,23 @@ all_but_one id (x ∷ xs) apart = by (x.id == id) refl (all_but_one id xs (AllPa
     one_more true n = omega arith
     one_more false n = omega arith
 
-    by : (b : Bool) → (x.id == id) ≡ b → count_by is_sync xs ≤ suc (count_by (others id) xs) → count_by is_sync (x ∷ xs) ≤ suc (count_by (others id) (x ∷ xs))
+    by : (b : Bool) → (x.id == id) ≡ b → count_by test xs ≤ suc (count_by (without test id) xs) → count_by test (x ∷ xs) ≤ suc (count_by (without test id) (x ∷ xs))
     by true is rest =
-        let same = count_same is_sync (others id) xs (λ a among.
+        let same = count_same test (without test id) xs (λ a among.
         let apart_is = differs x.id a.id id (AllPairs-first (λ a b. a.id < b.id) x xs a apart among) is in
-        and_yes (is_sync a) ∙ ap (λ (b : Bool). is_sync a && not b) (sym apart_is)) in
-        let e = count_cons is_sync x xs in
-        let f = count_cons (others id) x xs in
-        let le = one_more (is_sync x) (count_by is_sync xs) in
+        and_yes (test a) ∙ ap (λ (b : Bool). test a && not b) (sym apart_is)) in
+        let e = count_cons test x xs in
+        let f = count_cons (without test id) x xs in
+        let le = one_more (test x) (count_by test xs) in
         omega (arith, same, e, f, le)
       where
         differs : (a b c : ℕ) → a < b → (a == c) ≡ true → (b == c) ≡ false
         differs a b c less same = grind (arith, nat_tests)
     by false is rest =
-        let e = count_cons is_sync x xs in
-        let f = count_cons (others id) x xs in
-        let here : is_sync x ≡ others id x = and_yes (is_sync x) ∙ ap (λ (b : Bool). is_sync x && not b) (sym is) in
-        let one : one_if (is_sync x) ≡ one_if (others id x) = ap one_if here in
+        let e = count_cons test x xs in
+        let f = count_cons (without test id) x xs in
+        let here : test x ≡ without test id x = and_yes (test x) ∙ ap (λ (b : Bool). test x && not b) (sym is) in
+        let one : one_if (test x) ≡ one_if (without test id x) = ap one_if here in
         omega (arith, e, f, one, rest)
 
 -- what is heard where some frames are lost
@@ -310,72 +403,228 @@ module _ (nodes : List NodeSpec) (lost : ℕ → ℕ → Bool) (share : AllShare
   pub none_is_arbitrary : arbitrary_count t ≡ 0
   none_is_arbitrary = count_nothing (λ (a : NodeSpec). is_sync a && false) nodes (λ a. and_false (is_sync a))
 
-two_nodes : (nodes : List NodeSpec) → Ascend nodes → 2 ≤ count_by is_sync nodes → (x : NodeSpec) × (y : NodeSpec) × Contains nodes x × Contains nodes y × (x.id ≢ y.id)
-two_nodes [] apart some = absurd (omega (arith, some))
-two_nodes (x ∷ []) apart some =
-    let e = count_cons is_sync x [] in
-    let le = no_more_than_one (is_sync x) in
-    absurd (omega (arith, some, e, le))
+one_sender : (nodes : List NodeSpec) → 1 ≤ count_by is_sync nodes → (x : NodeSpec) × Contains nodes x × (is_sync x ≡ true)
+one_sender [] some = absurd (omega (arith, some))
+one_sender (x ∷ nodes) some = by (is_sync x) refl (λ more. one_sender nodes more)
   where
-    no_more_than_one : (b : Bool) → one_if b ≤ 1
-    no_more_than_one true = omega arith
-    no_more_than_one false = omega arith
-two_nodes (x ∷ y ∷ nodes) apart some = (
-  x,
-  y,
-  Contains-here x (y ∷ nodes),
-  Contains-there x (y ∷ nodes) y (Contains-here y nodes),
-  differ x.id y.id (AllPairs-first (λ a b. a.id < b.id) x (y ∷ nodes) y apart (Contains-here y nodes)),
-)
-  where
-    differ : (a b : ℕ) → a < b → a ≢ b
-    differ a b less is = omega (arith, less, is)
+    by : (b : Bool) → is_sync x ≡ b → (1 ≤ count_by is_sync nodes → (y : NodeSpec) × Contains nodes y × (is_sync y ≡ true))
+        → (y : NodeSpec) × Contains (x ∷ nodes) y × (is_sync y ≡ true)
+    by true is rest = (x, Contains-here x nodes, is)
+    by false is rest =
+        let none = count_no is_sync x nodes is in
+        let one = rest (omega (arith, some, none)) in
+        (one.0, Contains-there x nodes one.0 one.1, one.2)
 
--- each loses the frames of so many others
-module _ (nodes : List NodeSpec) (k double : ℕ) (apart : Ascend nodes) (share : AllShare nodes) (enough : suc k ≤ count_by is_sync nodes) where
+two_senders : (nodes : List NodeSpec) → Ascend nodes → 2 ≤ count_by is_sync nodes
+    → (x : NodeSpec) × (y : NodeSpec) × Contains nodes x × Contains nodes y × (is_sync x ≡ true) × (is_sync y ≡ true) × (x.id < y.id)
+two_senders [] apart some = absurd (omega (arith, some))
+two_senders (x ∷ nodes) apart some = by (is_sync x) refl (λ more. two_senders nodes (AllPairs-rest (λ a b. a.id < b.id) x nodes apart) more)
+  where
+    by : (b : Bool) → is_sync x ≡ b
+        → (2 ≤ count_by is_sync nodes → (y : NodeSpec) × (z : NodeSpec) × Contains nodes y × Contains nodes z × (is_sync y ≡ true) × (is_sync z ≡ true) × (y.id < z.id))
+        → (y : NodeSpec) × (z : NodeSpec) × Contains (x ∷ nodes) y × Contains (x ∷ nodes) z × (is_sync y ≡ true) × (is_sync z ≡ true) × (y.id < z.id)
+    by true is rest =
+        let more = count_yes is_sync x nodes is in
+        let one = one_sender nodes (omega (arith, some, more)) in
+        (x, one.0, Contains-here x nodes, Contains-there x nodes one.0 one.1, is, one.2, AllPairs-first (λ a b. a.id < b.id) x nodes one.0 apart one.1)
+    by false is rest =
+        let none = count_no is_sync x nodes is in
+        let two = rest (omega (arith, some, none)) in
+        (two.0, two.1, Contains-there x nodes two.0 two.2, Contains-there x nodes two.1 two.3, two.4, two.5, two.6)
+
+-- two sync nodes lose the frames of each other and of so many others, as far as there are any: the one the first, the other the next
+module _ (nodes : List NodeSpec) (k double : ℕ) (apart : Ascend nodes) (share : AllShare nodes) (x y : NodeSpec) (here : Contains nodes x) (there : Contains nodes y) where
+  abbrev beyond : NodeSpec → Bool
+  beyond a = others x.id a && not (a.id == y.id)
+
+  abbrev first : ℕ → Bool
+  first id = chosen beyond nodes k id
+
+  abbrev left : NodeSpec → Bool
+  left a = beyond a && not (first a.id)
+
+  abbrev next : ℕ → Bool
+  next id = chosen left nodes k id
+
   abbrev losing : ℕ → ℕ → Bool
-  losing sender receiver = chosen (others receiver) nodes k sender
+  losing sender receiver = if receiver == x.id then sender == y.id || first sender else receiver == y.id && (sender == x.id || (not (first sender) && next sender))
 
-  all_lose : (rate : Bool) (b : NodeSpec) → Contains nodes b → sender_count (traffic_losing nodes losing) (λ a. not (has_value rate true (traffic_losing nodes losing) double b a)) ≡ k
-  all_lose rate b there =
-      let more = all_but_one b.id nodes apart in
-      missed_is nodes losing share double rate b there ∙ chosen_counted (others b.id) nodes k apart (omega (arith, enough, more))
+  abbrev parting : Traffic
+  parting = traffic_losing nodes losing
 
-  so_few : LosesFew (traffic_losing nodes losing) k double
-  so_few = record {
-    few = λ rate b there correct. let is = all_lose rate b there in omega (arith, is);
-    clear = λ rate a b here there correct sends. heard_is nodes losing share double rate false a b here there ∙ sym (heard_is nodes losing share double rate true a b here there);
-  }
+  module _ (key : is_sync x ≡ true) (other_key : is_sync y ≡ true) (less : x.id < y.id) where
+    at_itself : (n : ℕ) → (n == n) ≡ true
+    at_itself n = eq-eqb n n refl
 
-  cost_is : (rate : Bool) (b : NodeSpec) → Contains nodes b → missed_or_discarded rate (traffic_losing nodes losing) double b ≡ k + discarded (count_by is_sync nodes - k)
-  cost_is rate b there =
-      let t : Traffic = traffic_losing nodes losing in
-      let none = none_is_arbitrary nodes losing share double in
-      cost_by_missed rate t k double b none so_few there refl
-      ∙ ap (λ (n : ℕ). n + discarded (sender_count t (λ a. true) - n)) (all_lose rate b there) ∙ ap (λ (n : ℕ). k + discarded (n - k)) (all_send t none)
+    x_loses : (rate : Bool) → lacked rate parting double x ≤ suc (min k (count_by beyond nodes))
+    x_loses rate =
+        let test : NodeSpec → Bool = λ a. others x.id a && losing a.id x.id in
+        let is = missed_is nodes losing share double rate x here in
+        let le = all_but_one test y.id nodes apart in
+        let same = count_same (λ (a : NodeSpec). test a && not (a.id == y.id)) (λ (a : NodeSpec). beyond a && first a.id) nodes
+        (λ a among. ap (λ (b : Bool). (others x.id a && (if b then a.id == y.id || first a.id else x.id == y.id && (a.id == x.id || (not (first a.id) && next a.id)))) && not (a.id == y.id)) (at_itself x.id) ∙ by (others x.id a) (a.id == y.id) (first a.id)) in
+        let counted = chosen_counted beyond nodes k apart in
+        omega (arith, is, le, same, counted)
+      where
+        by : (o e f : Bool) → ((o && (e || f)) && not e) ≡ ((o && not e) && f)
+        by true true f = refl
+        by true false true = refl
+        by true false false = refl
+        by false e f = refl
 
-  part : (rate : Bool) → may_miss (count_by is_sync nodes) k ≡ false → 2 ≤ count_by is_sync nodes → lists_meet rate (traffic_losing nodes losing) double ≡ false
-  part rate fails some =
-      let t : Traffic = traffic_losing nodes losing in
-      let two = two_nodes nodes apart some in
-      let most = two_cost (λ b. t.is_arbitrary b.id) (missed_or_discarded rate t double) nodes two.0 two.1 two.2 two.3 refl refl two.4 in
-      let one = cost_is rate two.0 two.2 in
-      let other = cost_is rate two.1 two.3 in
-      let all = all_send t (none_is_arbitrary nodes losing share double) in
-      step (costs_of rate t double nodes).most (costs_of rate t double nodes).second (missed_or_discarded rate t double two.0) (missed_or_discarded rate t double two.1) (k + discarded (count_by is_sync nodes - k)) (sender_count t (λ a. true)) (count_by is_sync nodes) most one other all fails
-    where
-      step : (a b c d m n all : ℕ) → c + d ≤ a + b → c ≡ m → d ≡ m → n ≡ all → nat_lt (2 * m) all ≡ false → nat_lt (a + b) n ≡ false
-      step a b c d m n all le one other is fails = grind (arith, nat_tests)
+    y_loses : (rate : Bool) → lacked rate parting double y ≤ suc (min k (count_by left nodes))
+    y_loses rate =
+        let test : NodeSpec → Bool = λ a. others y.id a && losing a.id y.id in
+        let is = missed_is nodes losing share double rate y there in
+        let le = all_but_one test x.id nodes apart in
+        let same = count_same (λ (a : NodeSpec). test a && not (a.id == x.id)) (λ (a : NodeSpec). left a && next a.id) nodes
+        (λ a among.
+        ap₂ (λ (b c : Bool). (others y.id a && (if b then a.id == y.id || first a.id else c && (a.id == x.id || (not (first a.id) && next a.id)))) && not (a.id == x.id)) (other_id x.id y.id less) (at_itself y.id)
+        ∙ by (is_sync a) (a.id == x.id) (a.id == y.id) (first a.id) (next a.id)) in
+        let counted = chosen_counted left nodes k apart in
+        omega (arith, is, le, same, counted)
+      where
+        by : (s e o f g : Bool) → (((s && not o) && (e || (not f && g))) && not e) ≡ ((((s && not e) && not o) && not f) && g)
+        by false e o f g = refl
+        by true true true f g = refl
+        by true true false f g = refl
+        by true false true f g = refl
+        by true false false true g = refl
+        by true false false false true = refl
+        by true false false false false = refl
+
+    -- so each loses the frames of no more than one and so many
+    no_more_lost : (rate : Bool) (b : NodeSpec) → Contains nodes b → lacked rate parting double b ≤ k + 1
+    no_more_lost rate b among = by (b.id == x.id) (b.id == y.id) refl refl
+      where
+        within : (n k m : ℕ) → n ≤ suc (min k m) → n ≤ k + 1
+        within n k m le = grind arith
+
+        same_id : (a b : ℕ) → (a == b) ≡ true → a ≡ b
+        same_id a b is = grind (arith, nat_tests)
+
+        as_of : (z : NodeSpec) → Contains nodes z → (b.id == z.id) ≡ true → lacked rate parting double z ≤ k + 1 → lacked rate parting double b ≤ k + 1
+        as_of z at same le =
+            let id : b.id ≡ z.id = same_id b.id z.id same in
+            let is = missed_is nodes losing share double rate b among in
+            let other = missed_is nodes losing share double rate z at in
+            let e : count_by (λ a. others b.id a && losing a.id b.id) nodes ≡ count_by (λ a. others z.id a && losing a.id z.id) nodes = ap (λ (n : ℕ). count_by (λ a. others n a && losing a.id n) nodes) id in
+            omega (arith, is, other, e, le)
+
+        by : (one other : Bool) → (b.id == x.id) ≡ one → (b.id == y.id) ≡ other → lacked rate parting double b ≤ k + 1
+        by true other is at = as_of x here is (within (lacked rate parting double x) k (count_by beyond nodes) (x_loses rate))
+        by false true is at = as_of y there at (within (lacked rate parting double y) k (count_by left nodes) (y_loses rate))
+        by false false is at =
+            let lost = missed_is nodes losing share double rate b among in
+            let none = count_nothing (λ (a : NodeSpec). others b.id a && losing a.id b.id) nodes
+            (λ a. ap₂ (λ (c d : Bool). others b.id a && (if c then a.id == y.id || first a.id else d && (a.id == x.id || (not (first a.id) && next a.id)))) is at ∙ and_false (others b.id a)) in
+            omega (arith, lost, none)
+
+    so_few : LosesFew parting (k + 1) double
+    so_few = record {
+      few = λ rate b among correct. no_more_lost rate b among;
+      clear = λ rate a b one other correct sends. heard_is nodes losing share double rate false a b one other ∙ sym (heard_is nodes losing share double rate true a b one other);
+    }
+
+    -- in common they have only those whose frames neither loses
+    in_common : (rate : Bool) → common_count rate parting double x y ≡ count_by (λ a. left a && not (next a.id)) nodes
+    in_common rate =
+        staying parting (k + 1) double (none_is_arbitrary nodes losing share double) so_few (λ a among sends. refl) (λ a. has_value rate true parting double x a && has_value rate true parting double y a)
+        ∙ count_same (λ (a : NodeSpec). is_correct_sender parting a && (has_value rate true parting double x a && has_value rate true parting double y a)) (λ (a : NodeSpec). left a && not (next a.id)) nodes
+        (λ a among.
+        ap₂ (λ (b c : Bool). is_correct_sender parting a && (b && c)) (heard_is nodes losing share double rate true a x among here ∙ ap (λ (b : Bool). a.id == x.id || not (if b then a.id == y.id || first a.id else x.id == y.id && (a.id == x.id || (not (first a.id) && next a.id)))) (at_itself x.id))
+        (heard_is nodes losing share double rate true a y among there ∙ ap₂ (λ (b c : Bool). a.id == y.id || not (if b then a.id == y.id || first a.id else c && (a.id == x.id || (not (first a.id) && next a.id)))) (other_id x.id y.id less) (at_itself y.id))
+        ∙ by (is_sync a) (a.id == x.id) (a.id == y.id) (first a.id) (next a.id) (λ one other. not_both a.id x.id y.id less one other))
+      where
+        not_both : (a b c : ℕ) → b < c → (a == b) ≡ true → (a == c) ≡ true → ⊥
+        not_both a b c less one other = grind (arith, nat_tests)
+
+        by : (s e o f g : Bool) → (e ≡ true → o ≡ true → ⊥)
+            → ((s && not false) && ((e || not (o || f)) && (o || not (e || (not f && g))))) ≡ ((((s && not e) && not o) && not f) && not g)
+        by false e o f g never = refl
+        by true true true f g never = absurd (never refl refl)
+        by true true false f g never = refl
+        by true false true f g never = refl
+        by true false false true g never = refl
+        by true false false false true never = refl
+        by true false false false false never = refl
+
+    -- two more than these have a key slot
+    two_more : count_by beyond nodes + 2 ≤ count_by is_sync nodes
+    two_more =
+        let one = count_less beyond (others y.id) nodes x (λ a. some_pass (is_sync a) (a.id == x.id) (a.id == y.id)) here
+        (rw (key, at_itself x.id) refl) (rw (key, before x.id y.id less) refl) in
+        let other = count_less (others y.id) is_sync nodes y (λ a. first_passes (is_sync a) (not (a.id == y.id))) there (rw (other_key, at_itself y.id) refl) other_key in
+        omega (arith, one, other)
+      where
+        before : (a b : ℕ) → a < b → (a == b) ≡ false
+        before a b less = grind (arith, nat_tests)
+
+        some_pass : (s e o : Bool) → ((s && not e) && not o) ≡ true → (s && not o) ≡ true
+        some_pass true true o is = absurd (cc)
+        some_pass true false o is = is
+        some_pass false e o is = absurd (cc)
+
+        first_passes : (a b : Bool) → (a && b) ≡ true → a ≡ true
+        first_passes true b is = refl
+        first_passes false b is = absurd (cc)
+
+    too_few : (rate : Bool) → may_miss (count_by is_sync nodes) (k + 1) ≡ false → two_meet rate parting double x y ≡ false
+    too_few rate fails =
+        let n : ℕ = count_by is_sync nodes in
+        let all = all_send parting (none_is_arbitrary nodes losing share double) in
+        let none = none_is_arbitrary nodes losing share double in
+        let most = most_is parting (k + 1) double none so_few rate x here refl ∙ ap (λ (m : ℕ). m - lacked rate parting double x) all in
+        let other = most_is parting (k + 1) double none so_few rate y there refl ∙ ap (λ (m : ℕ). m - lacked rate parting double y) all in
+        let parts = parted beyond (λ (a : NodeSpec). first a.id) nodes in
+        let halves = parted left (λ (a : NodeSpec). next a.id) nodes in
+        ap₂ (λ (a b : ℕ). nat_lt (discarded a + discarded b) (common_count rate parting double x y)) most other
+        ∙ step n k (lacked rate parting double x) (lacked rate parting double y) (count_by beyond nodes) (count_by left nodes) (count_by (λ a. left a && not (next a.id)) nodes)
+        (count_by (λ a. beyond a && first a.id) nodes) (count_by (λ a. left a && next a.id) nodes) (common_count rate parting double x y)
+        (x_loses rate) (y_loses rate) two_more parts halves (chosen_counted beyond nodes k apart) (chosen_counted left nodes k apart) (in_common rate) fails
+      where
+        more_discarded : (a b : ℕ) → a ≤ b → discarded a ≤ discarded b
+        more_discarded a b le = grind (arith, nat_tests)
+
+        fewer_left : (n a k m : ℕ) → a ≤ suc (min k m) → n - (k + 1) ≤ n - a
+        fewer_left n a k m le = grind arith
+
+        small : (n k d e f two one rest left p q common : ℕ) → d ≤ e → d ≤ f → two + 2 ≤ n → one + p ≡ two → rest + q ≡ one → p ≡ min k two → q ≡ min k one → common ≡ rest
+            → nat_lt (2 * ((k + 1) + d)) n ≡ false → nat_lt (e + f) common ≡ false
+        small n k d e f two one rest left p q common le less more parts halves first next is fails = grind (arith, nat_tests)
+
+        step : (n k a b two one rest p q common : ℕ) → a ≤ suc (min k two) → b ≤ suc (min k one) → two + 2 ≤ n → one + p ≡ two → rest + q ≡ one → p ≡ min k two → q ≡ min k one
+            → common ≡ rest → may_miss n (k + 1) ≡ false → nat_lt (discarded (n - a) + discarded (n - b)) common ≡ false
+        step n k a b two one rest p q common le less more parts halves first next is fails =
+            small n k (discarded (n - (k + 1))) (discarded (n - a)) (discarded (n - b)) two one rest 0 p q common (more_discarded (n - (k + 1)) (n - a) (fewer_left n a k two le))
+            (more_discarded (n - (k + 1)) (n - b) (fewer_left n b k one less)) more parts halves first next is fails
+
+    parts_lists : (rate : Bool) → may_miss (count_by is_sync nodes) (k + 1) ≡ false → lists_meet rate parting double ≡ false
+    parts_lists rate fails = by (lists_meet rate parting double) refl
+      where
+        never : (a b : Bool) → a ≡ false → b ≡ false → (a || b) ≡ true → ⊥
+        never a b one other either = cc
+
+        by : (b : Bool) → lists_meet rate parting double ≡ b → b ≡ false
+        by false is = refl
+        by true is =
+            let has : has_and_meets rate parting double x ≡ true = all_pass (λ (b : NodeSpec). not (may_receive parting double b) || has_and_meets rate parting double b) nodes x is here in
+            let meets = (and_parts (nat_le 1 (sure_count rate parting double x)) (meets_each rate parting double x) has).1 in
+            let either : (x.id == y.id || two_meet rate parting double x y) ≡ true = all_pass (λ (c : NodeSpec). not (may_receive parting double c) || (x.id == c.id || two_meet rate parting double x c)) nodes y meets there in
+            absurd (never (x.id == y.id) (two_meet rate parting double x y) (before x.id y.id less) (too_few rate fails) either)
+          where
+            before : (a b : ℕ) → a < b → (a == b) ≡ false
+            before a b less = grind (arith, nat_tests)
 
 pub one_more_may_part : OneMoreMayPart
 one_more_may_part p missed double sane share some most =
     let nodes : List NodeSpec = p.nodes in
     let apart = sane.lists.nodes_ascend in
     let senders : sync_nodes p ≡ count_by is_sync nodes = keys_counted nodes in
-    let enough : suc (missed + 1) ≤ count_by is_sync nodes = subst (λ (n : ℕ). suc (missed + 1) ≤ n) senders (one_left (sync_nodes p) missed some most.meets) in
-    let two : 2 ≤ count_by is_sync nodes = subst (λ (n : ℕ). 2 ≤ n) senders some in
-    let fails : may_miss (count_by is_sync nodes) (missed + 1) ≡ false = subst (λ (n : ℕ). may_miss n (missed + 1) ≡ false) senders (most.no_more (missed + 1) (omega arith)) in
-    (losing nodes (missed + 1) double apart share enough, so_few nodes (missed + 1) double apart share enough, part nodes (missed + 1) double apart share enough false fails two, part nodes (missed + 1) double apart share enough true fails two)
-  where
-    one_left : (n m : ℕ) → 2 ≤ n → may_miss n m ≡ true → suc (m + 1) ≤ n
-    one_left n m some meets = grind (arith, nat_tests)
+    let two = two_senders nodes apart (subst (λ (n : ℕ). 2 ≤ n) senders some) in
+    let fails : may_miss (count_by is_sync nodes) (missed + 1) ≡ false = subst (λ (n : ℕ). may_miss n (missed + 1) ≡ false) senders (most.no_more (missed + 1) (omega arith)) in (
+      losing nodes missed double apart share two.0 two.1 two.2 two.3,
+      so_few nodes missed double apart share two.0 two.1 two.2 two.3 two.4 two.5 two.6,
+      parts_lists nodes missed double apart share two.0 two.1 two.2 two.3 two.4 two.5 two.6 false fails,
+      parts_lists nodes missed double apart share two.0 two.1 two.2 two.3 two.4 two.5 two.6 true fails,
+    )

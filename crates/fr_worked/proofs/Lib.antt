@@ -44,7 +44,9 @@ pub mod FarWorked
 pub mod FarFound
 pub mod FilesWorked
 pub mod LossesWorked
+pub mod CrossingWorked
 pub mod MeetingWorked
+pub mod JoiningLossesKeep
 pub mod JoinWorked
 pub mod JoinedFilesWorked
 pub mod JudgedWorked

@@ -1,6 +1,5 @@
 -- The files of the worked run that loses every frame of one cycle are covered through losses.
 use Rattle.std.proofs.Common.{◌≡◌, ℕ, zero, suc, ◌+◌, ◌<◌, ◌≤◌, Bool, true, false, pos, None, refl, subst, sym, lit≤, lit<, arith}
-use Rattle.fr_bound.specs.declared.judging.Heard.{Heard}
 use Rattle.fr_cluster.specs.Setting.{Setting}
 use Rattle.fr_coverage.specs.Coverage.{gap_of_run, some_join}
 use Rattle.fr_coverage.specs.Decided.{setting_of}
@@ -24,7 +23,7 @@ use Rattle.fr_precision.specs.SharpRun.{WalkLastsAfter}
 use Rattle.fr_bound.specs.SharpSpreads.{sharply_near_in}
 use Rattle.fr_sharp.specs.SharpStatement.{has_arbitrary}
 use Rattle.fr_sharp.proofs.StrayFits.{limit_follows}
-use Rattle.fr_traffic.specs.Traffic.{all_bear_from, costs_by, heard_in, lacking_for, none_lacks, traffic_in}
+use Rattle.fr_traffic.specs.Traffic.{all_bear_from, heard_in, lacking_for, none_lacks, traffic_in}
 use Rattle.fr_worked.specs.WorkedFiles.{fluttering_drift}
 use Rattle.fr_worked.specs.WorkedLosses.{losing_script, LosingFilesAreCovered, LosingFilesKeep}
 use Rattle.fr_sharp.specs.WorkedRun.{steady_cluster}
@@ -37,17 +36,9 @@ use Rattle.fr_promise.proofs.CheckNumbers.{two_to_five}
 
 -- ---- what is heard
 
-whole_0 : whole_in steady_cluster losing_script 0 ≡ true
+whole : (whole_in steady_cluster losing_script 0 ≡ true) × (whole_in steady_cluster losing_script 1 ≡ false) × (whole_in steady_cluster losing_script 2 ≡ true)
 unfolding is_arbitrary deed_of deed_in event_of
-whole_0 = refl
-
-whole_1 : whole_in steady_cluster losing_script 1 ≡ false
-unfolding is_arbitrary deed_of deed_in event_of
-whole_1 = refl
-
-whole_2 : whole_in steady_cluster losing_script 2 ≡ true
-unfolding is_arbitrary deed_of deed_in event_of
-whole_2 = refl
+whole = (refl, refl, refl)
 
 -- ---- they are covered
 
@@ -67,38 +58,19 @@ none_joins : some_join steady_cluster losing_script ≡ false
 unfolding is_arbitrary join_of
 none_joins = refl
 
-checks_hold : SharpChecksHold 250 61_281_165 steady_cluster
+pub checks_hold : SharpChecksHold 250 61_281_165 steady_cluster
 unfolding last_of
 checks_hold = two_to_five (λ k. sharp_holds_of k 250 61_281_165 steady_cluster) refl refl refl refl
 
--- the numbers of each double cycle
-abbrev what : ℕ → Heard
-what double = heard_in (traffic_in steady_cluster losing_script) double
-
-abbrev near_at : ℕ → ℕ
-near_at double = sharply_near_in steady_cluster (run_spread steady_cluster losing_script 0 250 double)
-
-near_0 : near_at 0 ≤ 61_281_165
-unfolding spread_through_losses last_of is_arbitrary
-near_0 = lit≤ tt
-
-near_1 : near_at 1 ≤ 61_281_165
-unfolding spread_through_losses costs_by last_of is_arbitrary deed_of deed_in event_of
-near_1 = lit≤ tt
-
-near_2 : near_at 2 ≤ 61_281_165
-unfolding spread_through_losses costs_by last_of is_arbitrary deed_of deed_in event_of
-near_2 = lit≤ tt
-
-near_in : (double : ℕ) → 0 ≤ double → double < doubles_of fluttering_drift → near_at double ≤ 61_281_165
-unfolding doubles_of
-near_in zero late less = near_0
-near_in (suc zero) late less = near_1
-near_in (suc (suc zero)) late less = near_2
+near_in : (double : ℕ) → 0 ≤ double → double < doubles_of fluttering_drift → sharply_near_in steady_cluster (run_spread steady_cluster losing_script 0 250 double) ≤ 61_281_165
+unfolding doubles_of spread_through_losses last_of is_arbitrary join_of deed_of deed_in event_of
+near_in zero late less = lit≤ tt
+near_in (suc zero) late less = lit≤ tt
+near_in (suc (suc zero)) late less = lit≤ tt
 near_in (suc (suc (suc k))) late less = absurd (omega (arith, less))
 
 trusted : (double : ℕ) → 0 ≤ double → double < doubles_of fluttering_drift → all_bear_from steady_cluster (traffic_in steady_cluster losing_script) 0 double ≡ true
-unfolding lacking_for doubles_of is_arbitrary deed_of deed_in event_of
+unfolding lacking_for doubles_of is_arbitrary join_of deed_of deed_in event_of
 trusted zero late less = refl
 trusted (suc zero) late less = refl
 trusted (suc (suc zero)) late less = refl
@@ -116,7 +88,7 @@ covered = record {
 }
 
 pub losing_files_are_covered : LosingFilesAreCovered
-losing_files_are_covered = (whole_0, whole_1, whole_2, covered)
+losing_files_are_covered = (whole.0, whole.1.0, whole.1.1, covered)
 
 -- ---- what comes of it
 
@@ -128,25 +100,25 @@ near : AreStatedNear losing (sharp_pi false steady_cluster 250) (sharp_lambda fa
 unfolding is_arbitrary join_of
 near = let n = stated_near false in record { starts = n.starts; lengths = n.lengths; about = n.about }
 
-lasts : (passed : ℕ) → WalkLastsAfter steady_cluster 250 passed
+pub lasts : (passed : ℕ) → WalkLastsAfter steady_cluster 250 passed
 lasts passed = tt
 
 abbrev apart_at : ℕ → ℕ
 apart_at passed = apart_through_losses (has_arbitrary steady_cluster losing_script) steady_cluster 250 (λ m. heard_in (traffic_in steady_cluster losing_script) (0 + m)) passed
 
 apart_0 : apart_at 0 ≡ 36_005_494
-unfolding spread_through_losses costs_by is_arbitrary deed_of deed_in event_of
+unfolding spread_through_losses is_arbitrary join_of deed_of deed_in event_of
 apart_0 = refl
 
 apart_1 : apart_at 1 ≡ 48_007_094
-unfolding spread_through_losses costs_by is_arbitrary deed_of deed_in event_of
+unfolding spread_through_losses is_arbitrary join_of deed_of deed_in event_of
 apart_1 = refl
 
 apart_2 : apart_at 2 ≡ 75_011_786
-unfolding spread_through_losses costs_by is_arbitrary deed_of deed_in event_of
+unfolding spread_through_losses is_arbitrary join_of deed_of deed_in event_of
 apart_2 = refl
 
-three : doubles_of fluttering_drift ≡ 3
+pub three : doubles_of fluttering_drift ≡ 3
 unfolding doubles_of
 three = refl
 

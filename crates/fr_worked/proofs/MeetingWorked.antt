@@ -12,21 +12,21 @@ use Rattle.fr_drift.specs.Questions.{delay_of, doubles_of, length_of}
 use Rattle.fr_script.specs.Deeds.{deed_in}
 use Rattle.fr_script.specs.Events.{event_of}
 use Rattle.fr_script.specs.View.{ScriptView, deed_of, is_arbitrary, join_of}
-use Rattle.fr_precision.specs.Among.{apart_through_losses, spread_through_losses, LaterSpreadsAreLess}
+use Rattle.fr_precision.specs.Among.{apart_through_losses, both, spread_through_losses, LaterSpreadsAreLess}
 use Rattle.fr_sharp.specs.Losses.{HistoriesKeepThroughLosses}
 use Rattle.fr_sharp.specs.LossStatement.{run_spread, without_losses, IsCoveredThroughLosses}
 use Rattle.fr_sharp.specs.SettlingHistories.{AreStatedNear}
 use Rattle.fr_bound.specs.SharpBounds.{last_of, sharp_lambda, sharp_pi}
 use Rattle.fr_bound.specs.SharpChecks.{sharp_holds_of, SharpChecksHold}
 use Rattle.fr_runs.specs.SharpHistories.{IsInSharpSyncAt, KeepsApart}
-use Rattle.fr_precision.specs.SharpRun.{WalkLastsAfter}
 use Rattle.fr_bound.specs.SharpSpreads.{sharply_near_in}
 use Rattle.fr_sharp.specs.SharpStatement.{has_arbitrary}
 use Rattle.fr_sharp.proofs.StrayFits.{limit_follows}
-use Rattle.fr_traffic.specs.Traffic.{all_bear_from, costs_by, heard_in, lacking_for, none_lacks, traffic_in}
+use Rattle.fr_traffic.specs.Traffic.{all_bear_from, heard_in, lacking_for, none_lacks, traffic_in}
 use Rattle.fr_worked.specs.WorkedFiles.{fluttering_drift, marking_script}
 use Rattle.fr_worked.specs.WorkedLosses.{missing_script, BesideFilesAreCovered, BesideFilesKeep, MissingFilesAreCovered, MissingFilesKeep}
 use Rattle.fr_sharp.specs.WorkedRun.{steady_cluster}
+use Rattle.fr_worked.proofs.LossesWorked.{lasts, three}
 use Rattle.fr_worked.proofs.FilesWorked.{covered as sharply_covered, kind_is, stated_near, steady}
 use Rattle.fr_sharp.proofs.BearingKinds.{through_is_apart}
 use Rattle.fr_sharp.proofs.FromLossyFiles.{covered_files_keep_through_losses, lossy_files_give_runs}
@@ -36,16 +36,16 @@ use Rattle.fr_promise.proofs.CheckNumbers.{two_to_five}
 
 -- ---- one frame at one node
 
-clean_0 : heard_in (traffic_in steady_cluster missing_script) 0 ≡ heard.Clean
-unfolding costs_by is_arbitrary deed_of deed_in event_of
+clean_0 : heard_in (traffic_in steady_cluster missing_script) 0 ≡ both heard.Clean
+unfolding is_arbitrary join_of deed_of deed_in event_of
 clean_0 = refl
 
-meeting_1 : heard_in (traffic_in steady_cluster missing_script) 1 ≡ heard.Meeting
-unfolding costs_by is_arbitrary deed_of deed_in event_of
+meeting_1 : heard_in (traffic_in steady_cluster missing_script) 1 ≡ both heard.Meeting
+unfolding is_arbitrary join_of deed_of deed_in event_of
 meeting_1 = refl
 
-clean_2 : heard_in (traffic_in steady_cluster missing_script) 2 ≡ heard.Clean
-unfolding costs_by is_arbitrary deed_of deed_in event_of
+clean_2 : heard_in (traffic_in steady_cluster missing_script) 2 ≡ both heard.Clean
+unfolding is_arbitrary join_of deed_of deed_in event_of
 clean_2 = refl
 
 no_gap : gap_of_run steady_cluster fluttering_drift (without_losses missing_script) ≡ None
@@ -72,14 +72,14 @@ abbrev near_at : ScriptView → ℕ → ℕ
 near_at s double = sharply_near_in steady_cluster (run_spread steady_cluster s 0 250 double)
 
 missing_near : (double : ℕ) → 0 ≤ double → double < doubles_of fluttering_drift → near_at missing_script double ≤ 45_726_402
-unfolding doubles_of spread_through_losses costs_by last_of is_arbitrary deed_of deed_in event_of
+unfolding doubles_of spread_through_losses last_of is_arbitrary join_of deed_of deed_in event_of
 missing_near zero late less = lit≤ tt
 missing_near (suc zero) late less = lit≤ tt
 missing_near (suc (suc zero)) late less = lit≤ tt
 missing_near (suc (suc (suc k))) late less = absurd (omega (arith, less))
 
 missing_trusted : (double : ℕ) → 0 ≤ double → double < doubles_of fluttering_drift → all_bear_from steady_cluster (traffic_in steady_cluster missing_script) 0 double ≡ true
-unfolding lacking_for doubles_of is_arbitrary deed_of deed_in event_of
+unfolding lacking_for doubles_of is_arbitrary join_of deed_of deed_in event_of
 missing_trusted zero late less = refl
 missing_trusted (suc zero) late less = refl
 missing_trusted (suc (suc zero)) late less = refl
@@ -106,27 +106,20 @@ near : AreStatedNear missing (sharp_pi false steady_cluster 250) (sharp_lambda f
 unfolding is_arbitrary join_of
 near = let n = stated_near false in record { starts = n.starts; lengths = n.lengths; about = n.about }
 
-lasts : (passed : ℕ) → WalkLastsAfter steady_cluster 250 passed
-lasts passed = tt
-
 abbrev apart_at : ScriptView → ℕ → ℕ
 apart_at s passed = apart_through_losses (has_arbitrary steady_cluster s) steady_cluster 250 (λ m. heard_in (traffic_in steady_cluster s) (0 + m)) passed
 
 apart_0 : apart_at missing_script 0 ≡ 36_005_494
-unfolding spread_through_losses costs_by is_arbitrary deed_of deed_in event_of
+unfolding spread_through_losses is_arbitrary join_of deed_of deed_in event_of
 apart_0 = refl
 
 apart_1 : apart_at missing_script 1 ≡ 36_005_494
-unfolding spread_through_losses costs_by is_arbitrary deed_of deed_in event_of
+unfolding spread_through_losses is_arbitrary join_of deed_of deed_in event_of
 apart_1 = refl
 
 apart_2 : apart_at missing_script 2 ≡ 57_008_790
-unfolding spread_through_losses costs_by is_arbitrary deed_of deed_in event_of
+unfolding spread_through_losses is_arbitrary join_of deed_of deed_in event_of
 apart_2 = refl
-
-three : doubles_of fluttering_drift ≡ 3
-unfolding doubles_of
-three = refl
 
 within : (n : ℕ) → n < 3 → 0 + n < doubles_of fluttering_drift
 within n is = let e = three in omega (arith, e, is)
@@ -158,8 +151,8 @@ missing_files_keep keep later h run =
 abbrev beside_script : ScriptView
 beside_script = marking_script true
 
-meeting : (double : ℕ) → double < 3 → heard_in (traffic_in steady_cluster (marking_script true)) double ≡ heard.Meeting
-unfolding costs_by is_arbitrary deed_of deed_in event_of
+meeting : (double : ℕ) → double < 3 → heard_in (traffic_in steady_cluster (marking_script true)) double ≡ both heard.Meeting
+unfolding is_arbitrary join_of deed_of deed_in event_of
 meeting zero less = refl
 meeting (suc zero) less = refl
 meeting (suc (suc zero)) less = refl
@@ -170,14 +163,14 @@ unfolding last_of
 beside_checks = two_to_five (λ k. sharp_holds_of k 250 84_305_863 steady_cluster) refl refl refl refl
 
 beside_near : (double : ℕ) → 0 ≤ double → double < doubles_of fluttering_drift → near_at (marking_script true) double ≤ 84_305_863
-unfolding doubles_of spread_through_losses costs_by last_of is_arbitrary deed_of deed_in event_of
+unfolding doubles_of spread_through_losses last_of is_arbitrary join_of deed_of deed_in event_of
 beside_near zero late less = lit≤ tt
 beside_near (suc zero) late less = lit≤ tt
 beside_near (suc (suc zero)) late less = lit≤ tt
 beside_near (suc (suc (suc k))) late less = absurd (omega (arith, less))
 
 beside_trusted : (double : ℕ) → 0 ≤ double → double < doubles_of fluttering_drift → all_bear_from steady_cluster (traffic_in steady_cluster (marking_script true)) 0 double ≡ true
-unfolding lacking_for doubles_of is_arbitrary deed_of deed_in event_of
+unfolding lacking_for doubles_of is_arbitrary join_of deed_of deed_in event_of
 beside_trusted zero late less = refl
 beside_trusted (suc zero) late less = refl
 beside_trusted (suc (suc zero)) late less = refl
@@ -200,7 +193,7 @@ pub beside_files_are_covered : BesideFilesAreCovered
 beside_files_are_covered = (meeting, beside_covered)
 
 beside_apart : (double : ℕ) → double < 3 → apart_at (marking_script true) double ≡ 99_015_680
-unfolding spread_through_losses costs_by is_arbitrary deed_of deed_in event_of
+unfolding spread_through_losses is_arbitrary join_of deed_of deed_in event_of
 beside_apart zero less = refl
 beside_apart (suc zero) less = refl
 beside_apart (suc (suc zero)) less = refl

@@ -1,5 +1,5 @@
--- The files of worked runs in which frames are lost, and what they promise: every frame of one cycle, or one frame at one node; and of
--- one beside an arbitrary node.
+-- The files of worked runs in which frames are lost, and what they promise: every frame of one cycle, or of an odd one and the next even
+-- one, or one frame at one node; and of one beside an arbitrary node.
 use Rattle.std.specs.Prelude.{◌≡◌, ◌<◌, ℕ, pos, true, false, [], ◌∷◌, replicate, Option, None}
 use Rattle.fr_bound.specs.declared.judging.Heard.TheVariants as heard
 use Rattle.fr_cluster.specs.declared.join.Join.{Join}
@@ -19,17 +19,18 @@ use Rattle.fr_traffic.specs.Traffic.{heard_in, traffic_in}
 use Rattle.fr_worked.specs.WorkedFiles.{fluttering_drift, marking_script}
 use Rattle.fr_sharp.specs.WorkedRun.{steady_cluster}
 
-abbrev pub lost_at : ℕ → ℕ → Passage × Deed
-lost_at sender receiver = (passage_of sender receiver 2, deed.Lose)
+-- a frame of a cycle from a sender to a receiver
+abbrev pub lost_at : ℕ → ℕ → ℕ → Passage × Deed
+lost_at cycle sender receiver = (passage_of sender receiver cycle, deed.Lose)
 
--- every frame of cycle 2, from each of the four nodes to each other
+-- every frame of cycle 3, from each of the four nodes to each other: offset values go by the odd cycle, and rate values by both
 abbrev pub losing_script : ScriptView
 losing_script = record {
   arbitrary = replicate 65 false;
   joins = let none : Option Join = None in replicate 65 none;
   on_a =
-      lost_at 1 2 ∷ lost_at 1 3 ∷ lost_at 1 4 ∷ lost_at 2 1 ∷ lost_at 2 3 ∷ lost_at 2 4 ∷ lost_at 3 1 ∷ lost_at 3 2 ∷ lost_at 3 4
-      ∷ lost_at 4 1 ∷ lost_at 4 2 ∷ lost_at 4 3 ∷ [];
+      lost_at 3 1 2 ∷ lost_at 3 1 3 ∷ lost_at 3 1 4 ∷ lost_at 3 2 1 ∷ lost_at 3 2 3 ∷ lost_at 3 2 4 ∷ lost_at 3 3 1 ∷ lost_at 3 3 2
+      ∷ lost_at 3 3 4 ∷ lost_at 3 4 1 ∷ lost_at 3 4 2 ∷ lost_at 3 4 3 ∷ [];
   on_b = [];
 }
 
@@ -50,14 +51,48 @@ LosingFilesKeep =
     × KeepsApart (setting_of steady_cluster fluttering_drift losing_script) h 1 48_007_094
     × KeepsApart (setting_of steady_cluster fluttering_drift losing_script) h 2 75_011_786
 
+-- ---- a burst that does not begin with a double cycle
+
+-- every frame of cycles 3 and 4
+abbrev pub crossing_script : ScriptView
+crossing_script = record {
+  arbitrary = replicate 65 false;
+  joins = let none : Option Join = None in replicate 65 none;
+  on_a =
+      lost_at 3 1 2 ∷ lost_at 4 1 2 ∷ lost_at 3 1 3 ∷ lost_at 4 1 3 ∷ lost_at 3 1 4 ∷ lost_at 4 1 4 ∷ lost_at 3 2 1 ∷ lost_at 4 2 1
+      ∷ lost_at 3 2 3 ∷ lost_at 4 2 3 ∷ lost_at 3 2 4 ∷ lost_at 4 2 4 ∷ lost_at 3 3 1 ∷ lost_at 4 3 1 ∷ lost_at 3 3 2 ∷ lost_at 4 3 2
+      ∷ lost_at 3 3 4 ∷ lost_at 4 3 4 ∷ lost_at 3 4 1 ∷ lost_at 4 4 1 ∷ lost_at 3 4 2 ∷ lost_at 4 4 2 ∷ lost_at 3 4 3 ∷ lost_at 4 4 3
+      ∷ [];
+  on_b = [];
+}
+
+-- in double cycle 1 nothing is heard, and in double cycle 2 all offsets again, since its odd cycle is whole; the files are covered through
+-- losses, with the reach of the loss of one cycle
+abbrev pub CrossingFilesAreCovered : Type 0
+CrossingFilesAreCovered =
+    (heard_in (traffic_in steady_cluster crossing_script) 0 ≡ both heard.Clean)
+    × (heard_in (traffic_in steady_cluster crossing_script) 1 ≡ both heard.Poor)
+    × (heard_in (traffic_in steady_cluster crossing_script) 2 ≡ record { offsets = heard.Clean; rates = heard.Poor })
+    × IsCoveredThroughLosses steady_cluster fluttering_drift crossing_script 0 250 61_281_165
+
+-- no macroticks lie further apart in any of them than where every frame of cycle 3 alone is lost; in double cycle 2 it would be 87,013,386
+-- ticks if that were poor of offsets too
+abbrev pub CrossingFilesKeep : Type 0
+CrossingFilesKeep =
+    (h : Cycles) → IsRunOf (setting_of steady_cluster fluttering_drift crossing_script) h
+    → IsInSharpSyncAt false steady_cluster 250 (pos 0) h 0
+    × KeepsApart (setting_of steady_cluster fluttering_drift crossing_script) h 0 36_005_494
+    × KeepsApart (setting_of steady_cluster fluttering_drift crossing_script) h 1 48_007_094
+    × KeepsApart (setting_of steady_cluster fluttering_drift crossing_script) h 2 75_011_786
+
 -- ---- one frame at one node
 
--- the frame of cycle 2 from node 2 to node 1
+-- the frame of cycle 3 from node 2 to node 1
 abbrev pub missing_script : ScriptView
 missing_script = record {
   arbitrary = replicate 65 false;
   joins = let none : Option Join = None in replicate 65 none;
-  on_a = lost_at 2 1 ∷ [];
+  on_a = lost_at 3 2 1 ∷ [];
   on_b = [];
 }
 

@@ -25,6 +25,7 @@ mod far;
 mod far_run;
 mod halting_run;
 mod joined_files;
+mod joining_losses;
 mod judged_run;
 mod late;
 mod laws;
@@ -47,11 +48,12 @@ pub use halting_run::the_first_sharp_check_is_needed;
 pub use joined_files::{
     joined_files_are_traced, joined_files_keep_their_precision, uneven_files_keep_their_precision,
 };
+pub use joining_losses::joining_files_lose_frames;
 pub use judged_run::a_judged_run;
 pub use late::the_promise_begins_in_sync;
 pub use laws::{a_joined_run_keeps_together, a_joined_run_keeps_up, a_joined_run_stays_together};
 pub use long_run::a_long_walk;
-pub use lossy_files::files_that_lose_frames;
+pub use lossy_files::{files_that_lose_a_crossing_burst, files_that_lose_frames};
 pub use meeting_files::files_whose_lists_meet;
 pub use reached_run::the_sharper_precision_is_reached;
 pub use sharply_joined_files::joined_files_keep_their_sharper_precision;

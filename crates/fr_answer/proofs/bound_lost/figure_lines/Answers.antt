@@ -14,7 +14,8 @@ returns c =
       c.lasts_line.ensures,
       c.value_line.ensures,
       c.from.ensures,
-      c.second_line.ensures,
+      c.peak_line.ensures,
+      c.peak_line-2.ensures,
       c.meeting_line.ensures,
       c.longest_line.ensures,
     ) refl

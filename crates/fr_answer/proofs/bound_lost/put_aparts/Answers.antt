@@ -1,8 +1,8 @@
 use Rattle.std.proofs.Common.{◌≡◌, ◌∙◌, ◌+◌, ◌-◌, ℕ, List, ◌++◌, Ok, ap, sym, subst, arith}
 use Rattle.fr_base.proofs.Putting.{cut, puts_none, then}
 use Rattle.fr_base.specs.Device.{Puts}
-use Rattle.fr_bound.specs.Judged.{heard_spread}
-use Rattle.fr_bound.specs.declared.judging.Heard.{Heard}
+use Rattle.fr_precision.specs.Among.{kinds_spread}
+use Rattle.fr_precision.specs.declared.kinds.Kinds.{Kinds}
 use Rattle.fr_sharp.specs.LossSteps.{heard_apart}
 use Rattle.fr_sharp.specs.LossCosts.{heard_behind}
 use Rattle.fr_sharp.proofs.LossNumbers.{first_of, never_heard}
@@ -28,11 +28,11 @@ loop-double-preserved g c =
     let n = c.args.count in
     let m = c.loop-double.double in
     let was = c.loop-double.invariant in
-    let here : c.apart_line.result ≡ loss_apart_line p t n m = c.apart_line.ensures ∙ line_is p t n m c.apart.result c.loop-double.spread.spread was.spread (c.apart.ensures.value ∙ ap (λ (h : Heard). heard_apart h p t c.loop-double.spread.spread) c.heard_behind-heard.ensures) in
+    let here : c.apart_line.result ≡ loss_apart_line p t n m = c.apart_line.ensures ∙ line_is p t n m c.apart.result c.loop-double.spread.spread was.spread (c.apart.ensures.value ∙ ap (λ (what : Kinds). heard_apart what p t c.loop-double.spread.spread) c.heard_behind-heard.ensures) in
     let rest : List ℕ = loss_apart_lines p t n (m + 1) (c.args.doubles - (m + 1)) in
     let text : c.apart_line.result ++ rest ≡ loss_apart_lines p t n m (c.args.doubles - m) = ap (λ (l : List ℕ). l ++ rest) here ∙ sym (lines_more p t n m c.args.doubles c.loop-double-test.true) in
     record {
-      spread = c.step.ensures.spread ∙ ap (λ (h : Heard). heard_spread h p t c.loop-double.spread.spread) c.heard_behind-heard.ensures ∙ spread_more p t n m c.loop-double.spread.spread was.spread;
+      spread = c.step.ensures.spread ∙ ap (λ (what : Kinds). kinds_spread what p t c.loop-double.spread.spread) c.heard_behind-heard.ensures ∙ spread_more p t n m c.loop-double.spread.spread was.spread;
       passed = omega (arith, c.step.ensures.passed, was.passed);
       puts = λ result after put.
           let P : List ℕ → Type 0 = λ l. Puts result (g.O.Sink.state c.loop-double.out) after l in
@@ -46,7 +46,7 @@ returns-in_err-put_line g c =
     let n = c.args.count in
     let m = c.loop-double.double in
     let was = c.loop-double.invariant in
-    let here : c.apart_line.result ≡ loss_apart_line p t n m = c.apart_line.ensures ∙ line_is p t n m c.apart.result c.loop-double.spread.spread was.spread (c.apart.ensures.value ∙ ap (λ (h : Heard). heard_apart h p t c.loop-double.spread.spread) c.heard_behind-heard.ensures) in
+    let here : c.apart_line.result ≡ loss_apart_line p t n m = c.apart_line.ensures ∙ line_is p t n m c.apart.result c.loop-double.spread.spread was.spread (c.apart.ensures.value ∙ ap (λ (what : Kinds). heard_apart what p t c.loop-double.spread.spread) c.heard_behind-heard.ensures) in
     let rest : List ℕ = loss_apart_lines p t n (m + 1) (c.args.doubles - (m + 1)) in
     let text : c.apart_line.result ++ rest ≡ loss_apart_lines p t n m (c.args.doubles - m) = ap (λ (l : List ℕ). l ++ rest) here ∙ sym (lines_more p t n m c.args.doubles c.loop-double-test.true) in
     let P : List ℕ → Type 0 = λ l. Puts c.from_residual.result (g.O.Sink.state c.loop-double.out) (g.O.Sink.state c.put_line.new.out) l in

@@ -1,4 +1,4 @@
-use Rattle.fr_sharp.proofs.HeardInPart.{rounds_in_part_compute_own}
+use Rattle.fr_traffic.proofs.HeardInPart.{rounds_in_part_compute_own}
 use Rattle.fr_sharp.proofs.JoinedInPart.{followed_doubles_hear_in_part}
 use Rattle.fr_sharp.proofs.RowsHear.{rows_hear}
 use Rattle.fr_sharp.proofs.losing.what_is_heard_suffices.Goals as goal

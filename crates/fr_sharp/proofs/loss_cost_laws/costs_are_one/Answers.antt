@@ -1,4 +1,4 @@
-use Rattle.fr_sharp.proofs.CrossingCosts.{one_crossing_cost}
+use Rattle.fr_sharp.proofs.CrossingPeaks.{one_crossing_cost}
 use Rattle.fr_sharp.proofs.LossNumbers.{one_longest, one_loss_cost, one_second_cost}
 use Rattle.fr_sharp.proofs.MeetingNumbers.{one_meeting_cost}
 use Rattle.fr_sharp.proofs.loss_cost_laws.costs_are_one.Goals as goal

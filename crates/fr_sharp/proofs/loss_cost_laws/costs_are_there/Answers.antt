@@ -1,4 +1,4 @@
-use Rattle.fr_sharp.proofs.CrossingCosts.{some_crossing_cost}
+use Rattle.fr_sharp.proofs.CrossingPeaks.{some_crossing_cost}
 use Rattle.fr_sharp.proofs.LossNumbers.{every_second_is_reached, some_longest, some_loss_cost, some_second_cost}
 use Rattle.fr_sharp.proofs.MeetingNumbers.{some_meeting_cost}
 use Rattle.fr_sharp.proofs.loss_cost_laws.costs_are_there.Goals as goal

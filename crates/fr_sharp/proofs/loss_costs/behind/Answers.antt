@@ -29,4 +29,6 @@ returns-clause-spread c =
     c.loop-double.invariant.spread ∙ ap (λ (n : ℕ). lost_spread p c.args.flutter never n) end ∙ sym (same_yet p c.args.flutter c.args.count c.args.count (omega arith))
 
 pub returns-clause-passed : goal.returns-clause-passed
-returns-clause-passed c = omega (arith, c.loop-double.invariant.passed, c.loop-double.auto._double-end, c.loop-double-test.false)
+returns-clause-passed c =
+    let end : c.loop-double._double ≡ c.args.count = omega (arith, c.loop-double.auto._double-end, c.loop-double-test.false) in
+    c.loop-double.invariant.passed ∙ end

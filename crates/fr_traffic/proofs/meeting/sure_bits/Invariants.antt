@@ -1,5 +1,5 @@
 use Rattle.std.proofs.Common.{◌≡◌, ◌<◌, ◌^◌, take, true}
-use Rattle.fr_traffic.specs.Meeting.{bits_of, is_sure}
+use Rattle.fr_traffic.specs.Meeting.{node_bits, is_sure}
 use Rattle.fr_traffic.specs.Traffic.{traffic_with}
 use Rattle.fr_traffic.proofs.meeting.sure_bits.Given as goal
 
@@ -9,6 +9,6 @@ invariant-loop-place l = record {
   rate : l.asked.rate ≡ l.rate;
   surely : l.asked.surely ≡ true;
   double : l.asked.double ≡ l.double;
-  value : l.bits ≡ bits_of (is_sure l.rate (traffic_with l.nodes l.script) l.double l.receiver) (take l.place l.nodes);
+  value : l.bits ≡ node_bits (is_sure l.rate (traffic_with l.nodes l.script) l.double l.receiver) (take l.place l.nodes);
   small : l.bits < 2 ^ l.place;
 }

@@ -27,7 +27,7 @@ use Rattle.fr_runs.proofs.Fed.{follower_other, follower_receivers, row_receivers
 use Rattle.fr_runs.proofs.Hearing.{hearer_from, looked, stored, IsReceiver, Receivers, RowsSend}
 use Rattle.fr_runs.proofs.Nodes.{node_there}
 use Rattle.fr_coverage.specs.Links.{is_regular, is_sync, shares}
-use Rattle.fr_sharp.specs.RoundsInPart.{heard_at, senders_heard}
+use Rattle.fr_traffic.specs.RoundsInPart.{heard_at, senders_heard}
 use Rattle.fr_traffic.specs.Traffic.{has_all, has_value, is_correct_sender, may_send, may_send_by, stays, sure_count, traffic_of, value_on}
 use Rattle.fr_runs.proofs.Covers.{stays_has}
 use Rattle.fr_runs.proofs.KeyedCounts.{all_pass, is_passed, nodes_counted, passes_at}

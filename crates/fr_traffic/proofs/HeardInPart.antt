@@ -34,7 +34,7 @@ use Rattle.fr_precision.proofs.RoundSenders.{hears_values, marked, marked_is, se
 use Rattle.fr_precision.proofs.Values.{acts_before, change_from, other_of, other_value, own_value, own_is}
 use Rattle.fr_precision.specs.Among.{ComputesOwn, OwnOffsets, OwnRates}
 use Rattle.fr_precision.specs.Hearing.{AllowsArbitrary, IsHeardInPart}
-use Rattle.fr_sharp.specs.RoundsInPart.{heard_at, senders_heard, IsSuppliedInPart, IsTrustedOf, RoundsInPartComputeOwn}
+use Rattle.fr_traffic.specs.RoundsInPart.{heard_at, senders_heard, IsSuppliedInPart, IsTrustedOf, RoundsInPartComputeOwn}
 use Rattle.fr_bound.specs.SharpBounds.{last_action}
 use Rattle.fr_precision.specs.SharpRound.{as_member}
 use Rattle.fr_precision.specs.Steady.{PlacesEven}

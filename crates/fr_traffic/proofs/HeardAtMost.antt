@@ -27,12 +27,12 @@ use Rattle.fr_runs.specs.Links.{Share, cycle_in}
 use Rattle.fr_runs.proofs.Nodes.{correct_node}
 use Rattle.fr_coverage.specs.Links.{is_sync, shares}
 use Rattle.fr_midpoint.specs.Midpoint.{discarded}
-use Rattle.fr_sharp.specs.RoundsInPart.{heard_at, senders_heard, IsTrustedOf}
+use Rattle.fr_traffic.specs.RoundsInPart.{heard_at, senders_heard, IsTrustedOf}
 use Rattle.fr_traffic.specs.Traffic.{comes, further_count, has_value, is_deaf, is_trusted, may_be_said, may_reach, may_say, most_count, is_correct_sender, sure_count, traffic_of, value_on}
 use Rattle.fr_runs.proofs.KeyedCounts.{count_two, discards_more, nodes_counted, passes_at, passes_is}
 use Rattle.fr_traffic.proofs.HeardEvents.{may_come}
-use Rattle.fr_sharp.proofs.HeardSurely.{at_most, heard_enough, own_of, senders_counted, value_by, ReceivesOwn}
-use Rattle.fr_sharp.proofs.HeardInPart.{least_there, mean_there}
+use Rattle.fr_traffic.proofs.HeardSurely.{at_most, heard_enough, own_of, senders_counted, value_by, ReceivesOwn}
+use Rattle.fr_traffic.proofs.HeardInPart.{least_there, mean_there}
 use Rattle.fr_base.specs.Rows.{dev_in}
 use Rattle.fr_runs.specs.SteadyRuns.{is_silent}
 use Rattle.fr_runs.proofs.FramesCounted.{recorded_says}

@@ -29,14 +29,14 @@ use Rattle.fr_runs.proofs.Fed.{row_receivers}
 use Rattle.fr_runs.proofs.Hearing.{hearer_from, IsReceiver, Receivers, RowsSend}
 use Rattle.fr_bound.specs.SharpBounds.{last_action}
 use Rattle.fr_precision.specs.Among.{CommonOffsets, CommonRates}
-use Rattle.fr_sharp.specs.RoundsInPart.{heard_at, IsSuppliedInPart, IsTrustedOf}
+use Rattle.fr_traffic.specs.RoundsInPart.{heard_at, IsSuppliedInPart, IsTrustedOf}
 use Rattle.fr_precision.specs.SharpRound.{as_member}
 use Rattle.fr_precision.specs.Steady.{PlacesEven}
 use Rattle.fr_traffic.specs.Traffic.{common_count, has_value, is_correct_sender, most_count, stays, traffic_of, two_meet}
 use Rattle.fr_runs.proofs.KeyedCounts.{discards_more, is_passed, passes_at, passes_is, IsPassed}
-use Rattle.fr_sharp.proofs.HeardInPart.{offsets_heard, rates_heard, HaveSenders}
-use Rattle.fr_sharp.proofs.HeardAtMost.{most_values, row_owned}
-use Rattle.fr_sharp.proofs.HeardSurely.{row_owns, senders_counted, surely_heard, value_by, ReceivesOwn}
+use Rattle.fr_traffic.proofs.HeardInPart.{offsets_heard, rates_heard, HaveSenders}
+use Rattle.fr_traffic.proofs.HeardAtMost.{most_values, row_owned}
+use Rattle.fr_traffic.proofs.HeardSurely.{row_owns, senders_counted, surely_heard, value_by, ReceivesOwn}
 use Rattle.fr_precision.proofs.RoundLemmas.{acts_early, all_given, sender_among}
 
 -- ---- the values of some senders, split in two
