@@ -1,16 +1,18 @@
 -- Where each node misses the frames of few other sync nodes lists meet, so clocks keep as near as beside arbitrary nodes; and with one
 -- more there are some that do not.
 use Rattle.std.proofs.Common.{◌≡◌, ◌≢◌, ◌⊎◌, ◌∙◌, ℕ, zero, suc, ◌+◌, ◌*◌, ◌-◌, ◌<◌, ◌≤◌, ◌==◌, ◌&&◌, ◌||◌, Bool, true, false, not, pos, List, [], ◌∷◌, count_by, inl, inr, refl, ap, sym, subst, arith, eq-eqb, if◌then◌else◌}
-use Rattle.std.specs.Prelude.{max, nat_eq, nat_le, nat_lt, AllPairs, Contains}
+use Rattle.std.specs.Prelude.{is_none, max, nat_eq, nat_le, nat_lt, AllPairs, Contains, Option, Some, None}
+use Rattle.std.proofs.lemmas.Bool.{and_parts, not-true}
 use Rattle.std.proofs.lemmas.Bool.Decides.{nat_tests}
 use Rattle.fr_base.specs.Event as event
 use Rattle.fr_base.specs.declared.channel.Channel.{Channel}
 use Rattle.fr_base.specs.declared.channel.Channel.TheVariants as channel
+use Rattle.fr_cluster.specs.Setting.{Setting}
+use Rattle.fr_cluster.specs.declared.join.Join.{Join}
 use Rattle.fr_cluster.specs.declared.nodes.NodeSpec.{NodeSpec}
 use Rattle.fr_cluster.proofs.Elements.{Contains-here, Contains-there}
 use Rattle.fr_cluster.proofs.KeyNodes.{AllPairs-first, AllPairs-rest}
 use Rattle.fr_midpoint.specs.Midpoint.{discarded}
-use Rattle.fr_bound.specs.declared.judging.Heard.{Heard}
 use Rattle.fr_bound.specs.declared.judging.Heard.TheVariants as heard
 use Rattle.fr_coverage.specs.Decided.{setting_of}
 use Rattle.fr_coverage.specs.Links.{is_sync, shares}
@@ -19,25 +21,28 @@ use Rattle.fr_bound.specs.SharpBounds.{sharp_near, sharp_precision}
 use Rattle.fr_bound.specs.SharpSpreads.{sharp_spread, sharply_near_in}
 use Rattle.fr_bound.specs.declared.settling.Spread.{Spread}
 use Rattle.fr_cluster.specs.Values.{Values}
-use Rattle.fr_precision.specs.Among.{apart_through_losses, spread_through_losses, LaterSpreadsAreLess}
+use Rattle.fr_precision.specs.Among.{apart_through_losses, spread_through_losses, IsNot, LaterSpreadsAreLess}
+use Rattle.fr_precision.specs.declared.kinds.Kinds.{Kinds}
 use Rattle.fr_promise.proofs.HeardNumbers.{meeting_below_beside}
 use Rattle.fr_promise.proofs.JoinBounds.{near_grows}
 use Rattle.fr_promise.proofs.LossOrder.{IsBelow}
 use Rattle.fr_sharp.proofs.LossLemmas.{far_grows, starts_fit, Far}
-use Rattle.fr_precision.proofs.Counting.{count_cons, count_no, count_yes, one_if}
+use Rattle.fr_precision.proofs.Counting.{count_cons, count_le, count_no, count_yes, one_if, Implies}
+use Rattle.fr_history.specs.Cycles.{some_joins}
+use Rattle.fr_runs.proofs.Reach.{some_joins_by}
+use Rattle.fr_runs.proofs.Receivers.{is_correct_node}
 use Rattle.fr_runs.specs.SharpHistories.{IsInSharpSyncAt}
-use Rattle.fr_script.specs.View.{is_arbitrary}
+use Rattle.fr_script.specs.View.{is_arbitrary, ScriptView}
 use Rattle.fr_sharp.specs.Losses.{HistoriesKeepThroughLosses}
 use Rattle.fr_sharp.specs.MeetingCosts.{may_miss, sync_nodes}
 use Rattle.fr_sharp.specs.SharpStatement.{has_arbitrary}
-use Rattle.fr_traffic.specs.Traffic.{all_linked, arbitrary_count, comes, costs_by, costs_of, has_value, heard_in, is_correct_sender, lists_meet, missed_or_discarded, none_lacks, sender_count, traffic_in, value_on, with_cost, Traffic}
-use Rattle.fr_traffic.specs.declared.traffic.Costs.{Costs}
-use Rattle.fr_sharp.proofs.BearingKinds.{meeting_is_awake, through_is_apart}
+use Rattle.fr_traffic.specs.Traffic.{all_have, arbitrary_count, comes, common_count, further_count, has_and_meets, has_begun, has_value, heard_in, is_correct_sender, kind_by, kind_in, lists_meet, may_be_said, may_receive, meets_each, most_count, none_lacks, sender_count, staying_count, stays, sure_count, traffic_in, two_meet, value_on, Traffic}
+use Rattle.fr_sharp.proofs.BearingKinds.{all_of, meeting_is_awake, through_is_apart}
 use Rattle.fr_sharp.proofs.FromLossyFiles.{covered_files_keep_through_losses}
 use Rattle.fr_sharp.proofs.LossBurstLaws.{keeps_wider}
 use Rattle.fr_sharp.proofs.MeetingNumbers.{keys_counted, missed_more}
-use Rattle.fr_traffic.proofs.GreatestCosts.{two_cost}
-use Rattle.fr_traffic.proofs.TrafficCounts.{and_true, parted, some_counted}
+use Rattle.fr_traffic.proofs.HeardLists.{meeting_two}
+use Rattle.fr_traffic.proofs.TrafficCounts.{and_true, no_more, parted, parted_among, some_counted}
 use Rattle.fr_whole.specs.FewMissed.{traffic_losing, AllShare, FewMissedKeepThePeak, FewMissedMeet, LosesFew, MeetingCostsNoMore, OneMoreMayPart}
 
 count_same : {X : Type 0} (p q : X → Bool) (xs : List X) → ((x : X) → Contains xs x → p x ≡ q x) → count_by p xs ≡ count_by q xs
@@ -57,66 +62,120 @@ all_send t none =
     rest : (a b c : ℕ) → a + b ≡ c → b ≡ 0 → a ≡ c
     rest a b c is zero_is = omega (arith, is, zero_is)
 
--- where none is damaged what it has is what it does not miss
-pub cost_by_missed : (rate : Bool) (t : Traffic) (missed double : ℕ) (b : NodeSpec) → arbitrary_count t ≡ 0 → LosesFew t missed double → Contains t.nodes b → t.is_arbitrary b.id ≡ false
-    → missed_or_discarded rate t double b
-    ≡ sender_count t (λ a. not (has_value rate true t double b a)) + discarded (sender_count t (λ a. true) - sender_count t (λ a. not (has_value rate true t double b a)))
-cost_by_missed rate t missed double b none misses among correct =
-    let lacked : ℕ = sender_count t (λ a. not (has_value rate true t double b a)) in
-    let sure : ℕ = sender_count t (has_value rate true t double b) in
+-- where none is damaged what it may have is what it does not miss
+pub most_by_missed : (rate : Bool) (t : Traffic) (missed double : ℕ) (b : NodeSpec) → arbitrary_count t ≡ 0 → LosesFew t missed double → Contains t.nodes b → t.is_arbitrary b.id ≡ false
+    → sender_count t (λ a. not (has_value rate true t double b a)) + most_count rate t double b ≡ sender_count t (λ a. true)
+most_by_missed rate t missed double b none misses among correct =
     let parts = parted (is_correct_sender t) (has_value rate true t double b) t.nodes in
     let all = and_true (is_correct_sender t) t.nodes in
+    let further = no_more (λ (a : NodeSpec). is_sync a && t.is_arbitrary a.id) (may_be_said rate t double b) t.nodes in
     let same = count_same (λ (a : NodeSpec). is_correct_sender t a && has_value rate false t double b a) (λ (a : NodeSpec). is_correct_sender t a && has_value rate true t double b a) t.nodes
     (λ a there. both (is_correct_sender t a) (has_value rate false t double b a) (has_value rate true t double b a) (misses.clear rate a b there among correct)) in
-    ap (λ (n : ℕ). lacked + discarded n) (left lacked sure (sender_count t (has_value rate false t double b)) (arbitrary_count t) (count_by (is_correct_sender t) t.nodes) (sender_count t (λ a. true)) parts same none all)
+    left (sender_count t (λ a. not (has_value rate true t double b a))) (sender_count t (has_value rate true t double b)) (sender_count t (has_value rate false t double b)) (further_count rate t double b) (arbitrary_count t)
+    (count_by (is_correct_sender t) t.nodes) (sender_count t (λ a. true)) parts same further none all
   where
     both : (c a b : Bool) → (c ≡ true → a ≡ b) → (c && a) ≡ (c && b)
     both true a b same = same refl
     both false a b same = refl
 
-    left : (m s h n c all : ℕ) → m + s ≡ c → h ≡ s → n ≡ 0 → all ≡ c → h + n ≡ all - m
-    left m s h n c all parts same none is = omega (arith, parts, same, none, is)
+    left : (m s h f n c all : ℕ) → m + s ≡ c → h ≡ s → f ≤ n → n ≡ 0 → all ≡ c → m + (h + f) ≡ all
+    left m s h f n c all parts same few none is = omega (arith, parts, same, few, none, is)
+
+-- where no sender joins each stays on
+pub all_stay : (t : Traffic) → ((a : NodeSpec) → Contains t.nodes a → is_correct_sender t a ≡ true → t.join a.id ≡ None) → (test : NodeSpec → Bool) → staying_count t test ≡ sender_count t test
+all_stay t stay test =
+    count_same (λ (a : NodeSpec). is_correct_sender t a && (stays t a && test a)) (λ (a : NodeSpec). is_correct_sender t a && test a) t.nodes
+    (λ a there. by (is_correct_sender t a) (stays t a) (test a) (λ sends. ap (λ (o : Option Join). is_none o) (stay a there sends)))
+  where
+    by : (c s b : Bool) → (c ≡ true → s ≡ true) → (c && (s && b)) ≡ (c && b)
+    by true true b so = refl
+    by true false b so = absurd (differ (so refl))
+      where
+        differ : false ≡ true → ⊥
+        differ is = cc is
+    by false s b so = refl
+
+-- those of which both have values are all but those that one of them misses
+all_but_missed : {X : Type 0} (k p q : X → Bool) (xs : List X) → count_by k xs ≤ count_by (λ x. k x && (p x && q x)) xs + count_by (λ x. k x && not (p x)) xs + count_by (λ x. k x && not (q x)) xs
+all_but_missed k p q xs =
+    let parts = parted k p xs in
+    let among = parted_among k p q xs in
+    let less = count_le (λ x. k x && (p x && not (q x))) (λ x. k x && not (q x)) xs (λ x is. second (k x) (p x) (q x) is) in
+    step (count_by k xs) (count_by (λ x. k x && (p x && q x)) xs) (count_by (λ x. k x && not (p x)) xs) (count_by (λ x. k x && not (q x)) xs) (count_by (λ x. k x && p x) xs)
+    (count_by (λ x. k x && (p x && not (q x))) xs) parts among less
+  where
+    second : (a b c : Bool) → (a && (b && not c)) ≡ true → (a && not c) ≡ true
+    second true true c is = is
+    second true false c is = absurd (cc)
+    second false b c is = absurd (cc)
+
+    step : (all both one other p less : ℕ) → one + p ≡ all → less + both ≡ p → less ≤ other → all ≤ both + one + other
+    step all both one other p less a b le = omega (arith, a, b, le)
 
 -- ---- then lists meet
 
-with_below : (bound cost : ℕ) (was : Costs) → cost ≤ bound → was.most ≤ bound → was.second ≤ bound → ((with_cost cost was).most ≤ bound) × ((with_cost cost was).second ≤ bound)
-with_below bound cost was le most second = by (nat_lt was.most cost) (nat_lt was.second cost)
-  where
-    by : (first next : Bool)
-        → ((if first then record { most = cost; second = was.most } else (if next then record { most = was.most; second = cost } else was)).most ≤ bound)
-        × ((if first then record { most = cost; second = was.most } else (if next then record { most = was.most; second = cost } else was)).second ≤ bound)
-    by true next = (le, most)
-    by false true = (most, le)
-    by false false = (most, second)
-
-costs_below : (rate : Bool) (t : Traffic) (double bound : ℕ) (nodes : List NodeSpec) → ((b : NodeSpec) → Contains nodes b → t.is_arbitrary b.id ≡ false → missed_or_discarded rate t double b ≤ bound)
-    → ((costs_of rate t double nodes).most ≤ bound) × ((costs_of rate t double nodes).second ≤ bound)
-unfolding costs_by
-costs_below rate t double bound [] all = (omega arith, omega arith)
-costs_below rate t double bound (b ∷ nodes) all = by (t.is_arbitrary b.id) refl (costs_below rate t double bound nodes (λ c among. all c (Contains-there b nodes c among)))
-  where
-    by : (arbitrary : Bool) → t.is_arbitrary b.id ≡ arbitrary → ((costs_of rate t double nodes).most ≤ bound) × ((costs_of rate t double nodes).second ≤ bound)
-        → ((if arbitrary then costs_of rate t double nodes else with_cost (missed_or_discarded rate t double b) (costs_of rate t double nodes)).most ≤ bound)
-        × ((if arbitrary then costs_of rate t double nodes else with_cost (missed_or_discarded rate t double b) (costs_of rate t double nodes)).second ≤ bound)
-    by true is rest = rest
-    by false is rest = with_below bound (missed_or_discarded rate t double b) (costs_of rate t double nodes) (all b (Contains-here b nodes) is) rest.0 rest.1
-
 pub few_missed_meet : FewMissedMeet
-few_missed_meet t missed double none misses meets = (of false, of true)
+few_missed_meet t missed double none stay misses meets = (of false, of true)
   where
+    all : ℕ
+    all = sender_count t (λ a. true)
+
     of : (rate : Bool) → lists_meet rate t double ≡ true
-    of rate =
-        let all : ℕ = sender_count t (λ a. true) in
-        let bound : ℕ = missed + discarded (all - missed) in
-        let costs = costs_below rate t double bound t.nodes (λ b among correct.
-        let lacked : ℕ = sender_count t (λ a. not (has_value rate true t double b a)) in
-        let more = missed_more all lacked missed (misses.few rate b among correct) in
-        let is = cost_by_missed rate t missed double b none misses among correct in
-        omega (arith, more, is)) in
-        step (costs_of rate t double t.nodes).most (costs_of rate t double t.nodes).second bound all costs.0 costs.1 meets
+    of rate = all_of (λ (b : NodeSpec). not (may_receive t double b) || has_and_meets rate t double b) t.nodes (λ b there. if_so (may_receive t double b) (has_and_meets rate t double b) (receiver b there))
       where
-        step : (a b c n : ℕ) → a ≤ c → b ≤ c → nat_lt (2 * c) n ≡ true → nat_lt (a + b) n ≡ true
-        step a b c n one other less = grind (arith, nat_tests)
+        lacked : NodeSpec → ℕ
+        lacked b = sender_count t (λ a. not (has_value rate true t double b a))
+
+        correct : (b : NodeSpec) → may_receive t double b ≡ true → t.is_arbitrary b.id ≡ false
+        correct b receives = not-true (t.is_arbitrary b.id) (and_parts (not (t.is_arbitrary b.id)) (has_begun (t.join b.id) double) receives).0
+
+        if_so : (a b : Bool) → (a ≡ true → b ≡ true) → (not a || b) ≡ true
+        if_so true b so = so refl
+        if_so false b so = refl
+
+        either : (a b : Bool) → b ≡ true → (a || b) ≡ true
+        either true b is = refl
+        either false b is = is
+
+        pass : (a b : Bool) → a ≡ true → b ≡ true → (a && b) ≡ true
+        pass a b one other = rw (one, other) refl
+
+        -- of what it discards and misses there are no more than where it misses as many as it may
+        costs : (b : NodeSpec) → Contains t.nodes b → t.is_arbitrary b.id ≡ false → lacked b + discarded (most_count rate t double b) ≤ missed + discarded (all - missed)
+        costs b there is =
+            let most = most_by_missed rate t missed double b none misses there is in
+            let left : all - lacked b ≡ most_count rate t double b = rest (lacked b) (most_count rate t double b) all most in
+            subst (λ (n : ℕ). lacked b + discarded n ≤ missed + discarded (all - missed)) left (missed_more all (lacked b) missed (misses.few rate b there is))
+          where
+            rest : (l m n : ℕ) → l + m ≡ n → n - l ≡ m
+            rest l m n is = omega (arith, is)
+
+        sure : (b : NodeSpec) → Contains t.nodes b → t.is_arbitrary b.id ≡ false → nat_le 1 (sure_count rate t double b) ≡ true
+        sure b there is =
+            some (lacked b) (sender_count t (has_value rate true t double b)) (sure_count rate t double b) (count_by (is_correct_sender t) t.nodes) all missed (discarded (all - missed))
+            (parted (is_correct_sender t) (has_value rate true t double b) t.nodes) (all_stay t stay (has_value rate true t double b)) (and_true (is_correct_sender t) t.nodes) (misses.few rate b there is) meets
+          where
+            some : (l h s c n m d : ℕ) → l + h ≡ c → s ≡ h → n ≡ c → l ≤ m → nat_lt (2 * (m + d)) n ≡ true → nat_le 1 s ≡ true
+            some l h s c n m d parts same is few less = grind (arith, nat_tests)
+
+        two : (b c : NodeSpec) → Contains t.nodes b → Contains t.nodes c → t.is_arbitrary b.id ≡ false → t.is_arbitrary c.id ≡ false → two_meet rate t double b c ≡ true
+        two b c there too one other =
+            let common = all_stay t stay (λ a. has_value rate true t double b a && has_value rate true t double c a) in
+            let shared = all_but_missed (is_correct_sender t) (has_value rate true t double b) (has_value rate true t double c) t.nodes in
+            step (lacked b) (lacked c) (discarded (most_count rate t double b)) (discarded (most_count rate t double c)) (common_count rate t double b c)
+            (sender_count t (λ a. has_value rate true t double b a && has_value rate true t double c a)) (count_by (is_correct_sender t) t.nodes) all (missed + discarded (all - missed)) common
+            (and_true (is_correct_sender t) t.nodes) shared (costs b there one) (costs c too other) meets
+          where
+            step : (l m x y s h c n most : ℕ) → s ≡ h → n ≡ c → c ≤ h + l + m → l + x ≤ most → m + y ≤ most → nat_lt (2 * most) n ≡ true → nat_lt (x + y) s ≡ true
+            step l m x y s h c n most same is shared one other less = grind (arith, nat_tests)
+
+        receiver : (b : NodeSpec) → Contains t.nodes b → may_receive t double b ≡ true → has_and_meets rate t double b ≡ true
+        receiver b there receives =
+            pass (nat_le 1 (sure_count rate t double b)) (meets_each rate t double b) (sure b there (correct b receives))
+            (
+            all_of (λ (c : NodeSpec). not (may_receive t double c) || (b.id == c.id || two_meet rate t double b c)) t.nodes
+            (λ c too. if_so (may_receive t double c) (b.id == c.id || two_meet rate t double b c) (λ also. either (b.id == c.id) (two_meet rate t double b c) (two b c there too (correct b receives) (correct c also))))
+            )
 
 -- ---- how far clocks lie apart
 
@@ -143,26 +202,39 @@ meeting_costs_no_more p flutter what cost k sane is never =
 
 -- ---- so does a run of files
 
-never_poor : (clean meet : Bool) → meet ≡ true → (if clean then heard.Clean else (if meet then heard.Meeting else heard.Poor)) ≡ heard.Poor → ⊥
-never_poor true meet meets poor = cc
-never_poor false true meets poor = cc
-never_poor false false meets poor = cc
+never_poor : (all none meet : Bool) → meet ≡ true → kind_by all none meet ≡ heard.Poor → ⊥
+never_poor true true meet meets poor = cc
+never_poor true false meet meets poor = cc
+never_poor false none true meets poor = cc
+never_poor false none false meets poor = cc
 
-both_pass : (a b : Bool) → a ≡ true → b ≡ true → (a && b) ≡ true
-both_pass a b one other = rw (one, other) refl
+-- no correct node joins
+none_joins_by : (x : Setting) (node : NodeSpec) → some_joins x ≡ false → Contains x.params.nodes node → x.is_arbitrary node.id ≡ false → x.join node.id ≡ None
+none_joins_by x node none there correct = by (x.join node.id) refl
+  where
+    never : some_joins x ≡ true → ⊥
+    never some = cc (some, none)
+
+    by : (join : Option Join) → x.join node.id ≡ join → join ≡ None
+    by None at = refl
+    by (Some join) at = absurd (never (some_joins_by x node join (is_correct_node x node there (ap not correct)) at))
 
 pub few_missed_keep_the_peak : HistoriesKeepThroughLosses → LaterSpreadsAreLess → FewMissedKeepThePeak
 few_missed_keep_the_peak keep later p d s from flutter cost h double passed sane is misses covered alone run late sync within lasts =
     let t : Traffic = traffic_in p s in
-    let what : ℕ → Heard = λ m. heard_in t (double + m) in
+    let what : ℕ → Kinds = λ m. heard_in t (double + m) in
     let none : arbitrary_count t ≡ 0 = no_count (arbitrary_count t) (some_counted (λ (a : NodeSpec). is_sync a && is_arbitrary s a.id) p.nodes ∙ alone) in
     let senders : sync_nodes p ≡ sender_count t (λ a. true) = keys_counted p.nodes ∙ sym (all_send t none) in
     let meets : may_miss (sender_count t (λ a. true)) cost.missed ≡ true = subst (λ (n : ℕ). may_miss n cost.missed ≡ true) senders is.missed.meets in
-    let both : (k : ℕ) → from ≤ k → (lists_meet false t k ≡ true) × (lists_meet true t k ≡ true) = λ k later_on. few_missed_meet t cost.missed k none (misses k later_on) meets in
-    let awake : (k : ℕ) → from ≤ k → none_lacks t k ≡ true = λ k later_on. let lists = both k later_on in meeting_is_awake t k lists.0 lists.1 in
-    let never : (m : ℕ) → what m ≡ heard.Poor → ⊥ = λ m poor.
-    let lists = both (double + m) (omega (arith, late)) in
-    never_poor (all_linked t (double + m) && nat_eq (arbitrary_count t) 0) (lists_meet false t (double + m) && lists_meet true t (double + m)) (both_pass (lists_meet false t (double + m)) (lists_meet true t (double + m)) lists.0 lists.1) poor in
+    let stay : (a : NodeSpec) → Contains p.nodes a → is_correct_sender t a ≡ true → t.join a.id ≡ None = λ a there sends.
+    none_joins_by (setting_of p d s) a covered.none_joins there (not-true (is_arbitrary s a.id) (and_parts (is_sync a) (not (is_arbitrary s a.id)) sends).1) in
+    let begun : (k : ℕ) (b : NodeSpec) → Contains p.nodes b → is_arbitrary s b.id ≡ false → has_begun (t.join b.id) k ≡ true = λ k b there correct.
+    ap (λ (o : Option Join). has_begun o k) (none_joins_by (setting_of p d s) b covered.none_joins there correct) in
+    let both : (k : ℕ) → from ≤ k → (lists_meet false t k ≡ true) × (lists_meet true t k ≡ true) = λ k later_on. few_missed_meet t cost.missed k none stay (misses k later_on) meets in
+    let awake : (k : ℕ) → from ≤ k → none_lacks t k ≡ true = λ k later_on. let lists = both k later_on in meeting_is_awake t k (begun k) lists.0 lists.1 in
+    let kind : (rate : Bool) (m : ℕ) → lists_meet rate t (double + m) ≡ true → kind_in rate t (double + m) ≡ heard.Poor → ⊥ = λ rate m list poor.
+    never_poor (all_have rate t (double + m)) (nat_eq (arbitrary_count t) 0) (lists_meet rate t (double + m)) list poor in
+    let never : (m : ℕ) → IsNot heard.Poor (what m) = λ m. let lists = both (double + m) (omega (arith, late)) in (kind false m lists.0, kind true m lists.1) in
     let synced : IsInSharpSyncAt (has_arbitrary p s) p flutter (pos 0) h double = subst (λ (b : Bool). IsInSharpSyncAt b p flutter (pos 0) h double) (sym alone) sync in
     let keeps = covered_files_keep_through_losses keep later p d s from flutter cost.reach h double sane covered run late synced (awake double late) passed within lasts in
     let same : apart_through_losses (has_arbitrary p s) p flutter what passed ≡ apart_through_losses false p flutter what passed = ap (λ (b : Bool). apart_through_losses b p flutter what passed) alone in
@@ -230,37 +302,6 @@ chosen_counted test (x ∷ xs) (suc k) apart le =
 abbrev others : ℕ → NodeSpec → Bool
 others id a = is_sync a && not (a.id == id)
 
-all_but_one : (id : ℕ) (nodes : List NodeSpec) → Ascend nodes → count_by is_sync nodes ≤ suc (count_by (others id) nodes)
-all_but_one id [] apart = omega arith
-all_but_one id (x ∷ xs) apart = by (x.id == id) refl (all_but_one id xs (AllPairs-rest (λ a b. a.id < b.id) x xs apart))
-  where
-    and_yes : (b : Bool) → b ≡ (b && not false)
-    and_yes true = refl
-    and_yes false = refl
-
-    one_more : (b : Bool) (n : ℕ) → one_if b + n ≤ suc n
-    one_more true n = omega arith
-    one_more false n = omega arith
-
-    by : (b : Bool) → (x.id == id) ≡ b → count_by is_sync xs ≤ suc (count_by (others id) xs) → count_by is_sync (x ∷ xs) ≤ suc (count_by (others id) (x ∷ xs))
-    by true is rest =
-        let same = count_same is_sync (others id) xs (λ a among.
-        let apart_is = differs x.id a.id id (AllPairs-first (λ a b. a.id < b.id) x xs a apart among) is in
-        and_yes (is_sync a) ∙ ap (λ (b : Bool). is_sync a && not b) (sym apart_is)) in
-        let e = count_cons is_sync x xs in
-        let f = count_cons (others id) x xs in
-        let le = one_more (is_sync x) (count_by is_sync xs) in
-        omega (arith, same, e, f, le)
-      where
-        differs : (a b c : ℕ) → a < b → (a == c) ≡ true → (b == c) ≡ false
-        differs a b c less same = grind (arith, nat_tests)
-    by false is rest =
-        let e = count_cons is_sync x xs in
-        let f = count_cons (others id) x xs in
-        let here : is_sync x ≡ others id x = and_yes (is_sync x) ∙ ap (λ (b : Bool). is_sync x && not b) (sym is) in
-        let one : one_if (is_sync x) ≡ one_if (others id x) = ap one_if here in
-        omega (arith, e, f, one, rest)
-
 -- what is heard where some frames are lost
 module _ (nodes : List NodeSpec) (lost : ℕ → ℕ → Bool) (share : AllShare nodes) (double : ℕ) where
   abbrev t : Traffic
@@ -310,62 +351,225 @@ module _ (nodes : List NodeSpec) (lost : ℕ → ℕ → Bool) (share : AllShare
   pub none_is_arbitrary : arbitrary_count t ≡ 0
   none_is_arbitrary = count_nothing (λ (a : NodeSpec). is_sync a && false) nodes (λ a. and_false (is_sync a))
 
-two_nodes : (nodes : List NodeSpec) → Ascend nodes → 2 ≤ count_by is_sync nodes → (x : NodeSpec) × (y : NodeSpec) × Contains nodes x × Contains nodes y × (x.id ≢ y.id)
-two_nodes [] apart some = absurd (omega (arith, some))
-two_nodes (x ∷ []) apart some =
-    let e = count_cons is_sync x [] in
-    let le = no_more_than_one (is_sync x) in
-    absurd (omega (arith, some, e, le))
+-- whoever is among the first so many is among the first one more
+chosen_next : (test : NodeSpec → Bool) (nodes : List NodeSpec) (k id : ℕ) → chosen test nodes k id ≡ true → chosen test nodes (suc k) id ≡ true
+unfolding chosen
+chosen_next test [] k id is = is
+chosen_next test (x ∷ xs) zero id is = absurd (never is)
   where
-    no_more_than_one : (b : Bool) → one_if b ≤ 1
-    no_more_than_one true = omega arith
-    no_more_than_one false = omega arith
-two_nodes (x ∷ y ∷ nodes) apart some = (
-  x,
-  y,
-  Contains-here x (y ∷ nodes),
-  Contains-there x (y ∷ nodes) y (Contains-here y nodes),
-  differ x.id y.id (AllPairs-first (λ a b. a.id < b.id) x (y ∷ nodes) y apart (Contains-here y nodes)),
-)
+    never : false ≡ true → ⊥
+    never is = cc is
+chosen_next test (x ∷ xs) (suc k) id is = by (test x) (chosen_next test xs k id) (chosen_next test xs (suc k) id) is
   where
-    differ : (a b : ℕ) → a < b → a ≢ b
-    differ a b less is = omega (arith, less, is)
+    more : (a b c : Bool) → (b ≡ true → c ≡ true) → (a || b) ≡ true → (a || c) ≡ true
+    more true b c so is = refl
+    more false b c so is = so is
 
--- each loses the frames of so many others
-module _ (nodes : List NodeSpec) (k double : ℕ) (apart : Ascend nodes) (share : AllShare nodes) (enough : suc k ≤ count_by is_sync nodes) where
+    by : (b : Bool) → (chosen test xs k id ≡ true → chosen test xs (suc k) id ≡ true) → (chosen test xs (suc k) id ≡ true → chosen test xs (suc (suc k)) id ≡ true)
+        → pick test x xs k b id ≡ true → pick test x xs (suc k) b id ≡ true
+    by true one other is = more (id == x.id) (chosen test xs k id) (chosen test xs (suc k) id) one is
+    by false one other is = other is
+
+chosen_further : (test : NodeSpec → Bool) (nodes : List NodeSpec) (k more id : ℕ) → chosen test nodes k id ≡ true → chosen test nodes (k + more) id ≡ true
+chosen_further test nodes k zero id is =
+    let same : k ≡ k + 0 = omega arith in
+    subst (λ (n : ℕ). chosen test nodes n id ≡ true) same is
+chosen_further test nodes k (suc more) id is =
+    let same : suc (k + more) ≡ k + suc more = omega arith in
+    subst (λ (n : ℕ). chosen test nodes n id ≡ true) same (chosen_next test nodes (k + more) id (chosen_further test nodes k more id is))
+
+chosen_up_to : (test : NodeSpec → Bool) (nodes : List NodeSpec) (k n id : ℕ) → k ≤ n → chosen test nodes k id ≡ true → chosen test nodes n id ≡ true
+chosen_up_to test nodes k n id le is =
+    let whole : k + (n - k) ≡ n = omega (arith, le) in
+    subst (λ (m : ℕ). chosen test nodes m id ≡ true) whole (chosen_further test nodes k (n - k) id is)
+
+-- one that is counted
+found : (test : NodeSpec → Bool) (nodes : List NodeSpec) → 1 ≤ count_by test nodes → (x : NodeSpec) × Contains nodes x × (test x ≡ true)
+found test [] some = absurd (omega (arith, some))
+found test (x ∷ xs) some = by (test x) refl (λ more. found test xs more)
+  where
+    by : (b : Bool) → test x ≡ b → (1 ≤ count_by test xs → (y : NodeSpec) × Contains xs y × (test y ≡ true)) → (y : NodeSpec) × Contains (x ∷ xs) y × (test y ≡ true)
+    by true is rest = (x, Contains-here x xs, is)
+    by false is rest =
+        let none = count_no test x xs is in
+        let one = rest (omega (arith, some, none)) in
+        (one.0, Contains-there x xs one.0 one.1, one.2)
+
+-- one loses the frames of the first so many sync nodes, and each other node those of the last so many: the two have fewer senders in
+-- common than any that each miss so many
+module _ (nodes : List NodeSpec) (k double : ℕ) (apart : Ascend nodes) (share : AllShare nodes) (some : 1 ≤ k) (enough : suc k ≤ count_by is_sync nodes) where
+  abbrev all : ℕ
+  all = count_by is_sync nodes
+
+  abbrev is_first : ℕ → ℕ → Bool
+  is_first n id = chosen is_sync nodes n id
+
+  firsts : (n : ℕ) → n ≤ all → count_by (λ a. is_sync a && is_first n a.id) nodes ≡ n
+  firsts n le = chosen_counted is_sync nodes n apart le
+
+  lasts : (n : ℕ) → n ≤ all → count_by (λ a. is_sync a && not (is_first n a.id)) nodes + n ≡ all
+  lasts n le =
+      let parts = parted is_sync (λ (a : NodeSpec). is_first n a.id) nodes in
+      let is = firsts n le in
+      omega (arith, parts, is)
+
+  one_first : (x : NodeSpec) × Contains nodes x × ((is_sync x && is_first 1 x.id) ≡ true)
+  one_first = let is = firsts 1 (omega (arith, enough)) in found (λ a. is_sync a && is_first 1 a.id) nodes (omega (arith, is))
+
+  one_last : (x : NodeSpec) × Contains nodes x × ((is_sync x && not (is_first k x.id)) ≡ true)
+  one_last = let is = lasts k (omega (arith, enough)) in found (λ a. is_sync a && not (is_first k a.id)) nodes (omega (arith, is, enough))
+
+  abbrev first : NodeSpec
+  first = one_first.0
+
+  abbrev last : NodeSpec
+  last = one_last.0
+
+  first_is : is_first 1 first.id ≡ true
+  first_is = (and_parts (is_sync first) (is_first 1 first.id) one_first.2).1
+
+  last_is : is_first k last.id ≡ false
+  last_is = not-true (is_first k last.id) (and_parts (is_sync last) (not (is_first k last.id)) one_last.2).1
+
+  other_node : (first.id == last.id) ≡ false
+  other_node = by (first.id == last.id) refl
+    where
+      same : (a b : ℕ) → (a == b) ≡ true → a ≡ b
+      same a b is = grind (arith, nat_tests)
+
+      never : is_first k last.id ≡ true → ⊥
+      never is = cc (is, last_is)
+
+      by : (b : Bool) → (first.id == last.id) ≡ b → b ≡ false
+      by false is = refl
+      by true is = absurd (never (chosen_up_to is_sync nodes 1 k last.id some (subst (λ (id : ℕ). is_first 1 id ≡ true) (same first.id last.id is) first_is)))
+
   abbrev losing : ℕ → ℕ → Bool
-  losing sender receiver = chosen (others receiver) nodes k sender
+  losing sender receiver = if receiver == last.id then is_first k sender else not (is_first (all - k) sender)
 
-  all_lose : (rate : Bool) (b : NodeSpec) → Contains nodes b → sender_count (traffic_losing nodes losing) (λ a. not (has_value rate true (traffic_losing nodes losing) double b a)) ≡ k
-  all_lose rate b there =
-      let more = all_but_one b.id nodes apart in
-      missed_is nodes losing share double rate b there ∙ chosen_counted (others b.id) nodes k apart (omega (arith, enough, more))
+  abbrev lossy : Traffic
+  lossy = traffic_losing nodes losing
 
-  so_few : LosesFew (traffic_losing nodes losing) k double
+  lose_so_many : (receiver : ℕ) → count_by (λ a. is_sync a && losing a.id receiver) nodes ≡ k
+  lose_so_many receiver = by (receiver == last.id)
+    where
+      by : (b : Bool) → count_by (λ a. is_sync a && (if b then is_first k a.id else not (is_first (all - k) a.id))) nodes ≡ k
+      by true = firsts k (omega (arith, enough))
+      by false = let is = lasts (all - k) (omega arith) in omega (arith, is, enough)
+
+  lose_no_more : (rate : Bool) (b : NodeSpec) → Contains nodes b → sender_count lossy (λ a. not (has_value rate true lossy double b a)) ≤ k
+  lose_no_more rate b there =
+      let missed = missed_is nodes losing share double rate b there in
+      let le = count_le (λ (a : NodeSpec). others b.id a && losing a.id b.id) (λ (a : NodeSpec). is_sync a && losing a.id b.id) nodes (λ a is. less (is_sync a) (a.id == b.id) (losing a.id b.id) is) in
+      let so_many = lose_so_many b.id in
+      omega (arith, missed, le, so_many)
+    where
+      less : (s e l : Bool) → ((s && not e) && l) ≡ true → (s && l) ≡ true
+      less true true l is = absurd (cc)
+      less true false l is = is
+      less false e l is = absurd (cc)
+
+  so_few : LosesFew lossy k double
   so_few = record {
-    few = λ rate b there correct. let is = all_lose rate b there in omega (arith, is);
+    few = λ rate b there correct. lose_no_more rate b there;
     clear = λ rate a b here there correct sends. heard_is nodes losing share double rate false a b here there ∙ sym (heard_is nodes losing share double rate true a b here there);
   }
 
-  cost_is : (rate : Bool) (b : NodeSpec) → Contains nodes b → missed_or_discarded rate (traffic_losing nodes losing) double b ≡ k + discarded (count_by is_sync nodes - k)
-  cost_is rate b there =
-      let t : Traffic = traffic_losing nodes losing in
+  -- each discards as many as one that misses so many
+  discards : (rate : Bool) (b : NodeSpec) → Contains nodes b → discarded (all - k) ≤ discarded (most_count rate lossy double b)
+  discards rate b there =
       let none = none_is_arbitrary nodes losing share double in
-      cost_by_missed rate t k double b none so_few there refl
-      ∙ ap (λ (n : ℕ). n + discarded (sender_count t (λ a. true) - n)) (all_lose rate b there) ∙ ap (λ (n : ℕ). k + discarded (n - k)) (all_send t none)
-
-  part : (rate : Bool) → may_miss (count_by is_sync nodes) k ≡ false → 2 ≤ count_by is_sync nodes → lists_meet rate (traffic_losing nodes losing) double ≡ false
-  part rate fails some =
-      let t : Traffic = traffic_losing nodes losing in
-      let two = two_nodes nodes apart some in
-      let most = two_cost (λ b. t.is_arbitrary b.id) (missed_or_discarded rate t double) nodes two.0 two.1 two.2 two.3 refl refl two.4 in
-      let one = cost_is rate two.0 two.2 in
-      let other = cost_is rate two.1 two.3 in
-      let all = all_send t (none_is_arbitrary nodes losing share double) in
-      step (costs_of rate t double nodes).most (costs_of rate t double nodes).second (missed_or_discarded rate t double two.0) (missed_or_discarded rate t double two.1) (k + discarded (count_by is_sync nodes - k)) (sender_count t (λ a. true)) (count_by is_sync nodes) most one other all fails
+      let most = most_by_missed rate lossy k double b none so_few there refl in
+      let le = lose_no_more rate b there in
+      let is = all_send lossy none in
+      more (all - k) (most_count rate lossy double b) (omega (arith, most, le, is))
     where
-      step : (a b c d m n all : ℕ) → c + d ≤ a + b → c ≡ m → d ≡ m → n ≡ all → nat_lt (2 * m) all ≡ false → nat_lt (a + b) n ≡ false
-      step a b c d m n all le one other is fails = grind (arith, nat_tests)
+      more : (a b : ℕ) → a ≤ b → discarded a ≤ discarded b
+      more a b le = grind (arith, nat_tests)
+
+  first_hears : (rate : Bool) (a : NodeSpec) → Contains nodes a → has_value rate true lossy double first a ≡ is_first (all - k) a.id
+  first_hears rate a there =
+      heard_is nodes losing share double rate true a first there one_first.1
+      ∙ ap (λ (b : Bool). (a.id == first.id) || not (if b then is_first k a.id else not (is_first (all - k) a.id))) other_node
+      ∙ by (a.id == first.id) (is_first (all - k) a.id)
+      (λ same. subst (λ (id : ℕ). is_first (all - k) id ≡ true) (sym (equal a.id first.id same)) (chosen_up_to is_sync nodes 1 (all - k) first.id (omega (arith, enough)) first_is))
+    where
+      equal : (a b : ℕ) → (a == b) ≡ true → a ≡ b
+      equal a b is = grind (arith, nat_tests)
+
+      by : (e f : Bool) → (e ≡ true → f ≡ true) → (e || not (not f)) ≡ f
+      by true f so = sym (so refl)
+      by false true so = refl
+      by false false so = refl
+
+  last_hears : (rate : Bool) (a : NodeSpec) → Contains nodes a → has_value rate true lossy double last a ≡ not (is_first k a.id)
+  last_hears rate a there =
+      heard_is nodes losing share double rate true a last there one_last.1
+      ∙ ap (λ (b : Bool). (a.id == last.id) || not (if b then is_first k a.id else not (is_first (all - k) a.id))) (eq-eqb last.id last.id refl)
+      ∙ by (a.id == last.id) (is_first k a.id) (λ same. subst (λ (id : ℕ). is_first k id ≡ false) (sym (equal a.id last.id same)) last_is)
+    where
+      equal : (a b : ℕ) → (a == b) ≡ true → a ≡ b
+      equal a b is = grind (arith, nat_tests)
+
+      by : (e f : Bool) → (e ≡ true → f ≡ false) → (e || not f) ≡ not f
+      by true f so = sym (ap not (so refl))
+      by false f so = refl
+
+  -- in common they have those that are among the first of the one and not of the other
+  in_common : (rate : Bool) → common_count rate lossy double first last ≡ count_by (λ a. is_sync a && (is_first (all - k) a.id && not (is_first k a.id))) nodes
+  in_common rate =
+      count_same (λ (a : NodeSpec). is_correct_sender lossy a && (stays lossy a && (has_value rate true lossy double first a && has_value rate true lossy double last a)))
+      (λ (a : NodeSpec). is_sync a && (is_first (all - k) a.id && not (is_first k a.id))) nodes
+      (λ a there. ap (λ (b : Bool). (is_sync a && true) && (b && has_value rate true lossy double last a)) (first_hears rate a there)
+      ∙ ap (λ (b : Bool). (is_sync a && true) && (is_first (all - k) a.id && b)) (last_hears rate a there) ∙ alone (is_sync a) (is_first (all - k) a.id && not (is_first k a.id)))
+    where
+      alone : (s b : Bool) → ((s && true) && b) ≡ (s && b)
+      alone true b = refl
+      alone false b = refl
+
+  so_in_common : (rate : Bool) → common_count rate lossy double first last ≤ all - k - k
+  so_in_common rate =
+      let parts = parted_among is_sync (λ (a : NodeSpec). is_first (all - k) a.id) (λ (a : NodeSpec). is_first k a.id) nodes in
+      let is = in_common rate in
+      let more = firsts (all - k) (omega arith) in
+      elim (order k (all - k)) [
+        | inl le ↦
+            let same = count_same (λ (a : NodeSpec). is_sync a && (is_first (all - k) a.id && is_first k a.id)) (λ (a : NodeSpec). is_sync a && is_first k a.id) nodes
+            (λ a there. second (is_sync a) (is_first (all - k) a.id) (is_first k a.id) (chosen_up_to is_sync nodes k (all - k) a.id le)) in
+            let less = firsts k (omega (arith, enough)) in
+            omega (arith, parts, is, more, same, less)
+        | inr le ↦
+            let same = count_same (λ (a : NodeSpec). is_sync a && (is_first (all - k) a.id && is_first k a.id)) (λ (a : NodeSpec). is_sync a && is_first (all - k) a.id) nodes
+            (λ a there. one (is_sync a) (is_first (all - k) a.id) (is_first k a.id) (chosen_up_to is_sync nodes (all - k) k a.id le)) in
+            omega (arith, parts, is, more, same)
+      ]
+    where
+      order : (a b : ℕ) → (a ≤ b) ⊎ (b ≤ a)
+      order a b = grind arith
+
+      second : (s f g : Bool) → (g ≡ true → f ≡ true) → (s && (f && g)) ≡ (s && g)
+      second false f g so = refl
+      second true true g so = refl
+      second true false true so = so refl
+      second true false false so = refl
+
+      one : (s f g : Bool) → (f ≡ true → g ≡ true) → (s && (f && g)) ≡ (s && f)
+      one false f g so = refl
+      one true true g so = so refl
+      one true false g so = refl
+
+  part : (rate : Bool) → may_miss all k ≡ false → lists_meet rate lossy double ≡ false
+  part rate fails = by (lists_meet rate lossy double) refl
+    where
+      step : (n k d x y c : ℕ) → d ≤ x → d ≤ y → c ≤ n - k - k → nat_lt (2 * (k + d)) n ≡ false → nat_lt (x + y) c ≡ true → ⊥
+      step n k d x y c one other few fails meets = grind (arith, nat_tests)
+
+      by : (b : Bool) → lists_meet rate lossy double ≡ b → b ≡ false
+      by false is = refl
+      by true is =
+          let meets = meeting_two rate lossy double is first last one_first.1 one_last.1 refl refl other_node in
+          absurd (step all k (discarded (all - k)) (discarded (most_count rate lossy double first)) (discarded (most_count rate lossy double last)) (common_count rate lossy double first last) (discards rate first one_first.1)
+          (discards rate last one_last.1) (so_in_common rate) fails meets)
 
 pub one_more_may_part : OneMoreMayPart
 one_more_may_part p missed double sane share some most =
@@ -373,9 +577,13 @@ one_more_may_part p missed double sane share some most =
     let apart = sane.lists.nodes_ascend in
     let senders : sync_nodes p ≡ count_by is_sync nodes = keys_counted nodes in
     let enough : suc (missed + 1) ≤ count_by is_sync nodes = subst (λ (n : ℕ). suc (missed + 1) ≤ n) senders (one_left (sync_nodes p) missed some most.meets) in
-    let two : 2 ≤ count_by is_sync nodes = subst (λ (n : ℕ). 2 ≤ n) senders some in
-    let fails : may_miss (count_by is_sync nodes) (missed + 1) ≡ false = subst (λ (n : ℕ). may_miss n (missed + 1) ≡ false) senders (most.no_more (missed + 1) (omega arith)) in
-    (losing nodes (missed + 1) double apart share enough, so_few nodes (missed + 1) double apart share enough, part nodes (missed + 1) double apart share enough false fails two, part nodes (missed + 1) double apart share enough true fails two)
+    let one : 1 ≤ missed + 1 = omega arith in
+    let fails : may_miss (count_by is_sync nodes) (missed + 1) ≡ false = subst (λ (n : ℕ). may_miss n (missed + 1) ≡ false) senders (most.no_more (missed + 1) (omega arith)) in (
+      losing nodes (missed + 1) double apart share one enough,
+      so_few nodes (missed + 1) double apart share one enough,
+      part nodes (missed + 1) double apart share one enough false fails,
+      part nodes (missed + 1) double apart share one enough true fails,
+    )
   where
     one_left : (n m : ℕ) → 2 ≤ n → may_miss n m ≡ true → suc (m + 1) ≤ n
     one_left n m some meets = grind (arith, nat_tests)
