@@ -8,7 +8,7 @@ use Rattle.fr_params.specs.Texts.{upgraded_text}
 use Rattle.fr_params.specs.UpgradeAnswer.{IsUpgrade, upgrade_files}
 use Rattle.fr_params.specs.Upgrades.{AcceptedAreSane, FilesAreUpgraded}
 use Rattle.fr_sharp.specs.MeetingCosts.{SomeMeetingCost}
-use Rattle.fr_sharp.specs.LossCosts.{SomeLongest, SomeLossCost, SomeSecondCost}
+use Rattle.fr_sharp.specs.LossCosts.{SomeCrossingCost, SomeLongest, SomeLossCost, SomeSecondCost}
 use Rattle.fr_text.specs.Defined.{DefinesOneStatus}
 use Rattle.fr_text.specs.Files.{IsNeverSaid, file, text}
 use Rattle.fr_text.specs.Kind.{AreBytes, HasOneAnswer, HasSomeAnswer}
@@ -47,17 +47,18 @@ pub sharp_join_status : HasOneAnswer params_file → HasSomeAnswer params_file �
 sharp_join_status one some flutter =
     of_params (λ p written. written ≡ sharp_with_join_text p flutter) one some (λ bytes p accepted. (sharp_with_join_text p flutter, refl))
 
-pub loss_status : HasOneAnswer params_file → HasSomeAnswer params_file → AcceptedAreSane → SomeLossCost → SomeSecondCost → SomeMeetingCost → SomeLongest → (flutter count : ℕ) → 1 ≤ count → DefinesOneStatus (loss_files flutter count) 1
-loss_status one some sane row second meeting longest flutter count from =
+pub loss_status : HasOneAnswer params_file → HasSomeAnswer params_file → AcceptedAreSane → SomeLossCost → SomeCrossingCost → SomeSecondCost → SomeMeetingCost → SomeLongest → (flutter count : ℕ) → 1 ≤ count → DefinesOneStatus (loss_files flutter count) 1
+loss_status one some sane row crossing second meeting longest flutter count from =
     of_params (λ p. IsLossText p flutter count) one some
     (λ bytes p accepted.
     let proper = sane p bytes accepted.accepted in
     let costs = row p flutter count proper from in
+    let crossed = crossing p flutter count proper from in
     let others = second p flutter proper in
     let meets = meeting p flutter proper in
     let most = longest p flutter proper in
-    let figures : LossFigures = record { row = costs.0; second = others.0; meeting = meets.0; longest = most.0 } in
-    (loss_text p flutter count figures, record { figures = figures; are = record { row = costs.1; second = others.1; meeting = meets.1; longest = most.1 }; shown = refl }))
+    let figures : LossFigures = record { row = costs.0; crossing = crossed.0; second = others.0; meeting = meets.0; longest = most.0 } in
+    (loss_text p flutter count figures, record { figures = figures; are = record { row = costs.1; crossing = crossed.1; second = others.1; meeting = meets.1; longest = most.1 }; shown = refl }))
 
 pub upgrade_status : HasOneAnswer params_file → HasSomeAnswer params_file → FilesAreUpgraded → DefinesOneStatus upgrade_files 1
 upgrade_status one some upgraded =

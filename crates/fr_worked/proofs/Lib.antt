@@ -46,6 +46,7 @@ pub mod FilesWorked
 pub mod LossesWorked
 pub mod CrossingWorked
 pub mod MeetingWorked
+pub mod JoiningLossesKeep
 pub mod JoinWorked
 pub mod JoinedFilesWorked
 pub mod JudgedWorked

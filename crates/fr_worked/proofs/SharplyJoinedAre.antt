@@ -1,7 +1,7 @@
 -- The files whose delays flutter, and which node 5 joins: they are accepted and sharply covered to join, and their run begins in sharp
 -- sync.
-use Rattle.std.proofs.Common.{◌≡◌, ◌<◌, ◌≤◌, ◌*◌, ℕ, ◌==◌, Bool, true, false, ◌||◌, [], ◌∷◌, Some, None, length, refl, sym, ◌∙◌, subst, lit≤, lit<, arith}
-use Rattle.std.specs.Prelude.{cond}
+use Rattle.std.proofs.Common.{◌≡◌, ◌≤◌, ◌*◌, ℕ, ◌==◌, Bool, true, false, ◌||◌, [], ◌∷◌, Some, None, length, refl, sym, ◌∙◌, subst, lit≤, lit<, arith}
+use Rattle.std.specs.Prelude.{cond, Contains}
 use Rattle.std.specs.Ordering.{nat_cmp}
 use Rattle.std.proofs.lemmas.Int.{ints}
 use Rattle.csv.specs.Machine.{next_record}
@@ -127,7 +127,7 @@ drift_is = record {
 
 -- ---- the scripts
 
-no_deeds : AreDeeds []
+pub no_deeds : AreDeeds []
 unfolding AllKept
 no_deeds = are_deeds [] tt tt
 
@@ -144,7 +144,7 @@ alone_ascend : (ch : Channel) → DeedsAscend (deeds_on alone_files.script ch)
 alone_ascend A = no_deeds.ascending
 alone_ascend B = no_deeds.ascending
 
-abbrev join_of_5 : Join
+abbrev pub join_of_5 : Join
 join_of_5 = record { double = 0; reference = 1 }
 
 alone_nodes : (node : ℕ) → is_arbitrary alone_files.script node ≡ false
@@ -358,18 +358,20 @@ keep_sharply_from_the_start beside f flutter lawful long promise w =
           (promise f.params f.drift f.script f.drift_file f.script_file 0 flutter (all_cycles x) 0 w.sane w.drift w.script covered run (lit≤ tt) (subst At (sym w.kind) first.unfollowed));
     }
 
--- and node 5 joins
+-- node 5, which is one of the nodes of the first files, joins
+pub node_5 : Contains (on_a 1 ∷ on_a 2 ∷ on_a 3 ∷ on_a 4 ∷ on_a 5 ∷ []) (on_a 5)
+node_5 =
+    Contains-there (on_a 1) (on_a 2 ∷ on_a 3 ∷ on_a 4 ∷ on_a 5 ∷ []) (on_a 5)
+    (Contains-there (on_a 2) (on_a 3 ∷ on_a 4 ∷ on_a 5 ∷ []) (on_a 5)
+    (Contains-there (on_a 3) (on_a 4 ∷ on_a 5 ∷ []) (on_a 5)
+    (Contains-there (on_a 4) (on_a 5 ∷ []) (on_a 5) (Contains-here (on_a 5) []))))
+
 pub alone_joins : KeepSharplyFromTheStart false alone_files 250 → JoinsInTime alone_files 5 (record { double = 0; reference = 1 })
 unfolding is_arbitrary join_of doubles_of
 alone_joins w = record {
   listens = refl;
   soon = lit< tt;
-  joined =
-      w.keeps.joins (w.keeps.on w.check) (on_a 5) (record { double = 0; reference = 1 })
-      (Contains-there (on_a 1) (on_a 2 ∷ on_a 3 ∷ on_a 4 ∷ on_a 5 ∷ []) (on_a 5)
-      (Contains-there (on_a 2) (on_a 3 ∷ on_a 4 ∷ on_a 5 ∷ []) (on_a 5)
-      (Contains-there (on_a 3) (on_a 4 ∷ on_a 5 ∷ []) (on_a 5)
-      (Contains-there (on_a 4) (on_a 5 ∷ []) (on_a 5) (Contains-here (on_a 5) []))))) refl (lit≤ tt);
+  joined = w.keeps.joins (w.keeps.on w.check) (on_a 5) (record { double = 0; reference = 1 }) node_5 refl (lit≤ tt);
 }
 
 pub beside_joins : KeepSharplyFromTheStart true beside_files 250 → JoinsInTime beside_files 5 (record { double = 0; reference = 1 })

@@ -31,3 +31,4 @@ pub mod ReachedRun
 pub mod WorkedFiles
 pub mod WorkedJudged
 pub mod WorkedLosses
+pub mod JoiningLosses

@@ -25,6 +25,7 @@ mod far;
 mod far_run;
 mod halting_run;
 mod joined_files;
+mod joining_losses;
 mod judged_run;
 mod late;
 mod laws;
@@ -47,6 +48,7 @@ pub use halting_run::the_first_sharp_check_is_needed;
 pub use joined_files::{
     joined_files_are_traced, joined_files_keep_their_precision, uneven_files_keep_their_precision,
 };
+pub use joining_losses::joining_files_lose_frames;
 pub use judged_run::a_judged_run;
 pub use late::the_promise_begins_in_sync;
 pub use laws::{a_joined_run_keeps_together, a_joined_run_keeps_up, a_joined_run_stays_together};
