@@ -2,6 +2,7 @@
 -- more there are some that do not.
 use Rattle.std.proofs.Common.{◌≡◌, ◌⊎◌, ◌∙◌, ℕ, zero, suc, ◌+◌, ◌*◌, ◌-◌, ◌<◌, ◌≤◌, ◌==◌, ◌&&◌, ◌||◌, Bool, true, false, not, pos, Option, Some, None, List, [], ◌∷◌, count_by, inl, inr, refl, ap, ap₂, sym, subst, arith, eq-eqb, if◌then◌else◌}
 use Rattle.std.specs.Prelude.{is_none, max, min, nat_eq, nat_le, nat_lt, AllPairs, Contains}
+use Rattle.std.specs.List.{list_all}
 use Rattle.std.proofs.lemmas.Bool.{and_parts, not-true}
 use Rattle.std.proofs.lemmas.Bool.Decides.{nat_tests}
 use Rattle.fr_base.specs.Event as event
@@ -39,7 +40,7 @@ use Rattle.fr_sharp.specs.MeetingCosts.{may_miss, sync_nodes}
 use Rattle.fr_sharp.specs.SharpStatement.{has_arbitrary}
 use Rattle.fr_traffic.specs.Traffic.{all_have, arbitrary_count, comes, common_count, further_count, has_and_meets, has_begun, has_value, heard_in, is_correct_sender, kind_by, kind_in, lists_meet, may_be_said, may_receive, meets_each, most_count, none_lacks, sender_count, staying_count, stays, sure_count, traffic_in, two_meet, value_on, Traffic}
 use Rattle.fr_sharp.proofs.BearingKinds.{meeting_is_awake, through_is_apart}
-use Rattle.fr_sharp.proofs.FromLossyFiles.{covered_files_keep_through_losses, each_passes, unless}
+use Rattle.fr_sharp.proofs.FromLossyFiles.{covered_files_keep_through_losses}
 use Rattle.fr_sharp.proofs.LossBurstLaws.{keeps_wider}
 use Rattle.fr_sharp.proofs.MeetingNumbers.{keys_counted, missed_more}
 use Rattle.fr_traffic.proofs.TrafficCounts.{and_true, no_more, parted, parted_among, some_counted}
@@ -80,6 +81,14 @@ two_lacked k p q xs =
 
 both_pass : (a b : Bool) → a ≡ true → b ≡ true → (a && b) ≡ true
 both_pass a b one other = rw (one, other) refl
+
+each_passes : {X : Type 0} (test : X → Bool) (xs : List X) → ((x : X) → Contains xs x → test x ≡ true) → list_all test xs ≡ true
+each_passes test [] all = refl
+each_passes test (y ∷ xs) all = both_pass (test y) (list_all test xs) (all y (Contains-here y xs)) (each_passes test xs (λ x among. all x (Contains-there y xs x among)))
+
+unless : (a b : Bool) → (a ≡ true → b ≡ true) → (not a || b) ≡ true
+unless true b then_is = then_is refl
+unless false b then_is = refl
 
 -- of how many senders it surely has no value
 abbrev lacked : Bool → Traffic → ℕ → NodeSpec → ℕ
