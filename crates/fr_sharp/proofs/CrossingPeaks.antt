@@ -6,12 +6,10 @@ use Rattle.std.proofs.Math.Nat.{le-max_left, le-max_right}
 use Rattle.std.proofs.lemmas.Bool.{cases_eq}
 use Rattle.std.proofs.lemmas.Bool.Decides.{nat_tests}
 use Rattle.fr_cluster.specs.Sane.{IsSane}
-use Rattle.fr_cluster.specs.Values.{Values, amount}
-use Rattle.fr_cluster.specs.declared.names.ParamName.TheVariants as name
+use Rattle.fr_cluster.specs.Values.{Values}
 use Rattle.fr_bound.specs.Bounds.{arrival_error, cycle_change, longest_micro}
-use Rattle.fr_bound.specs.SharpBounds.{odd_spread, precision_by, sharp_lambda}
+use Rattle.fr_bound.specs.SharpBounds.{odd_spread, sharp_lambda}
 use Rattle.fr_bound.specs.SharpSpreads.{sharply_near_in, IsSharplySettled}
-use Rattle.fr_bound.specs.declared.judging.Heard.{Heard}
 use Rattle.fr_bound.specs.declared.judging.Heard.TheVariants.{Clean, Poor}
 use Rattle.fr_bound.specs.declared.settling.Spread.{Spread}
 use Rattle.fr_precision.specs.Among.{both, crossing, kinds_spread, lost_spread, spread_through_losses}
@@ -19,7 +17,7 @@ use Rattle.fr_precision.specs.declared.kinds.Kinds.{Kinds}
 use Rattle.fr_promise.proofs.AmongNumbers.{next_is}
 use Rattle.fr_promise.proofs.HeardNumbers.{clean_again}
 use Rattle.fr_promise.proofs.JoinBounds.{near_grows}
-use Rattle.fr_promise.proofs.LossOrder.{added, always_wide, calm, lambda_by, never_less, through, IsBelow}
+use Rattle.fr_promise.proofs.LossOrder.{added, always_wide, calm, lambda_by, never_less, IsBelow}
 use Rattle.fr_sharp.specs.LossCosts.{apart_crossing, near_crossing, IsCrossingCost, IsGreatest, OneCrossingCost, SomeCrossingCost}
 use Rattle.fr_sharp.specs.LossSteps.{heard_apart}
 use Rattle.fr_sharp.specs.declared.loss_costs.CrossingCost.{CrossingCost}

@@ -1,6 +1,6 @@
 -- A double cycle in which a node without a key slot may hear nothing: it keeps its rate and its end, and is borne as one whose terms lie
 -- within their limits.
-use Rattle.std.specs.Prelude.{◌≡◌, ◌≤ℤ◌, ◌<◌, ◌≤◌, ℕ, ℤ, pos, Bool, true, false, List, [], ◌∷◌, All, Contains}
+use Rattle.std.specs.Prelude.{◌≡◌, ◌≤ℤ◌, ◌<◌, ℕ, ℤ, pos, Bool, true, false, List, [], ◌∷◌, All, Contains}
 use Rattle.fr_base.specs.declared.Outcome.{Outcome}
 use Rattle.fr_base.specs.declared.Outcome.TheVariants.{Within, Missing, Exceeded}
 use Rattle.fr_base.specs.declared.state.State.TheVariants.{Active}
