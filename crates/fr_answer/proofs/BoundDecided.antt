@@ -8,7 +8,8 @@ use Rattle.fr_bound.specs.declared.settling.Settling.{Settling}
 use Rattle.fr_bound.proofs.Settled.{one_double, one_peak, one_verdict}
 use Rattle.fr_params.specs.Files.{params_file}
 use Rattle.fr_promise.specs.declared.way.SharpWay.{SharpWay}
-use Rattle.fr_sharp.specs.LossCosts.{OneLongest, OneLossCost, OneSecondCost}
+use Rattle.fr_sharp.specs.LossCosts.{OneCrossingCost, OneLongest, OneLossCost, OneSecondCost}
+use Rattle.fr_sharp.specs.declared.loss_costs.CrossingCost.{CrossingCost}
 use Rattle.fr_sharp.specs.declared.loss_costs.LossCost.{LossCost}
 use Rattle.fr_sharp.specs.declared.loss_costs.SecondCost.{SecondCost}
 use Rattle.fr_sharp.specs.declared.meeting_costs.MeetingCost.{MeetingCost}
@@ -37,19 +38,21 @@ one_sharp_bounds one flutter = decided (sharp_files flutter) (one, λ p written 
 pub one_sharp_join_bounds : HasOneAnswer params_file → (flutter : ℕ) → IsDecided (sharp_join_files flutter)
 one_sharp_join_bounds one flutter = decided (sharp_join_files flutter) (one, λ p written again is more. is ∙ sym more)
 
-same_figures : (one other : LossFigures) → one.row ≡ other.row → one.second ≡ other.second → one.meeting ≡ other.meeting → one.longest ≡ other.longest → one ≡ other
-same_figures one other row second meeting longest =
-    let made : LossCost → SecondCost → MeetingCost → Option ℕ → LossFigures = λ a b m c. record { row = a; second = b; meeting = m; longest = c } in
-    ap (λ (a : LossCost). made a one.second one.meeting one.longest) row ∙ ap (λ (b : SecondCost). made other.row b one.meeting one.longest) second
-    ∙ ap (λ (m : MeetingCost). made other.row other.second m one.longest) meeting ∙ ap (made other.row other.second other.meeting) longest
+same_figures : (one other : LossFigures) → one.row ≡ other.row → one.crossing ≡ other.crossing → one.second ≡ other.second → one.meeting ≡ other.meeting → one.longest ≡ other.longest → one ≡ other
+same_figures one other row crossing second meeting longest =
+    let made : LossCost → CrossingCost → SecondCost → MeetingCost → Option ℕ → LossFigures = λ a c b m n. record { row = a; crossing = c; second = b; meeting = m; longest = n } in
+    ap (λ (a : LossCost). made a one.crossing one.second one.meeting one.longest) row ∙ ap (λ (c : CrossingCost). made other.row c one.second one.meeting one.longest) crossing
+    ∙ ap (λ (b : SecondCost). made other.row other.crossing b one.meeting one.longest) second
+    ∙ ap (λ (m : MeetingCost). made other.row other.crossing other.second m one.longest) meeting ∙ ap (made other.row other.crossing other.second other.meeting) longest
 
-pub one_losses : HasOneAnswer params_file → OneLossCost → OneSecondCost → OneMeetingCost → OneLongest → (flutter count : ℕ) → IsDecided (loss_files flutter count)
-one_losses one row second meeting longest flutter count =
+pub one_losses : HasOneAnswer params_file → OneLossCost → OneCrossingCost → OneSecondCost → OneMeetingCost → OneLongest → (flutter count : ℕ) → IsDecided (loss_files flutter count)
+one_losses one row crossing second meeting longest flutter count =
     decided (loss_files flutter count) (
       one,
       λ p written again is more.
           let figures : is.figures ≡ more.figures =
-          same_figures is.figures more.figures (row p flutter count is.figures.row more.figures.row is.are.row more.are.row) (second p flutter is.figures.second more.figures.second is.are.second more.are.second)
+          same_figures is.figures more.figures (row p flutter count is.figures.row more.figures.row is.are.row more.are.row)
+          (crossing p flutter count is.figures.crossing more.figures.crossing is.are.crossing more.are.crossing) (second p flutter is.figures.second more.figures.second is.are.second more.are.second)
           (meeting p flutter is.figures.meeting more.figures.meeting is.are.meeting more.are.meeting) (longest p flutter is.figures.longest more.figures.longest is.are.longest more.are.longest) in
           is.shown ∙ ap (loss_text p flutter count) figures ∙ sym more.shown,
     )
