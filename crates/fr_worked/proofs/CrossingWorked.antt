@@ -83,7 +83,7 @@ covered = record {
 }
 
 pub crossing_files_are_covered : CrossingFilesAreCovered
-crossing_files_are_covered = (kinds.0, kinds.1.0, kinds.1.1, covered)
+crossing_files_are_covered = (kinds.0, kinds.1, kinds.2, covered)
 
 -- ---- what comes of it
 

@@ -88,7 +88,7 @@ covered = record {
 }
 
 pub losing_files_are_covered : LosingFilesAreCovered
-losing_files_are_covered = (whole.0, whole.1.0, whole.1.1, covered)
+losing_files_are_covered = (whole.0, whole.1, whole.2, covered)
 
 -- ---- what comes of it
 
