@@ -23,38 +23,31 @@ from ..runs.least import Kind, sharp_bounds_of
 from ..base.ranges import FILE_BYTES, NAMES, table
 from ..program.reasons import EXPLAIN, MEANING, short
 from ..program.records import Record, load
+from ..program.requests import REQUESTS
 from .machine import printed
 from ..runs.sharp import MOST
 from ..program import calls as programs
 
-ROLES: dict[str, dict[str, int]] = {
-    "frame": {"frame": 2}, "bound": {"params": 1}, "upgrade": {"params": 1},
-    "settle": {"params": 1}, "nm": {"vectors": 2},
-    "run": {"params": 1, "drift": 2, "script": 3}, "trace": {"params": 1, "drift": 2, "script": 3},
-    "capture": {"capture": 2}, "cold": {"params": 1, "power": 2}, "make": {}, "check": {"params": 1, "trace": 2},
-    "observe": {"params": 1, "log": 2},
-}
-USAGE = {
-    "frame": "frame A FILE or frame B FILE",
-    "bound": "bound PARAMS, bound PARAMS join, bound PARAMS sharp FLUTTER, bound PARAMS sharp FLUTTER join or bound PARAMS sharp FLUTTER "
-             "lost COUNT",
-    "upgrade": "upgrade PARAMS",
-    "settle": "settle PARAMS START RATE, settle PARAMS START RATE sharp FLUTTER or settle PARAMS power FLUTTER",
-    "nm": "nm WIDTH FILE", "run": "run PARAMS DRIFT SCRIPT or run PARAMS DRIFT SCRIPT sharp", "trace": "trace PARAMS DRIFT SCRIPT",
-    "check": "check PARAMS TRACE or check PARAMS TRACE sharp", "make": "make SEED DOUBLES",
-    "capture": "capture A FILE or capture B FILE", "cold": "cold PARAMS POWER",
-    "observe": "observe PARAMS LOG",
-}
+
+def forms() -> dict[str, str]:
+    """By the first word how requests are spelt: `run PARAMS DRIFT SCRIPT or run PARAMS DRIFT SCRIPT sharp`."""
+    found: dict[str, list[str]] = {}
+    for words in REQUESTS:
+        found.setdefault(words.split()[0], []).append(words)
+    return {first: " or ".join(filter(None, [", ".join(several[:-1]), several[-1]])) for first, several in found.items()}
+
+
+USAGE = forms()
 # How names of files end that `flexlab log` turns into logs, beside CSV files.
 CAPTURES = (".asc", ".blf", ".pcap", ".pcapng")
 
 
 def file_of(role: str, words: Sequence[str]) -> str | None:
     """The path that has this role in flexray's words, or None."""
-    if len(words) == 3 and words[0] not in ROLES:
+    if len(words) == 3 and words[0] not in programs.FILES:
         place = {"params": 0, "drift": 1, "script": 2}.get(role)
     else:
-        place = ROLES.get(words[0] if words else "", {}).get(role)
+        place = programs.FILES.get(words[0] if words else "", {}).get(role)
     return words[place] if place is not None and place < len(words) else None
 
 
@@ -69,7 +62,7 @@ def named(role: str, words: Sequence[str]) -> str:
 
 
 def known_of(words: Sequence[str]) -> Known:
-    has_none = words and words[0] in ROLES and "params" not in ROLES[words[0]]
+    has_none = words and words[0] in programs.FILES and "params" not in programs.FILES[words[0]]
     path = None if has_none else named("params", words)
     try:
         return Known(path)

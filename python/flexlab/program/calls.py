@@ -17,6 +17,7 @@ from types import ModuleType
 from flexray import Answer
 
 from ..base.ending import MISSING, PROGRAM, Stop
+from .requests import REQUESTS
 from .stamp import stamp
 
 PACKAGES = {"gnuplot": "gnuplot-nox", "parallel": "parallel", "tshark": "tshark"}
@@ -119,10 +120,8 @@ def helper(name: str) -> str:
     return found
 
 
-# Which words of a request are files, by their places.
-FILES: dict[str, list[int]] = {
-    "frame": [2], "bound": [1], "upgrade": [1], "settle": [1], "nm": [2], "run": [1, 2, 3], "trace": [1, 2, 3], "check": [1, 2],
-    "observe": [1, 2], "cold": [1, 2], "capture": [2], "make": []}
+# Which words of a request are files, by its first word: their roles and their places.
+FILES: dict[str, dict[str, int]] = {words.split()[0]: files for words, files in REQUESTS.items()}
 NAMES = ("first", "second", "third")
 
 
@@ -162,7 +161,9 @@ def answered(program: str, words: Sequence[str]) -> Told | None:
     request, own = by_library(program), package()
     if request is None or own is None:
         return None
-    places = [0, 1, 2] if request == own.series_request else FILES.get(words[0] if words else "")
+    # Words of no request have no places.
+    named = FILES.get(words[0] if words else "")
+    places = [0, 1, 2] if request == own.series_request else None if named is None else [*named.values()]
     if places is None or len(words) <= max(places, default=0) or any("\n" in word for word in words):
         return None
     spelt, files = list(words), list[bytes]()
