@@ -3,38 +3,11 @@
 // as the text that was typed or as whole ticks, and rounded to the nearest, a half away from 0, where it has to be whole.
 
 const TICKS = 1000000n;
-// Of each the range, by the table of keys, and how the form has it.
-const PARAMETERS = [
-  ["gMacroPerCycle", "macroticks", "Cycle"],
-  ["pMicroPerCycle", "microticks", "Cycle, before correction"],
-  ["gNumberOfStaticSlots", "slots", "Static slots"],
-  ["gdStaticSlot", "macroticks", "A static slot"],
-  ["gdActionPointOffset", "macroticks", "Action point, from the slot's start"],
-  ["gdNIT", "macroticks", "All of the cycle behind the static slots"],
-  ["gPayloadLengthStatic", "2-byte words", "Payload of a static frame"],
-  ["gOffsetCorrectionStart", "macroticks", "Offset correction starts"],
-  ["pOffsetCorrectionOut", "microticks", "Limit of the offset term"],
-  ["pRateCorrectionOut", "microticks", "Limit of the rate term"],
-  ["pClusterDriftDamping", "microticks", "Damping of the rate term"],
-  ["pDelayCompensation", "microticks", "Delay compensation"],
-  ["pDelayCompensationA", "microticks", "Delay compensation, channel A"],
-  ["pDelayCompensationB", "microticks", "Delay compensation, channel B"],
-  ["xRateBound", "ppm", "Oscillators lie within"],
-  ["xChangeBound", "ppm a cycle", "They change by at most"],
-  ["xDelayError", "ns", "Delays lie within, of the compensation"],
-  ["gMaxWithoutClockCorrectionPassive", "double cycles", "Without a term, until passive"],
-  ["gMaxWithoutClockCorrectionFatal", "double cycles", "Without a term, until it may halt"],
-  ["pAllowHaltDueToClock", "0 or 1", "A node may halt"],
-  ["pAllowPassiveToActive", "double cycles", "Good ones until active again; 0: never"],
-].map(([name, unit, told]) => {
-  const { least, most } = TABLES.get(name.startsWith("x") ? "limits" : "cluster").keys.get(name);
-  return [name, Number(least[0]), Number(most[0]), unit, told];
-});
-// The order of the files.
-const NAMES = ["gMacroPerCycle", "pMicroPerCycle", "gNumberOfStaticSlots", "gdStaticSlot", "gdActionPointOffset", "gdNIT",
-  "gPayloadLengthStatic", "gOffsetCorrectionStart", "gMaxWithoutClockCorrectionPassive", "gMaxWithoutClockCorrectionFatal",
-  "pAllowHaltDueToClock", "pAllowPassiveToActive", "pClusterDriftDamping", "pOffsetCorrectionOut", "pRateCorrectionOut",
-  "pDelayCompensation", "pDelayCompensationA", "pDelayCompensationB", "xRateBound", "xChangeBound", "xDelayError"];
+// The parameters in the order of the files; of each its range, the unit that the form has, and what it is.
+const NAMES = [...MEANT.keys()];
+const IN_FORM = new Map([["pAllowHaltDueToClock", "0 or 1"], ["xRateBound", "ppm"], ["xChangeBound", "ppm a cycle"], ["xDelayError", "ns"]]);
+const PARAMETERS = [...MEANT].map(([name, [least, most, unit, told]]) =>
+  [name, least, most, IN_FORM.get(name) || unit, told[0].toUpperCase() + told.slice(1)]);
 
 // Rows of a script about frames on their way, and those of a bit.
 const isOfFrames = (kind) => (FORMS.script[1].get(kind) || []).some((field) => field.kind === "channel");

@@ -1,9 +1,9 @@
 "use strict";
-// Written by tools/forms from python/flexlab/program/forms.py: which kinds of fields are numbers; and of each file how many
+// Written by tools/forms from python/flexlab/base/specified.py: which kinds of fields are numbers; and of each file how many
 // fields a record has, and by its first field those behind it, each with its name, its kind and its range. A limit is
 // a parameter, and of which multiple and which number each end is the sum. At last by which fields a second record is
 // of the same. What the first field of a record says is of a stranger, so these are Maps: it may be constructor.
-const LAST_CYCLE = 199999, NUMERIC = ["number", "node", "key", "value", "rate", "offset", "bit"];
+const LAST_CYCLE = 199999, NUMERIC = ["number", "node", "key", "value", "rate", "bit", "offset"];
 const FORMS = {
   params: [5, new Map([
     ["version", [
@@ -70,14 +70,6 @@ const FORMS = {
       { kind: "empty" },
       { kind: "empty" },
     ]],
-    ["join", [
-      { name: "DOUBLE", kind: "number", least: 0, most: 99999, unit: "double cycles" },
-      { name: "NODE", kind: "node", least: 1, most: 64 },
-      { name: "REFERENCE", kind: "node", least: 1, most: 64 },
-      { kind: "empty" },
-      { kind: "empty" },
-      { kind: "empty" },
-    ]],
     ["say", [
       { name: "CYCLE", kind: "number", least: 0, most: 199999 },
       { name: "SENDER", kind: "node", least: 1, most: 64 },
@@ -102,5 +94,37 @@ const FORMS = {
       { name: "BIT", kind: "bit", unit: "bits", limit: ["gPayloadLengthStatic", 0, 0, 16, 63] },
       { kind: "empty" },
     ]],
+    ["join", [
+      { name: "DOUBLE", kind: "number", least: 0, most: 99999, unit: "double cycles" },
+      { name: "NODE", kind: "node", least: 1, most: 64 },
+      { name: "REFERENCE", kind: "node", least: 1, most: 64 },
+      { kind: "empty" },
+      { kind: "empty" },
+      { kind: "empty" },
+    ]],
   ]), new Map([["arbitrary", ["NODE"]], ["join", ["NODE"]], ["say", ["CYCLE", "SENDER", "RECEIVER", "CHANNEL"]], ["lose", ["CYCLE", "SENDER", "RECEIVER", "CHANNEL"]], ["flip", ["CYCLE", "SENDER", "RECEIVER", "CHANNEL"]]])],
 };
+// Each parameter in the order of the files: its range, its unit, and what it is.
+const MEANT = new Map([
+  ["gMacroPerCycle", [10, 16000, "macroticks", "a cycle"]],
+  ["pMicroPerCycle", [10, 640000, "microticks", "a cycle, before correction"]],
+  ["gNumberOfStaticSlots", [1, 1023, "slots", "static slots a cycle"]],
+  ["gdStaticSlot", [2, 1000, "macroticks", "a static slot"]],
+  ["gdActionPointOffset", [1, 63, "macroticks", "from the start of a static slot to its action point"]],
+  ["gdNIT", [1, 15999, "macroticks", "the rest of the cycle after the static slots"]],
+  ["gPayloadLengthStatic", [0, 127, "two-byte words", "the payload of a static frame"]],
+  ["gOffsetCorrectionStart", [1, 15999, "macroticks", "the macrotick at which the offset correction starts"]],
+  ["gMaxWithoutClockCorrectionPassive", [1, 15, "double cycles", "without a correction term, until a node is passive"]],
+  ["gMaxWithoutClockCorrectionFatal", [1, 15, "double cycles", "without a correction term, until a node may halt"]],
+  ["pAllowHaltDueToClock", [0, 1, "", "whether a node may halt: 1 yes, 0 no"]],
+  ["pAllowPassiveToActive", [0, 31, "double cycles", "good ones until a passive node is active; 0: never"]],
+  ["pClusterDriftDamping", [0, 100, "microticks", "by which the rate term is damped toward 0"]],
+  ["pOffsetCorrectionOut", [1, 16000, "microticks", "the limit of the offset term"]],
+  ["pRateCorrectionOut", [1, 2000, "microticks", "the limit of the rate term"]],
+  ["pDelayCompensation", [0, 200, "microticks", "taken off each measured arrival"]],
+  ["pDelayCompensationA", [0, 200, "microticks", "taken off each arrival measured on channel A"]],
+  ["pDelayCompensationB", [0, 200, "microticks", "taken off each arrival measured on channel B"]],
+  ["xRateBound", [0, 1500, "ticks", "the greatest distance of a microtick's length from nominal"]],
+  ["xChangeBound", [0, 1500, "ticks", "the greatest change of that length from one cycle to the next"]],
+  ["xDelayError", [0, 10000000, "ticks", "the greatest distance of a delay from the compensation"]],
+]);

@@ -547,7 +547,8 @@ function parameterField([name, least, most, unit, label]) {
   return element("div", { class: "field" }, element("label", { for: field.id }, label, element("span", { class: "name" }, name)), field, element("small", {}, unit));
 }
 
-const GROUPS = [["The cycle", 0, 8], ["Corrections", 8, 14], ["Limits of oscillators and delays", 14, 17], ["When a node gives up", 17, 21]];
+const GROUPS = ["The cycle", "Corrections", "Limits of oscillators and delays", "When a node gives up"];
+const groupOf = (name) => (name.startsWith("x") ? 2 : /^(gMax|pAllow)/.test(name) ? 3 : /^p(?!Micro)/.test(name) ? 1 : 0);
 
 // A text that is longer than this is not put into a field: a browser would take long for it.
 const MOST_EDITED = 2000000;
@@ -572,8 +573,8 @@ const EDITOR = {
     return element("div", {}, element("fieldset", {}, element("legend", {}, "The run"), element("div", { class: "fields" },
       element("div", { class: "field" }, element("label", { for: "microtick" }, "A microtick lasts", element("span", { class: "name" }, "not in the files, which have ticks")), microtick, element("small", {}, "ns")),
       element("div", { class: "field" }, element("label", { for: "doubles" }, "Length of the run"), doubles, element("small", {}, "double cycles")))),
-    ...GROUPS.map(([title, from, to]) => element("fieldset", {}, element("legend", {}, title),
-      element("div", { class: "fields" }, ...PARAMETERS.slice(from, to).filter(([name]) => name in page.cluster.parameters).map(parameterField)))));
+    ...GROUPS.map((title, at) => element("fieldset", {}, element("legend", {}, title),
+      element("div", { class: "fields" }, ...PARAMETERS.filter(([name]) => groupOf(name) === at && name in page.cluster.parameters).map(parameterField)))));
   },
   Nodes() {
     const next = (rows, key) => String(Math.max(0, ...rows.map((row) => Number(row[key]) || 0)) + 1);

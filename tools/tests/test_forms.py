@@ -1,4 +1,4 @@
-"""The table of forms of records: it is what the specification says, and what tools/forms writes of it stands in the repository."""
+"""The forms of records: what tools/forms writes from the specification stands in the repository, and follows each change of that."""
 import contextlib
 import importlib.machinery
 import importlib.util
@@ -6,12 +6,12 @@ import io
 import os
 import re
 import shutil
+import subprocess
 import sys
 import tempfile
 import unittest
 from pathlib import Path
 from types import ModuleType
-from unittest import mock
 
 TOOLS = Path(__file__).resolve().parent.parent
 REPOSITORY = TOOLS.parent
@@ -20,30 +20,47 @@ sys.path.insert(0, str(REPOSITORY / "python"))
 from flexlab.program import forms  # noqa: E402
 from flexlab.program.records import Record  # noqa: E402
 
-# Of a file of a specification what is changed in it, and what is said of that: ranges, also those that another file says, kinds,
-# empty fields, texts, and shapes that are not known.
+# Of a file of a specification what is changed in it, and what stands in specified.py then: ranges, also those that another file
+# says, kinds, names, words.
 CHANGES = (
-    ("fr_drift", "Holding", "0 199_999", "0 199_998", "(FROM): the specification has 0 to 199998, and FORMS has 0 to 199999"),
-    ("fr_script", "Rows", "pos 1_000_000_000_000", "pos 1_000_000_000_001", "(SHIFT): the specification has -1000000000001 to"),
-    ("fr_script", "Reasons", "8 * (8 + 2", "8 * (9 + 2", "(BIT): the specification has 0 to 71, and FORMS has 0 to 63"),
-    ("fr_cluster", "Ranges", "name.gdNIT = 15_999", "name.gdNIT = 15_998", "(VALUE) of gdNIT: the specification has 1 to 15998"),
-    ("fr_cluster", "Ranges", "name.xDelayError = 0", "name.xDelayError = 1", "(VALUE) of xDelayError: the specification has 1 to"),
-    ("fr_cluster", "Values", "p.rate_limit", "p.rate_bound", "a shape that is not known here"),
-    ("fr_log", "Numbers", "head.Lost = 14", "head.Lost = 15", "(COUNT): the specification has 0 to 15, and FORMS has 0 to 14"),
-    ("fr_log", "Holding", 'codes "head"', 'codes "heads"', "a comment has head,STAMP,CHANNEL,BYTES,, and FORMS has it not"),
-    ("fr_log", "Holding", "is_blank (field_of r 1) ||", "is_blank (field_of r 3) ||", "a shape that is not known here: delay"),
-    ("fr_trace", "Holding", "p.offset_limit", "p.rate_limit", "(OFFSET): the specification has -2000 to 2000"),
-    ("fr_trace", "Rows", 'codes "halt"', 'codes "halted"', "(STATE): the specification has spelt ('active', 'passive', 'halted')"),
-    ("fr_params", "Holding", "text 1 1023", "text 1 1022", "(KEY): the specification has 1 to 1022, and FORMS has 1 to 1023"),
-    ("fr_params", "Holding", "if is_blank text then [] else number_field text", "number_field text", "has number, and FORMS has key"),
-    ("fr_params", "Holding", "`slot,SLOT,NODE", "`slot,NODE,SLOT", "FORMS has slot,SLOT,NODE,BASE,REPETITION, and no comment"),
-    ("fr_nm", "Holding", "524", "522", "(BYTES): the specification has bytes 522, and FORMS has bytes 524"),
-    ("fr_cold", "Holding", "misses_form 3", "misses_form 4", "a record has 4 fields, and in FORMS 3"),
-    ("fr_cold", "Holding", "is_out_of_range (power_form r)", "false", "a shape that is not known here: OutOfRange"),
-    ("fr_drift", "Holding", "has_bad_channels (drift_form p r)", "false", "a shape that is not known here: BadChannel"),
-    ("fr_drift", "Holding", "field_of r 4 ∷ field_of r 5 ∷ []", "field_of r 5 ∷ []", "field 5: the specification has no such field"),
-    ("fr_base", "Channels", 'codes "B"', 'codes "b"', "(CHANNEL): the specification has spelt ('A', 'b')"),
+    ("fr_drift", "Holding", "0 199_999", "0 199_998", '("FROM", "number", 0, 199998)'),
+    ("fr_script", "Rows", "pos 1_000_000_000_000", "pos 1_000_000_000_001", '("SHIFT", "number", -1000000000001, 1000000000001)'),
+    ("fr_script", "Reasons", "8 * (8 + 2", "8 * (9 + 2", '"bit": ("gPayloadLengthStatic", (0, 0), (16, 71))'),
+    ("fr_cluster", "Ranges", "name.gdNIT = 15_999", "name.gdNIT = 15_998", '"gdNIT": (1, 15998)'),
+    ("fr_cluster", "Ranges", "name.xDelayError = 0", "name.xDelayError = 1", '"xDelayError": (1, 10000000)'),
+    ("fr_log", "Numbers", "head.Lost = 14", "head.Lost = 15", '"lost": (("COUNT", "number", 0, 15), EMPTY'),
+    ("fr_trace", "Holding", "p.offset_limit", "p.rate_limit", '"offset": ("pRateCorrectionOut", (-1, 0), (1, 0))'),
+    ("fr_trace", "Rows", 'codes "halt"', 'codes "halted"', '"state": ("active", "passive", "halted")'),
+    ("fr_params", "Holding", "text 1 1023", "text 1 1022", '("KEY", "key", 1, 1022)'),
+    ("fr_params", "Holding", "if is_blank text then [] else number_field text", "number_field text", '("KEY", "number", 1, 1023)'),
+    ("fr_params", "Holding", "`slot,SLOT,NODE", "`slot,NODE,SLOT", '("NODE", "node", 1, 1023), ("SLOT", "number", 1, 64)'),
+    ("fr_base", "Channels", 'codes "B"', 'codes "b"', '"channel": ("A", "b")'),
 )
+# What is told where a shape is not known, or files do not fit together.
+STRANGE = (
+    ("fr_cluster", "Values", "p.rate_limit", "p.rate_bound", "crates/fr_drift/specs/Holding.antt: a shape that is not known here: "),
+    ("fr_log", "Holding", 'codes "head"', 'codes "heads"', "not known here: of heads no one comment has the form"),
+    ("fr_log", "Holding", "is_blank (field_of r 1) ||", "is_blank (field_of r 3) ||", "not known here: delay in "),
+    ("fr_nm", "Holding", "524", "522", "not known here: fields hex are 524 and 522"),
+    ("fr_cold", "Holding", "misses_form 3", "misses_form 4", "not known here: of cycles field 4 is nothing"),
+    ("fr_cold", "Holding", "is_out_of_range (power_form r)", "false", "not known here: OutOfRange"),
+    ("fr_drift", "Holding", "has_bad_channels (drift_form p r)", "false", "not known here: BadChannel"),
+    ("fr_drift", "Holding", "field_of r 4 ∷ field_of r 5 ∷ []", "field_of r 5 ∷ []", "field 5 is nothing"),
+    ("fr_script", "Holding", "-- `lose,CYCLE", "-- `lost,CYCLE,,,,,` `lose,CYCLE", "a comment has lost,CYCLE,,,,,, and no record has this form"),
+)
+# A new row of the script, which is one change of its specification.
+MUTE = """-- `mute,NODE,CYCLE,CHANNEL,,,`
+abbrev pub mute_form : FileRecord → Form
+mute_form r = record {
+  empty = field_of r 4 ∷ field_of r 5 ∷ field_of r 6 ∷ [];
+  known = true;
+  numbers = number_field (field_of r 1) 1 64 ∷ number_field (field_of r 2) 0 199_999 ∷ [];
+  short = true;
+  spelt = is_some (channel_of (field_of r 3));
+}
+
+"""
+FILES = ("python/flexlab/base/specified.py", "page/forms.js", "docs/FORMATS.md")
 
 
 def tool() -> ModuleType:
@@ -64,8 +81,8 @@ class Case(unittest.TestCase):
         self.top = Path(room.name)
         for crate in ("fr_base", "fr_text", "fr_cluster", "fr_params", "fr_drift", "fr_script", "fr_cold", "fr_nm", "fr_log", "fr_trace"):
             shutil.copytree(REPOSITORY / "crates" / crate / "specs", self.top / "crates" / crate / "specs")
-        for name in ("page/forms.js", "docs/FORMATS.md"):
-            (self.top / name).parent.mkdir()
+        for name in FILES:
+            (self.top / name).parent.mkdir(parents=True)
             shutil.copy(REPOSITORY / name, self.top / name)
         self.tool = tool()
 
@@ -88,32 +105,57 @@ class Held(Case):
         self.assertEqual(self.ends(0, here=REPOSITORY), "")
         self.assertEqual(self.ends(0), "")
 
-    def test_what_is_changed_in_the_specification_is_told(self) -> None:
-        for crate, name, old, new, told in CHANGES:
+    def test_what_is_changed_in_the_specification_is_written(self) -> None:
+        self.tool.HERE = str(self.top)
+        for crate, name, old, new, written in CHANGES:
             path = f"crates/{crate}/specs/{name}.antt"
             before = (self.top / path).read_text(encoding="utf-8")
             with self.subTest(path=path, new=new):
                 self.change(path, old, new)
-                self.ends(1, told)
+                found = self.tool.Specified()
+                self.assertEqual(found.strange, [])
+                self.assertIn(written, found.text())
+                self.assertNotIn(written, (REPOSITORY / FILES[0]).read_text(encoding="utf-8"))
             (self.top / path).write_text(before, encoding="utf-8")
 
-    def test_what_is_changed_in_the_table_is_told(self) -> None:
-        kinds = self.tool.FORMS["script"].kinds
-        for kind, place, changed, told in (
-                ("lose", 0, {"most": 199998}, "(CYCLE): the specification has 0 to 199999, and FORMS has 0 to 199998"),
-                ("say", 3, {"kind": "channels"}, "has spelt ('A', 'B'), and FORMS has spelt ('A', 'B', 'AB')"),
-                ("say", 1, {"kind": "number"}, "SENDER is a node, and FORMS has number"),
-                ("join", 0, {"name": "NODE"}, "a comment has join,DOUBLE,NODE,REFERENCE,,,, and FORMS has it not")):
-            with self.subTest(kind=kind, changed=changed):
-                fields = list(kinds[kind])
-                fields[place] = fields[place]._replace(**changed)
-                with mock.patch.dict(kinds, {kind: fields}):
-                    self.ends(1, told, "page/forms.js is not what comes of")
-        with mock.patch.dict(kinds, {"drop": kinds["lose"]}):
-            self.ends(1, "in FORMS arbitrary, drop, ", "it lacks the form drop,CYCLE")
+    def test_what_is_strange_in_the_specification_is_told(self) -> None:
+        for crate, name, old, new, told in STRANGE:
+            path = f"crates/{crate}/specs/{name}.antt"
+            before = (self.top / path).read_text(encoding="utf-8")
+            with self.subTest(path=path, new=new):
+                self.change(path, old, new)
+                self.ends(1, told, words=())
+            (self.top / path).write_text(before, encoding="utf-8")
+
+    def test_a_new_row_and_a_new_parameter_are_one_change_of_the_specification(self) -> None:
+        for folder in ("python/flexlab", "python/flexray"):
+            shutil.copytree(REPOSITORY / folder, self.top / folder, dirs_exist_ok=True, ignore=shutil.ignore_patterns("__pycache__"))
+        (self.top / "tools").mkdir()
+        shutil.copy(TOOLS / "forms", self.top / "tools" / "forms")
+        script, ranges, names = (f"crates/{path}.antt" for path in ("fr_script/specs/Holding", "fr_cluster/specs/Ranges", "fr_params/specs/Names"))
+        self.change(script, "abbrev pub script_form", MUTE + "abbrev pub script_form")
+        self.change(script, "    else None", '    else if bytes_eq (field_of r 0) (codes "mute") then Some (mute_form r)\n    else None')
+        self.change(ranges, "least name.xDelayError = 0", "least name.xDelayError = 0\nleast name.xNew = 3")
+        self.change(ranges, "greatest name.xDelayError", "greatest name.xNew = 40\ngreatest name.xDelayError")
+        self.change(names, "word_of name.xDelayError", 'word_of name.xNew = codes "xNew"\nword_of name.xDelayError')
+
+        def ended(*words: str) -> list[str]:
+            found = subprocess.run([sys.executable, "-B", self.top / "tools" / "forms", *words], capture_output=True, text=True, check=False)
+            return [found.stderr[-300:], *found.stdout.splitlines()]
+
+        specified = "tools/forms: python/flexlab/base/specified.py is not what comes of the specification: run tools/forms"
+        self.assertEqual(ended("--check"), ["", specified])
+        lacking = ["", "tools/forms: python/flexlab/base/ranges.py: MEANT lacks xNew",
+                   "tools/forms: docs/FORMATS.md, The fault script: it lacks the form mute,NODE,CYCLE,CHANNEL,,,"]
+        self.assertEqual(ended(), lacking)
+        self.assertEqual(ended("--check"), lacking)
+        self.assertIn('    ["mute", [\n      { name: "NODE", kind: "node", least: 1, most: 64 },\n      { name: "CYCLE", kind: "number", least: 0,',
+                      (self.top / FILES[1]).read_text(encoding="utf-8"))
+        self.assertIn('"xNew": (3, 40)', (self.top / FILES[0]).read_text(encoding="utf-8"))
 
     def test_a_file_that_was_changed_is_told(self) -> None:
         for name, old, new, told in (
+                (FILES[0], "99999", "99998", f"{FILES[0]} is not what comes of the specification"),
                 ("page/forms.js", "99999", "99998", "page/forms.js is not"),
                 ("docs/FORMATS.md", "SHIFT within 1000000000000 ticks", "SHIFT within 100 ticks", "docs/FORMATS.md is not"),
                 ("docs/FORMATS.md", "| 10 to 16000 |", "| 1 to 16000 |", "docs/FORMATS.md is not"),
@@ -133,10 +175,11 @@ class Held(Case):
     def test_it_writes_what_it_asks_for(self) -> None:
         self.change("docs/FORMATS.md", "KEY 1 to 1023 or empty", "KEY 1 to 10")
         self.change("page/forms.js", "99999", "99998")
+        self.change(FILES[0], "99999", "99998")
         self.ends(1)
         self.assertEqual(self.ends(0, words=()), "")
         self.ends(0)
-        for name in ("page/forms.js", "docs/FORMATS.md"):
+        for name in FILES:
             self.assertEqual((self.top / name).read_bytes(), (REPOSITORY / name).read_bytes())
 
 

@@ -1,6 +1,9 @@
-"""The parameters of a cluster: range, unit and meaning of each, as docs/FORMATS.md has them."""
+"""The parameters of a cluster: range, unit and meaning of each, as docs/FORMATS.md has them. Ranges are those of the specification,
+from which tools/forms writes specified.py."""
 from collections.abc import Mapping
 from typing import NamedTuple
+
+from . import specified
 
 
 class Parameter(NamedTuple):
@@ -14,33 +17,33 @@ class Parameter(NamedTuple):
 # Values of parameters by their names.
 Parameters = dict[str, int]
 
-PARAMETERS = {
-    "gMacroPerCycle": Parameter(10, 16000, "macroticks", "a cycle"),
-    "pMicroPerCycle": Parameter(10, 640000, "microticks", "a cycle, before correction"),
-    "gNumberOfStaticSlots": Parameter(1, 1023, "slots", "static slots a cycle"),
-    "gdStaticSlot": Parameter(2, 1000, "macroticks", "a static slot"),
-    "gdActionPointOffset": Parameter(1, 63, "macroticks", "from the start of a static slot to its action point"),
-    "gdNIT": Parameter(1, 15999, "macroticks", "the rest of the cycle after the static slots"),
-    "gPayloadLengthStatic": Parameter(0, 127, "two-byte words", "the payload of a static frame"),
-    "gOffsetCorrectionStart": Parameter(1, 15999, "macroticks", "the macrotick at which the offset correction starts"),
-    "gMaxWithoutClockCorrectionPassive": Parameter(1, 15, "double cycles", "without a correction term, until a node is passive"),
-    "gMaxWithoutClockCorrectionFatal": Parameter(1, 15, "double cycles", "without a correction term, until a node may halt"),
-    "pAllowHaltDueToClock": Parameter(0, 1, "", "whether a node may halt: 1 yes, 0 no"),
-    "pAllowPassiveToActive": Parameter(0, 31, "double cycles", "good ones until a passive node is active; 0: never"),
-    "pClusterDriftDamping": Parameter(0, 100, "microticks", "by which the rate term is damped toward 0"),
-    "pOffsetCorrectionOut": Parameter(1, 16000, "microticks", "the limit of the offset term"),
-    "pRateCorrectionOut": Parameter(1, 2000, "microticks", "the limit of the rate term"),
-    "pDelayCompensation": Parameter(0, 200, "microticks", "taken off each measured arrival"),
-    "xRateBound": Parameter(0, 1500, "ticks", "the greatest distance of a microtick's length from nominal"),
-    "xChangeBound": Parameter(0, 1500, "ticks", "the greatest change of that length from one cycle to the next"),
-    "xDelayError": Parameter(0, 10000000, "ticks", "the greatest distance of a delay from the compensation"),
-}
-
 # In a file of version 2 each channel has a compensation of its own.
-OF_CHANNELS = {
-    f"pDelayCompensation{channel}": Parameter(0, 200, "microticks", f"taken off each arrival measured on channel {channel}")
-    for channel in "AB"
+CHANNELS = {f"pDelayCompensation{channel}": channel for channel in "AB"}
+# The unit of each, and what it is.
+MEANT = {
+    "gMacroPerCycle": ("macroticks", "a cycle"),
+    "pMicroPerCycle": ("microticks", "a cycle, before correction"),
+    "gNumberOfStaticSlots": ("slots", "static slots a cycle"),
+    "gdStaticSlot": ("macroticks", "a static slot"),
+    "gdActionPointOffset": ("macroticks", "from the start of a static slot to its action point"),
+    "gdNIT": ("macroticks", "the rest of the cycle after the static slots"),
+    "gPayloadLengthStatic": ("two-byte words", "the payload of a static frame"),
+    "gOffsetCorrectionStart": ("macroticks", "the macrotick at which the offset correction starts"),
+    "gMaxWithoutClockCorrectionPassive": ("double cycles", "without a correction term, until a node is passive"),
+    "gMaxWithoutClockCorrectionFatal": ("double cycles", "without a correction term, until a node may halt"),
+    "pAllowHaltDueToClock": ("", "whether a node may halt: 1 yes, 0 no"),
+    "pAllowPassiveToActive": ("double cycles", "good ones until a passive node is active; 0: never"),
+    "pClusterDriftDamping": ("microticks", "by which the rate term is damped toward 0"),
+    "pOffsetCorrectionOut": ("microticks", "the limit of the offset term"),
+    "pRateCorrectionOut": ("microticks", "the limit of the rate term"),
+    "pDelayCompensation": ("microticks", "taken off each measured arrival"),
+    "xRateBound": ("ticks", "the greatest distance of a microtick's length from nominal"),
+    "xChangeBound": ("ticks", "the greatest change of that length from one cycle to the next"),
+    "xDelayError": ("ticks", "the greatest distance of a delay from the compensation"),
 }
+PARAMETERS = {name: Parameter(*ends, *MEANT.get(name, ("", ""))) for name, ends in specified.RANGES.items() if name not in CHANNELS}
+OF_CHANNELS = {name: Parameter(*specified.RANGES[name], PARAMETERS["pDelayCompensation"].unit,
+                               f"taken off each arrival measured on channel {channel}") for name, channel in CHANNELS.items()}
 NAMES = {**PARAMETERS, **OF_CHANNELS}
 
 
@@ -67,19 +70,27 @@ def compensation(parameters: Mapping[str, int], channel: str | None = None) -> i
     return max(parameters[compensation_name(parameters, one)] for one in channel or "AB")
 
 
-DOUBLES = (1, 100000)
-DOUBLE = (0, 99999)
-CYCLES = (0, 199999)
-LENGTH = (500000, 1500000)
-DELAY = (0, 1000000000)
+def span(role: str, kind: str, name: str) -> tuple[int, int]:
+    """The range of a number of a record."""
+    for field, _, least, most in specified.RECORDS[role][1][kind]:
+        if field == name and least is not None and most is not None:
+            return least, most
+    raise KeyError(name)
+
+
+DOUBLES = span("drift", "doubles", "COUNT")
+DOUBLE = span("script", "join", "DOUBLE")
+CYCLES = span("script", "say", "CYCLE")
+LENGTH = span("drift", "length", "TICKS")
+DELAY = span("drift", "delay", "TICKS")
 # How many senders a node may miss, of fifteen with key slots.
-LOST = (0, 14)
-START = (0, 1000000000000)
-POWER = (0, 16000000)
+LOST = span("log", "lost", "COUNT")
+START = span("drift", "start", "TICKS")
+POWER = span("power", "on", "TIME")
 # Of a run's ticks, and of a log's units.
-TIMES = (0, 900000000000000000)
-SHIFT = (-1000000000000, 1000000000000)
+TIMES = span("log", "frame", "STAMP")
+SHIFT = span("script", "say", "SHIFT")
+# Of the bytes of a frame, as digits.
+FRAME_DIGITS = specified.FRAME_DIGITS
 REPETITIONS = (1, 2, 4, 8, 16, 32, 64)
 FILE_BYTES = 16777216
-# Of the bytes of a frame, as digits.
-FRAME_DIGITS = 524

@@ -185,7 +185,7 @@ def cycles(table: str, default: Default = None) -> Key:
 MOST_PPM = Fraction(149825, 100)
 LEAST_OFF, MOST_OFF = -333333, 1000000
 # A log of a bus analyzer: the greatest time in it, 1000 microticks, and the last even cycle.
-MOST_TICKS, MOST_CYCLE = 10**9, 199998
+MOST_TICKS, MOST_CYCLE = ranges.span("log", "unit", "TICKS")[1], ranges.span("log", "since", "CYCLE")[1]
 
 
 def ppm(name: str, meaning: str, table: str = "oscillator", default: Number | None = None) -> Key:
@@ -220,11 +220,12 @@ TABLES: Mapping[str, Entry] = {one.name: one for one in (
           whole("run", "seed", (0, 4294967295), "", "the seed of numbers that are drawn", default=1), is_needed=True),
     entry("values", False, "names of numbers; any key is a name, and a number elsewhere may be that name as a text"),
     entry("node", True, "a node",
-          whole("node", "id", (1, 64), "", "its number"),
+          whole("node", "id", ranges.span("params", "node", "ID"), "", "its number"),
           plain("node", "name", Kind.TEXT, "its name, of each node another one; pages, pictures and `--json` have it beside the number",
                 optional=True, narrower=f"1 to {NAME_LENGTH} printable characters, no blanks at its ends, no number"),
           plain("node", "channels", Kind.CHANNELS, "the channels at which it is"),
-          whole("node", "key_slot", (1, 1023), "", "the slot of its sync frames; without one it is no sync node", optional=True),
+          whole("node", "key_slot", ranges.span("params", "node", "KEY"), "", "the slot of its sync frames; without one it is no sync node",
+                optional=True),
           plain("node", "coldstart", Kind.FLAG, "whether it is a coldstart node, which has a key slot", default=False),
           plain("node", "arbitrary", Kind.FLAG, "whether it is arbitrary, and has a key slot", default=False),
           ppm("ppm", "its oscillator, above 0 fast", "node", 0),
@@ -233,11 +234,11 @@ TABLES: Mapping[str, Entry] = {one.name: one for one in (
           *times("node", "start_", ranges.START, "its first cycle begins so late"),
           choices=(amount_of("start_", needed=False),), is_needed=True),
     entry("slot", True, "a further slot of a node",
-          whole("slot", "slot", (1, 1023), "", "the slot"),
+          whole("slot", "slot", ranges.span("params", "slot", "SLOT"), "", "the slot"),
           plain("slot", "node", Kind.NODES, "its node, one"),
-          whole("slot", "base", (0, 63), "", "the first cycle of each repetition that has it", default=0,
+          whole("slot", "base", ranges.span("params", "slot", "BASE"), "", "the first cycle of each repetition that has it", default=0,
                 narrower="below the repetition"),
-          whole("slot", "repetition", (1, 64), "cycles", "in each so many cycles once", default=1,
+          whole("slot", "repetition", ranges.span("params", "slot", "REPETITION"), "cycles", "in each so many cycles once", default=1,
                 narrower="1, 2, 4, 8, 16, 32 or 64")),
     entry("oscillator", True, "oscillators in some cycles; later tables win, and behind its cycles holds what was said before",
           plain("oscillator", "nodes", Kind.NODES, "whose"), cycles("oscillator", "all"),
@@ -277,7 +278,7 @@ TABLES: Mapping[str, Entry] = {one.name: one for one in (
           choices=(amount_of("on_", TIMES, needed=False), amount_of("off_", TIMES, needed=False))),
     entry("observer", False, "a bus analyzer (\"Logs\")",
           logged("observer", "resolution_ns", "the steps of its stamps", Bound(Fraction(1, 1000), "ns")),
-          number("observer", "drift_ppm", 0, 1000, "ppm", "the greatest distance of its clock from nominal, rounded up"),
+          number("observer", "drift_ppm", *ranges.span("log", "drift", "PPM"), "ppm", "the greatest distance of its clock from nominal, rounded up"),
           logged("observer", "error_ns", "what a stamp is off beside that, from the least to the most", default=0),
           logged("observer", "jitter_ns", "how much two delays of a node differ, at most; else all that the limits allow", optional=True),
           logged("observer", "flutter_ns", "how much a delay from node to node differs between both cycles of a double cycle, at most; "
