@@ -278,7 +278,8 @@ TABLES: Mapping[str, Entry] = {one.name: one for one in (
           choices=(amount_of("on_", TIMES, needed=False), amount_of("off_", TIMES, needed=False))),
     entry("observer", False, "a bus analyzer (\"Logs\")",
           logged("observer", "resolution_ns", "the steps of its stamps", Bound(Fraction(1, 1000), "ns")),
-          number("observer", "drift_ppm", *ranges.span("log", "drift", "PPM"), "ppm", "the greatest distance of its clock from nominal, rounded up"),
+          number("observer", "drift_ppm", *ranges.span("log", "drift", "PPM"), "ppm",
+                 "the greatest distance of its clock from nominal, rounded up"),
           logged("observer", "error_ns", "what a stamp is off beside that, from the least to the most", default=0),
           logged("observer", "jitter_ns", "how much two delays of a node differ, at most; else all that the limits allow", optional=True),
           logged("observer", "flutter_ns", "how much a delay from node to node differs between both cycles of a double cycle, at most; "
