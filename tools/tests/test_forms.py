@@ -154,12 +154,12 @@ class Held(Case):
         samples = {"examples/a/params.csv": "param,{0},5,,\n", "crates/b/src/lib.rt": "param,{0},5,,\\n\\\n", "tools/c.toml": "{0} = 5\n"}
         for name, line in samples.items():
             (self.top / name).parent.mkdir(parents=True, exist_ok=True)
-            (self.top / name).write_text("".join(line.format(one) for one in ("gMacroPerCycle", "xChangeBound", "xDelayError")), encoding="utf-8")
+            (self.top / name).write_text("".join(line.format(one) for one in ("gMacroPerCycle", "xRateBound", "xDelayError")), encoding="utf-8")
         self.assertEqual(sorted(ended("--give", "xNew=7")), sorted([*lacking, *samples, "python/flexlab/toml/example.toml"]))
         self.assertEqual(ended("--give", "xNew=7"), ["", "", *lacking[1:]])
         for name, line in samples.items():
             self.assertEqual((self.top / name).read_text(encoding="utf-8"), "".join((
-                line.format("gMacroPerCycle"), line.format("xChangeBound"), line.format("xNew").replace("5", "7"), line.format("xDelayError"))))
+                line.format("gMacroPerCycle"), line.format("xRateBound"), line.format("xNew").replace("5", "7"), line.format("xDelayError"))))
         self.assertIn('"xNew": (3, 40)', (self.top / FILES[0]).read_text(encoding="utf-8"))
 
     def test_a_file_that_was_changed_is_told(self) -> None:
