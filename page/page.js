@@ -553,6 +553,9 @@ const groupOf = (name) => (name.startsWith("x") ? 2 : /^(gMax|pAllow)/.test(name
 // A text that is longer than this is not put into a field: a browser would take long for it.
 const MOST_EDITED = 2000000;
 
+// What becomes of a frame, by the word of its row; another one stands as it is.
+const TOLD = { say: "says", lose: "is lost", flip: "bit inverted" };
+
 const EDITOR = {
   Cluster() {
     const microtick = element("input", { id: "microtick", "data-field": "microtick", value: page.retick ?? page.microtick, size: 6, "aria-label": "A microtick lasts, in nanoseconds", autocomplete: "off",
@@ -603,7 +606,7 @@ const EDITOR = {
   Faults() {
     const is = (kind) => (row) => row.kind === kind;
     return element("div", {}, editTable("What is done to frames", "An arbitrary node says its frame early (below 0) or late, to each receiver another time if you like: that is a two-faced node. Of correct nodes frames are lost, or a bit is inverted. Nodes are as 1-4,6 or all; cycles as 0-399, 7 or all.", page.cluster.faults,
-      [{ key: "kind", head: "what", options: [["say", "says"], ["lose", "is lost"], ["flip", "bit inverted"]] }, { key: "from", head: "of nodes", width: 5 }, { key: "to", head: "to nodes", width: 6 }, { key: "channels", head: "channels", ...CHANNELS }, { key: "cycles", head: "cycles", width: 9 },
+      [{ key: "kind", head: "what", options: [...FORMS.script[1].keys()].filter(isOfFrames).map((kind) => [kind, TOLD[kind] || kind]) }, { key: "from", head: "of nodes", width: 5 }, { key: "to", head: "to nodes", width: 6 }, { key: "channels", head: "channels", ...CHANNELS }, { key: "cycles", head: "cycles", width: 9 },
         { key: "value", head: "us late, or bit", width: 6, when: (row) => row.kind !== "lose" }, { key: "bytes", head: "bytes", width: 10, title: "hexadecimal digits; empty: the frame that it would send", when: is("say") }],
       () => {
         const arbitrary = page.cluster.nodes.find((node) => node.arbitrary);

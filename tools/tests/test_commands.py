@@ -79,6 +79,7 @@ class Written(unittest.TestCase):
                    ("completion/flexray", "bound FILE join", "bound FILE joins"), ("flexray-series", "FILE sharp", "FILE blunt"),
                    ("completion/flexlab", "frame capture", "capture"), ("requests.py", '"script": 3', '"script": 2'),
                    ("flexray.1", ".B lost", ".I lost"), ("flexray-series.1", ".B sharp", ".RB [ sharp ]"),
+                   ("libflexray.3", "The report of a run", "A report"),
                    ("FORMATS.md", "0 to 20000000 |", "1 to 2 |"), ("PYTHON.md", '`run(params, drift, script=b"")`', "`run(params)`"))
         self.assertEqual(len(changes), len(TOOL.FILES))
         for (_, old, new), name in zip(changes, TOOL.FILES):
