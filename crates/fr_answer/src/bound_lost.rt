@@ -4,7 +4,6 @@ ghost use Rattle.fr_base.specs.Device.{Puts};
 ghost use Rattle.fr_sharp.specs.Losses.{lost_apart};
 ghost use Rattle.fr_sharp.specs.LossCosts.{heard_behind, limits_hold};
 ghost use Rattle.fr_sharp.specs.LossSteps.{most_lost};
-ghost use Rattle.fr_bound.specs.SharpBounds.{most_flutter};
 ghost use Rattle.fr_text.specs.Lines.{joined_lines};
 ghost use Rattle.fr_text.specs.Pieces.{line};
 ghost use Rattle.fr_program.specs.Around.{around_of};
@@ -17,6 +16,7 @@ ghost use Rattle.fr_answer.specs.LossText.{loss_check_line, loss_figures_text, l
 use crate::bound::value_line;
 use crate::bound_sharp::{lambda_line, lasts_line, pi_line, precision_line};
 use fr_base::{PutFault, Shelf, Sink};
+use fr_bound::Flutter;
 use fr_cluster::Params;
 use fr_params::ParamsFile;
 use fr_program::Failure;
@@ -44,18 +44,17 @@ pub struct LossFigures {
 }
 
 /// Reads the parameters in the file, and writes how far clocks may lie apart where any frames may be lost in so many double
-/// cycles in a row, 1 to 1000, without arbitrary sync nodes, and delays flutter by no more than so many ticks, 0 to 10^9; with
-/// the checks for that, each line in one put. It loads the file once. A failure comes where the file can't be loaded, is not
+/// cycles in a row, 1 to 1000, without arbitrary sync nodes, and delays flutter by no more than so many ticks; with the
+/// checks for that, each line in one put. It loads the file once. A failure comes where the file can't be loaded, is not
 /// accepted, or memory runs out (`Stopped`), or where the sink counted a fault (`WriteFault`).
 pub fn answer_bound_lost<S: Shelf, O: Sink>(
     alloc: Global,
     file: &str,
-    flutter: u64,
+    flutter: Flutter,
     count: u32,
     shelf: &mut S,
     out: &mut O,
 ) -> Result<(), Failure>
-    requires flutter { flutter ≤ most_flutter }
     requires from { 1 ≤ count }
     requires to { count ≤ 1000 }
     ensures ends { CommandEnds (loss_command file.now flutter count)
@@ -68,8 +67,7 @@ pub fn answer_bound_lost<S: Shelf, O: Sink>(
     Ok(())
 }
 
-fn figures_of(params: &Params, flutter: u64, count: u32) -> LossFigures
-    requires flutter { flutter ≤ most_flutter }
+fn figures_of(params: &Params, flutter: Flutter, count: u32) -> LossFigures
     requires from { 1 ≤ count }
     requires to { count ≤ 1000 }
     ensures are { AreLossFigures params.now flutter count result }
@@ -87,12 +85,11 @@ fn figures_of(params: &Params, flutter: u64, count: u32) -> LossFigures
 
 fn print_losses<O: Sink>(
     params: &Params,
-    flutter: u64,
+    flutter: Flutter,
     count: u32,
     figures: &LossFigures,
     out: &mut O,
 ) -> Result<(), PutFault>
-    requires flutter { flutter ≤ most_flutter }
     requires reaches { AreReachesSmall figures.now }
     requires back { figures.now.row.back ≤ 1002 }
     ensures { Puts result (O.state out.old) (O.state out.new) (loss_text params.now flutter count figures.now) }
@@ -104,12 +101,11 @@ fn print_losses<O: Sink>(
 // Writes what comes behind the bounds.
 fn put_behind<O: Sink>(
     params: &Params,
-    flutter: u64,
+    flutter: Flutter,
     count: u32,
     figures: &LossFigures,
     out: &mut O,
 ) -> Result<(), PutFault>
-    requires flutter { flutter ≤ most_flutter }
     requires reaches { AreReachesSmall figures.now }
     requires back { figures.now.row.back ≤ 1002 }
     ensures { Puts result (O.state out.old) (O.state out.new)
@@ -121,12 +117,11 @@ fn put_behind<O: Sink>(
 }
 
 // The flutter, the number of double cycles, and the bounds.
-fn bound_lines(params: &Params, flutter: u64, count: u32) -> [Option<Line>; 5]
-    requires { flutter ≤ most_flutter }
+fn bound_lines(params: &Params, flutter: Flutter, count: u32) -> [Option<Line>; 5]
     ensures { joined_lines result ≡ loss_bounds_text params.now flutter count }
 {
     [
-        Some(value_line(b"flutter ", flutter)),
+        Some(value_line(b"flutter ", flutter.0)),
         Some(value_line(b"lost ", u64::from(count))),
         Some(lambda_line(params, false, flutter)),
         Some(pi_line(params, false, flutter)),
@@ -137,12 +132,11 @@ fn bound_lines(params: &Params, flutter: u64, count: u32) -> [Option<Line>; 5]
 // Writes a line for each of so many double cycles, from the first that loses frames on.
 fn put_aparts<O: Sink>(
     params: &Params,
-    flutter: u64,
+    flutter: Flutter,
     count: u32,
     doubles: u32,
     out: &mut O,
 ) -> Result<(), PutFault>
-    requires flutter { flutter ≤ most_flutter }
     requires doubles { doubles ≤ 1003 }
     ensures { Puts result (O.state out.old) (O.state out.new)
         (loss_apart_lines params.now flutter count 0 doubles) }
@@ -172,8 +166,7 @@ fn apart_line(double: u32, apart: u128) -> Line
 }
 
 // The peak, the reach, the checks with it, how long the walk lasts, and the way back; and what is of the parameters alone.
-fn figure_lines(params: &Params, flutter: u64, figures: &LossFigures) -> [Option<Line>; 13]
-    requires flutter { flutter ≤ most_flutter }
+fn figure_lines(params: &Params, flutter: Flutter, figures: &LossFigures) -> [Option<Line>; 13]
     requires reaches { AreReachesSmall figures.now }
     ensures { joined_lines result ≡ loss_figures_text params.now flutter figures.now }
 {
@@ -204,10 +197,9 @@ fn wide_line(label: &[u8], value: u128) -> Line
     line_of(&[Word(label), Word(digits.bytes())])
 }
 
-fn check_line(params: &Params, flutter: u64, reach: u128, number: u8) -> Line
+fn check_line(params: &Params, flutter: Flutter, reach: u128, number: u8) -> Line
     requires from { 1 ≤ number }
     requires to { number ≤ 5 }
-    requires flutter { flutter ≤ most_flutter }
     requires reach { reach ≤ most_lost }
     ensures { result ≡ loss_check_line number flutter reach params.now }
 {
@@ -224,9 +216,8 @@ fn check_line(params: &Params, flutter: u64, reach: u128, number: u8) -> Line
 }
 
 // How far macroticks may lie apart in some case, and whether a check of the limits fails with the reach of that.
-fn peak_line(label: &[u8], params: &Params, flutter: u64, peak: u128, reach: u128) -> Line
+fn peak_line(label: &[u8], params: &Params, flutter: Flutter, peak: u128, reach: u128) -> Line
     requires label { length label.now ≤ 20 }
-    requires flutter { flutter ≤ most_flutter }
     requires reach { reach ≤ most_lost }
     ensures { result ≡ line (label.now ++ decimal peak ++ fails_text (limits_hold flutter reach params.now)) }
 {
@@ -235,8 +226,7 @@ fn peak_line(label: &[u8], params: &Params, flutter: u64, peak: u128, reach: u12
     line_of(&[Word(label), Word(digits.bytes()), Word(fails(holds))])
 }
 
-fn meeting_line(params: &Params, flutter: u64, meeting: &MeetingCost) -> Line
-    requires { flutter ≤ most_flutter }
+fn meeting_line(params: &Params, flutter: Flutter, meeting: &MeetingCost) -> Line
     ensures { result ≡ meeting_line params.now flutter meeting.now }
 {
     let holds = limits_hold(params, flutter, u128::from(meeting.reach));

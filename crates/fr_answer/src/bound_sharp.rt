@@ -1,7 +1,6 @@
 ghost use Rattle.std.specs.Prelude.{◌≡◌, ◌≤◌, ◌++◌, length};
 ghost use Rattle.std.specs.Fmt.{decimal};
 ghost use Rattle.fr_base.specs.Device.{Puts};
-ghost use Rattle.fr_bound.specs.SharpBounds.{most_flutter};
 ghost use Rattle.fr_text.specs.Lines.{joined_lines};
 ghost use Rattle.fr_text.specs.Pieces.{line};
 ghost use Rattle.fr_program.specs.Around.{around_of};
@@ -13,7 +12,7 @@ ghost use Rattle.fr_answer.specs.SharpText.{sharp_bounds_text, sharp_check_line,
 
 use crate::bound::value_line;
 use fr_base::{PutFault, Shelf, Sink};
-use fr_bound::{CheckSides, sharp_bounds, sharp_side, side};
+use fr_bound::{CheckSides, Flutter, sharp_bounds, sharp_side, side};
 use fr_cluster::Params;
 use fr_params::ParamsFile;
 use fr_program::Failure;
@@ -23,17 +22,16 @@ use fr_text::{Line, accepted, line_of, put_lines};
 use std::alloc::Global;
 
 /// Reads the parameters in the file, and writes their sharper bounds and checks where delays flutter by no more than so
-/// many ticks, 0 to 1,000,000,000, without arbitrary sync nodes and beside them, each line in one put. It loads the file
-/// once. A failure comes where the file can't be loaded, is not accepted, or memory runs out (`Stopped`), or where the
-/// sink counted a fault (`WriteFault`).
+/// many ticks, without arbitrary sync nodes and beside them, each line in one put. It loads the file once. A failure
+/// comes where the file can't be loaded, is not accepted, or memory runs out (`Stopped`), or where the sink counted a
+/// fault (`WriteFault`).
 pub fn answer_bound_sharp<S: Shelf, O: Sink>(
     alloc: Global,
     file: &str,
-    flutter: u64,
+    flutter: Flutter,
     shelf: &mut S,
     out: &mut O,
 ) -> Result<(), Failure>
-    requires { flutter ≤ most_flutter }
     ensures ends { CommandEnds (sharp_command file.now flutter)
         (around_of (S.state shelf.old) (S.state shelf.new) (O.state out.old) (O.state out.new)) result }
     ensures unwritten { EndingWritesNothing result → out.new ≡ out.old }
@@ -46,30 +44,27 @@ pub fn answer_bound_sharp<S: Shelf, O: Sink>(
 // Writes the sharper bounds and checks of each cluster.
 pub(crate) fn print_sharp<O: Sink>(
     params: &Params,
-    flutter: u64,
+    flutter: Flutter,
     out: &mut O,
 ) -> Result<(), PutFault>
-    requires { flutter ≤ most_flutter }
     ensures { Puts result (O.state out.old) (O.state out.new) (sharp_text params.now flutter) }
 {
     print_bounds(params, flutter, out)?;
     put_lines(&check_lines(params, flutter), out)
 }
 
-fn print_bounds<O: Sink>(params: &Params, flutter: u64, out: &mut O) -> Result<(), PutFault>
-    requires { flutter ≤ most_flutter }
+fn print_bounds<O: Sink>(params: &Params, flutter: Flutter, out: &mut O) -> Result<(), PutFault>
     ensures { Puts result (O.state out.old) (O.state out.new) (sharp_bounds_text params.now flutter) }
 {
     put_lines(&bound_lines(params, flutter), out)
 }
 
 // The flutter, and the bounds of both kinds.
-fn bound_lines(params: &Params, flutter: u64) -> [Option<Line>; 7]
-    requires { flutter ≤ most_flutter }
+fn bound_lines(params: &Params, flutter: Flutter) -> [Option<Line>; 7]
     ensures { joined_lines result ≡ sharp_bounds_text params.now flutter }
 {
     [
-        Some(value_line(b"flutter ", flutter)),
+        Some(value_line(b"flutter ", flutter.0)),
         Some(lambda_line(params, false, flutter)),
         Some(pi_line(params, false, flutter)),
         Some(precision_line(params, false, flutter)),
@@ -79,24 +74,21 @@ fn bound_lines(params: &Params, flutter: u64) -> [Option<Line>; 7]
     ]
 }
 
-pub(crate) fn lambda_line(params: &Params, beside: bool, flutter: u64) -> Line
-    requires { flutter ≤ most_flutter }
+pub(crate) fn lambda_line(params: &Params, beside: bool, flutter: Flutter) -> Line
     ensures { result ≡ lambda_line beside params.now flutter }
 {
     let lambda = sharp_bounds(params, beside, flutter).lambda as u64;
     kind_line(beside, b"lambda ", lambda)
 }
 
-pub(crate) fn pi_line(params: &Params, beside: bool, flutter: u64) -> Line
-    requires { flutter ≤ most_flutter }
+pub(crate) fn pi_line(params: &Params, beside: bool, flutter: Flutter) -> Line
     ensures { result ≡ pi_line beside params.now flutter }
 {
     let pi = sharp_bounds(params, beside, flutter).pi as u64;
     kind_line(beside, b"pi ", pi)
 }
 
-pub(crate) fn precision_line(params: &Params, beside: bool, flutter: u64) -> Line
-    requires { flutter ≤ most_flutter }
+pub(crate) fn precision_line(params: &Params, beside: bool, flutter: Flutter) -> Line
     ensures { result ≡ precision_line beside params.now flutter }
 {
     let precision = sharp_bounds(params, beside, flutter).precision as u64;
@@ -118,8 +110,7 @@ pub(crate) fn kind(beside: bool) -> &'static [u8]
 }
 
 // The checks, and how long sharp sync lasts.
-fn check_lines(params: &Params, flutter: u64) -> [Option<Line>; 9]
-    requires { flutter ≤ most_flutter }
+fn check_lines(params: &Params, flutter: Flutter) -> [Option<Line>; 9]
     ensures { joined_lines result ≡ sharp_checks_text params.now flutter }
 {
     [
@@ -135,11 +126,10 @@ fn check_lines(params: &Params, flutter: u64) -> [Option<Line>; 9]
     ]
 }
 
-fn sharp_line(front: &[u8], params: &Params, beside: bool, flutter: u64, number: u8) -> Line
+fn sharp_line(front: &[u8], params: &Params, beside: bool, flutter: Flutter, number: u8) -> Line
     requires front { length front.now ≤ 20 }
     requires from { 1 ≤ number }
     requires to { number ≤ 5 }
-    requires flutter { flutter ≤ most_flutter }
     ensures { result ≡ sharp_check_line front.now beside flutter number params.now }
 {
     let CheckSides { left, right, holds } = sharp_side(params, beside, flutter, number);
@@ -154,8 +144,7 @@ fn sharp_line(front: &[u8], params: &Params, beside: bool, flutter: u64, number:
     ])
 }
 
-pub(crate) fn lasts_line(params: &Params, heard: bool, flutter: u64) -> Line
-    requires { flutter ≤ most_flutter }
+pub(crate) fn lasts_line(params: &Params, heard: bool, flutter: Flutter) -> Line
     ensures { result ≡ lasts_text heard params.now flutter }
 {
     if side(params, 2).holds {

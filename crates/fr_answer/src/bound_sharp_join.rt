@@ -1,7 +1,6 @@
 ghost use Rattle.std.specs.Prelude.{◌≡◌, ◌≤◌, length};
 ghost use Rattle.fr_base.specs.Device.{Puts};
 ghost use Rattle.fr_promise.specs.JoinedHistories.{first_rates_last};
-ghost use Rattle.fr_bound.specs.SharpBounds.{most_flutter};
 ghost use Rattle.fr_text.specs.Lines.{joined_lines};
 ghost use Rattle.fr_program.specs.Around.{around_of};
 ghost use Rattle.fr_program.specs.Command.{CommandEnds};
@@ -12,7 +11,7 @@ ghost use Rattle.fr_answer.specs.SharpJoinText.{sharp_reach_text, sharp_with_joi
 
 use crate::bound_sharp::{kind_line, print_sharp};
 use fr_base::{PutFault, Shelf, Sink};
-use fr_bound::CheckSides;
+use fr_bound::{CheckSides, Flutter};
 use fr_cluster::Params;
 use fr_params::ParamsFile;
 use fr_program::Failure;
@@ -22,17 +21,16 @@ use fr_text::{Line, accepted, line_of, put_lines};
 use std::alloc::Global;
 
 /// Reads the parameters in the file, and writes their sharper bounds and checks where delays flutter by no more than so
-/// many ticks, 0 to 1,000,000,000, and then the sharper reach and checks of a cluster that nodes join, without arbitrary
-/// sync nodes and beside them, each line in one put. It loads the file once. A failure comes where the file can't be
-/// loaded, is not accepted, or memory runs out (`Stopped`), or where the sink counted a fault (`WriteFault`).
+/// many ticks, and then the sharper reach and checks of a cluster that nodes join, without arbitrary sync nodes and
+/// beside them, each line in one put. It loads the file once. A failure comes where the file can't be loaded, is not
+/// accepted, or memory runs out (`Stopped`), or where the sink counted a fault (`WriteFault`).
 pub fn answer_bound_sharp_join<S: Shelf, O: Sink>(
     alloc: Global,
     file: &str,
-    flutter: u64,
+    flutter: Flutter,
     shelf: &mut S,
     out: &mut O,
 ) -> Result<(), Failure>
-    requires { flutter ≤ most_flutter }
     ensures ends { CommandEnds (sharp_join_command file.now flutter)
         (around_of (S.state shelf.old) (S.state shelf.new) (O.state out.old) (O.state out.new)) result }
     ensures unwritten { EndingWritesNothing result → out.new ≡ out.old }
@@ -42,8 +40,7 @@ pub fn answer_bound_sharp_join<S: Shelf, O: Sink>(
     Ok(())
 }
 
-fn print_with_join<O: Sink>(params: &Params, flutter: u64, out: &mut O) -> Result<(), PutFault>
-    requires { flutter ≤ most_flutter }
+fn print_with_join<O: Sink>(params: &Params, flutter: Flutter, out: &mut O) -> Result<(), PutFault>
     ensures { Puts result (O.state out.old) (O.state out.new) (sharp_with_join_text params.now flutter) }
 {
     print_sharp(params, flutter, out)?;
@@ -51,8 +48,7 @@ fn print_with_join<O: Sink>(params: &Params, flutter: u64, out: &mut O) -> Resul
 }
 
 // The reach of both kinds, the four checks of a cluster that nodes join, and how long first rates last.
-fn join_lines(params: &Params, flutter: u64) -> [Option<Line>; 10]
-    requires { flutter ≤ most_flutter }
+fn join_lines(params: &Params, flutter: Flutter) -> [Option<Line>; 10]
     ensures { joined_lines result ≡ sharp_reach_text params.now flutter }
 {
     [
@@ -69,19 +65,17 @@ fn join_lines(params: &Params, flutter: u64) -> [Option<Line>; 10]
     ]
 }
 
-fn reach_line(params: &Params, beside: bool, flutter: u64) -> Line
-    requires { flutter ≤ most_flutter }
+fn reach_line(params: &Params, beside: bool, flutter: Flutter) -> Line
     ensures { result ≡ sharp_reach_line beside params.now flutter }
 {
     let reach = sharp_reach(params, beside, flutter) as u64;
     kind_line(beside, b"reach ", reach)
 }
 
-fn check_line(front: &[u8], params: &Params, beside: bool, flutter: u64, number: u8) -> Line
+fn check_line(front: &[u8], params: &Params, beside: bool, flutter: Flutter, number: u8) -> Line
     requires front { length front.now ≤ 20 }
     requires from { 6 ≤ number }
     requires to { number ≤ 9 }
-    requires flutter { flutter ≤ most_flutter }
     ensures { result ≡ sharp_join_check_line front.now beside flutter number params.now }
 {
     let CheckSides { left, right, holds } = sharp_join_side(params, beside, flutter, number);
@@ -96,8 +90,7 @@ fn check_line(front: &[u8], params: &Params, beside: bool, flutter: u64, number:
     ])
 }
 
-fn first_rates_line(params: &Params, flutter: u64) -> Line
-    requires { flutter ≤ most_flutter }
+fn first_rates_line(params: &Params, flutter: Flutter) -> Line
     ensures { result ≡ first_rates_text (first_rates_last params.now flutter) }
 {
     first_rates_told(first_rates_last(params, flutter))

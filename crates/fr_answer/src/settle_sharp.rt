@@ -1,7 +1,6 @@
 ghost use Rattle.std.specs.Prelude.{◌≡◌, ◌≤◌};
 ghost use Rattle.fr_base.specs.Device.{Puts};
 ghost use Rattle.fr_bound.specs.Settling.{most_stated};
-ghost use Rattle.fr_bound.specs.SharpBounds.{most_flutter};
 ghost use Rattle.fr_text.specs.Lines.{joined_lines};
 ghost use Rattle.fr_program.specs.Around.{around_of};
 ghost use Rattle.fr_program.specs.Command.{CommandEnds};
@@ -11,6 +10,7 @@ ghost use Rattle.fr_answer.specs.SharpSettleText.{sharp_failing_line, sharp_peak
 
 use crate::bound_sharp::kind;
 use fr_base::{PutFault, Shelf, Sink};
+use fr_bound::Flutter;
 use fr_cluster::Params;
 use fr_params::ParamsFile;
 use fr_program::Failure;
@@ -29,12 +29,11 @@ pub fn answer_settle_sharp<S: Shelf, O: Sink>(
     file: &str,
     start: u64,
     rate: u64,
-    flutter: u64,
+    flutter: Flutter,
     shelf: &mut S,
     out: &mut O,
 ) -> Result<(), Failure>
     requires stated { (start ≤ most_stated) × (rate ≤ most_stated) }
-    requires flutter { flutter ≤ most_flutter }
     ensures ends { CommandEnds (sharp_settle_command file.now start rate flutter)
         (around_of (S.state shelf.old) (S.state shelf.new) (O.state out.old) (O.state out.new)) result }
     ensures unwritten { EndingWritesNothing result → out.new ≡ out.old }
@@ -46,9 +45,8 @@ pub fn answer_settle_sharp<S: Shelf, O: Sink>(
 }
 
 // Without arbitrary sync nodes, and beside them.
-fn ways_of(params: &Params, start: u64, rate: u64, flutter: u64) -> (SharpWay, SharpWay)
+fn ways_of(params: &Params, start: u64, rate: u64, flutter: Flutter) -> (SharpWay, SharpWay)
     requires stated { (start ≤ most_stated) × (rate ≤ most_stated) }
-    requires flutter { flutter ≤ most_flutter }
     ensures { AreSharpWays params.now start rate flutter result }
 {
     (
@@ -60,7 +58,7 @@ fn ways_of(params: &Params, start: u64, rate: u64, flutter: u64) -> (SharpWay, S
 fn print_ways<O: Sink>(
     start: u64,
     rate: u64,
-    flutter: u64,
+    flutter: Flutter,
     ways: &(SharpWay, SharpWay),
     out: &mut O,
 ) -> Result<(), PutFault>
@@ -69,7 +67,12 @@ fn print_ways<O: Sink>(
     put_lines(&way_lines(start, rate, flutter, ways), out)
 }
 
-fn way_lines(start: u64, rate: u64, flutter: u64, ways: &(SharpWay, SharpWay)) -> [Option<Line>; 5]
+fn way_lines(
+    start: u64,
+    rate: u64,
+    flutter: Flutter,
+    ways: &(SharpWay, SharpWay),
+) -> [Option<Line>; 5]
     ensures { joined_lines result ≡ sharp_settle_text start rate flutter ways.now }
 {
     [
@@ -81,7 +84,7 @@ fn way_lines(start: u64, rate: u64, flutter: u64, ways: &(SharpWay, SharpWay)) -
     ]
 }
 
-fn stated_line(start: u64, rate: u64, flutter: u64) -> Line
+fn stated_line(start: u64, rate: u64, flutter: Flutter) -> Line
     ensures { result ≡ sharp_stated_line start rate flutter }
 {
     line_of(&[
@@ -90,7 +93,7 @@ fn stated_line(start: u64, rate: u64, flutter: u64) -> Line
         Word(b" rate "),
         Natural(rate),
         Word(b" flutter "),
-        Natural(flutter),
+        Natural(flutter.0),
     ])
 }
 

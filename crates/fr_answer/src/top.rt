@@ -8,6 +8,7 @@ ghost use Rattle.fr_answer.specs.Request.{IsInRange, asked_of};
 
 use crate::request::{Request, request_of};
 use fr_base::{Shelf, Sink};
+use fr_bound::Flutter;
 use fr_program::Failure;
 use fr_text::Status;
 use std::alloc::Global;
@@ -94,16 +95,16 @@ fn carry_out<S: Shelf, O: Sink>(
         Request::Bound { file } => crate::answer_bound(alloc, file, shelf, out),
         Request::BoundJoin { file } => crate::answer_bound_join(alloc, file, shelf, out),
         Request::BoundSharp { file, flutter } => {
-            crate::answer_bound_sharp(alloc, file, flutter, shelf, out)
+            crate::answer_bound_sharp(alloc, file, Flutter(flutter), shelf, out)
         }
         Request::BoundSharpJoin { file, flutter } => {
-            crate::answer_bound_sharp_join(alloc, file, flutter, shelf, out)
+            crate::answer_bound_sharp_join(alloc, file, Flutter(flutter), shelf, out)
         }
         Request::BoundLost {
             file,
             flutter,
             count,
-        } => crate::answer_bound_lost(alloc, file, flutter, count, shelf, out),
+        } => crate::answer_bound_lost(alloc, file, Flutter(flutter), count, shelf, out),
         Request::Upgrade { file } => fr_params::answer_upgrade(alloc, file, shelf, out),
         Request::Settle { file, start, rate } => {
             crate::answer_settle(alloc, file, start, rate, shelf, out)
@@ -113,7 +114,7 @@ fn carry_out<S: Shelf, O: Sink>(
             start,
             rate,
             flutter,
-        } => crate::answer_settle_sharp(alloc, file, start, rate, flutter, shelf, out),
+        } => crate::answer_settle_sharp(alloc, file, start, rate, Flutter(flutter), shelf, out),
         Request::Run(files) => crate::answer_kept_run(alloc, files, shelf, out),
         Request::Make { seed, doubles } => { fr_report::answer_made(alloc, seed, doubles, out) }
         Request::Capture { channel, file } => fr_capture::answer_capture(

@@ -1,6 +1,7 @@
 -- what the public contract cites
 pub mod Bounds
 pub mod Checks
+pub mod DoubleNumbers
 pub mod Judged
 pub mod Settling
 pub mod SharpBounds

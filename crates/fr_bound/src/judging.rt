@@ -1,10 +1,11 @@
 ghost use Rattle.std.specs.Prelude.{ℕ, ◌≡◌, ◌≤◌, ◌+◌, nat_le, true, false};
 ghost use Rattle.fr_bound.specs.Judged.{IsJudgedDouble, IsSmall, apart_through, from_none, heard_spread, is_judged_double, is_taken_in, known_after, met_of, met_with, walked_on};
-ghost use Rattle.fr_bound.specs.SharpBounds.{most_flutter, rate_room, rate_walk};
+ghost use Rattle.fr_bound.specs.SharpBounds.{rate_room, rate_walk};
 ghost use Rattle.fr_bound.specs.SharpChecks.{SharpChecksHold};
 ghost use Rattle.fr_bound.specs.SharpSpreads.{next_lost_spread};
 
 use crate::bounding::{arrival_error, cycle_change, longest_microtick, shortest_microtick};
+use crate::flutter::Flutter;
 use crate::settling::Spread;
 use crate::sharp_bounding::{
     near_by, next_sharp_spread, odd_spread, precision_by, rate_room, rate_walk, steady_error,
@@ -32,11 +33,9 @@ pub struct Known {
     pub beyond: u64,
 }
 
-/// Whether a double cycle of which so much is known is judged, where delays flutter by no more than so many ticks, 0 to
-/// 1,000,000,000: the sharper checks but the first hold with its own reach, and the rate limit can follow its lengths, also
+/// Whether a double cycle of which so much is known is judged, where delays flutter by no more than so many ticks: the sharper checks but the first hold with its own reach, and the rate limit can follow its lengths, also
 /// by the walk further. What is known may be any numbers; of a judged one they are small.
-pub fn is_judged(params: &Params, flutter: u64, known: Known) -> bool
-    requires { flutter ≤ most_flutter }
+pub fn is_judged(params: &Params, flutter: Flutter, known: Known) -> bool
     ensures value { result ≡ is_judged_double params.now flutter known }
     ensures yes { result ≡ true → IsJudgedDouble params.now flutter known }
     ensures no { result ≡ false → IsJudgedDouble params.now flutter known → ⊥ }
@@ -61,8 +60,7 @@ fn is_taken_in(params: &Params, known: Known) -> bool
 }
 
 // Whether the sharper checks but the first hold with a reach, in ticks.
-fn checks_hold(params: &Params, flutter: u64, reach: u64) -> bool
-    requires flutter { flutter ≤ most_flutter }
+fn checks_hold(params: &Params, flutter: Flutter, reach: u64) -> bool
     requires reach { reach ≤ 5_200_000_000_000 }
     ensures yes { result ≡ true → SharpChecksHold flutter reach params.now }
     ensures no { result ≡ false → SharpChecksHold flutter reach params.now → ⊥ }
@@ -76,8 +74,7 @@ fn checks_hold(params: &Params, flutter: u64, reach: u64) -> bool
 }
 
 // Whether the rate limit can follow lengths that lie so far beyond their range, and walk further.
-fn has_room(params: &Params, flutter: u64, beyond: u64) -> bool
-    requires flutter { flutter ≤ most_flutter }
+fn has_room(params: &Params, flutter: Flutter, beyond: u64) -> bool
     requires beyond { beyond ≤ 20_000_000_000 }
     ensures { result ≡ nat_le (beyond + from_none (rate_walk params.now flutter)) (rate_room params.now) }
 {
@@ -111,8 +108,7 @@ pub fn met_with(known: Option<Known>, seen: Option<Known>) -> Option<Known>
 }
 
 /// What is known of the next double cycle behind one that is judged, by what is heard in it.
-pub fn known_after(params: &Params, what: Heard, flutter: u64, known: Known) -> Known
-    requires flutter { flutter ≤ most_flutter }
+pub fn known_after(params: &Params, what: Heard, flutter: Flutter, known: Known) -> Known
     requires small { IsSmall known }
     ensures { result ≡ known_after what params.now flutter known }
 {
@@ -123,8 +119,7 @@ pub fn known_after(params: &Params, what: Heard, flutter: u64, known: Known) -> 
 }
 
 /// How far macroticks may lie apart in a double cycle that is judged, by what is heard in it, in ticks.
-pub fn apart_through(params: &Params, what: Heard, flutter: u64, known: Known) -> u64
-    requires flutter { flutter ≤ most_flutter }
+pub fn apart_through(params: &Params, what: Heard, flutter: Flutter, known: Known) -> u64
     requires small { IsSmall known }
     ensures { result ≡ apart_through what params.now flutter known }
 {
@@ -134,8 +129,7 @@ pub fn apart_through(params: &Params, what: Heard, flutter: u64, known: Known) -
 }
 
 // How far starts and even lengths may lie apart in the next double cycle.
-fn heard_spread(params: &Params, what: Heard, flutter: u64, spread: Spread) -> Spread
-    requires flutter { flutter ≤ most_flutter }
+fn heard_spread(params: &Params, what: Heard, flutter: Flutter, spread: Spread) -> Spread
     requires starts { spread.starts ≤ 20_000_000_000 }
     requires lengths { spread.lengths ≤ 20_000_000_000 }
     ensures value { result ≡ heard_spread what params.now flutter spread }
@@ -148,8 +142,7 @@ fn heard_spread(params: &Params, what: Heard, flutter: u64, spread: Spread) -> S
     }
 }
 
-fn lost_spread(params: &Params, flutter: u64, spread: Spread) -> Spread
-    requires flutter { flutter ≤ most_flutter }
+fn lost_spread(params: &Params, flutter: Flutter, spread: Spread) -> Spread
     requires starts { spread.starts ≤ 20_000_000_000 }
     requires lengths { spread.lengths ≤ 20_000_000_000 }
     ensures value { result ≡ next_lost_spread false params.now flutter spread }
@@ -166,8 +159,7 @@ fn lost_spread(params: &Params, flutter: u64, spread: Spread) -> Spread
 }
 
 // How far lengths may lie beyond their range in the next double cycle.
-fn walked_on(params: &Params, flutter: u64, beyond: u64) -> u64
-    requires flutter { flutter ≤ most_flutter }
+fn walked_on(params: &Params, flutter: Flutter, beyond: u64) -> u64
     requires beyond { beyond ≤ 20_000_000_000 }
     ensures { result ≡ walked_on params.now flutter beyond }
 {

@@ -4,6 +4,8 @@
 
 mod bounding;
 mod checking;
+mod double_number;
+mod flutter;
 mod judging;
 mod laws;
 mod settling;
@@ -14,6 +16,8 @@ pub use bounding::{
     BoundValues, arrival_error, bounds, cycle_change, longest_microtick, reach, shortest_microtick,
 };
 pub use checking::{CheckSides, checks, join_checks, side};
+pub use double_number::DoubleNumber;
+pub use flutter::Flutter;
 pub use judging::{Heard, Known, apart_through, is_judged, known_after, met, met_with};
 pub use laws::{
     in_sync_is_tested, nothing_is_cut, one_first_failing, one_first_failing_to_join, one_settling,

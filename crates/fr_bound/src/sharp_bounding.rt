@@ -3,13 +3,15 @@ ghost use Rattle.std.specs.Option.{option_map_or};
 ghost use Rattle.fr_cluster.specs.Constraints.{key_slots};
 ghost use Rattle.fr_cluster.specs.Values.{amount};
 ghost use Rattle.fr_cluster.specs.declared.names.ParamName.TheVariants as name;
+ghost use Rattle.fr_bound.specs.Bounds.{cycle_change};
 ghost use Rattle.fr_bound.specs.Settling.{most_stated};
-ghost use Rattle.fr_bound.specs.SharpBounds.{last_action, last_of, near_by, odd_spread, precision_by, most_flutter};
+ghost use Rattle.fr_bound.specs.SharpBounds.{last_action, last_of, near_by, odd_spread, precision_by};
 ghost use Rattle.fr_bound.specs.SharpBounds.{rate_room, rate_walk, sharp_lambda, sharp_near, sharp_pi, sharp_precision};
 ghost use Rattle.fr_bound.specs.SharpBounds.{steady_error, walk_lasts, wide_change};
 ghost use Rattle.fr_bound.specs.SharpSpreads.{next_sharp_spread};
 
 use crate::bounding::{arrival_error, cycle_change, longest_microtick, shortest_microtick};
+use crate::flutter::Flutter;
 use crate::settling::Spread;
 use fr_base::Slot;
 use fr_cluster::{NodeList, ParamName, Params};
@@ -28,9 +30,8 @@ pub struct SharpValues {
 }
 
 /// The sharper bounds for these parameters, beside arbitrary sync nodes or without, where delays flutter by no more than
-/// so many ticks, 0 to 1,000,000,000.
-pub fn sharp_bounds(params: &Params, beside: bool, flutter: u64) -> SharpValues
-    requires { flutter ≤ most_flutter }
+/// so many ticks.
+pub fn sharp_bounds(params: &Params, beside: bool, flutter: Flutter) -> SharpValues
     ensures lambda { result.lambda ≡ pos (sharp_lambda beside params.now flutter) }
     ensures pi { result.pi ≡ pos (sharp_pi beside params.now flutter) }
     ensures precision { result.precision ≡ pos (sharp_precision beside params.now flutter) }
@@ -47,10 +48,8 @@ pub fn sharp_bounds(params: &Params, beside: bool, flutter: u64) -> SharpValues
 }
 
 /// For how many double cycles from one in sharp sync the rate limit holds the walk of lengths, under the second check;
-/// None where they do not walk, so that it does for ever. Delays flutter by no more than so many ticks, 0 to
-/// 1,000,000,000.
-pub fn sharp_lasts(params: &Params, flutter: u64) -> Option<u64>
-    requires { flutter ≤ most_flutter }
+/// None where they do not walk, so that it does for ever. Delays flutter by no more than so many ticks.
+pub fn sharp_lasts(params: &Params, flutter: Flutter) -> Option<u64>
     ensures { result ≡ walk_lasts params.now flutter }
 {
     let (gain, loss) = rate_walk(params, flutter);
@@ -62,13 +61,12 @@ pub fn sharp_lasts(params: &Params, flutter: u64) -> Option<u64>
 }
 
 /// What adds to the walk of lengths in a double cycle, and what the damping takes off it, in ticks, where delays flutter by
-/// no more than so many, 0 to 1,000,000,000.
-pub fn rate_walk(params: &Params, flutter: u64) -> (u64, u64)
-    requires { flutter ≤ most_flutter }
+/// no more than so many.
+pub fn rate_walk(params: &Params, flutter: Flutter) -> (u64, u64)
     ensures value { rate_walk params.now flutter ≡ pos result.0 -ℤ pos result.1 }
     ensures gain { result.0 ≤ 10_000_000_000 }
 {
-    let changes = flutter + cycle_change(params) + wide_change(params);
+    let changes = walk_changes(params, flutter);
     let damping = params.value(ParamName::pClusterDriftDamping);
     if 0 < damping {
         let shortest = shortest_microtick(params);
@@ -76,6 +74,14 @@ pub fn rate_walk(params: &Params, flutter: u64) -> (u64, u64)
     } else {
         (changes + longest_microtick(params), 1)
     }
+}
+
+// What delays and changing microticks add to the walk in a double cycle, in ticks.
+fn walk_changes(params: &Params, flutter: Flutter) -> u64
+    ensures value { result ≡ flutter + cycle_change params.now + wide_change params.now }
+    ensures most { result ≤ 3_000_000_000 }
+{
+    flutter.0 + cycle_change(params) + wide_change(params)
 }
 
 /// How far beyond their range the rate limit can follow lengths, in ticks.
@@ -100,19 +106,16 @@ pub fn wide_change(params: &Params) -> u64
 }
 
 /// How far a rate value may place the length of a sender's even cycle from the true one, in ticks, where delays flutter by no
-/// more than so many, 0 to 1,000,000,000.
-pub fn steady_error(params: &Params, flutter: u64) -> u64
-    requires { flutter ≤ most_flutter }
+/// more than so many.
+pub fn steady_error(params: &Params, flutter: Flutter) -> u64
     ensures value { result ≡ steady_error params.now flutter }
     ensures most { result ≤ 2_000_000_000 }
 {
-    flutter + (longest_microtick(params) - 1) + wide_change(params)
+    flutter.0 + (longest_microtick(params) - 1) + wide_change(params)
 }
 
-/// The sharper lambda in ticks, beside arbitrary sync nodes or without, where delays flutter by no more than so many, 0 to
-/// 1,000,000,000.
-pub fn even_lambda(params: &Params, beside: bool, flutter: u64) -> u64
-    requires { flutter ≤ most_flutter }
+/// The sharper lambda in ticks, beside arbitrary sync nodes or without, where delays flutter by no more than so many.
+pub fn even_lambda(params: &Params, beside: bool, flutter: Flutter) -> u64
     ensures value { result ≡ sharp_lambda beside params.now flutter }
     ensures most { result ≤ 13_000_000_000 }
 {
@@ -128,8 +131,7 @@ pub fn even_lambda(params: &Params, beside: bool, flutter: u64) -> u64
 }
 
 /// The sharper pi, of the same.
-pub fn sharp_pi(params: &Params, beside: bool, flutter: u64) -> u64
-    requires { flutter ≤ most_flutter }
+pub fn sharp_pi(params: &Params, beside: bool, flutter: Flutter) -> u64
     ensures value { result ≡ sharp_pi beside params.now flutter }
     ensures most { result ≤ 43_000_000_000 }
 {
@@ -174,12 +176,10 @@ pub fn near_by(params: &Params, starts: u64, lengths: u64) -> u64
 }
 
 /// How far starts and even lengths may lie apart in the next double cycle, in ticks, where they lie so far apart in one in
-/// which all is heard, beside arbitrary sync nodes or without. Delays flutter by no more than so many ticks, 0 to
-/// 1,000,000,000.
-pub fn next_sharp_spread(params: &Params, beside: bool, flutter: u64, spread: Spread) -> Spread
+/// which all is heard, beside arbitrary sync nodes or without. Delays flutter by no more than so many ticks.
+pub fn next_sharp_spread(params: &Params, beside: bool, flutter: Flutter, spread: Spread) -> Spread
     requires starts { spread.starts ≤ 3_100_000_000_000 }
     requires lengths { spread.lengths ≤ most_stated }
-    requires flutter { flutter ≤ most_flutter }
     ensures value { result ≡ next_sharp_spread beside params.now flutter spread }
     ensures starts { result.starts ≤ 3_100_000_000_000 }
     ensures lengths { result.lengths ≤ most_stated }

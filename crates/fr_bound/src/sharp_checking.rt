@@ -1,21 +1,21 @@
 ghost use Rattle.std.specs.Prelude.{Bool, ℕ, ◌≡◌, ◌≤◌, OnOk, IfErr};
 ghost use Rattle.fr_bound.specs.Settling.{IsSettleCheck};
-ghost use Rattle.fr_bound.specs.SharpBounds.{most_flutter, sharp_near};
+ghost use Rattle.fr_bound.specs.SharpBounds.{sharp_near};
 ghost use Rattle.fr_bound.specs.SharpChecks.{FirstSharpFailing, IsSharpCheckFor, IsSharpCheckOf, SharpChecksHold};
 
 use crate::bounding::{cycle_change, shortest_microtick};
 use crate::checking::CheckSides;
+use crate::flutter::Flutter;
 use crate::settling::side_within;
 use crate::sharp_bounding::{even_lambda, near_by, sharp_pi, wide_change};
 use fr_cluster::{ParamName, Params};
 
 /// The sides of the sharper check of this number, 1 to 5, beside arbitrary sync nodes or without, where delays flutter
-/// by no more than so many ticks, 0 to 1,000,000,000. The first one tells whether the lengths of cycles do not walk; the
+/// by no more than so many ticks. The first one tells whether the lengths of cycles do not walk; the
 /// others are the older ones, with how far action points lie apart in place of the precision. The sides are ticks, but of
 /// the fourth and the fifth ticks times the macroticks of a cycle.
-pub fn sharp_side(params: &Params, beside: bool, flutter: u64, number: u8) -> CheckSides
+pub fn sharp_side(params: &Params, beside: bool, flutter: Flutter, number: u8) -> CheckSides
     requires number { IsSettleCheck number }
-    requires flutter { flutter ≤ most_flutter }
     ensures { IsSharpCheckOf number beside flutter params.now result }
 {
     let starts = sharp_pi(params, beside, flutter);
@@ -25,8 +25,7 @@ pub fn sharp_side(params: &Params, beside: bool, flutter: u64, number: u8) -> Ch
 
 /// Whether every sharper check from 2 to 5 holds; else the least number of one that fails. The first check decides how
 /// long sharp sync lasts.
-pub fn sharp_checks(params: &Params, beside: bool, flutter: u64) -> Result<(), u8>
-    requires { flutter ≤ most_flutter }
+pub fn sharp_checks(params: &Params, beside: bool, flutter: Flutter) -> Result<(), u8>
     ensures all { OnOk result (SharpChecksHold flutter (sharp_near beside params.now flutter) params.now) }
     ensures first { IfErr result (λ number. FirstSharpFailing number beside flutter params.now) }
 {
@@ -39,9 +38,8 @@ pub fn sharp_checks(params: &Params, beside: bool, flutter: u64) -> Result<(), u
 }
 
 /// The sides of that check with any reach, in ticks, 0 to 5,200,000,000,000.
-pub fn sharp_side_within(params: &Params, flutter: u64, reach: u64, number: u8) -> CheckSides
+pub fn sharp_side_within(params: &Params, flutter: Flutter, reach: u64, number: u8) -> CheckSides
     requires number { IsSettleCheck number }
-    requires flutter { flutter ≤ most_flutter }
     requires reach { reach ≤ 5_200_000_000_000 }
     ensures { IsSharpCheckFor number flutter reach params.now result }
 {
@@ -52,13 +50,12 @@ pub fn sharp_side_within(params: &Params, flutter: u64, reach: u64, number: u8) 
 }
 
 // The damping outweighs what arrivals are rounded by, the flutter and the changes.
-fn walk_sides(params: &Params, flutter: u64) -> CheckSides
-    requires { flutter ≤ most_flutter }
+fn walk_sides(params: &Params, flutter: Flutter) -> CheckSides
     ensures { (reach : ℕ) → IsSharpCheckFor 1 flutter reach params.now result }
 {
     let shortest = shortest_microtick(params);
     let left = params.natural(ParamName::pClusterDriftDamping) * shortest + 1;
-    let right = shortest + flutter + cycle_change(params) + wide_change(params);
+    let right = shortest + flutter.0 + cycle_change(params) + wide_change(params);
     CheckSides {
         left: left as i64,
         right: right as i64,

@@ -1,14 +1,13 @@
 ghost use Rattle.std.specs.Prelude.{◌≡◌, ◌≤◌, ◌+ℤ◌, ℤ, pos, int_lt, if◌then◌else◌, IfSome};
 ghost use Rattle.std.specs.Option.{option_map};
 ghost use Rattle.fr_base.specs.Within.{IsBetween, IsWithin};
-ghost use Rattle.fr_bound.specs.SharpBounds.{most_flutter};
 ghost use Rattle.fr_course.specs.Computed.{further_by, measuring_of, placed_from, placed_in, values_from, counted_in, values_to};
 ghost use Rattle.fr_course.specs.Near.{EndWithin};
 
 use crate::intervals::Interval;
 use crate::quotients::{ceiling, floor};
 use crate::scales::{longest_micro, shortest_micro};
-use fr_bound::{arrival_error, steady_error};
+use fr_bound::{Flutter, arrival_error, steady_error};
 use fr_cluster::{ParamName, Params};
 use std::marker::Model;
 
@@ -40,10 +39,8 @@ impl Model for Measuring {
 }
 
 impl Measuring {
-    /// How the nodes of these parameters measure, where delays flutter by no more than so many ticks, 0 to
-    /// 1,000,000,000.
-    pub fn of(params: &Params, flutter: u64) -> Measuring
-        requires { flutter ≤ most_flutter }
+    /// How the nodes of these parameters measure, where delays flutter by no more than so many ticks.
+    pub fn of(params: &Params, flutter: Flutter) -> Measuring
         ensures value { result ≡ measuring_of params.now flutter }
     {
         Measuring {

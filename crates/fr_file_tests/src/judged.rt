@@ -1,5 +1,5 @@
 // Which double cycles are judged by their own numbers, and what is then known of the next ones.
-use fr_bound::{Heard, Known, Spread, apart_through, is_judged, known_after, met_with};
+use fr_bound::{Flutter, Heard, Known, Spread, apart_through, is_judged, known_after, met_with};
 use fr_cluster::Params;
 use fr_samples::{TWO_ON_A, params_of};
 use std::alloc::Global;
@@ -12,7 +12,7 @@ type Numbers = (u64, u64, u64);
 // The same of the next double cycle, and how far macroticks may lie apart in this one.
 type Behind = (Numbers, u64);
 
-// By how much delays flutter.
+// By how many ticks delays flutter.
 const FLUTTER: u64 = 1_000_000;
 
 // Rates are not damped: lengths walk by 2,000,199 ticks, and the rate limit can follow 3,983,200 in all.
@@ -89,11 +89,12 @@ fn numbers_of(known: Known) -> Numbers {
 
 // What follows from one that is judged.
 fn behind(params: &Params, what: Heard, known: Known) -> Option<Behind> {
-    if !is_judged(params, FLUTTER, known) {
+    let flutter = Flutter(FLUTTER);
+    if !is_judged(params, flutter, known) {
         return None;
     }
-    let next = known_after(params, what, FLUTTER, known);
-    let apart = apart_through(params, what, FLUTTER, known);
+    let next = known_after(params, what, flutter, known);
+    let apart = apart_through(params, what, flutter, known);
     Some((numbers_of(next), apart))
 }
 

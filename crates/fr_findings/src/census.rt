@@ -12,6 +12,7 @@ ghost use Rattle.fr_observe.specs.Observing.{known_count};
 
 use crate::ends::known_cycle;
 use fr_base::{Channel, NodeId, PutFault, Sink, Slot};
+use fr_bound::DoubleNumber;
 use fr_cluster::{NodeSpec, Params};
 use fr_log::Log;
 use fr_observe::LogSpan;
@@ -116,13 +117,18 @@ fn lacks_in(span: &LogSpan, here: &[Sighting], node: NodeId, channel: Channel, c
 }
 
 #[tactic(auto, unfolding(crate::specs::Census::lacks_both))]
-fn lacks_both(span: &LogSpan, here: &[Sighting], node: NodeId, channel: Channel, double: u32) -> u64
-    requires { double < 1_000_000 }
+fn lacks_both(
+    span: &LogSpan,
+    here: &[Sighting],
+    node: NodeId,
+    channel: Channel,
+    double: DoubleNumber,
+) -> u64
     ensures value { result ≡ lacks_both span.now.first span.now.last here.now node channel double }
     ensures most { result ≤ 2 }
 {
-    lacks_in(span, here, node, channel, 2 * double)
-        + lacks_in(span, here, node, channel, 2 * double + 1)
+    lacks_in(span, here, node, channel, 2 * double.0)
+        + lacks_in(span, here, node, channel, 2 * double.0 + 1)
 }
 
 // In how many cycles of the log, from its first to its last, there is none.
@@ -139,8 +145,9 @@ fn missed_between(seen: &[Sighting], span: &LogSpan, node: NodeId, channel: Chan
     let mut double = span.first / 2;
     let mut missed = 0;
     while double <= span.last / 2 {
-        let look = look_at(rest, double);
-        missed += lacks_both(span, look.here, node, channel, double);
+        let number = DoubleNumber(double);
+        let look = look_at(rest, number);
+        missed += lacks_both(span, look.here, node, channel, number);
         rest = look.behind;
         double += 1;
     }

@@ -150,7 +150,7 @@ fn put_whole<O: Sink>(
 {
     let flutter = stated_flutter(ground.params, ground.log);
     put_line(
-        &precision_row(ground.precision, flutter, ground.log.lost()),
+        &precision_row(ground.precision, flutter.0, ground.log.lost()),
         out,
     )?;
     put_rest(ground, frames, tally, out)

@@ -4,7 +4,7 @@ ghost use Rattle.fr_findings.specs.Counting.{AreFewCycles, counted};
 ghost use Rattle.fr_findings.specs.Verdict.{further_within, judged_by, no_progress, none_judged, reach_behind, reach_by, reach_where, span_to};
 
 use crate::counts::Counts;
-use fr_bound::Known;
+use fr_bound::{DoubleNumber, Known};
 use fr_judging::Obstacle;
 use fr_observe::{Fault, Says};
 
@@ -86,8 +86,7 @@ impl Judged {
     }
 
     // One more, whose cycles say this.
-    fn pass(&mut self, double: u32, even: Says, odd: Says)
-        requires double { double < 1_000_000 }
+    fn pass(&mut self, double: DoubleNumber, even: Says, odd: Says)
         requires few { AreFewCycles 900_000 self.old.said }
         requires doubles { self.old.doubles ≤ 900_000 }
         ensures { self.new ≡ judged_by true self.old double (even ∷ odd ∷ []) }
@@ -126,7 +125,7 @@ impl Progress {
         behind_judged(
             outcome.is_judged,
             self.judged.span,
-            outcome.double,
+            DoubleNumber(outcome.double),
             outcome.said,
             reach,
         )
@@ -149,7 +148,7 @@ impl Progress {
         self.doubles += 1;
         judge(
             outcome.is_judged,
-            outcome.double,
+            DoubleNumber(outcome.double),
             outcome.said.0,
             outcome.said.1,
             &mut self.judged,
@@ -167,8 +166,7 @@ fn count_both(even: Says, odd: Says, counts: &mut Counts)
     counts.add(odd);
 }
 
-fn judge(is_judged: bool, double: u32, even: Says, odd: Says, judged: &mut Judged)
-    requires double { double < 1_000_000 }
+fn judge(is_judged: bool, double: DoubleNumber, even: Says, odd: Says, judged: &mut Judged)
     requires few { AreFewCycles 900_000 judged.old.said }
     requires doubles { judged.old.doubles ≤ 900_000 }
     ensures { judged.new ≡ judged_by is_judged judged.old double (even ∷ odd ∷ []) }
@@ -178,14 +176,13 @@ fn judge(is_judged: bool, double: u32, even: Says, odd: Says, judged: &mut Judge
     }
 }
 
-fn span_to(span: Option<Reach>, double: u32) -> Reach
-    requires { double < 1_000_000 }
+fn span_to(span: Option<Reach>, double: DoubleNumber) -> Reach
     ensures { result ≡ span_to span double }
 {
-    let to = 2 * double + 1;
+    let to = 2 * double.0 + 1;
     match span {
         None => Reach {
-            from: 2 * double,
+            from: 2 * double.0,
             to,
         },
         Some(span) => Reach {
@@ -234,15 +231,18 @@ fn behind(reach: (Option<Reach>, bool), cycle: u32, says: Says) -> (Option<Reach
 fn behind_judged(
     is_judged: bool,
     span: Option<Reach>,
-    double: u32,
+    double: DoubleNumber,
     said: (Says, Says),
     reach: (Option<Reach>, bool),
 ) -> (Option<Reach>, bool)
-    requires { double < 1_000_000 }
     ensures { result ≡ reach_where is_judged span double said.0 said.1 reach }
 {
     if is_judged {
-        behind(behind(reach, 2 * double, said.0), 2 * double + 1, said.1)
+        behind(
+            behind(reach, 2 * double.0, said.0),
+            2 * double.0 + 1,
+            said.1,
+        )
     } else {
         match span {
             None => reach,

@@ -12,6 +12,7 @@ use crate::contradicting::{earlier, put_faults, put_numbers, put_own, standing_o
 use crate::ground::{Around, Double, Doubles, Frames, Ground, Offending};
 use crate::progress::{Outcome, OverRow, Progress};
 use fr_base::{PutFault, Sink};
+use fr_bound::DoubleNumber;
 use fr_course::Scale;
 use fr_observe::{Says, Skews, cycle_row, node_row, skews_of};
 use fr_sightings::{Observed, Sender, Sighting, look_at, look_from, seen_senders};
@@ -80,12 +81,11 @@ fn both_say(ground: &Ground<'_>, double: &Double<'_>, skews: &Skews) -> (Says, S
 }
 
 // The first row that says over of those of two cycles that say this.
-fn first_over(double: u32, skews: &Skews, even: Says, odd: Says) -> Option<OverRow>
-    requires { double < 1_000_000 }
+fn first_over(double: DoubleNumber, skews: &Skews, even: Says, odd: Says) -> Option<OverRow>
     ensures { result ≡ option_or (over_row (2 * double) skews.now.even_low even)
         (over_row (2 * double + 1) skews.now.odd_low odd) }
 {
-    over_row(2 * double, skews.even_low, even).or(over_row(2 * double + 1, skews.odd_low, odd))
+    over_row(2 * double.0, skews.even_low, even).or(over_row(2 * double.0 + 1, skews.odd_low, odd))
 }
 
 fn over_row(cycle: u32, low: i64, says: Says) -> Option<OverRow>
@@ -123,7 +123,7 @@ fn put_double<'a, O: Sink>(
     put_numbers(ground, double, &standing, &progress.first, out)?;
     progress.first = earlier(first, progress.first);
     let said = both_say(ground, double, double.skews);
-    let over = first_over(double.number, double.skews, said.0, said.1);
+    let over = first_over(DoubleNumber(double.number), double.skews, said.0, said.1);
     let outcome = Outcome {
         double: double.number,
         is_judged: standing.is_judged,
@@ -138,12 +138,11 @@ fn put_double<'a, O: Sink>(
 fn put_around<O: Sink>(
     ground: &Ground<'_>,
     around: &Around<'_>,
-    number: u32,
+    number: DoubleNumber,
     progress: &mut Progress,
     out: &mut O,
 ) -> Result<(), PutFault>
     requires around { IsAround ground.now around.now }
-    requires number { number < 1_000_000 }
     requires few { CountsFew 900_000 progress.old }
     ensures puts { Puts result (O.state out.old) (O.state out.new)
         (double_told (basis_in ground.now) (double_around ground.now around.now number) progress.old) }
@@ -158,7 +157,7 @@ fn put_around<O: Sink>(
     let list = seen_senders(&observed, around.here, around.next, number);
     let skews = skews_of(ground.scale, list.as_slice());
     let double = Double {
-        number,
+        number: number.0,
         before: around.before,
         here: around.here,
         offending: around.offending,
@@ -194,9 +193,10 @@ pub(crate) fn put_doubles<O: Sink>(
     let mut rest_irregular = look_from(frames.offending.irregular, doubles.first);
     let mut double = doubles.first;
     while double <= doubles.last {
-        let look = look_at(rest, double);
-        let untimely = look_at(rest_untimely, double);
-        let irregular = look_at(rest_irregular, double);
+        let number = DoubleNumber(double);
+        let look = look_at(rest, number);
+        let untimely = look_at(rest_untimely, number);
+        let irregular = look_at(rest_irregular, number);
         let around = Around {
             before,
             here: look.here,
@@ -206,7 +206,7 @@ pub(crate) fn put_doubles<O: Sink>(
                 irregular: irregular.here,
             },
         };
-        put_around(ground, &around, double, progress, out)?;
+        put_around(ground, &around, number, progress, out)?;
         before = look.here;
         rest = look.behind;
         rest_untimely = untimely.behind;

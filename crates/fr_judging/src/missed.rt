@@ -13,6 +13,7 @@ ghost use Rattle.fr_judging.specs.Missing.{least_missed, missed_if_any, missed_w
 use crate::knowing::{Standing, judged_met};
 use crate::zeros::term_may_be_0;
 use fr_base::{NodeId, PutFault, Sink};
+use fr_bound::DoubleNumber;
 use fr_log::Log;
 use fr_observe::{Asked, Fault, Scene, Term, sender_fault};
 use fr_sightings::Sender;
@@ -68,12 +69,11 @@ fn least_missed(term: Term, scene: &Scene<'_>, sender: &Sender) -> Option<u64>
     None
 }
 
-fn missed_with(term: Term, double: u32, node: NodeId, least: Option<u64>) -> Missed
-    requires { double < 1_000_000 }
+fn missed_with(term: Term, double: DoubleNumber, node: NodeId, least: Option<u64>) -> Missed
     ensures { result ≡ missed_with term double node least }
 {
     Missed {
-        cycle: 2 * double + 1,
+        cycle: 2 * double.0 + 1,
         node,
         term,
         least,
@@ -81,8 +81,12 @@ fn missed_with(term: Term, double: u32, node: NodeId, least: Option<u64>) -> Mis
 }
 
 // Told where it must have missed one at least.
-fn missed_if_any(term: Term, double: u32, node: NodeId, least: Option<u64>) -> Option<Missed>
-    requires { double < 1_000_000 }
+fn missed_if_any(
+    term: Term,
+    double: DoubleNumber,
+    node: NodeId,
+    least: Option<u64>,
+) -> Option<Missed>
     ensures { result ≡ missed_if_any term double node least }
 {
     match least {
@@ -105,7 +109,7 @@ fn missed_where(term: Term, scene: &Scene<'_>, sender: &Sender) -> Option<Missed
         scene.now.senders.now sender.now }
 {
     let least = least_missed(term, scene, sender);
-    missed_if_any(term, scene.number, sender.node, least)
+    missed_if_any(term, DoubleNumber(scene.number), sender.node, least)
 }
 
 fn known_number(number: Option<u64>) -> Piece<'static>

@@ -3,7 +3,6 @@ ghost use Rattle.std.specs.Int.{int_max};
 ghost use Rattle.fr_base.specs.Within.{IsWithin};
 ghost use Rattle.fr_bound.specs.Judged.{IsSmall, all_but_first_hold, from_none};
 ghost use Rattle.fr_bound.specs.Settling.{IsSettleCheck};
-ghost use Rattle.fr_bound.specs.SharpBounds.{most_flutter};
 ghost use Rattle.fr_bound.specs.SharpChecks.{sharp_holds_of};
 ghost use Rattle.fr_bound.specs.SharpSpreads.{sharply_near_in};
 ghost use Rattle.fr_course.specs.Near.{EndWithin};
@@ -18,8 +17,8 @@ use crate::knowing::{Standing, judged_met};
 use crate::obstacle::{Obstacle, ObstacleKind};
 use crate::unseen::{faulty, first_unseen, of_several};
 use fr_bound::{
-    Heard, Known, Spread, is_judged, known_after, met_with, near_by, sharp_side_within,
-    shortest_microtick,
+    DoubleNumber, Flutter, Heard, Known, Spread, is_judged, known_after, met_with, near_by,
+    sharp_side_within, shortest_microtick,
 };
 use fr_cluster::{ParamName, Params};
 use fr_course::{Interval, Scale, length_ticks, lengths_apart, starts_apart};
@@ -122,19 +121,17 @@ fn is_judged_by(params: &Params, log: &Log, met: Option<Known>) -> bool
 }
 
 // Whether the log states that the cluster is in sync in a double cycle.
-fn is_stated_at(since: Option<u32>, double: u32) -> bool
-    requires { double < 1_000_000 }
+fn is_stated_at(since: Option<u32>, double: DoubleNumber) -> bool
     ensures { result ≡ is_stated_at since double }
 {
     match since {
         None => false,
-        Some(cycle) => cycle == 2 * double,
+        Some(cycle) => cycle == 2 * double.0,
     }
 }
 
 // What is then known of that.
-fn known_as_stated(params: &Params, log: &Log, heard: Heard, double: u32) -> Option<Known>
-    requires { double < 1_000_000 }
+fn known_as_stated(params: &Params, log: &Log, heard: Heard, double: DoubleNumber) -> Option<Known>
     ensures { result ≡ known_as_stated params.now log.now heard double }
 {
     if is_stated_at(log.since(), double) {
@@ -145,9 +142,8 @@ fn known_as_stated(params: &Params, log: &Log, heard: Heard, double: u32) -> Opt
 }
 
 // A sharper check holds with a reach, in ticks.
-fn holds(params: &Params, flutter: u64, reach: u64, number: u8) -> bool
+fn holds(params: &Params, flutter: Flutter, reach: u64, number: u8) -> bool
     requires number { IsSettleCheck number }
-    requires flutter { flutter ≤ most_flutter }
     requires reach { reach ≤ 5_200_000_000_000 }
     ensures { result ≡ sharp_holds_of number flutter reach params.now }
 {
@@ -155,8 +151,7 @@ fn holds(params: &Params, flutter: u64, reach: u64, number: u8) -> bool
 }
 
 // All but the first do.
-fn checks_hold(params: &Params, flutter: u64, reach: u64) -> bool
-    requires flutter { flutter ≤ most_flutter }
+fn checks_hold(params: &Params, flutter: Flutter, reach: u64) -> bool
     requires reach { reach ≤ 5_200_000_000_000 }
     ensures { result ≡ all_but_first_hold flutter reach params.now }
 {
@@ -178,8 +173,7 @@ fn is_near(params: &Params, log: &Log, spread: Spread) -> bool
     }
 }
 
-fn unfit(params: &Params, log: &Log, double: u32, met: Option<Known>) -> Option<Obstacle>
-    requires { double < 1_000_000 }
+fn unfit(params: &Params, log: &Log, double: DoubleNumber, met: Option<Known>) -> Option<Obstacle>
     ensures { result ≡ unfit params.now log.now double met }
 {
     match met {
@@ -208,7 +202,8 @@ fn unjudged_by(
     if is_judged {
         None
     } else {
-        Obstacle::earlier(hidden, unfit(scene.params, scene.log, scene.number, met))
+        let own = unfit(scene.params, scene.log, DoubleNumber(scene.number), met);
+        Obstacle::earlier(hidden, own)
     }
 }
 
@@ -258,8 +253,9 @@ pub fn standing(
             obstacle: Some(unheard(scene.params, scene.log)),
         },
         Some(what) => {
-            let unseen = first_unseen(scene.params, scene.log, scene.here, scene.number);
-            let stated = known_as_stated(scene.params, scene.log, what, scene.number);
+            let number = DoubleNumber(scene.number);
+            let unseen = first_unseen(scene.params, scene.log, scene.here, number);
+            let stated = known_as_stated(scene.params, scene.log, what, number);
             let known = met_with(known, stated);
             let met = met_with(known, known_seen(scene, &unseen, &told));
             let hidden = Obstacle::earlier(&unseen, faulty(told));

@@ -4,39 +4,42 @@ ghost use Rattle.fr_observe.specs.Faults.{is_seen_whole};
 ghost use Rattle.fr_judging.specs.Obstacles.{faulty, first_unseen, of_several, or_unseen, unseen_cycle, unseen_node};
 
 use crate::obstacle::{Obstacle, ObstacleKind};
+use fr_bound::DoubleNumber;
 use fr_cluster::{NodeSpec, Params};
 use fr_log::Log;
 use fr_observe::Fault;
 use fr_sightings::{Sighting, seen_box};
 
 // A node is arbitrary, or was seen in both cycles of a double cycle.
-fn is_seen_whole(log: &Log, here: &[Sighting], double: u32, node: &NodeSpec) -> bool
+fn is_seen_whole(log: &Log, here: &[Sighting], double: DoubleNumber, node: &NodeSpec) -> bool
     requires here { AreLogStamps log.now here.now }
-    requires double { double < 1_000_000 }
     ensures { result ≡ is_seen_whole log.now here.now double node.now }
 {
     log.is_arbitrary(node.id)
         || (node.key.is_some()
-            && seen_box(log, here, node.id, 2 * double).is_some()
-            && seen_box(log, here, node.id, 2 * double + 1).is_some())
+            && seen_box(log, here, node.id, 2 * double.0).is_some()
+            && seen_box(log, here, node.id, 2 * double.0 + 1).is_some())
 }
 
 // In which cycle it was not, where it was not seen in both.
-fn unseen_cycle(log: &Log, here: &[Sighting], double: u32, node: &NodeSpec) -> u32
+fn unseen_cycle(log: &Log, here: &[Sighting], double: DoubleNumber, node: &NodeSpec) -> u32
     requires here { AreLogStamps log.now here.now }
-    requires double { double < 1_000_000 }
     ensures { result ≡ unseen_cycle log.now here.now double node.now }
 {
-    if seen_box(log, here, node.id, 2 * double).is_some() {
-        2 * double + 1
+    if seen_box(log, here, node.id, 2 * double.0).is_some() {
+        2 * double.0 + 1
     } else {
-        2 * double
+        2 * double.0
     }
 }
 
-fn unseen_node(log: &Log, here: &[Sighting], double: u32, node: &NodeSpec) -> Option<Obstacle>
+fn unseen_node(
+    log: &Log,
+    here: &[Sighting],
+    double: DoubleNumber,
+    node: &NodeSpec,
+) -> Option<Obstacle>
     requires here { AreLogStamps log.now here.now }
-    requires double { double < 1_000_000 }
     ensures { result ≡ unseen_node log.now here.now double node.now }
 {
     if is_seen_whole(log, here, double, node) {
@@ -54,11 +57,10 @@ fn or_unseen(
     first: Option<Obstacle>,
     log: &Log,
     here: &[Sighting],
-    double: u32,
+    double: DoubleNumber,
     node: &NodeSpec,
 ) -> Option<Obstacle>
     requires here { AreLogStamps log.now here.now }
-    requires double { double < 1_000_000 }
     ensures { result ≡ or_unseen log.now here.now double first node.now }
 {
     match first {
@@ -73,10 +75,9 @@ pub(crate) fn first_unseen(
     params: &Params,
     log: &Log,
     here: &[Sighting],
-    double: u32,
+    double: DoubleNumber,
 ) -> Option<Obstacle>
     requires here { AreLogStamps log.now here.now }
-    requires double { double < 1_000_000 }
     ensures { result ≡ first_unseen log.now here.now double params.now.nodes }
 {
     let mut first = None;
@@ -86,13 +87,12 @@ pub(crate) fn first_unseen(
     first
 }
 
-pub(crate) fn of_several(kind: ObstacleKind, double: u32) -> Option<Obstacle>
-    requires { double < 1_000_000 }
+pub(crate) fn of_several(kind: ObstacleKind, double: DoubleNumber) -> Option<Obstacle>
     ensures { result ≡ of_several kind double }
 {
     Some(Obstacle {
         kind,
-        cycle: Some(2 * double),
+        cycle: Some(2 * double.0),
         node: None,
     })
 }

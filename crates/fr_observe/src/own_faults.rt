@@ -14,6 +14,7 @@ use crate::scene::Scene;
 use crate::sender_faults::{Asked, put_of_senders};
 use crate::telling::{tell, tell_one};
 use fr_base::{NodeId, PutFault, Sink};
+use fr_bound::DoubleNumber;
 use fr_cluster::NodeSpec;
 use fr_course::{Interval, Scale, allowed, between, is_empty, meet, meet_if, seen_apart};
 use fr_log::Log;
@@ -109,18 +110,22 @@ fn limit_fault(
 }
 
 // How much later its action point in the odd cycle lies than in the even one.
-fn span_between(log: &Log, here: &[Sighting], double: u32, node: NodeId) -> Option<Interval>
+fn span_between(
+    log: &Log,
+    here: &[Sighting],
+    double: DoubleNumber,
+    node: NodeId,
+) -> Option<Interval>
     requires here { AreLogStamps log.now here.now }
-    requires double { double < 1_000_000 }
     ensures value { result ≡ seen_span log.now here.now here.now node (2 * double) (2 * double + 1) }
     ensures near { IfSome result IsSpan }
 {
     let even = SeenCycle {
-        number: 2 * double,
+        number: 2 * double.0,
         seen: here,
     };
     let odd = SeenCycle {
-        number: 2 * double + 1,
+        number: 2 * double.0 + 1,
         seen: here,
     };
     seen_span(log, node, &even, &odd)
@@ -142,7 +147,7 @@ fn put_clock<O: Sink>(
     let (even, odd) = (2 * scene.number, 2 * scene.number + 1);
     let at_even = seen_box(log, here, node, even);
     let at_odd = seen_box(log, here, node, odd);
-    let span = span_between(log, here, scene.number, node);
+    let span = span_between(log, here, DoubleNumber(scene.number), node);
     tell(box_fault(even, node, at_even), first, out)?;
     tell(box_fault(odd, node, at_odd), first, out)?;
     tell(limit_fault(scene, node, at_even, at_odd, span), first, out)

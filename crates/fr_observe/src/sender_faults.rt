@@ -4,7 +4,6 @@ ghost use Rattle.std.specs.Option.{option_map};
 ghost use Rattle.fr_base.specs.Within.{IsBetween};
 ghost use Rattle.fr_course.specs.Computed.{measuring_of};
 ghost use Rattle.fr_course.specs.Course.{is_empty};
-ghost use Rattle.fr_bound.specs.SharpBounds.{most_flutter};
 ghost use Rattle.fr_course.specs.Near.{EndWithin};
 ghost use Rattle.fr_course.specs.Terms.{rate_step_seen};
 ghost use Rattle.fr_sightings.specs.Ranges.{IsProperSender};
@@ -18,7 +17,7 @@ use crate::scene::Scene;
 use crate::telling::tell;
 use crate::term::Term;
 use fr_base::{NodeId, PutFault, Sink};
-use fr_bound::{longest_microtick, shortest_microtick};
+use fr_bound::{DoubleNumber, Flutter, longest_microtick, shortest_microtick};
 use fr_cluster::{ParamName, Params};
 use fr_course::{Interval, Measuring, Scale, is_empty, length_ticks, rate_step_seen};
 use fr_log::Log;
@@ -82,14 +81,18 @@ fn term_fault(params: &Params, cycle: u32, node: NodeId, term: &Interval) -> Opt
     }
 }
 
-fn correction_fault(params: &Params, scale: &Scale, double: u32, sender: &Sender) -> Option<Fault>
-    requires double { double < 1_000_000 }
+fn correction_fault(
+    params: &Params,
+    scale: &Scale,
+    double: DoubleNumber,
+    sender: &Sender,
+) -> Option<Fault>
     requires sender { IsProperSender scale.now sender.now }
     ensures { result ≡ correction_fault params.now scale.now double sender.now }
 {
     match terms_of(scale, sender) {
         None => None,
-        Some(term) => term_fault(params, 2 * double + 1, sender.node, &term),
+        Some(term) => term_fault(params, 2 * double.0 + 1, sender.node, &term),
     }
 }
 
@@ -156,15 +159,14 @@ fn length_beyond(
     params: &Params,
     scale: &Scale,
     beyond: u64,
-    double: u32,
+    double: DoubleNumber,
     sender: &Sender,
 ) -> Option<Fault>
-    requires double { double < 1_000_000 }
     requires sender { IsProperSender scale.now sender.now }
     ensures { result ≡ length_beyond params.now scale.now beyond double sender.now }
 {
     length_by(
-        2 * double,
+        2 * double.0,
         sender.node,
         beyond,
         &proper_lengths(params),
@@ -243,13 +245,12 @@ fn further_of(params: &Params, senders: &[Sender]) -> usize
 
 /// By how much delays flutter between both cycles of a double cycle, in ticks: as the log says, or no more than delays that keep
 /// within what the parameters say of them.
-pub fn stated_flutter(params: &Params, log: &Log) -> u64
+pub fn stated_flutter(params: &Params, log: &Log) -> Flutter
     ensures value { result ≡ stated_flutter params.now log.now }
-    ensures most { result ≤ most_flutter }
 {
     match log.flutter() {
-        None => 2 * params.natural(ParamName::xDelayError),
-        Some(flutter) => flutter,
+        None => Flutter(2 * params.natural(ParamName::xDelayError)),
+        Some(flutter) => Flutter(flutter),
     }
 }
 
@@ -368,9 +369,13 @@ pub fn sender_fault(asked: Asked, scene: &Scene<'_>, sender: &Sender) -> Option<
         scene.now.senders.now sender.now }
 {
     match asked {
-        Asked::Correction => correction_fault(scene.params, scene.scale, scene.number, sender),
+        Asked::Correction => {
+            let number = DoubleNumber(scene.number);
+            correction_fault(scene.params, scene.scale, number, sender)
+        }
         Asked::Length(beyond) => {
-            length_beyond(scene.params, scene.scale, beyond, scene.number, sender)
+            let number = DoubleNumber(scene.number);
+            length_beyond(scene.params, scene.scale, beyond, number, sender)
         }
         Asked::Term(Term::Offset, lost) => offset_fault(scene, lost, sender),
         Asked::Term(Term::Rate, lost) => rate_fault(scene, lost, sender),

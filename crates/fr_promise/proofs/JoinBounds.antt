@@ -24,7 +24,7 @@ at_most a b c h k = omega arith
 
 -- ---- a node that follows comes nearer
 
-pub share_grows : (a b k : ℕ) → 0 < k → a ≤ b → a / k ≤ b / k
+share_grows : (a b k : ℕ) → 0 < k → a ≤ b → a / k ≤ b / k
 share_grows a b k some le = (le-div_iff_mul-le some).1 (at_most (a / k * k) a b (div-mul-le_self a k) le)
 
 -- greater numbers, greater reach

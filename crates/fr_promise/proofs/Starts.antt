@@ -11,13 +11,11 @@ use Rattle.fr_base.specs.declared.reason.Reason.{Reason}
 use Rattle.fr_base.specs.declared.reason.Reason.TheVariants as reason
 use Rattle.fr_text.specs.Records.{FileRecord}
 use Rattle.fr_text.specs.Fields.{both_of, field_of, is_blank, natural_of, or_else, or_reason, looked_up}
-use Rattle.fr_cluster.specs.Values.{Values}
-use Rattle.fr_drift.specs.Files.{DriftFits}
 use Rattle.fr_drift.specs.Held.{held}
 use Rattle.fr_drift.specs.Questions.{length_of, start_of}
 use Rattle.fr_drift.specs.Reasons.{length_in, start_in}
 use Rattle.fr_drift.specs.Rows.{delay_row, doubles_row, drift_file_row, drift_row_of, length_row, length_with, rate_in, short_row, start_row, start_with}
-use Rattle.fr_drift.specs.View.{length_rows, start_rows, DriftView}
+use Rattle.fr_drift.specs.View.{length_rows, start_rows}
 use Rattle.fr_drift.specs.declared.rows.Start.{Start}
 use Rattle.fr_drift.specs.declared.rows.StartRow.{StartRow}
 use Rattle.fr_drift.specs.declared.rows.Row.{Row}

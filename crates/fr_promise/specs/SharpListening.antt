@@ -1,6 +1,6 @@
 -- What a node that joins takes from two arrivals of its reference's frames, where delays flutter little: how near its first
 -- rate, its first lengths and its first start come to those of a reference whose even cycle may lie beyond its range.
-use Rattle.std.specs.Prelude.{◌≡◌, true, false, ◌+◌, ◌*◌, ◌≤◌, ℕ, Bool, ℤ, pos, neg_ℤ, ◌+ℤ◌, ◌-ℤ◌, ◌*ℤ◌, ◌≤ℤ◌}
+use Rattle.std.specs.Prelude.{◌≡◌, true, false, ◌+◌, ◌*◌, ◌≤◌, ℕ, ℤ, pos, neg_ℤ, ◌+ℤ◌, ◌-ℤ◌, ◌*ℤ◌, ◌≤ℤ◌}
 use Rattle.fr_base.specs.Within.{IsBetween, IsWithin}
 use Rattle.fr_base.specs.declared.node_row.NodeRow.{NodeRow}
 use Rattle.fr_cluster.specs.Values.{Values, amount}

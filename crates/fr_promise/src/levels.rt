@@ -1,15 +1,12 @@
-ghost use Rattle.std.specs.Prelude.{◌≡◌, ◌≤◌};
-ghost use Rattle.fr_bound.specs.SharpBounds.{most_flutter};
+ghost use Rattle.std.specs.Prelude.{◌≡◌};
 ghost use Rattle.fr_promise.specs.HeldWalks.{lasts_by, oscillators_stay, sync_lasts, walk_is_held, LevelsAreThere, LevelsHold};
 
-use fr_bound::{rate_room, rate_walk, sharp_lasts, shortest_microtick};
+use fr_bound::{Flutter, rate_room, rate_walk, sharp_lasts, shortest_microtick};
 use fr_cluster::Params;
 
 /// For how many double cycles from one in sharp sync the nodes stay so, under the second check; None where lengths do
-/// not walk, or where their walk is held, so that they do for ever. Delays flutter by no more than so many ticks, 0 to
-/// 1,000,000,000.
-pub fn sync_lasts(params: &Params, flutter: u64) -> Option<u64>
-    requires { flutter ≤ most_flutter }
+/// not walk, or where their walk is held, so that they do for ever. Delays flutter by no more than so many ticks.
+pub fn sync_lasts(params: &Params, flutter: Flutter) -> Option<u64>
     ensures { result ≡ sync_lasts params.now flutter }
 {
     if walk_is_held(params, flutter) {
@@ -20,9 +17,8 @@ pub fn sync_lasts(params: &Params, flutter: u64) -> Option<u64>
 }
 
 /// For how many double cycles from one in sharp sync it lasts, under the second check: where all is heard, and else by the
-/// walk of lengths alone; None for ever. Delays flutter by no more than so many ticks, 0 to 1,000,000,000.
-pub fn lasts_by(params: &Params, heard: bool, flutter: u64) -> Option<u64>
-    requires { flutter ≤ most_flutter }
+/// walk of lengths alone; None for ever. Delays flutter by no more than so many ticks.
+pub fn lasts_by(params: &Params, heard: bool, flutter: Flutter) -> Option<u64>
     ensures { result ≡ lasts_by heard params.now flutter }
 {
     if heard {
@@ -33,8 +29,7 @@ pub fn lasts_by(params: &Params, heard: bool, flutter: u64) -> Option<u64>
 }
 
 // Whether lengths walk and come less than a microtick beyond their range in all.
-fn walk_is_held(params: &Params, flutter: u64) -> bool
-    requires { flutter ≤ most_flutter }
+fn walk_is_held(params: &Params, flutter: Flutter) -> bool
     ensures { result ≡ walk_is_held params.now flutter }
 {
     let (gain, loss) = rate_walk(params, flutter);

@@ -1,13 +1,12 @@
 ghost use Rattle.std.specs.Prelude.{Option, ◌≡◌, ◌≤◌, true, false};
 ghost use Rattle.fr_bound.specs.Settling.{most_stated, IsSettleCheck};
-ghost use Rattle.fr_bound.specs.SharpBounds.{most_flutter};
 ghost use Rattle.fr_bound.specs.SharpSpreads.{next_sharp_spread};
 ghost use Rattle.fr_bound.specs.SharpSpreads.{first_sharp_spread, IsSharplySettled};
 ghost use Rattle.fr_promise.specs.SharpWay.{IsSharpWay, IsWayCheckOf, IsWayVerdict, LeadsTo, lasts_for};
 
 use fr_bound::{
-    CheckSides, Spread, even_lambda, near_by, next_sharp_spread, precision_by, sharp_lasts,
-    sharp_pi, sharp_side_within,
+    CheckSides, Flutter, Spread, even_lambda, near_by, next_sharp_spread, precision_by,
+    sharp_lasts, sharp_pi, sharp_side_within,
 };
 use fr_cluster::Params;
 
@@ -27,12 +26,17 @@ pub struct SharpWay {
 
 /// Of clocks whose first starts lie at most `start` ticks apart, and the lengths of whose first even cycles lie at most
 /// `rate` ticks apart, 0 to 1,000,000,000,000 each, beside arbitrary sync nodes or without, where delays flutter by no
-/// more than so many ticks, 0 to 1,000,000,000: the double cycle in which they are in sharp sync, the peak and the reach
-/// on the way, and the first check for the way that fails. It takes no memory and at most 82 steps.
-pub fn sharp_settle(params: &Params, beside: bool, start: u64, rate: u64, flutter: u64) -> SharpWay
+/// more than so many ticks: the double cycle in which they are in sharp sync, the peak and the reach on the way, and the
+/// first check for the way that fails. It takes no memory and at most 82 steps.
+pub fn sharp_settle(
+    params: &Params,
+    beside: bool,
+    start: u64,
+    rate: u64,
+    flutter: Flutter,
+) -> SharpWay
     requires start { start ≤ most_stated }
     requires rate { rate ≤ most_stated }
-    requires flutter { flutter ≤ most_flutter }
     ensures { IsSharpWay beside params.now flutter start rate result }
 {
     let (doubles, peak, reach) = until_settled(params, beside, start, rate, flutter);
@@ -50,11 +54,10 @@ fn until_settled(
     beside: bool,
     start: u64,
     rate: u64,
-    flutter: u64,
+    flutter: Flutter,
 ) -> (u32, u64, u64)
     requires start { start ≤ most_stated }
     requires rate { rate ≤ most_stated }
-    requires flutter { flutter ≤ most_flutter }
     ensures leads { LeadsTo beside params.now flutter start rate result.0 result.1 result.2 }
     ensures most { result.2 ≤ 5_200_000_000_000 }
 {
@@ -72,10 +75,9 @@ fn until_settled(
     (82, peak, reach)
 }
 
-fn first(params: &Params, beside: bool, start: u64, rate: u64, flutter: u64) -> Spread
+fn first(params: &Params, beside: bool, start: u64, rate: u64, flutter: Flutter) -> Spread
     requires start { start ≤ most_stated }
     requires rate { rate ≤ most_stated }
-    requires flutter { flutter ≤ most_flutter }
     ensures value { result ≡ first_sharp_spread beside params.now flutter start rate }
     ensures starts { result.starts ≤ 3_100_000_000_000 }
     ensures lengths { result.lengths ≤ most_stated }
@@ -86,8 +88,7 @@ fn first(params: &Params, beside: bool, start: u64, rate: u64, flutter: u64) -> 
     }
 }
 
-fn is_settled(params: &Params, beside: bool, flutter: u64, spread: Spread) -> bool
-    requires { flutter ≤ most_flutter }
+fn is_settled(params: &Params, beside: bool, flutter: Flutter, spread: Spread) -> bool
     ensures yes { result ≡ true → IsSharplySettled beside params.now flutter spread }
     ensures no { result ≡ false → IsSharplySettled beside params.now flutter spread → ⊥ }
 {
@@ -96,8 +97,12 @@ fn is_settled(params: &Params, beside: bool, flutter: u64, spread: Spread) -> bo
 }
 
 // The first check for the way that fails, with both sides.
-fn first_failing(params: &Params, flutter: u64, doubles: u32, reach: u64) -> Option<(u8, i64, i64)>
-    requires flutter { flutter ≤ most_flutter }
+fn first_failing(
+    params: &Params,
+    flutter: Flutter,
+    doubles: u32,
+    reach: u64,
+) -> Option<(u8, i64, i64)>
     requires reach { reach ≤ 5_200_000_000_000 }
     ensures { IsWayVerdict params.now flutter doubles reach result }
 {
@@ -110,9 +115,8 @@ fn first_failing(params: &Params, flutter: u64, doubles: u32, reach: u64) -> Opt
     None
 }
 
-fn way_side(params: &Params, flutter: u64, doubles: u32, reach: u64, number: u8) -> CheckSides
+fn way_side(params: &Params, flutter: Flutter, doubles: u32, reach: u64, number: u8) -> CheckSides
     requires number { IsSettleCheck number }
-    requires flutter { flutter ≤ most_flutter }
     requires reach { reach ≤ 5_200_000_000_000 }
     ensures { IsWayCheckOf number flutter doubles reach params.now result }
 {

@@ -3,7 +3,7 @@ ghost use Rattle.fr_coverage.specs.Flutter.{fluttering_from, ticks_of};
 ghost use Rattle.fr_series.specs.Basis.{basis_by, basis_of, sharp_held, sync_held};
 ghost use Rattle.fr_bound.specs.SharpBounds.{most_flutter};
 
-use fr_bound::{sharp_bounds, sharp_side};
+use fr_bound::{Flutter, sharp_bounds, sharp_side};
 use fr_cluster::Params;
 use fr_coverage::{Fluttering, Gap, flutter, some_join, ticks_of};
 use fr_drift::Drift;
@@ -65,7 +65,7 @@ fn basis_by(
     ensures value { result ≡ basis_by params.now drift.now script.now from (ticks_of place) }
     ensures flutter { result.flutter ≤ most_flutter }
 {
-    let flutter = ticks_of(&place);
+    let flutter = Flutter(ticks_of(&place));
     let beside = has_arbitrary(params, script);
     let losses = run_losses(params, drift, script, from, flutter);
     let gap = first_sharp_gap(params, drift, script, from, flutter);
@@ -73,7 +73,7 @@ fn basis_by(
     Basis {
         from,
         fluttering: place,
-        flutter,
+        flutter: flutter.0,
         beside,
         lasts: sharp_held(params, joins, gap.is_none(), beside, flutter),
         gap,
@@ -91,9 +91,8 @@ fn sharp_held(
     joins: bool,
     covered: bool,
     beside: bool,
-    flutter: u64,
+    flutter: Flutter,
 ) -> Option<u64>
-    requires { flutter ≤ most_flutter }
     ensures { result ≡ sharp_held joins covered beside params.now flutter }
 {
     if joins {
@@ -103,8 +102,7 @@ fn sharp_held(
     }
 }
 
-fn sync_held(params: &Params, covered: bool, beside: bool, flutter: u64) -> Option<u64>
-    requires { flutter ≤ most_flutter }
+fn sync_held(params: &Params, covered: bool, beside: bool, flutter: Flutter) -> Option<u64>
     ensures { result ≡ sync_held covered beside params.now flutter }
 {
     if sharp_side(params, beside, flutter, 2).holds {

@@ -1,11 +1,10 @@
-ghost use Rattle.std.specs.Prelude.{◌≡◌, ◌≤◌, ◌<◌, ◌+◌, unwrap_or};
+ghost use Rattle.std.specs.Prelude.{◌≡◌, ◌+◌, unwrap_or};
 ghost use Rattle.std.specs.Option.{option_map};
-ghost use Rattle.fr_bound.specs.SharpBounds.{most_flutter};
 ghost use Rattle.fr_series.specs.Basis.{sharp_scale_of, stays_for, IsCourse};
 ghost use Rattle.fr_series.specs.Scale.{IsScale};
 
 use crate::scale::Scale;
-use fr_bound::sharp_bounds;
+use fr_bound::{DoubleNumber, Flutter, sharp_bounds};
 use fr_cluster::Params;
 use fr_coverage::{Fluttering, flutter, ticks_of};
 use fr_drift::Drift;
@@ -32,7 +31,7 @@ impl Course {
         let place = flutter(params, drift, script, double);
         let beside = has_arbitrary(params, script);
         Course {
-            scale: sharp_scale(params, beside, ticks_of(&place)),
+            scale: sharp_scale(params, beside, Flutter(ticks_of(&place))),
             until: last_of(&place),
         }
     }
@@ -44,9 +43,8 @@ impl Course {
         drift: &Drift,
         script: &Script,
         synced: Option<u32>,
-        double: u32,
+        double: DoubleNumber,
     ) -> Course
-        requires double { double < 1_000_000 }
         requires is { IsCourse params.now drift.now script.now (unwrap_or synced double) self }
         requires proper { IsScale self.scale }
         ensures is { IsCourse params.now drift.now script.now (unwrap_or synced (double + 1)) result }
@@ -59,17 +57,16 @@ impl Course {
     }
 
     // Those of the double cycle behind one that is not in sharp sync.
-    fn next(self, params: &Params, drift: &Drift, script: &Script, double: u32) -> Course
-        requires double { double < 1_000_000 }
+    fn next(self, params: &Params, drift: &Drift, script: &Script, double: DoubleNumber) -> Course
         requires is { IsCourse params.now drift.now script.now double self }
         requires proper { IsScale self.scale }
         ensures is { IsCourse params.now drift.now script.now (double + 1) result }
         ensures proper { IsScale result.scale }
     {
-        if stays(self.until, double + 1) {
+        if stays(self.until, double.0 + 1) {
             self
         } else {
-            Course::from(params, drift, script, double + 1)
+            Course::from(params, drift, script, double.0 + 1)
         }
     }
 }
@@ -94,9 +91,8 @@ fn last_of(place: &Option<Fluttering>) -> Option<u32>
 }
 
 /// The sharper numbers of a cluster, beside arbitrary sync nodes or without, where delays flutter by no more than so many
-/// ticks, 0 to 1,000,000,000.
-pub fn sharp_scale(params: &Params, beside: bool, flutter: u64) -> Scale
-    requires { flutter ≤ most_flutter }
+/// ticks.
+pub fn sharp_scale(params: &Params, beside: bool, flutter: Flutter) -> Scale
     ensures value { result ≡ sharp_scale_of beside params.now flutter }
     ensures proper { IsScale result }
 {

@@ -1,9 +1,10 @@
-ghost use Rattle.std.specs.Prelude.{◌≡◌, ◌<◌, All, None};
+ghost use Rattle.std.specs.Prelude.{◌≡◌, All, None};
 ghost use Rattle.fr_time.specs.Placed.{IsPlacedRow};
 ghost use Rattle.fr_series.specs.Scale.{IsScale, above_in, next_above, next_figures, next_greatest, next_lost, next_synced};
 
 use crate::scale::Scale;
 use fr_base::NodeRow;
+use fr_bound::DoubleNumber;
 use fr_skew::{Peak, swept};
 
 /// What a series tells at its end.
@@ -36,23 +37,22 @@ impl Figures {
     pub fn followed(
         self,
         scale: &Scale,
-        double: u32,
+        double: DoubleNumber,
         even: &[NodeRow],
         odd: &[NodeRow],
         in_sync: bool,
         following: bool,
     ) -> Figures
         requires scale { IsScale scale.now }
-        requires double { double < 100_000 }
         requires even { All (IsPlacedRow scale.now.grid) even.now }
         requires odd { All (IsPlacedRow scale.now.grid) odd.now }
         ensures { result ≡ next_figures scale.now double even.now odd.now in_sync following self }
     {
-        let synced = next_synced(double, in_sync && !following, self.synced);
+        let synced = next_synced(double.0, in_sync && !following, self.synced);
         Figures {
             synced,
             greatest: next_greatest(scale, double, even, odd, synced, self.greatest),
-            lost: next_lost(double, in_sync, self.lost),
+            lost: next_lost(double.0, in_sync, self.lost),
             above: next_above(scale, double, even, odd, synced, self.above),
         }
     }
@@ -79,14 +79,13 @@ fn next_lost(double: u32, in_sync: bool, lost: Option<u32>) -> Option<u32>
 
 pub(crate) fn next_greatest(
     scale: &Scale,
-    double: u32,
+    double: DoubleNumber,
     even: &[NodeRow],
     odd: &[NodeRow],
     synced: Option<u32>,
     greatest: Option<Peak>,
 ) -> Option<Peak>
     requires scale { IsScale scale.now }
-    requires double { double < 100_000 }
     requires even { All (IsPlacedRow scale.now.grid) even.now }
     requires odd { All (IsPlacedRow scale.now.grid) odd.now }
     ensures { result ≡ next_greatest scale.now double even.now odd.now synced greatest }
@@ -94,22 +93,21 @@ pub(crate) fn next_greatest(
     match synced {
         None => None,
         Some(_) => {
-            let greatest = swept(&scale.grid, 2 * double, even, greatest);
-            swept(&scale.grid, 2 * double + 1, odd, greatest)
+            let greatest = swept(&scale.grid, 2 * double.0, even, greatest);
+            swept(&scale.grid, 2 * double.0 + 1, odd, greatest)
         }
     }
 }
 
 pub(crate) fn next_above(
     scale: &Scale,
-    double: u32,
+    double: DoubleNumber,
     even: &[NodeRow],
     odd: &[NodeRow],
     synced: Option<u32>,
     above: Option<Peak>,
 ) -> Option<Peak>
     requires scale { IsScale scale.now }
-    requires double { double < 100_000 }
     requires even { All (IsPlacedRow scale.now.grid) even.now }
     requires odd { All (IsPlacedRow scale.now.grid) odd.now }
     ensures { result ≡ next_above scale.now double even.now odd.now synced above }
@@ -124,15 +122,14 @@ pub(crate) fn next_above(
 }
 
 // The first place of a double cycle at which the skew is above the precision.
-fn above_in(scale: &Scale, double: u32, even: &[NodeRow], odd: &[NodeRow]) -> Option<Peak>
+fn above_in(scale: &Scale, double: DoubleNumber, even: &[NodeRow], odd: &[NodeRow]) -> Option<Peak>
     requires scale { IsScale scale.now }
-    requires double { double < 100_000 }
     requires even { All (IsPlacedRow scale.now.grid) even.now }
     requires odd { All (IsPlacedRow scale.now.grid) odd.now }
     ensures { result ≡ above_in scale.now double even.now odd.now }
 {
-    match scale.first_above(2 * double, even) {
+    match scale.first_above(2 * double.0, even) {
         Some(earlier) => Some(earlier),
-        None => scale.first_above(2 * double + 1, odd),
+        None => scale.first_above(2 * double.0 + 1, odd),
     }
 }

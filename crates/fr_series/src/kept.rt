@@ -1,9 +1,10 @@
-ghost use Rattle.std.specs.Prelude.{◌≡◌, ◌≤◌, ◌<◌, ◌+◌, None, Some, IfSome};
+ghost use Rattle.std.specs.Prelude.{◌≡◌, ◌+◌, None, Some, IfSome};
 ghost use Rattle.fr_traffic.specs.Reaching.{whole_in};
 ghost use Rattle.fr_traffic.specs.Traffic.{heard_in, traffic_in};
 ghost use Rattle.fr_series.specs.SharpLosses.{bound_of, bound_since, from_of, kept_by, IsHeldSince, IsHeldBy};
 
 use crate::basis::Basis;
+use fr_bound::{DoubleNumber, Flutter};
 use fr_cluster::Params;
 use fr_precision::Kinds;
 use fr_script::Script;
@@ -54,7 +55,7 @@ fn begin(world: &World, double: u32, spread: &mut LossSpread) -> Basis
     ensures from { result.from ≡ double }
 {
     let basis = Basis::of(world.params(), world.drift(), world.script(), double);
-    *spread = LossSpread::first(world.params(), basis.beside, basis.flutter);
+    *spread = LossSpread::first(world.params(), basis.beside, Flutter(basis.flutter));
     basis
 }
 
@@ -62,10 +63,9 @@ fn begin(world: &World, double: u32, spread: &mut LossSpread) -> Basis
 pub(crate) fn next_kept(
     world: &World,
     basis: &Option<Basis>,
-    double: u32,
+    double: DoubleNumber,
     spread: &mut LossSpread,
 ) -> Kept
-    requires double { double < 100_000 }
     requires held { IsHeldSince world.now.params world.now.drift world.now.script double basis.now spread.old }
     ensures kept { result ≡ kept_by world.now.params world.now.drift world.now.script (from_of basis.now) double }
     ensures held { IsHeldSince world.now.params world.now.drift world.now.script (double + 1) basis.now spread.new }
@@ -85,11 +85,10 @@ pub(crate) fn next_kept(
 fn next_bound(
     world: &World,
     basis: &Option<Basis>,
-    double: u32,
+    double: DoubleNumber,
     heard: Kinds,
     spread: &mut LossSpread,
 ) -> Option<u128>
-    requires double { double < 100_000 }
     requires heard { heard ≡ heard_in (traffic_in world.now.params world.now.script) double }
     requires held { IsHeldSince world.now.params world.now.drift world.now.script double basis.now spread.old }
     ensures bound { result ≡
@@ -99,19 +98,18 @@ fn next_bound(
     match basis {
         None => None,
         Some(basis) => {
-            let apart = spread.apart(world.params(), basis.flutter, heard);
-            spread.step(world.params(), basis.flutter, heard);
+            let apart = spread.apart(world.params(), Flutter(basis.flutter), heard);
+            spread.step(world.params(), Flutter(basis.flutter), heard);
             bound_of(basis.through, apart)
         }
     }
 }
 
-fn is_whole(params: &Params, script: &Script, double: u32) -> bool
-    requires { double ≤ 100_000 }
+fn is_whole(params: &Params, script: &Script, double: DoubleNumber) -> bool
     ensures { result ≡ whole_in params.now script.now double }
 {
     let nodes = &params.nodes;
-    all_reach(nodes, script, Some(double))
+    all_reach(nodes, script, &Some(double))
 }
 
 fn bound_of(through: bool, apart: u128) -> Option<u128>

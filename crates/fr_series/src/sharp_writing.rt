@@ -1,4 +1,4 @@
-ghost use Rattle.std.specs.Prelude.{◌≡◌, ◌+◌, ◌*◌, ◌<◌, ◌≤◌, All, [], IsOk};
+ghost use Rattle.std.specs.Prelude.{◌≡◌, ◌+◌, ◌*◌, All, [], IsOk};
 ghost use Rattle.fr_base.specs.Device.{Puts};
 ghost use Rattle.fr_drift.specs.Questions.{doubles_of};
 ghost use Rattle.fr_history.specs.Next.{cycles_of};
@@ -20,6 +20,7 @@ use crate::sharp_lines::{older_lines, sharp_cycle_line, sharp_head_line, sharp_l
 use crate::tally::Tally;
 use crate::writing::{are_in_sync, next_rows};
 use fr_base::{NodeRow, PutFault, RowList, Sink};
+use fr_bound::{DoubleNumber, Flutter};
 use fr_sharp::LossSpread;
 use fr_skew::in_sync_by_even;
 use fr_text::{put_line, put_lines};
@@ -67,9 +68,16 @@ fn write_sharp_rows<O: Sink>(
         course: Course::from(world.params(), world.drift(), world.script(), 0),
         basis: None,
     };
-    let mut spread = LossSpread::first(world.params(), false, 0);
+    let mut spread = LossSpread::first(world.params(), false, Flutter(0));
     for double in 0..doubles {
-        write_sharp_double(world, &mut known, &mut spread, tally, double, out)?;
+        write_sharp_double(
+            world,
+            &mut known,
+            &mut spread,
+            tally,
+            DoubleNumber(double),
+            out,
+        )?;
     }
     Ok(())
 }
@@ -80,7 +88,7 @@ fn write_sharp_double<O: Sink>(
     known: &mut Known,
     spread: &mut LossSpread,
     tally: &mut Tally,
-    double: u32,
+    double: DoubleNumber,
     out: &mut O,
 ) -> Result<(), PutFault>
     requires at { IsAtDouble world.old double }
@@ -108,7 +116,7 @@ fn write_sharp_double<O: Sink>(
         followed || following,
     );
     let synced = tally.sharp.synced;
-    let basis = begun(world, basis, synced, double, spread);
+    let basis = begun(world, basis, synced, double.0, spread);
     let kept = next_kept(world, &basis, double, spread);
     *known = Known {
         older,
@@ -129,13 +137,12 @@ fn put_sharp_double<O: Sink>(
     older: &Scale,
     sharper: &Scale,
     kept: Kept,
-    double: u32,
+    double: DoubleNumber,
     even: &[NodeRow],
     odd: &[NodeRow],
     out: &mut O,
 ) -> Result<(), PutFault>
     requires scales { AreScales older.now sharper.now }
-    requires double { double < 100_000 }
     requires even { All (IsPlacedRow older.now.grid) even.now }
     requires odd { All (IsPlacedRow older.now.grid) odd.now }
     ensures text { Puts result (O.state out.old) (O.state out.new)
@@ -143,7 +150,7 @@ fn put_sharp_double<O: Sink>(
 {
     let in_sync = are_in_sync(older, even, odd);
     let sharp = are_in_sharp_sync(sharper, even, odd);
-    let cycle = 2 * double;
+    let cycle = 2 * double.0;
     put_line(
         &sharp_cycle_line(cycle, in_sync, sharp, kept, older.peak(cycle, even)),
         out,

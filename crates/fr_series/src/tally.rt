@@ -1,4 +1,4 @@
-ghost use Rattle.std.specs.Prelude.{◌≡◌, ◌<◌, All, None};
+ghost use Rattle.std.specs.Prelude.{◌≡◌, All, None};
 ghost use Rattle.fr_time.specs.Placed.{IsPlacedRow};
 ghost use Rattle.fr_series.specs.Basis.{next_sharply, tallied, AreScales};
 ghost use Rattle.fr_series.specs.Scale.{IsScale};
@@ -8,6 +8,7 @@ use crate::scale::Scale;
 use crate::sharp_writing::are_in_sharp_sync;
 use crate::writing::are_in_sync;
 use fr_base::NodeRow;
+use fr_bound::DoubleNumber;
 use fr_skew::Peak;
 
 /// What a sharper series tells at its end of the cycles of its run.
@@ -36,13 +37,12 @@ impl Tally {
         self,
         older: &Scale,
         sharp: &Scale,
-        double: u32,
+        double: DoubleNumber,
         even: &[NodeRow],
         odd: &[NodeRow],
         following: bool,
     ) -> Tally
         requires scales { AreScales older.now sharp.now }
-        requires double { double < 100_000 }
         requires even { All (IsPlacedRow older.now.grid) even.now }
         requires odd { All (IsPlacedRow older.now.grid) odd.now }
         ensures { result ≡ tallied older.now sharp.now double even.now odd.now following self }
@@ -87,19 +87,18 @@ impl SharpFigures {
     pub fn followed(
         self,
         scale: &Scale,
-        double: u32,
+        double: DoubleNumber,
         even: &[NodeRow],
         odd: &[NodeRow],
         in_sync: bool,
         following: bool,
     ) -> SharpFigures
         requires scale { IsScale scale.now }
-        requires double { double < 100_000 }
         requires even { All (IsPlacedRow scale.now.grid) even.now }
         requires odd { All (IsPlacedRow scale.now.grid) odd.now }
         ensures { result ≡ next_sharply scale.now double even.now odd.now in_sync following self }
     {
-        let synced = next_synced(double, in_sync && !following, self.synced);
+        let synced = next_synced(double.0, in_sync && !following, self.synced);
         SharpFigures {
             synced,
             greatest: next_greatest(scale, double, even, odd, synced, self.greatest),

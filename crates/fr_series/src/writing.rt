@@ -17,6 +17,7 @@ use crate::figures::Figures;
 use crate::lines::{cycle_line, end_lines, head_line};
 use crate::scale::Scale;
 use fr_base::{NodeRow, PutFault, RowList, Sink};
+use fr_bound::DoubleNumber;
 use fr_skew::in_sync_within;
 use fr_text::{put_line, put_lines};
 use fr_world::World;
@@ -56,7 +57,7 @@ fn write_rows<O: Sink>(
     let scale = Scale::of(world.params());
     let doubles = world.drift().doubles();
     for double in 0..doubles {
-        write_double(world, &scale, double, figures, out)?;
+        write_double(world, &scale, DoubleNumber(double), figures, out)?;
     }
     Ok(())
 }
@@ -65,7 +66,7 @@ fn write_rows<O: Sink>(
 fn write_double<O: Sink>(
     world: &mut World,
     scale: &Scale,
-    double: u32,
+    double: DoubleNumber,
     figures: &mut Figures,
     out: &mut O,
 ) -> Result<(), PutFault>
@@ -114,7 +115,7 @@ pub(crate) fn next_rows(world: &mut World, rows: &mut RowList) -> bool
 // in it.
 fn put_double<O: Sink>(
     scale: &Scale,
-    double: u32,
+    double: DoubleNumber,
     even: &[NodeRow],
     odd: &[NodeRow],
     following: bool,
@@ -122,7 +123,6 @@ fn put_double<O: Sink>(
     out: &mut O,
 ) -> Result<(), PutFault>
     requires scale { IsScale scale.now }
-    requires double { double < 100_000 }
     requires even { All (IsPlacedRow scale.now.grid) even.now }
     requires odd { All (IsPlacedRow scale.now.grid) odd.now }
     ensures figures { figures.new ≡ followed scale.now double even.now odd.now following figures.old }
@@ -131,7 +131,7 @@ fn put_double<O: Sink>(
 {
     let in_sync = are_in_sync(scale, even, odd);
     *figures = figures.followed(scale, double, even, odd, in_sync, following);
-    let cycle = 2 * double;
+    let cycle = 2 * double.0;
     put_line(&cycle_line(cycle, in_sync, scale.peak(cycle, even)), out)?;
     put_line(
         &cycle_line(cycle + 1, in_sync, scale.peak(cycle + 1, odd)),

@@ -88,7 +88,7 @@ sure_is_awake rate t double b some = by (is_deaf rate t double b) refl
         let none = not-true (list_any test t.nodes) (and_parts (not (is_sync b)) (not (list_any test t.nodes)) is).1 in
         absurd (never (sure_count rate t double b) (misses rate t double b t.nodes none) some)
 
-pub all_of : {X : Type 0} (test : X → Bool) (xs : List X) → ((x : X) → Contains xs x → test x ≡ true) → list_all test xs ≡ true
+all_of : {X : Type 0} (test : X → Bool) (xs : List X) → ((x : X) → Contains xs x → test x ≡ true) → list_all test xs ≡ true
 all_of test [] each = refl
 all_of test (x ∷ xs) each =
     let here = each x (Contains-here x xs) in

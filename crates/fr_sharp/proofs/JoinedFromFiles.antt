@@ -1,5 +1,5 @@
 -- What the files of a run that nodes join give where they are sharply covered to join.
-use Rattle.std.proofs.Common.{◌≡◌, ℕ, ◌+◌, ◌*◌, length, arith, true, ℤ, pos, Some, List, ap, sym, ◌∙◌, subst}
+use Rattle.std.proofs.Common.{◌≡◌, ℕ, ◌+◌, true, ℤ, pos, Some, List, ap, subst}
 use Rattle.std.specs.Prelude.{◌≤ℤ◌, ◌*ℤ◌, Contains}
 use Rattle.fr_cluster.specs.Sane.{IsSane}
 use Rattle.fr_cluster.specs.Setting.{correct_nodes}
@@ -21,10 +21,8 @@ use Rattle.fr_promise.specs.Statement.{IsRunOf}
 use Rattle.fr_promise.proofs.Drifts.{drift_of_a_file_fits}
 use Rattle.fr_promise.proofs.Stating.{rates_begin, starts_begin, reference_is}
 use Rattle.fr_runs.specs.References.{HaveReferences}
-use Rattle.fr_runs.proofs.Exchanged.{on_channel}
 use Rattle.fr_runs.specs.Rounds.{IsDoubleOf}
 use Rattle.fr_runs.proofs.Lawful.{lawful_cycles_run}
-use Rattle.fr_runs.proofs.Nodes.{correct_node, node_there}
 use Rattle.fr_runs.proofs.Rows.{each_row}
 use Rattle.fr_runs.proofs.Whole.{double_runs}
 use Rattle.fr_bound.specs.SharpBounds.{rate_walk}

@@ -1,7 +1,7 @@
 -- The run that files decide where nodes join and frames are lost: it is as the law of losses asks for, so it keeps to the bounds by what
 -- is heard.
-use Rattle.std.proofs.Common.{◌≡◌, ℕ, zero, suc, ◌+◌, ◌-◌, ◌*◌, ◌/◌, ◌<◌, ◌≤◌, ◌&&◌, ◌||◌, Bool, true, false, if◌then◌else◌, Some, refl, ap, sym, ◌∙◌, subst, arith}
-use Rattle.std.specs.Prelude.{max, nat_eq, Contains}
+use Rattle.std.proofs.Common.{◌≡◌, ℕ, zero, suc, ◌+◌, ◌-◌, ◌*◌, ◌/◌, ◌<◌, ◌≤◌, Bool, true, false, Some, refl, ap, sym, ◌∙◌, subst, arith}
+use Rattle.std.specs.Prelude.{max, Contains}
 use Rattle.std.proofs.Math.Nat.{le-max_left}
 use Rattle.fr_cluster.specs.Questions.{node_of}
 use Rattle.fr_cluster.specs.Sane.{IsSane}

@@ -39,7 +39,7 @@ use Rattle.fr_sharp.specs.Losses.{HistoriesKeepThroughLosses}
 use Rattle.fr_traffic.specs.Reaching.{all_reach, reaches, reaches_each}
 use Rattle.fr_sharp.specs.LossRuns.{is_borne, is_borne_of, is_link_at_most, is_through_losses, losses_by, losses_of, lost_before, near_in_group, near_passed, next_losses, some_listened, stray_fits, through_checks, through_nodes, told_apart, told_near, AreLosses, IsLastLost, IsThroughLosses, JoinedRunsKeepTheirBounds, LossesAreTold, NearIsTakenIn, RunsKeepTheirBounds}
 use Rattle.fr_sharp.specs.LossSteps.{heard_apart}
-use Rattle.fr_sharp.specs.LossStatement.{apart_since, run_spread, run_strayed, spread_since, without_losses}
+use Rattle.fr_sharp.specs.LossStatement.{run_spread, run_strayed, without_losses}
 use Rattle.fr_traffic.specs.Reaching.{whole_in}
 use Rattle.fr_bound.specs.SharpChecks.{sharp_holds_of, SharpChecksHold}
 use Rattle.fr_bound.specs.SharpSpreads.{sharply_near_in}

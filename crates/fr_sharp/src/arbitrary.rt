@@ -1,6 +1,4 @@
-ghost use Rattle.std.specs.Prelude.{◌≡◌, ◌&&◌};
-ghost use Rattle.fr_script.specs.View.{is_arbitrary};
-ghost use Rattle.fr_coverage.specs.Links.{is_sync};
+ghost use Rattle.std.specs.Prelude.{◌≡◌};
 ghost use Rattle.fr_sharp.specs.SharpStatement.{has_arbitrary, has_arbitrary_in};
 
 use fr_cluster::{NodeList, Params};

@@ -1,7 +1,6 @@
 ghost use Rattle.std.specs.Prelude.{ℕ, ◌≡◌, ◌≤◌, ◌<◌, ◌+◌, ◌*◌, ◌&&◌, not};
 ghost use Rattle.fr_script.specs.View.{is_arbitrary, join_of};
 ghost use Rattle.fr_runs.specs.Gathered.{listened_by};
-ghost use Rattle.fr_bound.specs.SharpBounds.{most_flutter};
 ghost use Rattle.fr_precision.specs.declared.kinds.Kinds.{Kinds};
 ghost use Rattle.fr_promise.specs.SharpJoining.{all_heard, first_apart_by, first_lengths_by, group_spread_through, next_group_spread, second_apart_by};
 ghost use Rattle.fr_sharp.specs.LossRuns.{near_in_group, some_listened};
@@ -9,7 +8,8 @@ ghost use Rattle.fr_sharp.specs.LossSteps.{AreReckoned, LossGroup, heard_apart, 
 
 use crate::loss_steps::{LossSpread, near_by, odd};
 use fr_bound::{
-    Heard, arrival_error, cycle_change, even_lambda, longest_microtick, sharp_pi, steady_error,
+    Flutter, Heard, arrival_error, cycle_change, even_lambda, longest_microtick, sharp_pi,
+    steady_error,
 };
 use fr_cluster::{NodeList, NodeSpec, ParamName, Params};
 use fr_precision::Kinds;
@@ -44,8 +44,7 @@ impl Model for GroupLosses {
 
 impl GroupLosses {
     // That of a double cycle in sharp sync, beside arbitrary sync nodes or without.
-    pub(crate) fn first(params: &Params, beside: bool, flutter: u64) -> GroupLosses
-        requires { flutter ≤ most_flutter }
+    pub(crate) fn first(params: &Params, beside: bool, flutter: Flutter) -> GroupLosses
         ensures spread { (what : ℕ → Kinds) → result.spread ≡ group_spread_through beside params.now flutter what 0 }
         ensures passed { result.passed ≡ 0 }
     {
@@ -61,9 +60,8 @@ impl GroupLosses {
     }
 
     // Goes on to the next double cycle, by what is heard in this one.
-    pub(crate) fn step(&mut self, params: &Params, flutter: u64, what: Kinds)
+    pub(crate) fn step(&mut self, params: &Params, flutter: Flutter, what: Kinds)
         requires few { self.old.passed < most_passed }
-        requires flutter { flutter ≤ most_flutter }
         ensures spread { self.new.spread ≡ next_group_spread what params.now flutter self.old.spread }
         ensures passed { self.new.passed ≡ self.old.passed + 1 }
     {
@@ -76,8 +74,7 @@ impl GroupLosses {
     }
 
     // How far macroticks of the nodes with rows may lie apart in this double cycle, by what is heard in it.
-    pub(crate) fn apart(&self, params: &Params, flutter: u64, what: Kinds) -> u128
-        requires { flutter ≤ most_flutter }
+    pub(crate) fn apart(&self, params: &Params, flutter: Flutter, what: Kinds) -> u128
         ensures value { result ≡ heard_apart what params.now flutter self.now.spread.rows }
         ensures most { result ≤ most_lost }
     {
@@ -112,10 +109,9 @@ fn all_heard(beside: bool) -> Heard
 }
 
 // How far the starts of those that follow for the first time may lie from the others.
-fn first_apart(params: &Params, flutter: u64, starts: u128, lengths: u128) -> u128
+fn first_apart(params: &Params, flutter: Flutter, starts: u128, lengths: u128) -> u128
     requires starts { starts ≤ 30_000_100_000_000_000_000_000 }
     requires lengths { lengths ≤ 14_000_000_000_000_000 }
-    requires flutter { flutter ≤ most_flutter }
     ensures value { result ≡ first_apart_by params.now flutter starts lengths }
     ensures most { result ≤ starts + 2 * lengths + 30_000_000_000 }
 {
@@ -123,14 +119,13 @@ fn first_apart(params: &Params, flutter: u64, starts: u128, lengths: u128) -> u1
         + 2 * lengths
         + 4 * u128::from(cycle_change(params))
         + 2 * u128::from(arrival_error(params))
-        + u128::from(flutter)
+        + u128::from(flutter.0)
         + 4 * u128::from(longest_microtick(params))
 }
 
 // And their even lengths.
-fn first_lengths(params: &Params, flutter: u64, lengths: u128) -> u128
+fn first_lengths(params: &Params, flutter: Flutter, lengths: u128) -> u128
     requires lengths { lengths ≤ 14_000_000_000_000_000 }
-    requires flutter { flutter ≤ most_flutter }
     ensures value { result ≡ first_lengths_by params.now flutter lengths }
     ensures most { result ≤ lengths + 30_000_000_000 }
 {

@@ -2,10 +2,9 @@ ghost use Rattle.std.specs.Prelude.{ℕ, ◌≡◌, ◌≤◌, ◌+◌, ◌*◌,
 ghost use Rattle.fr_bound.specs.Settling.{IsSettleCheck};
 ghost use Rattle.fr_sharp.specs.LossCosts.{IsLossCheck, limits_hold};
 ghost use Rattle.fr_sharp.specs.LossSteps.{most_lost};
-ghost use Rattle.fr_bound.specs.SharpBounds.{most_flutter};
 ghost use Rattle.fr_bound.specs.SharpChecks.{sharp_right_of};
 
-use fr_bound::{CheckSides, sharp_side_within};
+use fr_bound::{CheckSides, Flutter, sharp_side_within};
 use fr_cluster::{ParamName, Params};
 
 /// Both sides of a sharper check with the reach of losses, and whether it holds. The sides are ticks, but of the fourth
@@ -21,10 +20,9 @@ pub struct LossSides {
 }
 
 /// The sides of the sharper check of this number, 1 to 5, where action points may lie so many ticks apart, 0 to
-/// 100,000,000,000,000,000,000,000, and delays flutter by no more than so many, 0 to 1,000,000,000.
-pub fn loss_side(params: &Params, flutter: u64, reach: u128, number: u8) -> LossSides
+/// 100,000,000,000,000,000,000,000, and delays flutter by no more than so many.
+pub fn loss_side(params: &Params, flutter: Flutter, reach: u128, number: u8) -> LossSides
     requires number { IsSettleCheck number }
-    requires flutter { flutter ≤ most_flutter }
     requires reach { reach ≤ most_lost }
     ensures { IsLossCheck number flutter reach params.now result }
 {
@@ -65,9 +63,8 @@ fn is_enough(number: u8, left: u64, right: u128) -> bool
 }
 
 /// Whether the checks from the third to the fifth hold, those of the limits, where action points may lie so many ticks
-/// apart, 0 to 100,000,000,000,000,000,000,000, and delays flutter by no more than so many, 0 to 1,000,000,000.
-pub fn limits_hold(params: &Params, flutter: u64, reach: u128) -> bool
-    requires flutter { flutter ≤ most_flutter }
+/// apart, 0 to 100,000,000,000,000,000,000,000, and delays flutter by no more than so many.
+pub fn limits_hold(params: &Params, flutter: Flutter, reach: u128) -> bool
     requires reach { reach ≤ most_lost }
     ensures { result ≡ limits_hold flutter reach params.now }
 {

@@ -2,11 +2,10 @@ ghost use Rattle.std.specs.Prelude.{◌≡◌, ◌≤◌, ◌<◌, ◌+◌, ◌-
 ghost use Rattle.fr_precision.specs.Among.{all_or_any, both, lost_spread};
 ghost use Rattle.fr_sharp.specs.LossCosts.{IsCrossingCost, IsLongest, IsLossCost, IsSecondCost, heard_behind};
 ghost use Rattle.fr_sharp.specs.LossSteps.{most_lost};
-ghost use Rattle.fr_bound.specs.SharpBounds.{most_flutter};
 
 use crate::loss_checks::limits_hold;
 use crate::loss_steps::LossSpread;
-use fr_bound::Heard;
+use fr_bound::{Flutter, Heard};
 use fr_cluster::{ParamName, Params};
 use fr_precision::Kinds;
 
@@ -42,11 +41,10 @@ pub struct SecondCost {
 }
 
 /// What it costs where any frames may be lost in so many double cycles in a row, 1 to 1000, and delays flutter by no more
-/// than so many ticks, 0 to 1,000,000,000.
-pub fn loss_cost(params: &Params, flutter: u64, count: u32) -> LossCost
+/// than so many ticks.
+pub fn loss_cost(params: &Params, flutter: Flutter, count: u32) -> LossCost
     requires from { 1 ≤ count }
     requires to { count ≤ 1000 }
-    requires flutter { flutter ≤ most_flutter }
     ensures is { IsLossCost params.now flutter count result }
     ensures soon { result.back ≡ count + 2 }
     ensures most { result.reach ≤ most_lost }
@@ -72,9 +70,8 @@ pub fn heard_behind(count: u32, double: u32) -> Kinds
 }
 
 // The spread behind so many double cycles in which anything may be lost.
-fn behind(params: &Params, flutter: u64, count: u32) -> LossSpread
+fn behind(params: &Params, flutter: Flutter, count: u32) -> LossSpread
     requires count { count ≤ 1000 }
-    requires flutter { flutter ≤ most_flutter }
     ensures spread { result.spread ≡ lost_spread params.now flutter (heard_behind count) count }
     ensures passed { result.passed ≡ count }
 {
@@ -86,12 +83,10 @@ fn behind(params: &Params, flutter: u64, count: u32) -> LossSpread
 }
 
 /// What it costs where any frames may be lost in so many odd cycles, 1 to 1000, and the even ones behind them: in so many
-/// double cycles no offset value need come, and in one more no rate value. Delays flutter by no more than so many ticks, 0 to
-/// 1,000,000,000.
-pub fn crossing_cost(params: &Params, flutter: u64, count: u32) -> CrossingCost
+/// double cycles no offset value need come, and in one more no rate value. Delays flutter by no more than so many ticks.
+pub fn crossing_cost(params: &Params, flutter: Flutter, count: u32) -> CrossingCost
     requires from { 1 ≤ count }
     requires to { count ≤ 1000 }
-    requires flutter { flutter ≤ most_flutter }
     ensures is { IsCrossingCost params.now flutter count result }
     ensures most { result.reach ≤ most_lost }
 {
@@ -111,9 +106,8 @@ pub fn crossing_cost(params: &Params, flutter: u64, count: u32) -> CrossingCost
 }
 
 /// What it costs where they may be lost in every second double cycle, so that of any two adjacent ones all is heard in
-/// one, and delays flutter by no more than so many ticks, 0 to 1,000,000,000.
-pub fn every_second_cost(params: &Params, flutter: u64) -> SecondCost
-    requires { flutter ≤ most_flutter }
+/// one, and delays flutter by no more than so many ticks.
+pub fn every_second_cost(params: &Params, flutter: Flutter) -> SecondCost
     ensures is { IsSecondCost params.now flutter result }
     ensures most { result.reach ≤ most_lost }
 {
@@ -129,9 +123,8 @@ pub fn every_second_cost(params: &Params, flutter: u64) -> SecondCost
 }
 
 /// In how many double cycles in a row any frames may be lost so that the checks of the limits hold with the reach of that,
-/// 0 to 98; none where they fail though nothing is lost. Delays flutter by no more than so many ticks, 0 to 1,000,000,000.
-pub fn longest_loss(params: &Params, flutter: u64) -> Option<u32>
-    requires { flutter ≤ most_flutter }
+/// 0 to 98; none where they fail though nothing is lost. Delays flutter by no more than so many ticks.
+pub fn longest_loss(params: &Params, flutter: Flutter) -> Option<u32>
     ensures { IsLongest params.now flutter result }
 {
     let _macros = params.value(ParamName::gMacroPerCycle);

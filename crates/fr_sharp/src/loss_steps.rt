@@ -6,12 +6,12 @@ ghost use Rattle.fr_bound.specs.Judged.{heard_spread};
 ghost use Rattle.fr_precision.specs.Among.{kinds_spread, spread_through_losses};
 ghost use Rattle.fr_precision.specs.declared.kinds.Kinds.{Kinds};
 ghost use Rattle.fr_sharp.specs.LossSteps.{LossDouble, IsReckoned, heard_apart, most_lost, most_passed, spread_with};
-ghost use Rattle.fr_bound.specs.SharpBounds.{last_action, most_flutter, near_by, odd_spread, precision_by, steady_error};
+ghost use Rattle.fr_bound.specs.SharpBounds.{last_action, near_by, odd_spread, precision_by, steady_error};
 ghost use Rattle.fr_bound.specs.SharpSpreads.{sharply_near_in};
 
 use fr_bound::{
-    Heard, arrival_error, cycle_change, even_lambda, last_action, longest_microtick, sharp_pi,
-    steady_error,
+    Flutter, Heard, arrival_error, cycle_change, even_lambda, last_action, longest_microtick,
+    sharp_pi, steady_error,
 };
 use fr_cluster::{ParamName, Params};
 use fr_precision::Kinds;
@@ -36,9 +36,8 @@ impl Model for LossSpread {
 
 impl LossSpread {
     /// That of a double cycle in sharp sync, beside arbitrary sync nodes or without, where delays flutter by no more than so
-    /// many ticks, 0 to 1,000,000,000.
-    pub fn first(params: &Params, beside: bool, flutter: u64) -> LossSpread
-        requires { flutter ≤ most_flutter }
+    /// many ticks.
+    pub fn first(params: &Params, beside: bool, flutter: Flutter) -> LossSpread
         ensures spread { (what : ℕ → Kinds) → result.spread ≡ spread_through_losses beside params.now flutter what 0 }
         ensures passed { result.passed ≡ 0 }
     {
@@ -50,9 +49,8 @@ impl LossSpread {
     }
 
     /// Goes on to the next double cycle, by what is heard in this one; up to 1,000,000 may pass.
-    pub fn step(&mut self, params: &Params, flutter: u64, what: Kinds)
+    pub fn step(&mut self, params: &Params, flutter: Flutter, what: Kinds)
         requires few { self.old.passed < most_passed }
-        requires flutter { flutter ≤ most_flutter }
         ensures spread { self.new.spread ≡ kinds_spread what params.now flutter self.old.spread }
         ensures passed { self.new.passed ≡ self.old.passed + 1 }
     {
@@ -63,8 +61,7 @@ impl LossSpread {
     }
 
     /// How far macroticks may lie apart in this double cycle, by what is heard in it, in ticks.
-    pub fn apart(&self, params: &Params, flutter: u64, what: Kinds) -> u128
-        requires { flutter ≤ most_flutter }
+    pub fn apart(&self, params: &Params, flutter: Flutter, what: Kinds) -> u128
         ensures value { result ≡ heard_apart what params.now flutter self.now.spread }
         ensures most { result ≤ most_lost }
     {
@@ -106,10 +103,9 @@ pub(crate) fn near_by(params: &Params, starts: u128, lengths: u128) -> u128
 }
 
 // The next starts and the next lengths.
-fn next(params: &Params, flutter: u64, what: Kinds, starts: u128, lengths: u128) -> (u128, u128)
+fn next(params: &Params, flutter: Flutter, what: Kinds, starts: u128, lengths: u128) -> (u128, u128)
     requires starts { starts ≤ 30_000_100_000_000_000_000_000 }
     requires lengths { lengths ≤ 14_000_000_000_000_000 }
-    requires flutter { flutter ≤ most_flutter }
     ensures next { spread_with result.0 result.1 ≡
         kinds_spread what params.now flutter (spread_with starts lengths) }
     ensures starts { result.0 ≤ starts + 30_000_000_000_000_000 }
@@ -142,9 +138,8 @@ fn next_starts(params: &Params, what: Heard, starts: u128, lengths: u128) -> u12
 }
 
 // The next lengths, by what is heard of rates.
-fn next_lengths(params: &Params, flutter: u64, what: Heard, lengths: u128) -> u128
+fn next_lengths(params: &Params, flutter: Flutter, what: Heard, lengths: u128) -> u128
     requires lengths { lengths ≤ 14_000_000_000_000_000 }
-    requires flutter { flutter ≤ most_flutter }
     ensures value { (starts : ℕ) → result ≡
         (heard_spread what params.now flutter (spread_with starts lengths)).lengths }
     ensures most { result ≤ lengths + 13_000_000_000 }
@@ -157,8 +152,7 @@ fn next_lengths(params: &Params, flutter: u64, what: Heard, lengths: u128) -> u1
 }
 
 // By how much lengths may come further apart where something is lost.
-fn lengthened(params: &Params, flutter: u64) -> u64
-    requires { flutter ≤ most_flutter }
+fn lengthened(params: &Params, flutter: Flutter) -> u64
     ensures value { result ≡ 2 * steady_error params.now flutter
         + 2 * (amount params.now name.pClusterDriftDamping * longest_micro params.now) + 2 * cycle_change params.now }
     ensures most { result ≤ 13_000_000_000 }

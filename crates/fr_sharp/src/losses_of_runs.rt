@@ -3,13 +3,13 @@ ghost use Rattle.fr_sharp.specs.LossRuns.{is_borne, is_borne_of, losses_of, next
 ghost use Rattle.fr_sharp.specs.LossStatement.{run_strayed};
 ghost use Rattle.fr_traffic.specs.Reaching.{whole_in};
 ghost use Rattle.fr_sharp.specs.LossSteps.{most_lost};
-ghost use Rattle.fr_bound.specs.SharpBounds.{most_flutter};
 
 use crate::arbitrary::has_arbitrary;
 use crate::group_losses::GroupLosses;
 use crate::joined_files::joined_files_keep_through_losses;
 use crate::losing::histories_keep_through_losses;
 use crate::strays::{stray_fits, strayed_on};
+use fr_bound::{DoubleNumber, Flutter};
 use fr_cluster::Params;
 use fr_coverage::{found_gap_from_is_first, some_join};
 use fr_drift::Drift;
@@ -38,16 +38,14 @@ pub struct RunLosses {
     pub trusted: bool,
 }
 
-/// What the run of some files loses from a double cycle on, where its delays flutter by so many ticks, 0 to
-/// 1,000,000,000, from there on.
+/// What the run of some files loses from a double cycle on, where its delays flutter by so many ticks from there on.
 pub fn run_losses(
     params: &Params,
     drift: &Drift,
     script: &Script,
     from: u32,
-    flutter: u64,
+    flutter: Flutter,
 ) -> RunLosses
-    requires { flutter ≤ most_flutter }
     ensures value { result ≡ losses_of params.now drift.now script.now from flutter }
     ensures most { result.reach ≤ most_lost }
 {
@@ -56,7 +54,8 @@ pub fn run_losses(
     let mut strayed = 0;
     let count = drift.doubles().saturating_sub(from);
     for passed in 0..count {
-        let double = from + passed;
+        let number = from + passed;
+        let double = DoubleNumber(number);
         let whole = is_whole(params, script, double);
         strayed = strayed_on(
             params,
@@ -68,8 +67,8 @@ pub fn run_losses(
         let trusted = is_borne_of(params, script, double, whole, borne);
         let what = heard_in(params, script, double, whole);
         let apart = spread.apart(params, flutter, what);
-        let near = spread.near(params, script, double);
-        losses = losses.followed(double, whole, trusted, apart, near);
+        let near = spread.near(params, script, number);
+        losses = losses.followed(number, whole, trusted, apart, near);
         spread.step(params, flutter, what);
     }
     losses
@@ -79,25 +78,28 @@ pub fn run_losses(
 fn is_borne(
     params: &Params,
     script: &Script,
-    flutter: u64,
+    flutter: Flutter,
     from: u32,
-    double: u32,
+    double: DoubleNumber,
     strayed: u128,
 ) -> bool
-    requires flutter { flutter ≤ most_flutter }
     requires behind { from ≤ double }
-    requires double { double ≤ 100_000 }
     requires few { strayed ≤ 3_000_000_000_000_000 }
     requires strayed { strayed ≡ run_strayed params.now script.now from flutter (suc double) }
     ensures { result ≡ is_borne params.now script.now from flutter double }
 {
     all_bear_from(params, script, from, double)
-        && stray_fits(params, flutter, double + 1 - from, strayed)
+        && stray_fits(params, flutter, double.0 + 1 - from, strayed)
 }
 
 // Where a correct node joins: of each kind all is heard in it, or each that has begun trusts what it has of those that do not.
-fn is_borne_of(params: &Params, script: &Script, double: u32, whole: bool, borne: bool) -> bool
-    requires double { double ≤ 100_000 }
+fn is_borne_of(
+    params: &Params,
+    script: &Script,
+    double: DoubleNumber,
+    whole: bool,
+    borne: bool,
+) -> bool
     requires whole { whole ≡ whole_in params.now script.now double }
     ensures { (from flutter : ℕ) → borne ≡ is_borne params.now script.now from flutter double
         → result ≡ is_borne_of params.now script.now from flutter double }
@@ -109,12 +111,11 @@ fn is_borne_of(params: &Params, script: &Script, double: u32, whole: bool, borne
     }
 }
 
-fn is_whole(params: &Params, script: &Script, double: u32) -> bool
-    requires { double ≤ 100_000 }
+fn is_whole(params: &Params, script: &Script, double: DoubleNumber) -> bool
     ensures { result ≡ whole_in params.now script.now double }
 {
     let nodes = &params.nodes;
-    all_reach(nodes, script, Some(double))
+    all_reach(nodes, script, &Some(double))
 }
 
 impl RunLosses {

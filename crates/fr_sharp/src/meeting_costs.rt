@@ -1,10 +1,8 @@
-ghost use Rattle.std.specs.Prelude.{ℕ, ◌≡◌, ◌≤◌, ◌+◌, ◌*◌, length};
+ghost use Rattle.std.specs.Prelude.{◌≡◌, ◌≤◌, ◌+◌, ◌*◌, length};
 ghost use Rattle.fr_cluster.specs.Constraints.{key_slots};
-ghost use Rattle.fr_midpoint.specs.Midpoint.{discarded};
-ghost use Rattle.fr_bound.specs.SharpBounds.{most_flutter};
 ghost use Rattle.fr_sharp.specs.MeetingCosts.{IsMeetingCost, IsMostMissed, may_miss};
 
-use fr_bound::{even_lambda, near_by, precision_by, sharp_pi};
+use fr_bound::{Flutter, even_lambda, near_by, precision_by, sharp_pi};
 use fr_cluster::{NodeList, Params};
 use fr_traffic::discarded_of;
 
@@ -21,9 +19,8 @@ pub struct MeetingCost {
 }
 
 /// What it costs where each node misses the frames of so few other sync nodes, and delays flutter by no more than so many
-/// ticks, 0 to 1,000,000,000.
-pub fn meeting_cost(params: &Params, flutter: u64) -> MeetingCost
-    requires { flutter ≤ most_flutter }
+/// ticks.
+pub fn meeting_cost(params: &Params, flutter: Flutter) -> MeetingCost
     ensures { IsMeetingCost params.now flutter result }
 {
     let starts = sharp_pi(params, true, flutter);

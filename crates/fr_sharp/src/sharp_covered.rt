@@ -1,13 +1,12 @@
 ghost use Rattle.std.specs.Prelude.{◌≡◌, ◌≤◌};
 ghost use Rattle.fr_bound.specs.Settling.{IsSettleCheck};
 ghost use Rattle.fr_coverage.specs.Coverage.{gap_from, some_join};
-ghost use Rattle.fr_bound.specs.SharpBounds.{most_flutter};
 ghost use Rattle.fr_sharp.specs.SharpStatement.{has_arbitrary};
 ghost use Rattle.fr_sharp.specs.SharpCovered.{failed_sharp, failed_sharp_join, first_sharp_gap, sharp_checks_gap};
 ghost use Rattle.fr_sharp.specs.SharpCovered.{sharp_gap_to_join, sharp_join_checks_gap};
 
 use crate::arbitrary::has_arbitrary;
-use fr_bound::{sharp_checks, sharp_side};
+use fr_bound::{Flutter, sharp_checks, sharp_side};
 use fr_cluster::Params;
 use fr_coverage::{Gap, run_covered, some_join};
 use fr_drift::Drift;
@@ -30,9 +29,8 @@ pub fn first_sharp_gap(
     drift: &Drift,
     script: &Script,
     from: u32,
-    flutter: u64,
+    flutter: Flutter,
 ) -> Option<Gap>
-    requires { flutter ≤ most_flutter }
     ensures { result ≡ first_sharp_gap params.now drift.now script.now from flutter }
 {
     match failing_check(params, has_arbitrary(params, script), flutter) {
@@ -45,8 +43,7 @@ pub fn first_sharp_gap(
 }
 
 // The first sharper check of nodes that join that fails, where one joins.
-fn gap_to_join(params: &Params, script: &Script, flutter: u64) -> Option<Gap>
-    requires { flutter ≤ most_flutter }
+fn gap_to_join(params: &Params, script: &Script, flutter: Flutter) -> Option<Gap>
     ensures { result ≡
         sharp_gap_to_join (some_join params.now script.now) (has_arbitrary params.now script.now) params.now flutter }
 {
@@ -58,8 +55,7 @@ fn gap_to_join(params: &Params, script: &Script, flutter: u64) -> Option<Gap>
 }
 
 // The first sharper check that fails, from the second to the fifth.
-fn failing_check(params: &Params, beside: bool, flutter: u64) -> Option<Gap>
-    requires { flutter ≤ most_flutter }
+fn failing_check(params: &Params, beside: bool, flutter: Flutter) -> Option<Gap>
     ensures { result ≡ sharp_checks_gap beside params.now flutter }
 {
     match sharp_checks(params, beside, flutter) {
@@ -68,9 +64,8 @@ fn failing_check(params: &Params, beside: bool, flutter: u64) -> Option<Gap>
     }
 }
 
-fn failed(params: &Params, beside: bool, flutter: u64, number: u8) -> Gap
+fn failed(params: &Params, beside: bool, flutter: Flutter, number: u8) -> Gap
     requires number { IsSettleCheck number }
-    requires flutter { flutter ≤ most_flutter }
     ensures { result ≡ failed_sharp beside params.now flutter number }
 {
     let sides = sharp_side(params, beside, flutter, number);
@@ -82,8 +77,7 @@ fn failed(params: &Params, beside: bool, flutter: u64, number: u8) -> Gap
 }
 
 // And from the sixth to the ninth.
-fn failing_join_check(params: &Params, beside: bool, flutter: u64) -> Option<Gap>
-    requires { flutter ≤ most_flutter }
+fn failing_join_check(params: &Params, beside: bool, flutter: Flutter) -> Option<Gap>
     ensures { result ≡ sharp_join_checks_gap beside params.now flutter }
 {
     match sharp_join_checks(params, beside, flutter) {
@@ -92,10 +86,9 @@ fn failing_join_check(params: &Params, beside: bool, flutter: u64) -> Option<Gap
     }
 }
 
-fn failed_to_join(params: &Params, beside: bool, flutter: u64, number: u8) -> Gap
+fn failed_to_join(params: &Params, beside: bool, flutter: Flutter, number: u8) -> Gap
     requires from { 6 ≤ number }
     requires to { number ≤ 9 }
-    requires flutter { flutter ≤ most_flutter }
     ensures { result ≡ failed_sharp_join beside params.now flutter number }
 {
     let sides = sharp_join_side(params, beside, flutter, number);

@@ -1,16 +1,14 @@
 ghost use Rattle.std.specs.Prelude.{◌≡◌, ◌≤◌, ◌+◌, ◌-◌, ◌*◌, if◌then◌else◌};
 ghost use Rattle.fr_bound.specs.Bounds.{cycle_change};
-ghost use Rattle.fr_bound.specs.SharpBounds.{most_flutter};
 ghost use Rattle.fr_precision.specs.Lengths.{walk_back, walk_on};
 ghost use Rattle.fr_sharp.specs.LossRuns.{stray_fits, walked_at_most, StrayFitsIsTold};
 ghost use Rattle.fr_sharp.specs.LossStatement.{LimitFollows};
 
-use fr_bound::{cycle_change, rate_room, rate_walk, sharp_lasts};
+use fr_bound::{Flutter, cycle_change, rate_room, rate_walk, sharp_lasts};
 use fr_cluster::Params;
 
 // How far lengths stray in one double cycle more, in ticks, in which some node keeps its rate, or none does.
-pub(crate) fn strayed_on(params: &Params, flutter: u64, keeps: bool, strayed: u128) -> u128
-    requires flutter { flutter ≤ most_flutter }
+pub(crate) fn strayed_on(params: &Params, flutter: Flutter, keeps: bool, strayed: u128) -> u128
     requires few { strayed ≤ 2_000_000_000_000_000 }
     ensures value { result ≡
         (if keeps then strayed + (2 * cycle_change params.now - walk_on params.now flutter)
@@ -26,16 +24,14 @@ pub(crate) fn strayed_on(params: &Params, flutter: u64, keeps: bool, strayed: u1
 }
 
 // Whether the rate limit suffices for that and for the walk of so many double cycles, or of as many as it lasts.
-pub(crate) fn stray_fits(params: &Params, flutter: u64, passed: u32, strayed: u128) -> bool
-    requires flutter { flutter ≤ most_flutter }
+pub(crate) fn stray_fits(params: &Params, flutter: Flutter, passed: u32, strayed: u128) -> bool
     requires few { strayed ≤ 3_000_000_000_000_000 }
     ensures { result ≡ stray_fits params.now flutter passed strayed }
 {
     walked_at_most(params, flutter, passed) + strayed <= u128::from(rate_room(params))
 }
 
-fn walked_at_most(params: &Params, flutter: u64, passed: u32) -> u128
-    requires { flutter ≤ most_flutter }
+fn walked_at_most(params: &Params, flutter: Flutter, passed: u32) -> u128
     ensures value { result ≡ walked_at_most params.now flutter passed }
     ensures most { result ≤ 100_000_000_000_000_000_000 }
 {
@@ -49,8 +45,7 @@ fn walked_at_most(params: &Params, flutter: u64, passed: u32) -> u128
 }
 
 // By how much lengths walk on in a double cycle, and by how much they come back where they do not.
-fn walk(params: &Params, flutter: u64) -> (u64, u64)
-    requires { flutter ≤ most_flutter }
+fn walk(params: &Params, flutter: Flutter) -> (u64, u64)
     ensures on { result.0 ≡ walk_on params.now flutter }
     ensures back { result.1 ≡ walk_back params.now flutter }
     ensures most { result.0 ≤ 10_000_000_000 }

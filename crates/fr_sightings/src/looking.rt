@@ -5,6 +5,7 @@ ghost use Rattle.fr_sightings.specs.Ranges.{AreSeenFrom, AreLogStamps, DoublesAs
 ghost use Rattle.fr_sightings.specs.Senders.{is_in, is_of_earlier, sightings_in};
 
 use crate::sighting::Sighting;
+use fr_bound::DoubleNumber;
 
 /// What is looked at of some sightings: those of a double cycle, those of the next one, and all behind the first.
 #[derive(Clone, Copy)]
@@ -27,10 +28,9 @@ fn count_in(seen: &[Sighting], double: u32) -> usize
 }
 
 /// The sightings of a double cycle before which none is, and of the next one.
-pub fn look_at(seen: &[Sighting], double: u32) -> Window<'_>
+pub fn look_at(seen: &[Sighting], double: DoubleNumber) -> Window<'_>
     requires ascend { DoublesAscend seen.now }
     requires from { AreSeenFrom double seen.now }
-    requires double { double < 1_000_000 }
     ensures here { result.here.now ≡ sightings_in seen.now double }
     ensures next { result.next.now ≡ sightings_in seen.now (double + 1) }
     ensures later { (later : ℕ) → double < later → sightings_in result.behind.now later ≡ sightings_in seen.now later }
@@ -39,8 +39,8 @@ pub fn look_at(seen: &[Sighting], double: u32) -> Window<'_>
     ensures timed { (l : LogView) → AreLogStamps l seen.now →
         AreLogStamps l result.here.now × AreLogStamps l result.next.now × AreLogStamps l result.behind.now }
 {
-    let (here, behind) = seen.split_at(count_in(seen, double));
-    let (next, _) = behind.split_at(count_in(behind, double + 1));
+    let (here, behind) = seen.split_at(count_in(seen, double.0));
+    let (next, _) = behind.split_at(count_in(behind, double.0 + 1));
     Window { here, next, behind }
 }
 

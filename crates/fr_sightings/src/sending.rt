@@ -16,6 +16,7 @@ use crate::sender::Sender;
 use crate::sighting::Sighting;
 use arrayvec::ArrayVec;
 use fr_base::{NodeId, ROW_ROOM, Slot};
+use fr_bound::DoubleNumber;
 use fr_cluster::{NodeSpec, Params};
 use fr_course::{Course, Interval, Scale, course_from, is_there};
 use fr_log::Log;
@@ -136,21 +137,20 @@ fn onward_span(
     log: &Log,
     here: &[Sighting],
     next: &[Sighting],
-    double: u32,
+    double: DoubleNumber,
     node: NodeId,
 ) -> Option<Interval>
     requires here { AreLogStamps log.now here.now }
     requires next { AreLogStamps log.now next.now }
-    requires double { double < 1_000_000 }
     ensures value { result ≡ seen_span log.now here.now next.now node (2 * double + 1) (2 * double + 2) }
     ensures near { IfSome result IsSpan }
 {
     let odd = SeenCycle {
-        number: 2 * double + 1,
+        number: 2 * double.0 + 1,
         seen: here,
     };
     let even = SeenCycle {
-        number: 2 * double + 2,
+        number: 2 * double.0 + 2,
         seen: next,
     };
     seen_span(log, node, &odd, &even)
@@ -161,23 +161,22 @@ fn seen_sender_by(
     observed: &Observed<'_>,
     here: &[Sighting],
     next: &[Sighting],
-    double: u32,
+    double: DoubleNumber,
     key: &KeySlot,
 ) -> Option<Sender>
     requires here { AreLogStamps observed.now.log.now here.now }
     requires next { AreLogStamps observed.now.log.now next.now }
-    requires double { double < 1_000_000 }
     requires slot { key.now.slot ≤ amount observed.now.params.now name.gNumberOfStaticSlots }
     ensures value { result ≡ seen_sender_by observed.now.scale.now observed.now.params.now observed.now.log.now
         here.now next.now double key.now.node key.now.slot }
     ensures proper { IfSome result (IsProperSender observed.now.scale.now) }
 {
-    match known_course(observed, here, double, key) {
+    match known_course(observed, here, double.0, key) {
         None => None,
         Some(course) => Some(Sender {
             node: key.node,
             course,
-            next: known_course(observed, next, double + 1, key),
+            next: known_course(observed, next, double.0 + 1, key),
             onward: onward_span(observed.log, here, next, double, key.node),
         }),
     }
@@ -200,12 +199,11 @@ fn seen_sender(
     observed: &Observed<'_>,
     here: &[Sighting],
     next: &[Sighting],
-    double: u32,
+    double: DoubleNumber,
     node: &NodeSpec,
 ) -> Option<Sender>
     requires here { AreLogStamps observed.now.log.now here.now }
     requires next { AreLogStamps observed.now.log.now next.now }
-    requires double { double < 1_000_000 }
     requires node { HasStaticKey observed.now.params.now node.now }
     ensures value { result ≡ seen_sender observed.now.scale.now observed.now.params.now observed.now.log.now here.now
         next.now double node.now }
@@ -246,11 +244,10 @@ pub fn seen_senders(
     observed: &Observed<'_>,
     here: &[Sighting],
     next: &[Sighting],
-    double: u32,
+    double: DoubleNumber,
 ) -> ArrayVec<Sender, ROW_ROOM>
     requires here { AreLogStamps observed.now.log.now here.now }
     requires next { AreLogStamps observed.now.log.now next.now }
-    requires double { double < 1_000_000 }
     ensures value { result.items ≡ seen_senders observed.now.scale.now observed.now.params.now observed.now.log.now
         here.now next.now double }
     ensures proper { All (IsProperSender observed.now.scale.now) result.items }

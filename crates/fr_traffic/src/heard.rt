@@ -1,17 +1,17 @@
-ghost use Rattle.std.specs.Prelude.{◌≡◌, ◌≤◌, IfSome};
+ghost use Rattle.std.specs.Prelude.{◌≡◌};
 ghost use Rattle.fr_coverage.specs.Links.{is_free};
 ghost use Rattle.fr_traffic.specs.Reaching.{all_reach, reaches, reaches_each, reaches_on};
 
 use fr_base::Channel;
+use fr_bound::DoubleNumber;
 use fr_cluster::{NodeList, NodeSpec};
 use fr_coverage::{is_link, shares};
 use fr_script::{Event, Script};
 
-/// Whether all is heard in a double cycle, 0 to 100,000: of any two nodes one channel carries the frames of both its cycles,
-/// where one counts on the other. Without a number: whether it would be if nothing were lost.
-pub fn all_reach(nodes: &NodeList, script: &Script, when: Option<u32>) -> bool
-    requires { IfSome when (λ double. double ≤ 100_000) }
-    ensures { result ≡ all_reach nodes.now script.now when }
+/// Whether all is heard in a double cycle: of any two nodes one channel carries the frames of both its cycles, where one counts
+/// on the other. Without a number: whether it would be if nothing were lost.
+pub fn all_reach(nodes: &NodeList, script: &Script, when: &Option<DoubleNumber>) -> bool
+    ensures { result ≡ all_reach nodes.now script.now when.now }
 {
     let mut all = true;
     for place in 0..nodes.len() {
@@ -23,9 +23,13 @@ pub fn all_reach(nodes: &NodeList, script: &Script, when: Option<u32>) -> bool
     all
 }
 
-fn reaches_each(nodes: &NodeList, script: &Script, sender: &NodeSpec, when: Option<u32>) -> bool
-    requires { IfSome when (λ double. double ≤ 100_000) }
-    ensures { result ≡ reaches_each nodes.now script.now when sender.now }
+fn reaches_each(
+    nodes: &NodeList,
+    script: &Script,
+    sender: &NodeSpec,
+    when: &Option<DoubleNumber>,
+) -> bool
+    ensures { result ≡ reaches_each nodes.now script.now when.now sender.now }
 {
     let mut all = true;
     for place in 0..nodes.len() {
@@ -40,9 +44,13 @@ fn reaches_each(nodes: &NodeList, script: &Script, sender: &NodeSpec, when: Opti
     all
 }
 
-fn reaches(script: &Script, sender: &NodeSpec, receiver: &NodeSpec, when: Option<u32>) -> bool
-    requires { IfSome when (λ double. double ≤ 100_000) }
-    ensures { result ≡ reaches script.now sender.now receiver.now when }
+fn reaches(
+    script: &Script,
+    sender: &NodeSpec,
+    receiver: &NodeSpec,
+    when: &Option<DoubleNumber>,
+) -> bool
+    ensures { result ≡ reaches script.now sender.now receiver.now when.now }
 {
     reaches_on(script, sender, receiver, when, Channel::A)
         || reaches_on(script, sender, receiver, when, Channel::B)
@@ -52,18 +60,17 @@ fn reaches_on(
     script: &Script,
     sender: &NodeSpec,
     receiver: &NodeSpec,
-    when: Option<u32>,
+    when: &Option<DoubleNumber>,
     channel: Channel,
 ) -> bool
-    requires { IfSome when (λ double. double ≤ 100_000) }
-    ensures { result ≡ reaches_on script.now sender.now receiver.now when channel }
+    ensures { result ≡ reaches_on script.now sender.now receiver.now when.now channel }
 {
     match when {
         None => shares(sender, receiver, channel),
         Some(double) => {
             shares(sender, receiver, channel)
-                && is_free(script, sender, receiver, channel, 2 * double)
-                && is_free(script, sender, receiver, channel, 2 * double + 1)
+                && is_free(script, sender, receiver, channel, 2 * double.0)
+                && is_free(script, sender, receiver, channel, 2 * double.0 + 1)
         }
     }
 }

@@ -5,17 +5,15 @@ ghost use Rattle.fr_traffic.specs.Traffic.{all_have, all_linked, all_trust, bear
 
 use crate::meeting::lists_meet;
 use crate::traffic::{Asked, arbitrary_count, has_value, is_trusted, may_receive, may_send};
-use fr_bound::Heard;
+use fr_bound::{DoubleNumber, Heard};
 use fr_cluster::{NodeList, NodeSpec, ParamName, Params};
 use fr_precision::Kinds;
 use fr_script::Script;
 
-/// What the correct nodes of a run hear in a double cycle, 0 to 100,000, by its files, of offsets and of rates: all of all,
-/// without arbitrary sync nodes; all of all beside them, or of any two nodes enough in common; or what there is. Senders that
-/// join count only where all is heard. It is known whether one channel carries the frames of both its cycles of any two
-/// nodes.
-pub fn heard_in(params: &Params, script: &Script, double: u32, whole: bool) -> Kinds
-    requires double { double ≤ 100_000 }
+/// What the correct nodes of a run hear in a double cycle, by its files, of offsets and of rates: all of all, without arbitrary
+/// sync nodes; all of all beside them, or of any two nodes enough in common; or what there is. Senders that join count only
+/// where all is heard. It is known whether one channel carries the frames of both its cycles of any two nodes.
+pub fn heard_in(params: &Params, script: &Script, double: DoubleNumber, whole: bool) -> Kinds
     requires whole { whole ≡ whole_in params.now script.now double }
     ensures { result ≡ heard_in (traffic_in params.now script.now) double }
 {
@@ -27,8 +25,13 @@ pub fn heard_in(params: &Params, script: &Script, double: u32, whole: bool) -> K
     }
 }
 
-fn kind_in(nodes: &NodeList, script: &Script, rate: bool, double: u32, whole: bool) -> Heard
-    requires double { double ≤ 100_000 }
+fn kind_in(
+    nodes: &NodeList,
+    script: &Script,
+    rate: bool,
+    double: DoubleNumber,
+    whole: bool,
+) -> Heard
     requires few { length nodes.now ≤ 64 }
     requires whole { whole ≡ all_linked (traffic_with nodes.now script.now) double }
     ensures { result ≡ kind_in rate (traffic_with nodes.now script.now) double }
@@ -47,19 +50,23 @@ fn kind_in(nodes: &NodeList, script: &Script, rate: bool, double: u32, whole: bo
 }
 
 // Where one channel carries the frames of both cycles of any two nodes, all is heard of either kind.
-fn hears_all(nodes: &NodeList, script: &Script, rate: bool, double: u32, whole: bool) -> bool
-    requires double { double ≤ 100_000 }
+fn hears_all(
+    nodes: &NodeList,
+    script: &Script,
+    rate: bool,
+    double: DoubleNumber,
+    whole: bool,
+) -> bool
     requires whole { whole ≡ all_linked (traffic_with nodes.now script.now) double }
     ensures { result ≡ all_have rate (traffic_with nodes.now script.now) double }
 {
     whole || all_have(nodes, script, rate, double)
 }
 
-/// Whether in a double cycle, 0 to 100,000, of each kind of values all is heard, or each correct node that has begun trusts
-/// what it has of the senders that do not join: it has a value, and discards at each end as many as there may be of arbitrary
-/// nodes. It is known whether one channel carries the frames of both its cycles of any two nodes.
-pub fn is_borne_to_join(params: &Params, script: &Script, double: u32, whole: bool) -> bool
-    requires double { double ≤ 100_000 }
+/// Whether in a double cycle of each kind of values all is heard, or each correct node that has begun trusts what it has of the
+/// senders that do not join: it has a value, and discards at each end as many as there may be of arbitrary nodes. It is known
+/// whether one channel carries the frames of both its cycles of any two nodes.
+pub fn is_borne_to_join(params: &Params, script: &Script, double: DoubleNumber, whole: bool) -> bool
     requires whole { whole ≡ whole_in params.now script.now double }
     ensures { result ≡ is_borne_to_join (traffic_in params.now script.now) double }
 {
@@ -69,8 +76,13 @@ pub fn is_borne_to_join(params: &Params, script: &Script, double: u32, whole: bo
         && bears_kind(nodes, script, true, double, whole)
 }
 
-fn bears_kind(nodes: &NodeList, script: &Script, rate: bool, double: u32, whole: bool) -> bool
-    requires double { double ≤ 100_000 }
+fn bears_kind(
+    nodes: &NodeList,
+    script: &Script,
+    rate: bool,
+    double: DoubleNumber,
+    whole: bool,
+) -> bool
     requires few { length nodes.now ≤ 64 }
     requires whole { whole ≡ all_linked (traffic_with nodes.now script.now) double }
     ensures { result ≡ bears_kind rate (traffic_with nodes.now script.now) double }
@@ -79,8 +91,7 @@ fn bears_kind(nodes: &NodeList, script: &Script, rate: bool, double: u32, whole:
 }
 
 // Whether each correct node that has begun surely has a value of each correct sender that may send.
-fn all_have(nodes: &NodeList, script: &Script, rate: bool, double: u32) -> bool
-    requires { double ≤ 100_000 }
+fn all_have(nodes: &NodeList, script: &Script, rate: bool, double: DoubleNumber) -> bool
     ensures { result ≡ all_have rate (traffic_with nodes.now script.now) double }
 {
     for place in 0..nodes.len() {
@@ -101,25 +112,29 @@ fn has_all_begun(
     nodes: &NodeList,
     script: &Script,
     rate: bool,
-    double: u32,
+    double: DoubleNumber,
     node: &NodeSpec,
 ) -> bool
-    requires { double ≤ 100_000 }
     ensures { result ≡ (not (may_receive (traffic_with nodes.now script.now) double node.now)
         || has_all rate (traffic_with nodes.now script.now) double node.now) }
 {
     !may_receive(script, double, node) || has_all(nodes, script, rate, double, node)
 }
 
-fn has_all(nodes: &NodeList, script: &Script, rate: bool, double: u32, receiver: &NodeSpec) -> bool
-    requires { double ≤ 100_000 }
+fn has_all(
+    nodes: &NodeList,
+    script: &Script,
+    rate: bool,
+    double: DoubleNumber,
+    receiver: &NodeSpec,
+) -> bool
     ensures { result ≡ has_all rate (traffic_with nodes.now script.now) double receiver.now }
 {
     let asked = Asked::surely(rate, double);
     for place in 0..nodes.len() {
         match nodes.get(place) {
             Some(node) => {
-                if !has_sent(script, asked, receiver, node) {
+                if !has_sent(script, &asked, receiver, node) {
                     return false;
                 }
             }
@@ -130,17 +145,17 @@ fn has_all(nodes: &NodeList, script: &Script, rate: bool, double: u32, receiver:
 }
 
 // A sender may not send, or a receiver has such a value of it.
-fn has_sent(script: &Script, asked: Asked, receiver: &NodeSpec, sender: &NodeSpec) -> bool
-    requires { asked.double ≤ 100_000 }
-    ensures { (nodes : List NodeSpec) → result ≡ (not (may_send (traffic_with nodes script.now) asked.double sender.now)
-        || has_value asked.rate asked.surely (traffic_with nodes script.now) asked.double receiver.now sender.now) }
+fn has_sent(script: &Script, asked: &Asked, receiver: &NodeSpec, sender: &NodeSpec) -> bool
+    ensures { (nodes : List NodeSpec) → result ≡
+        (not (may_send (traffic_with nodes script.now) asked.now.double sender.now)
+        || has_value asked.now.rate asked.now.surely (traffic_with nodes script.now) asked.now.double receiver.now
+        sender.now) }
 {
     !may_send(script, asked.double, sender) || has_value(script, asked, receiver, sender)
 }
 
 // Whether each correct node that has begun trusts its list.
-fn all_trust(nodes: &NodeList, script: &Script, rate: bool, double: u32) -> bool
-    requires double { double ≤ 100_000 }
+fn all_trust(nodes: &NodeList, script: &Script, rate: bool, double: DoubleNumber) -> bool
     requires few { length nodes.now ≤ 64 }
     ensures { result ≡ all_trust rate (traffic_with nodes.now script.now) double }
 {
@@ -158,8 +173,13 @@ fn all_trust(nodes: &NodeList, script: &Script, rate: bool, double: u32) -> bool
 }
 
 // A node has not begun, or trusts its list.
-fn trusts_begun(nodes: &NodeList, script: &Script, rate: bool, double: u32, node: &NodeSpec) -> bool
-    requires double { double ≤ 100_000 }
+fn trusts_begun(
+    nodes: &NodeList,
+    script: &Script,
+    rate: bool,
+    double: DoubleNumber,
+    node: &NodeSpec,
+) -> bool
     requires few { length nodes.now ≤ 64 }
     ensures { result ≡ (not (may_receive (traffic_with nodes.now script.now) double node.now)
         || is_trusted rate (traffic_with nodes.now script.now) double node.now) }

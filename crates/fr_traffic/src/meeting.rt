@@ -5,6 +5,7 @@ ghost use Rattle.fr_traffic.specs.Traffic.{lists_meet, traffic_with};
 
 use crate::traffic::{Asked, discarded_of, is_relied_on, may_receive, most_count};
 use fr_base::NodeId;
+use fr_bound::DoubleNumber;
 use fr_cluster::{NodeList, NodeSpec};
 use fr_script::Script;
 use std::marker::Model;
@@ -84,8 +85,12 @@ impl ReceiverList {
 
 // Whether each correct node that has begun surely has a value of a sender that stays on, and any two of them of more such senders in
 // common than both discard. The script is asked of each receiver by itself: of two of them their numbers are compared.
-pub(crate) fn lists_meet(nodes: &NodeList, script: &Script, rate: bool, double: u32) -> bool
-    requires double { double ≤ 100_000 }
+pub(crate) fn lists_meet(
+    nodes: &NodeList,
+    script: &Script,
+    rate: bool,
+    double: DoubleNumber,
+) -> bool
     requires few { length nodes.now ≤ 64 }
     ensures { result ≡ lists_meet rate (traffic_with nodes.now script.now) double }
 {
@@ -109,10 +114,9 @@ fn receiver_of(
     nodes: &NodeList,
     script: &Script,
     rate: bool,
-    double: u32,
+    double: DoubleNumber,
     node: &NodeSpec,
 ) -> Receiver
-    requires double { double ≤ 100_000 }
     requires few { length nodes.now ≤ 64 }
     ensures { result ≡ receiver_of rate (traffic_with nodes.now script.now) double node.now }
 {
@@ -129,8 +133,13 @@ fn receiver_of(
 }
 
 // By a bit for each node, of which senders that stay on a receiver surely has a value.
-fn sure_bits(nodes: &NodeList, script: &Script, rate: bool, double: u32, receiver: &NodeSpec) -> u64
-    requires double { double ≤ 100_000 }
+fn sure_bits(
+    nodes: &NodeList,
+    script: &Script,
+    rate: bool,
+    double: DoubleNumber,
+    receiver: &NodeSpec,
+) -> u64
     requires few { length nodes.now ≤ 64 }
     ensures { result ≡ sure_bits rate (traffic_with nodes.now script.now) double receiver.now }
 {
@@ -140,7 +149,7 @@ fn sure_bits(nodes: &NodeList, script: &Script, rate: bool, double: u32, receive
         match nodes.get(place) {
             Some(node) => {
                 bits *= 2;
-                if is_relied_on(script, asked, receiver, node) {
+                if is_relied_on(script, &asked, receiver, node) {
                     bits += 1;
                 }
             }

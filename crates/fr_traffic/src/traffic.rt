@@ -8,21 +8,22 @@ ghost use Rattle.fr_midpoint.specs.Midpoint.{discarded};
 ghost use Rattle.fr_traffic.specs.Traffic.{arbitrary_count, comes, further_count, has_begun, has_value, is_correct_sender, is_staying_sender, is_trusted, may_be_said, may_receive, may_say, may_send, may_send_by, most_count, sender_count, stays, sure_count, traffic_with, value_on};
 
 use fr_base::Channel;
+use fr_bound::DoubleNumber;
 use fr_cluster::{Join, NodeList, NodeSpec};
 use fr_coverage::shares;
 use fr_script::{Event, Script};
 
 // What is asked of the frames of a double cycle: for rate values or for offset values, and whether they surely come.
-#[derive(Clone, Copy)]
+#[derive(Drop)]
 pub(crate) struct Asked {
     pub(crate) rate: bool,
     pub(crate) surely: bool,
-    pub(crate) double: u32,
+    pub(crate) double: DoubleNumber,
 }
 
 impl Asked {
     // The values of one kind that surely come in a double cycle.
-    pub(crate) fn surely(rate: bool, double: u32) -> Asked
+    pub(crate) fn surely(rate: bool, double: DoubleNumber) -> Asked
         ensures rate { result.rate ≡ rate }
         ensures surely { result.surely ≡ true }
         ensures double { result.double ≡ double }
@@ -35,7 +36,7 @@ impl Asked {
     }
 
     // The values of one kind that may come in a double cycle.
-    pub(crate) fn maybe(rate: bool, double: u32) -> Asked
+    pub(crate) fn maybe(rate: bool, double: DoubleNumber) -> Asked
         ensures rate { result.rate ≡ rate }
         ensures surely { result.surely ≡ false }
         ensures double { result.double ≡ double }
@@ -64,36 +65,34 @@ pub(crate) fn is_staying_sender(script: &Script, node: &NodeSpec) -> bool
 }
 
 // A correct sender that may send in a double cycle.
-pub(crate) fn may_send(script: &Script, double: u32, node: &NodeSpec) -> bool
-    requires { double ≤ 100_000 }
+pub(crate) fn may_send(script: &Script, double: DoubleNumber, node: &NodeSpec) -> bool
     ensures { (nodes : List NodeSpec) → result ≡ may_send (traffic_with nodes script.now) double node.now }
 {
     is_correct_sender(script, node) && may_send_by(script.join(node.id), double)
 }
 
-fn may_send_by(join: Option<Join>, double: u32) -> bool
-    requires { double ≤ 100_000 }
+fn may_send_by(join: Option<Join>, double: DoubleNumber) -> bool
     ensures { result ≡ may_send_by join double }
 {
     match join {
         None => true,
-        Some(join) => 3 <= double && join.double <= double - 3,
+        Some(join) => 3 <= double.0 && join.double <= double.0 - 3,
     }
 }
 
 // A correct node that has begun by a double cycle.
-pub(crate) fn may_receive(script: &Script, double: u32, node: &NodeSpec) -> bool
+pub(crate) fn may_receive(script: &Script, double: DoubleNumber, node: &NodeSpec) -> bool
     ensures { (nodes : List NodeSpec) → result ≡ may_receive (traffic_with nodes script.now) double node.now }
 {
     !script.arbitrary(node.id) && has_begun(script.join(node.id), double)
 }
 
-fn has_begun(join: Option<Join>, double: u32) -> bool
+fn has_begun(join: Option<Join>, double: DoubleNumber) -> bool
     ensures { result ≡ has_begun join double }
 {
     match join {
         None => true,
-        Some(join) => join.double < double,
+        Some(join) => join.double < double.0,
     }
 }
 
@@ -104,10 +103,9 @@ pub(crate) fn sure_count(
     nodes: &NodeList,
     script: &Script,
     rate: bool,
-    double: u32,
+    double: DoubleNumber,
     receiver: &NodeSpec,
 ) -> u64
-    requires double { double ≤ 100_000 }
     requires few { length nodes.now ≤ 64 }
     ensures value { result ≡ sure_count rate (traffic_with nodes.now script.now) double receiver.now }
     ensures most { result ≤ 64 }
@@ -117,7 +115,7 @@ pub(crate) fn sure_count(
     for place in 0..nodes.len() {
         match nodes.get(place) {
             Some(node) => {
-                if is_relied_on(script, asked, receiver, node) {
+                if is_relied_on(script, &asked, receiver, node) {
                     count += 1;
                 }
             }
@@ -130,14 +128,14 @@ pub(crate) fn sure_count(
 // A sender that stays on, of whom a receiver surely has such a value.
 pub(crate) fn is_relied_on(
     script: &Script,
-    asked: Asked,
+    asked: &Asked,
     receiver: &NodeSpec,
     sender: &NodeSpec,
 ) -> bool
-    requires { asked.double ≤ 100_000 }
     ensures { (nodes : List NodeSpec) → result ≡ (is_correct_sender (traffic_with nodes script.now) sender.now
         && (stays (traffic_with nodes script.now) sender.now
-        && has_value asked.rate asked.surely (traffic_with nodes script.now) asked.double receiver.now sender.now)) }
+        && has_value asked.now.rate asked.now.surely (traffic_with nodes script.now) asked.now.double receiver.now
+        sender.now)) }
 {
     is_staying_sender(script, sender) && has_value(script, asked, receiver, sender)
 }
@@ -147,24 +145,22 @@ pub(crate) fn most_count(
     nodes: &NodeList,
     script: &Script,
     rate: bool,
-    double: u32,
+    double: DoubleNumber,
     receiver: &NodeSpec,
 ) -> u64
-    requires double { double ≤ 100_000 }
     requires few { length nodes.now ≤ 64 }
     ensures value { result ≡ most_count rate (traffic_with nodes.now script.now) double receiver.now }
     ensures most { result ≤ 128 }
 {
-    counted(nodes, script, Asked::maybe(rate, double), receiver)
+    counted(nodes, script, &Asked::maybe(rate, double), receiver)
         + further_count(nodes, script, rate, double, receiver)
 }
 
 // Of how many correct senders a receiver has such a value.
-fn counted(nodes: &NodeList, script: &Script, asked: Asked, receiver: &NodeSpec) -> u64
-    requires double { asked.double ≤ 100_000 }
+fn counted(nodes: &NodeList, script: &Script, asked: &Asked, receiver: &NodeSpec) -> u64
     requires few { length nodes.now ≤ 64 }
     ensures value { result ≡ sender_count (traffic_with nodes.now script.now)
-        (has_value asked.rate asked.surely (traffic_with nodes.now script.now) asked.double receiver.now) }
+        (has_value asked.now.rate asked.now.surely (traffic_with nodes.now script.now) asked.now.double receiver.now) }
     ensures most { result ≤ 64 }
 {
     let mut count = 0;
@@ -182,10 +178,10 @@ fn counted(nodes: &NodeList, script: &Script, asked: Asked, receiver: &NodeSpec)
 }
 
 // A sender of whom a receiver has such a value.
-fn is_heard(script: &Script, asked: Asked, receiver: &NodeSpec, sender: &NodeSpec) -> bool
-    requires { asked.double ≤ 100_000 }
+fn is_heard(script: &Script, asked: &Asked, receiver: &NodeSpec, sender: &NodeSpec) -> bool
     ensures { (nodes : List NodeSpec) → result ≡ (is_correct_sender (traffic_with nodes script.now) sender.now
-        && has_value asked.rate asked.surely (traffic_with nodes script.now) asked.double receiver.now sender.now) }
+        && has_value asked.now.rate asked.now.surely (traffic_with nodes script.now) asked.now.double receiver.now
+        sender.now) }
 {
     is_correct_sender(script, sender) && has_value(script, asked, receiver, sender)
 }
@@ -195,10 +191,9 @@ pub(crate) fn further_count(
     nodes: &NodeList,
     script: &Script,
     rate: bool,
-    double: u32,
+    double: DoubleNumber,
     receiver: &NodeSpec,
 ) -> u64
-    requires double { double ≤ 100_000 }
     requires few { length nodes.now ≤ 64 }
     ensures value { result ≡ further_count rate (traffic_with nodes.now script.now) double receiver.now }
     ensures most { result ≤ 64 }
@@ -218,8 +213,13 @@ pub(crate) fn further_count(
 }
 
 // An arbitrary sync node of which a receiver may have a value.
-fn may_add(script: &Script, rate: bool, double: u32, receiver: &NodeSpec, sender: &NodeSpec) -> bool
-    requires { double ≤ 100_000 }
+fn may_add(
+    script: &Script,
+    rate: bool,
+    double: DoubleNumber,
+    receiver: &NodeSpec,
+    sender: &NodeSpec,
+) -> bool
     ensures { (nodes : List NodeSpec) → result ≡
         ((is_sync sender.now && is_arbitrary script.now sender.now.id)
         && may_be_said rate (traffic_with nodes script.now) double receiver.now sender.now) }
@@ -231,30 +231,28 @@ fn may_add(script: &Script, rate: bool, double: u32, receiver: &NodeSpec, sender
 pub(crate) fn may_be_said(
     script: &Script,
     rate: bool,
-    double: u32,
+    double: DoubleNumber,
     receiver: &NodeSpec,
     sender: &NodeSpec,
 ) -> bool
-    requires { double ≤ 100_000 }
     ensures { (nodes : List NodeSpec) → result ≡
         may_be_said rate (traffic_with nodes script.now) double receiver.now sender.now }
 {
     let asked = Asked::maybe(rate, double);
-    may_say(script, asked, sender, receiver, Channel::A)
-        || may_say(script, asked, sender, receiver, Channel::B)
+    may_say(script, &asked, sender, receiver, Channel::A)
+        || may_say(script, &asked, sender, receiver, Channel::B)
 }
 
 fn may_say(
     script: &Script,
-    asked: Asked,
+    asked: &Asked,
     sender: &NodeSpec,
     receiver: &NodeSpec,
     channel: Channel,
 ) -> bool
-    requires double { asked.double ≤ 100_000 }
-    requires surely { asked.surely ≡ false }
+    requires surely { asked.now.surely ≡ false }
     ensures { (nodes : List NodeSpec) → result ≡
-        may_say asked.rate (traffic_with nodes script.now) sender.now receiver.now asked.double channel }
+        may_say asked.now.rate (traffic_with nodes script.now) sender.now receiver.now asked.now.double channel }
 {
     if asked.rate {
         comes_even(script, asked, sender, receiver, channel)
@@ -269,10 +267,9 @@ pub(crate) fn is_trusted(
     nodes: &NodeList,
     script: &Script,
     rate: bool,
-    double: u32,
+    double: DoubleNumber,
     receiver: &NodeSpec,
 ) -> bool
-    requires double { double ≤ 100_000 }
     requires few { length nodes.now ≤ 64 }
     ensures { result ≡ is_trusted rate (traffic_with nodes.now script.now) double receiver.now }
 {
@@ -293,25 +290,24 @@ fn is_enough(sure: u64, further: u64) -> bool
 
 pub(crate) fn has_value(
     script: &Script,
-    asked: Asked,
+    asked: &Asked,
     receiver: &NodeSpec,
     sender: &NodeSpec,
 ) -> bool
-    requires { asked.double ≤ 100_000 }
     ensures { (nodes : List NodeSpec) → result ≡
-        has_value asked.rate asked.surely (traffic_with nodes script.now) asked.double receiver.now sender.now }
+        has_value asked.now.rate asked.now.surely (traffic_with nodes script.now) asked.now.double receiver.now
+        sender.now }
 {
     sender.id == receiver.id || comes_over(script, asked, receiver, sender)
 }
 
 // Over one channel or the other.
-fn comes_over(script: &Script, asked: Asked, receiver: &NodeSpec, sender: &NodeSpec) -> bool
-    requires { asked.double ≤ 100_000 }
+fn comes_over(script: &Script, asked: &Asked, receiver: &NodeSpec, sender: &NodeSpec) -> bool
     ensures { (nodes : List NodeSpec) → result ≡
-        (value_on asked.rate asked.surely (traffic_with nodes script.now) sender.now receiver.now asked.double
-        channel.A
-        || value_on asked.rate asked.surely (traffic_with nodes script.now) sender.now receiver.now asked.double
-        channel.B) }
+        (value_on asked.now.rate asked.now.surely (traffic_with nodes script.now) sender.now receiver.now
+        asked.now.double channel.A
+        || value_on asked.now.rate asked.now.surely (traffic_with nodes script.now) sender.now receiver.now
+        asked.now.double channel.B) }
 {
     value_on(script, asked, sender, receiver, Channel::A)
         || value_on(script, asked, sender, receiver, Channel::B)
@@ -319,14 +315,14 @@ fn comes_over(script: &Script, asked: Asked, receiver: &NodeSpec, sender: &NodeS
 
 fn value_on(
     script: &Script,
-    asked: Asked,
+    asked: &Asked,
     sender: &NodeSpec,
     receiver: &NodeSpec,
     channel: Channel,
 ) -> bool
-    requires { asked.double ≤ 100_000 }
     ensures { (nodes : List NodeSpec) → result ≡
-        value_on asked.rate asked.surely (traffic_with nodes script.now) sender.now receiver.now asked.double channel }
+        value_on asked.now.rate asked.now.surely (traffic_with nodes script.now) sender.now receiver.now
+        asked.now.double channel }
 {
     if asked.rate {
         shares(sender, receiver, channel)
@@ -339,35 +335,33 @@ fn value_on(
 
 pub(crate) fn comes_even(
     script: &Script,
-    asked: Asked,
+    asked: &Asked,
     sender: &NodeSpec,
     receiver: &NodeSpec,
     channel: Channel,
 ) -> bool
-    requires { asked.double ≤ 100_000 }
     ensures { result ≡
-        comes asked.surely (event_of script.now (2 * asked.double) sender.now.id receiver.now.id channel) }
+        comes asked.now.surely (event_of script.now (2 * asked.now.double) sender.now.id receiver.now.id channel) }
 {
     comes(
         asked.surely,
-        script.at(2 * asked.double, sender.id, receiver.id, channel),
+        script.at(2 * asked.double.0, sender.id, receiver.id, channel),
     )
 }
 
 pub(crate) fn comes_odd(
     script: &Script,
-    asked: Asked,
+    asked: &Asked,
     sender: &NodeSpec,
     receiver: &NodeSpec,
     channel: Channel,
 ) -> bool
-    requires { asked.double ≤ 100_000 }
     ensures { result ≡
-        comes asked.surely (event_of script.now (2 * asked.double + 1) sender.now.id receiver.now.id channel) }
+        comes asked.now.surely (event_of script.now (2 * asked.now.double + 1) sender.now.id receiver.now.id channel) }
 {
     comes(
         asked.surely,
-        script.at(2 * asked.double + 1, sender.id, receiver.id, channel),
+        script.at(2 * asked.double.0 + 1, sender.id, receiver.id, channel),
     )
 }
 

@@ -12,15 +12,15 @@ ghost use Rattle.fr_verdict.specs.SharpTraces.{recorded_flutter};
 
 use crate::covering::dev_in;
 use fr_base::{Channel, Dev, NodeId, NodeRow, Slot, ticks_of};
-use fr_bound::{arrival_error, longest_microtick, sharp_pi, steady_error};
+use fr_bound::{Flutter, arrival_error, longest_microtick, sharp_pi, steady_error};
 use fr_cluster::{ParamName, Params};
 
 /// By how much recorded deviations flutter at most, in ticks: by both errors of an arrival.
-pub fn recorded_flutter(params: &Params) -> u64
+pub fn recorded_flutter(params: &Params) -> Flutter
     ensures value { result ≡ recorded_flutter params.now }
     ensures most { result ≤ 20_600_000 }
 {
-    2 * arrival_error(params)
+    Flutter(2 * arrival_error(params))
 }
 
 /// Whether the values of the node of a slot lie alike at all nodes with rows, by the deviations of both cycles.

@@ -1,7 +1,6 @@
 ghost use Rattle.std.specs.Prelude.{◌≡◌, ◌≤◌, ◌+◌, ◌-◌, ◌/◌, ◌++◌, length};
 ghost use Rattle.std.specs.Fmt.{decimal};
 ghost use Rattle.fr_base.specs.Device.{Puts};
-ghost use Rattle.fr_bound.specs.SharpBounds.{most_flutter};
 ghost use Rattle.fr_precision.specs.Rows.{longest_cycle};
 ghost use Rattle.fr_program.specs.Around.{around_of};
 ghost use Rattle.fr_program.specs.Command.{CommandEnds};
@@ -14,7 +13,7 @@ ghost use Rattle.fr_whole.specs.PowerOnAnswer.{all_synced_line, failing_at_start
 use crate::power_on_laws::a_power_on_is_told;
 use crate::sharp_gaps::{failing_at, failing_to_join};
 use fr_base::{PutFault, Shelf, Sink};
-use fr_bound::{longest_microtick, sharp_pi};
+use fr_bound::{Flutter, longest_microtick, sharp_pi};
 use fr_cluster::{ParamName, Params};
 use fr_coverage::{Gap, gap_line};
 use fr_params::ParamsFile;
@@ -30,11 +29,10 @@ use std::alloc::Global;
 pub fn answer_power_on<S: Shelf, O: Sink>(
     alloc: Global,
     file: &str,
-    flutter: u64,
+    flutter: Flutter,
     shelf: &mut S,
     out: &mut O,
 ) -> Result<(), Failure>
-    requires { flutter ≤ most_flutter }
     ensures ends { CommandEnds (power_on_command file.now flutter)
         (around_of (S.state shelf.old) (S.state shelf.new) (O.state out.old) (O.state out.new)) result }
     ensures unwritten { EndingWritesNothing result → out.new ≡ out.old }
@@ -45,19 +43,17 @@ pub fn answer_power_on<S: Shelf, O: Sink>(
     Ok(())
 }
 
-fn print_power_on<O: Sink>(params: &Params, flutter: u64, out: &mut O) -> Result<(), PutFault>
-    requires { flutter ≤ most_flutter }
+fn print_power_on<O: Sink>(params: &Params, flutter: Flutter, out: &mut O) -> Result<(), PutFault>
     ensures { Puts result (O.state out.old) (O.state out.new) (power_on_text params.now flutter) }
 {
     put_lines(&power_on_lines(params, flutter), out)
 }
 
-fn power_on_lines(params: &Params, flutter: u64) -> [Option<Line>; 3]
-    requires { flutter ≤ most_flutter }
+fn power_on_lines(params: &Params, flutter: Flutter) -> [Option<Line>; 3]
     ensures { joined_lines result ≡ power_on_text params.now flutter }
 {
     [
-        Some(value_line(b"flutter ", flutter)),
+        Some(value_line(b"flutter ", flutter.0)),
         Some(value_line(b"leads ", leads_ticks(params))),
         Some(synced_line(params, flutter)),
     ]
@@ -70,8 +66,7 @@ fn value_line(front: &[u8], value: u64) -> Line
     line_of(&[Word(front), Natural(value)])
 }
 
-fn synced_line(params: &Params, flutter: u64) -> Line
-    requires { flutter ≤ most_flutter }
+fn synced_line(params: &Params, flutter: Flutter) -> Line
     ensures { result ≡ all_synced_line params.now flutter (failing_at_start params.now flutter) }
 {
     match failing_at_start(params, flutter) {
@@ -81,8 +76,7 @@ fn synced_line(params: &Params, flutter: u64) -> Line
 }
 
 // The first check that fails of those that are asked.
-fn failing_at_start(params: &Params, flutter: u64) -> Option<Gap>
-    requires { flutter ≤ most_flutter }
+fn failing_at_start(params: &Params, flutter: Flutter) -> Option<Gap>
     ensures { result ≡ failing_at_start params.now flutter }
 {
     failing_at(params, false, flutter, 1)
@@ -93,8 +87,7 @@ fn failing_at_start(params: &Params, flutter: u64) -> Option<Gap>
 }
 
 // How long until all are in sharp sync, in ticks.
-fn synced_ticks(params: &Params, flutter: u64) -> u64
-    requires { flutter ≤ most_flutter }
+fn synced_ticks(params: &Params, flutter: Flutter) -> u64
     ensures { result ≡ synced_ticks params.now flutter }
 {
     leads_ticks(params) + 6 * longest_cycle(params) + sharp_pi(params, false, flutter)

@@ -41,7 +41,7 @@ pub(crate) fn sharp_check_lines(params: &Params, figures: &TracedFigures) -> [Op
 fn flutter_line(params: &Params) -> Line
     ensures { result ≡ line (codes "flutter " ++ decimal (recorded_flutter params.now)) }
 {
-    line_of(&[Word(b"flutter "), Natural(recorded_flutter(params))])
+    line_of(&[Word(b"flutter "), Natural(recorded_flutter(params).0)])
 }
 
 fn kind_line(kind: TracedKind) -> Line

@@ -1,8 +1,7 @@
 ghost use Rattle.std.specs.Prelude.{◌≡◌, ◌≤◌};
-ghost use Rattle.fr_bound.specs.SharpBounds.{most_flutter};
 ghost use Rattle.fr_whole.specs.SharpGaps.{failing_at, failing_to_join, sharp_gaps_of};
 
-use fr_bound::sharp_side;
+use fr_bound::{Flutter, sharp_side};
 use fr_cluster::Params;
 use fr_coverage::{Gap, RunGaps, gaps_by_kind, some_join};
 use fr_drift::Drift;
@@ -34,9 +33,14 @@ pub struct SharpGaps {
 }
 
 impl SharpGaps {
-    /// Those of the run of some files from a double cycle on, where its delays flutter by so many ticks, 0 to 1,000,000,000.
-    pub fn of(params: &Params, drift: &Drift, script: &Script, from: u32, flutter: u64) -> SharpGaps
-        requires { flutter ≤ most_flutter }
+    /// Those of the run of some files from a double cycle on, where its delays flutter by so many ticks.
+    pub fn of(
+        params: &Params,
+        drift: &Drift,
+        script: &Script,
+        from: u32,
+        flutter: Flutter,
+    ) -> SharpGaps
         ensures { result ≡ sharp_gaps_of params.now drift.now script.now from flutter }
     {
         let beside = has_arbitrary(params, script);
@@ -56,10 +60,9 @@ impl SharpGaps {
 }
 
 // The sharper check of this number, 1 to 5, where it fails.
-pub(crate) fn failing_at(params: &Params, beside: bool, flutter: u64, number: u8) -> Option<Gap>
+pub(crate) fn failing_at(params: &Params, beside: bool, flutter: Flutter, number: u8) -> Option<Gap>
     requires from { 1 ≤ number }
     requires to { number ≤ 5 }
-    requires flutter { flutter ≤ most_flutter }
     ensures { result ≡ failing_at beside params.now flutter number }
 {
     let sides = sharp_side(params, beside, flutter, number);
@@ -79,12 +82,11 @@ pub(crate) fn failing_to_join(
     params: &Params,
     joins: bool,
     beside: bool,
-    flutter: u64,
+    flutter: Flutter,
     number: u8,
 ) -> Option<Gap>
     requires from { 6 ≤ number }
     requires to { number ≤ 9 }
-    requires flutter { flutter ≤ most_flutter }
     ensures { result ≡ failing_to_join joins beside params.now flutter number }
 {
     let sides = sharp_join_side(params, beside, flutter, number);

@@ -15,6 +15,7 @@ ghost use Rattle.fr_series.specs.Writing.{first_sharp_at, is_followed, rows_of, 
 use crate::report_lines::sharp_report_lines;
 use crate::sharp_gaps::SharpGaps;
 use fr_base::{PutFault, RowList, Sink};
+use fr_bound::{DoubleNumber, Flutter};
 use fr_coverage::covered;
 use fr_report::{Report, add_next, write_report};
 use fr_series::{Basis, Course, SharpFigures, are_in_sharp_sync};
@@ -35,7 +36,7 @@ pub fn write_sharp_report<O: Sink>(world: &mut World, out: &mut O) -> Result<(),
     run_all(world, &mut report, &mut figures);
     let (params, drift, script) = (world.params(), world.drift(), world.script());
     let basis = Basis::of(params, drift, script, figures.synced.unwrap_or(0));
-    let gaps = SharpGaps::of(params, drift, script, basis.from, basis.flutter);
+    let gaps = SharpGaps::of(params, drift, script, basis.from, Flutter(basis.flutter));
     put_lines(&sharp_report_lines(&basis, &gaps, &figures), out)?;
     let gap = covered(world.params(), world.drift(), world.script());
     write_report(&report, world, gap, out)
@@ -88,13 +89,20 @@ fn add_double(
     let (even, odd) = (even.as_slice(), odd.as_slice());
     let scale = course.scale;
     let in_sync = are_in_sharp_sync(&scale, even, odd);
-    *figures = figures.followed(&scale, double, even, odd, in_sync, followed || following);
+    *figures = figures.followed(
+        &scale,
+        DoubleNumber(double),
+        even,
+        odd,
+        in_sync,
+        followed || following,
+    );
     *course = course.behind(
         world.params(),
         world.drift(),
         world.script(),
         figures.synced,
-        double,
+        DoubleNumber(double),
     );
 }
 

@@ -12,6 +12,7 @@ ghost use Rattle.fr_verdict.specs.Sync.{first_synced_of, is_early};
 ghost use Rattle.fr_whole.specs.TracedFigures.{figures_of_kind, is_kind_beside, kind_from, recorded_figures, traced_figures_of};
 
 use fr_base::NodeRow;
+use fr_bound::DoubleNumber;
 use fr_check::{first_unlike, sound_cycles};
 use fr_cluster::Params;
 use fr_series::{Scale, SharpFigures, are_in_sharp_sync, sharp_scale};
@@ -178,7 +179,7 @@ fn with_rows(
         (not (is_early synced double) && are_in_sync_by_even scale.now.bounds even.now odd.now) false figures }
 {
     let in_sync = !is_early(synced, double) && are_in_sharp_sync(scale, even, odd);
-    figures.followed(scale, double, even, odd, in_sync, false)
+    figures.followed(scale, DoubleNumber(double), even, odd, in_sync, false)
 }
 
 // Whether a double cycle comes before the first one in sync.

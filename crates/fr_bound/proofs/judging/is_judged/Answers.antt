@@ -1,5 +1,5 @@
 use Rattle.std.proofs.Common.{◌∙◌, sym}
-use Rattle.fr_bound.proofs.JudgedNumbers.{judged_else, judged_none, judged_then, not_judged}
+use Rattle.fr_bound.proofs.JudgedNumbers.{judged_else, judged_then, not_judged}
 use Rattle.fr_bound.proofs.judging.is_judged.Goals as goal
 
 pub returns-then-not-is_taken_in-clause-no : goal.returns-then-not-is_taken_in-clause-no

@@ -8,5 +8,5 @@ pub returns-then-damping-gt0-clause-value : goal.returns-then-damping-gt0-clause
 returns-then-damping-gt0-clause-value c =
     let back : to_z w64 (of_z w64 c.value-damping.result) ≡ c.value-damping.result = to_z-of_z w64 c.value-damping.result (search rules) in
     let some : pos 0 <ℤ c.args.params.now.damping = above_none c.args.params.now.damping _ (back ∙ c.value-damping.ensures.value) c.if-damping-gt0.true in
-    rw (back, c.value-damping.ensures.value, c.cycle_change.ensures.value, c.wide_change.ensures.value, c.shortest_microtick-shortest.ensures.value)
+    rw (back, c.value-damping.ensures.value, c.walk_changes-changes.ensures.value, c.shortest_microtick-shortest.ensures.value)
     (walk_damped c.args.params.now c.args.flutter some)

@@ -9,8 +9,8 @@ use Rattle.fr_sharp.proofs.CrossingPeaks.{behind, cost_of_crossing, crossed, row
 use Rattle.fr_sharp.proofs.LossNumbers.{same_yet}
 use Rattle.fr_sharp.proofs.loss_costs.crossing_cost.Goals as goal
 
-pub step-requires-clause-few : goal.step-requires-clause-few
-step-requires-clause-few c = omega (arith, c.behind-spread.ensures.passed, c.requires.to)
+pub step-requires : goal.step-requires
+step-requires c = omega (arith, c.behind-spread.ensures.passed, c.requires.to)
 
 pub returns-clause-is : goal.returns-clause-is
 returns-clause-is c =

@@ -8,9 +8,9 @@ abbrev pub invariant-loop-place : goal.invariant-loop-place
 invariant-loop-place l = record {
   rate : l.asked.rate ≡ l.rate;
   surely : l.asked.surely ≡ true;
-  double : l.asked.double ≡ l.double;
+  double : l.asked.double ≡ l.fn.double;
   each : list_all
-      (λ a. not (may_send (traffic_with l.nodes l.script) l.double a) || has_value l.rate true (traffic_with l.nodes l.script) l.double l.receiver a)
+      (λ a. not (may_send (traffic_with l.nodes l.script) l.fn.double a) || has_value l.rate true (traffic_with l.nodes l.script) l.fn.double l.receiver a)
       (take l.place l.nodes)
       ≡ true;
 }

@@ -7,10 +7,10 @@ pub returns-then-not-may_send : goal.returns-then-not-may_send
 returns-then-not-may_send c = λ nodes.
     let t = traffic_with nodes c.args.script.now in
     let none : c.may_send.result ≡ false = search rules in
-    or_first c.may_send.result (may_send t c.args.asked.double c.args.sender.now) (has_value c.args.asked.rate c.args.asked.surely t c.args.asked.double c.args.receiver.now c.args.sender.now) (c.may_send.ensures nodes) none
+    or_first c.may_send.result (may_send t c.args.asked.now.double c.args.sender.now) (has_value c.args.asked.now.rate c.args.asked.now.surely t c.args.asked.now.double c.args.receiver.now c.args.sender.now) (c.may_send.ensures nodes) none
 
 pub returns-else-not-may_send : goal.returns-else-not-may_send
 returns-else-not-may_send c = λ nodes.
     let t = traffic_with nodes c.args.script.now in
     let some : c.may_send.result ≡ true = search rules in
-    or_second c.may_send.result (may_send t c.args.asked.double c.args.sender.now) (has_value c.args.asked.rate c.args.asked.surely t c.args.asked.double c.args.receiver.now c.args.sender.now) c.has_value.result (c.may_send.ensures nodes) some (c.has_value.ensures nodes)
+    or_second c.may_send.result (may_send t c.args.asked.now.double c.args.sender.now) (has_value c.args.asked.now.rate c.args.asked.now.surely t c.args.asked.now.double c.args.receiver.now c.args.sender.now) c.has_value.result (c.may_send.ensures nodes) some (c.has_value.ensures nodes)

@@ -8,7 +8,7 @@ abbrev pub invariant-loop-place : goal.invariant-loop-place
 invariant-loop-place l = record {
   rate : l.asked.rate ≡ l.rate;
   surely : l.asked.surely ≡ true;
-  double : l.asked.double ≡ l.double;
-  value : l.bits ≡ node_bits (is_sure l.rate (traffic_with l.nodes l.script) l.double l.receiver) (take l.place l.nodes);
+  double : l.asked.double ≡ l.fn.double;
+  value : l.bits ≡ node_bits (is_sure l.rate (traffic_with l.nodes l.script) l.fn.double l.receiver) (take l.place l.nodes);
   small : l.bits < 2 ^ l.place;
 }

@@ -12,6 +12,6 @@ returns-else-is_correct_sender c =
     ∙ sym
     (
     ap
-    (λ (a : Bool). a && has_value c.args.asked.rate c.args.asked.surely (traffic_with nodes c.args.script.now) c.args.asked.double c.args.receiver.now c.args.sender.now)
+    (λ (a : Bool). a && has_value c.args.asked.now.rate c.args.asked.now.surely (traffic_with nodes c.args.script.now) c.args.asked.now.double c.args.receiver.now c.args.sender.now)
     (sym c.is_correct_sender.ensures ∙ c.if-is_correct_sender.false)
     )

@@ -7,10 +7,10 @@ abbrev pub invariant-loop-place : goal.invariant-loop-place
 invariant-loop-place l = record {
   rate : l.asked.rate ≡ l.rate;
   surely : l.asked.surely ≡ true;
-  double : l.asked.double ≡ l.double;
+  double : l.asked.double ≡ l.fn.double;
   value : l.count ≡ count_by
       (λ a. is_correct_sender (traffic_with l.nodes l.script) a
-      && (stays (traffic_with l.nodes l.script) a && has_value l.rate true (traffic_with l.nodes l.script) l.double l.receiver a))
+      && (stays (traffic_with l.nodes l.script) a && has_value l.rate true (traffic_with l.nodes l.script) l.fn.double l.receiver a))
       (take l.place l.nodes);
   few : l.count ≤ l.place;
 }

@@ -1,4 +1,4 @@
-use Rattle.std.proofs.Common.{ℕ, ◌≡◌, ◌∙◌, ap, Bool}
+use Rattle.std.proofs.Common.{ℕ, ◌∙◌, ap}
 use Rattle.fr_cluster.specs.Values.{Values}
 use Rattle.fr_bound.specs.SharpBounds.{sharp_lambda, sharp_pi}
 use Rattle.fr_bound.specs.declared.judging.Heard.{Heard}
