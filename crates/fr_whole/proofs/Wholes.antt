@@ -11,21 +11,13 @@ use Rattle.fr_text.specs.Defined.{DefinesOneStatus}
 use Rattle.fr_answer.specs.Answer.{core_program}
 use Rattle.fr_answer.specs.Statuses.{HasOneStatusEach}
 use Rattle.fr_whole.specs.ObserveAnswer.{observe_command, observe_files}
-use Rattle.fr_whole.specs.Pages.{AsksPage, IsNoPage, page_command, page_text}
+use Rattle.fr_whole.specs.Pages.{AsksPage, page_command, page_text}
 use Rattle.fr_whole.specs.PowerOnAnswer.{power_on_command, power_on_files}
 use Rattle.fr_whole.specs.SharpCheckAnswer.{sharp_check_command, sharp_check_files}
 use Rattle.fr_whole.specs.SharpReportAnswer.{IsSharpReportText, sharp_report_command}
-use Rattle.fr_whole.specs.Whole.{AsksPowerOn, AsksWhole, HasOneStatusOfAll, IsNoLog, IsNoSharpCheck, IsNoSharpReport, WholeAsked, core, flexray_program, observe, observe_words, page, power_on, sharp_check, sharp_check_words, sharp_report, sharp_report_words, whole_command}
+use Rattle.fr_whole.specs.Whole.{AsksPowerOn, AsksWhole, HasOneStatusOfAll, IsOfCore, WholeAsked, core, flexray_program, observe, observe_words, page, power_on, sharp_check, sharp_check_words, sharp_report, sharp_report_words, whole_command}
 use Rattle.fr_whole.specs.declared.pages.Page.{Page}
 use Rattle.fr_whole.proofs.Words.{only_log, only_page, only_power_on, only_sharp_check, only_sharp_report}
-
--- the words ask for nothing but what the core has
-pub record IsOfCore (words : List (List ℕ)) : Type 0 where
-  pub no_log : IsNoLog words
-  pub no_report : IsNoSharpReport words
-  pub no_check : IsNoSharpCheck words
-  pub no_power_on : (params : List ℕ) (flutter : ℕ) → AsksPowerOn words params flutter → ⊥
-  pub no_page : IsNoPage words
 
 -- ---- words of the core
 

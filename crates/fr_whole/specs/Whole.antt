@@ -10,13 +10,15 @@ use Rattle.fr_report.specs.Names.{RunNames, run_names_of}
 use Rattle.fr_report.specs.declared.files.RunFiles.{RunFiles}
 use Rattle.fr_check.specs.declared.files.CheckFiles.{CheckFiles}
 use Rattle.fr_whole.specs.ObserveAnswer.{observe_command}
-use Rattle.fr_whole.specs.Pages.{AsksPage, page_command}
+use Rattle.fr_whole.specs.Pages.{AsksPage, IsNoPage, page_command}
 use Rattle.fr_whole.specs.PowerOnAnswer.{power_on_command}
 use Rattle.fr_whole.specs.SharpCheckAnswer.{sharp_check_command}
 use Rattle.fr_whole.specs.SharpReportAnswer.{sharp_report_command}
 use Rattle.fr_whole.specs.declared.observe.ObserveFiles.{ObserveFiles}
 use Rattle.fr_whole.specs.declared.pages.Page.{Page}
 use Rattle.fr_whole.specs.declared.request.PowerOnRequest.{PowerOnRequest}
+use Rattle.fr_whole.specs.declared.request.WholeRequest.{WholeRequest}
+use Rattle.fr_whole.specs.declared.request.WholeRequest.TheVariants.{Log, SharpReport, OnePage, SharpCheck, PowerOn, Core}
 
 -- what the words of the core ask for; print what the log of a bus analyzer tells of the cluster's clocks; run the cluster that the
 -- files decide, and print what the sharper bounds say of the run and behind it the report; print what they say of a recorded trace;
@@ -84,6 +86,23 @@ IsSharpCheckRequest words (Some files) = words ≡ sharp_check_words files.param
 abbrev pub IsPowerOnRequest : List (List ℕ) → Option PowerOnRequest → Type 0
 IsPowerOnRequest words None = (params : List ℕ) (flutter : ℕ) → AsksPowerOn words params flutter → ⊥
 IsPowerOnRequest words (Some request) = AsksPowerOn words request.params.now request.flutter
+
+-- the words ask for nothing but what the core has
+pub record IsOfCore (words : List (List ℕ)) : Type 0 where
+  pub no_log : IsNoLog words
+  pub no_report : IsNoSharpReport words
+  pub no_page : IsNoPage words
+  pub no_check : IsNoSharpCheck words
+  pub no_power_on : IsPowerOnRequest words None
+
+-- what the words of the whole program are read as: what they ask for, or words of the core
+abbrev pub IsWholeRequest : List (List ℕ) → WholeRequest → Type 0
+IsWholeRequest words (Log files) = AsksWhole words (observe files.params.now files.log.now)
+IsWholeRequest words (SharpReport files) = AsksWhole words (sharp_report (run_names_of files))
+IsWholeRequest words (OnePage asked) = AsksWhole words (page asked)
+IsWholeRequest words (SharpCheck files) = AsksWhole words (sharp_check files.params.now files.trace.now)
+IsWholeRequest words (PowerOn request) = AsksWhole words (power_on request.params.now request.flutter)
+IsWholeRequest words Core = IsOfCore words
 
 -- the files of what was asked for, and what may be written of them
 abbrev pub whole_command : WholeAsked → Command

@@ -1,9 +1,11 @@
 ghost use Rattle.std.specs.Prelude.{◌≤◌, ◌∷◌, [], codes, IfSome};
 ghost use Rattle.fr_answer.specs.Request.{most_stated_flutter};
 ghost use Rattle.fr_program.specs.Program.{texts};
-ghost use Rattle.fr_whole.specs.Whole.{IsLogRequest, IsPowerOnRequest, IsSharpCheckRequest, IsSharpReportRequest};
+ghost use Rattle.fr_whole.specs.Whole.{IsLogRequest, IsPowerOnRequest, IsSharpCheckRequest, IsSharpReportRequest, IsWholeRequest};
 
 use crate::observe::ObserveFiles;
+use crate::pages::{Page, page_request};
+use fr_bound::Flutter;
 use fr_check::CheckFiles;
 use fr_report::RunFiles;
 use fr_text::natural;
@@ -12,12 +14,51 @@ use fr_text::natural;
 const MOST_FLUTTER: u64 = 20_000_000;
 
 /// What a request for how long from power-on to sharp sync states.
-#[derive(Clone, Copy)]
+#[derive(Clone, Drop)]
 pub struct PowerOnRequest<'a> {
     /// The name of the file of the cluster's parameters.
     pub params: &'a str,
     /// By how many ticks delays flutter at most.
-    pub flutter: u64,
+    pub flutter: Flutter,
+}
+
+/// What the words of the whole program ask for.
+#[derive(Clone, Drop)]
+pub enum WholeRequest<'a> {
+    /// Print what the log in a file tells of a cluster's clocks.
+    Log(ObserveFiles<'a>),
+    /// Run the cluster that the files decide, and print what the sharper bounds say of it, and the report.
+    SharpReport(RunFiles<'a>),
+    /// Print what the program says of itself.
+    OnePage(Page),
+    /// Print what the sharper bounds promise of a recorded trace.
+    SharpCheck(CheckFiles<'a>),
+    /// Print how long it takes from the first power-on until all are in sharp sync.
+    PowerOn(PowerOnRequest<'a>),
+    /// What the core makes of the words, which may be no request.
+    Core,
+}
+
+/// Reads the words of the whole program. It takes no memory.
+pub fn whole_request(words: &[String]) -> WholeRequest<'_>
+    ensures { IsWholeRequest (texts words.now) result }
+{
+    match log_request(words) {
+        Some(files) => WholeRequest::Log(files),
+        None => match sharp_report_request(words) {
+            Some(files) => WholeRequest::SharpReport(files),
+            None => match page_request(words) {
+                Some(page) => WholeRequest::OnePage(page),
+                None => match sharp_check_request(words) {
+                    Some(files) => WholeRequest::SharpCheck(files),
+                    None => match power_on_request(words) {
+                        Some(asked) => WholeRequest::PowerOn(asked),
+                        None => WholeRequest::Core,
+                    },
+                },
+            },
+        },
+    }
 }
 
 /// The files of the words `observe PARAMS LOG`, and none of other words. It takes no memory.
@@ -176,7 +217,10 @@ fn power_on_with<'a>(params: &'a str, flutter: &str) -> Option<PowerOnRequest<'a
     ensures range { IfSome result (λ asked. asked.flutter ≤ most_stated_flutter) }
 {
     match natural(flutter.as_bytes(), 0, MOST_FLUTTER) {
-        Ok(flutter) => Some(PowerOnRequest { params, flutter }),
+        Ok(flutter) => Some(PowerOnRequest {
+            params,
+            flutter: Flutter(flutter),
+        }),
         Err(_) => None,
     }
 }

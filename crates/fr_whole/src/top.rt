@@ -2,11 +2,10 @@ ghost use Rattle.std.specs.Prelude.{◌≡◌, ◌≢◌, ◌↔◌, IfErr, None
 ghost use Rattle.fr_program.specs.Around.{around_of};
 ghost use Rattle.fr_program.specs.Failure.{EndingWritesNothing, WritesNothing, ending_status, status_of};
 ghost use Rattle.fr_program.specs.Program.{IsNoRequest, IsProgramAnswer, IsProgramComplete, WordsEnd, texts};
-ghost use Rattle.fr_whole.specs.Pages.{IsNoPage};
-ghost use Rattle.fr_whole.specs.Whole.{IsNoLog, IsNoSharpCheck, IsNoSharpReport, flexray_program};
+ghost use Rattle.fr_whole.specs.Whole.{flexray_program};
 
-use crate::pages::{answer_page, page_request};
-use crate::request::{log_request, power_on_request, sharp_check_request, sharp_report_request};
+use crate::pages::answer_page;
+use crate::request::{WholeRequest, whole_request};
 use fr_answer::{answer_core, told};
 use fr_base::{Shelf, Sink};
 use fr_program::Failure;
@@ -62,80 +61,14 @@ fn answer<S: Shelf, O: Sink>(
         (around_of (S.state shelf.old) (S.state shelf.new) (O.state out.old) (O.state out.new)) result }
     ensures unwritten { EndingWritesNothing result → out.new ≡ out.old }
 {
-    match log_request(words) {
-        Some(files) => crate::answer_observe(alloc, files, shelf, out),
-        None => match sharp_report_request(words) {
-            Some(files) => crate::answer_sharp_run(alloc, files, shelf, out),
-            None => answer_others(alloc, words, shelf, out),
-        },
-    }
-}
-
-// That of words that ask for no log, and for no report by the sharper bounds: a page, or what is answered behind it.
-fn answer_others<S: Shelf, O: Sink>(
-    alloc: Global,
-    words: &[String],
-    shelf: &mut S,
-    out: &mut O,
-) -> Result<(), Failure>
-    requires no_log { IsNoLog (texts words.now) }
-    requires no_report { IsNoSharpReport (texts words.now) }
-    ensures usage { ending_status result ≡ Status.Usage → IsNoRequest flexray_program (texts words.now) }
-    ensures unread { ending_status result ≡ Status.Usage → shelf.new ≡ shelf.old }
-    ensures undone { IfErr result (λ why. status_of why ≢ Status.Done) }
-    ensures ends { WordsEnd flexray_program (texts words.now)
-        (around_of (S.state shelf.old) (S.state shelf.new) (O.state out.old) (O.state out.new)) result }
-    ensures unwritten { EndingWritesNothing result → out.new ≡ out.old }
-{
-    match page_request(words) {
-        Some(page) => answer_page(page, out),
-        None => answer_sharp_check_or_others(alloc, words, shelf, out),
-    }
-}
-
-// That of words that ask for no page either: a check by the sharper bounds, or what is answered behind it.
-fn answer_sharp_check_or_others<S: Shelf, O: Sink>(
-    alloc: Global,
-    words: &[String],
-    shelf: &mut S,
-    out: &mut O,
-) -> Result<(), Failure>
-    requires no_log { IsNoLog (texts words.now) }
-    requires no_report { IsNoSharpReport (texts words.now) }
-    requires no_page { IsNoPage (texts words.now) }
-    ensures usage { ending_status result ≡ Status.Usage → IsNoRequest flexray_program (texts words.now) }
-    ensures unread { ending_status result ≡ Status.Usage → shelf.new ≡ shelf.old }
-    ensures undone { IfErr result (λ why. status_of why ≢ Status.Done) }
-    ensures ends { WordsEnd flexray_program (texts words.now)
-        (around_of (S.state shelf.old) (S.state shelf.new) (O.state out.old) (O.state out.new)) result }
-    ensures unwritten { EndingWritesNothing result → out.new ≡ out.old }
-{
-    match sharp_check_request(words) {
-        Some(files) => crate::answer_sharp_check(alloc, files, shelf, out),
-        None => answer_power_on_or_core(alloc, words, shelf, out),
-    }
-}
-
-// That of words that ask for no such check either: how long from power-on, or what the core answers.
-fn answer_power_on_or_core<S: Shelf, O: Sink>(
-    alloc: Global,
-    words: &[String],
-    shelf: &mut S,
-    out: &mut O,
-) -> Result<(), Failure>
-    requires no_log { IsNoLog (texts words.now) }
-    requires no_report { IsNoSharpReport (texts words.now) }
-    requires no_page { IsNoPage (texts words.now) }
-    requires no_check { IsNoSharpCheck (texts words.now) }
-    ensures usage { ending_status result ≡ Status.Usage → IsNoRequest flexray_program (texts words.now) }
-    ensures unread { ending_status result ≡ Status.Usage → shelf.new ≡ shelf.old }
-    ensures undone { IfErr result (λ why. status_of why ≢ Status.Done) }
-    ensures ends { WordsEnd flexray_program (texts words.now)
-        (around_of (S.state shelf.old) (S.state shelf.new) (O.state out.old) (O.state out.new)) result }
-    ensures unwritten { EndingWritesNothing result → out.new ≡ out.old }
-{
-    match power_on_request(words) {
-        Some(asked) => crate::answer_power_on(alloc, asked.params, asked.flutter, shelf, out),
-        None => answer_core(alloc, words, shelf, out),
+    match whole_request(words) {
+        WholeRequest::Log(files) => crate::answer_observe(alloc, files, shelf, out),
+        WholeRequest::SharpReport(files) => crate::answer_sharp_run(alloc, files, shelf, out),
+        WholeRequest::OnePage(page) => answer_page(page, out),
+        WholeRequest::SharpCheck(files) => crate::answer_sharp_check(alloc, files, shelf, out),
+        WholeRequest::PowerOn(asked) => {
+            crate::answer_power_on(alloc, asked.params, asked.flutter, shelf, out)
+        }
+        WholeRequest::Core => answer_core(alloc, words, shelf, out),
     }
 }
