@@ -3,10 +3,12 @@ place of rt."""
 from __future__ import annotations
 
 import os
+import re
+import shutil
 import subprocess
 import sys
 
-from bench import FLEXRAY, TOOLS, Bench
+from bench import FLEXRAY, REPOSITORY, TOOLS, Bench, example_call
 
 # It answers as `rt try --cases FOLDER` does; the words of a call that is to go wrong stand in the variable WRONG.
 RT = """#!{python}
@@ -59,6 +61,40 @@ class Cases(Bench):
     def test_a_call_without_an_answer_is_left_out(self) -> None:
         ran = self.tried("seeds", wrong="-0")
         self.assertEqual((ran.returncode, ran.stdout), (0, "1 passed, 0 failed, 1 left out; nothing of this is proved\n"))
+
+    def written(self, worked: str, *words: str) -> tuple[str, str]:
+        """What the tool writes in the place of these cases, and what it prints, where there is one example, of other text."""
+        for name in ("offset/params.csv", "offset/drift.csv", "offset/script.csv", "offset/run/words"):
+            os.makedirs(self.path("examples", "offset", "run"), exist_ok=True)
+            shutil.copy(os.path.join(REPOSITORY, "examples", name), self.path("examples", name))
+        self.write("examples/offset/run/printed.txt", "nodes 3\n")
+        shutil.copytree(os.path.join(TOOLS, "cases"), self.path("tools", "cases"), dirs_exist_ok=True)
+        shutil.copy(os.path.join(TOOLS, "try-cases"), self.path("tools", "try-cases"))
+        self.write("tools/cases/worked", worked)
+        env = {**os.environ, "PATH": f"{self.path('bin')}:{os.environ['PATH']}", "CALLS": self.path("calls"), "WRONG": "sharp", "OTHER": ""}
+        os.makedirs(self.path("crates", "flexray_cli"), exist_ok=True)
+        ran = subprocess.run([self.path("tools", "try-cases"), "--write", *words], capture_output=True, text=True, check=False, env=env)
+        self.assertEqual((ran.returncode, "Traceback" in ran.stderr), (0, False), ran.stderr)
+        self.assertEqual(self.read("examples", "offset", "run", "printed.txt"), example_call("offset/run").text.decode())
+        return self.read("tools", "cases", "worked"), ran.stdout
+
+    def test_what_the_program_answers_is_written(self) -> None:
+        with open(os.path.join(TOOLS, "cases", "worked"), encoding="utf-8") as file:
+            worked = file.read()
+        # Without the longest run, and with other numbers and words, a line more and one less, other statuses and lines.
+        worked = worked.partition("\n# The longest run.")[0]
+        other = re.sub(r"^(\| precision )\d+$", r"\g<1>7", worked, flags=re.M).replace("| heard ", "| heard kept ")
+        other = re.sub(r"^\| cut \d+\n", "", other, flags=re.M).replace("| y1 ", "| y0 5\n| y1 ")
+        other = other.replace("ends 5 params: constraint 1", "ends 0\n| y1 5").replace("| alone precision 96003994\n| beside", "| beside")
+        self.assertGreater(sum(one not in worked.splitlines() for one in other.splitlines()), 40)
+        written, told = self.written(other, FLEXRAY)
+        self.assertEqual(written, worked)
+        self.assertRegex(told, r"\A\d+ passed, 0 failed\n\Z")
+        # By the toolchain, where what has no answer stays as it is.
+        left, told = self.written(other, "--try")
+        self.assertRegex(told, r"\A\d+ passed, 0 failed, [1-9]\d* left out; nothing of this is proved\n\Z")
+        for block, before, after in zip(left.split("\n\n"), other.split("\n\n"), worked.split("\n\n"), strict=True):
+            self.assertEqual(block, before if re.search("^call .*sharp", block, re.M) else after)
 
     def test_a_part_that_is_none(self) -> None:
         ran = self.tried("seeds", "none")

@@ -81,6 +81,8 @@ class Case(unittest.TestCase):
         self.top = Path(room.name)
         for crate in ("fr_base", "fr_text", "fr_cluster", "fr_params", "fr_drift", "fr_script", "fr_cold", "fr_nm", "fr_log", "fr_trace"):
             shutil.copytree(REPOSITORY / "crates" / crate / "specs", self.top / "crates" / crate / "specs")
+        for name in set(re.findall(r"^```text (\S+)", (REPOSITORY / "docs/FORMATS.md").read_text(encoding="utf-8"), re.M)):
+            shutil.copytree(REPOSITORY / name, self.top / name)
         for name in FILES:
             (self.top / name).parent.mkdir(parents=True)
             shutil.copy(REPOSITORY / name, self.top / name)
@@ -174,12 +176,30 @@ class Held(Case):
                 ("docs/FORMATS.md", "`on,2,4`", "`on,2,`", "an example that is a record, in place of on,2,"),
                 ("docs/FORMATS.md", "It has six fields", "It has five fields", "The drift file: it lacks the words: six fields a record"),
                 ("docs/FORMATS.md", "CYCLE and FROM are 0", "CYCLE and FROM are 1", "it lacks '- ID, NODE, SENDER, RECEIVER and REFERENCE are 1"),
-                ("docs/FORMATS.md", "## The power file", "## Power", "it has no part The power file")):
+                ("docs/FORMATS.md", "## The power file", "## Power", "it has no part The power file"),
+                ("docs/FORMATS.md", "\nlambda 30005200\n", "\nlambda 30005201\n", "docs/FORMATS.md is not"),
+                ("docs/FORMATS.md", "joins/bound 10-14\n", "joins/bound 10-15\n", "examples/joins/bound has no lines 10-15"),
+                ("docs/FORMATS.md", "joins/bound 10-14\n", "joins/bound 0-14\n", "examples/joins/bound has no lines 0-14"),
+                ("docs/FORMATS.md", "joins/bound 10-14\n", "joins/bound 10-13\n", "docs/FORMATS.md is not"),
+                ("docs/FORMATS.md", "text examples/joins/bound", "text examples/join/bound", "no example prints text examples/join/bound"),
+                ("docs/FORMATS.md", "joins/bound 10-14\n", "joins/bound 10 to\n", "no example prints text examples/joins/bound 10 to"),
+                ("examples/offset/run/printed.txt", "\nheard ", "\nhears ", "docs/FORMATS.md is not"),
+                ("examples/frame/capture/printed.txt", "frames 2", "frames 3", "docs/FORMATS.md is not")):
             before = (self.top / name).read_text(encoding="utf-8")
             with self.subTest(name=name, new=new):
                 self.change(name, old, new)
                 self.ends(1, told)
             (self.top / name).write_text(before, encoding="utf-8")
+
+    def test_what_an_example_prints_is_written(self) -> None:
+        before = (self.top / "docs/FORMATS.md").read_text(encoding="utf-8")
+        for name in ("offset/run", "sharp/report"):
+            self.change(f"examples/{name}/printed.txt", "doubles", "twice")
+        self.assertEqual(self.ends(0, words=()), "")
+        after = (self.top / "docs/FORMATS.md").read_text(encoding="utf-8")
+        changed = [(one, other) for one, other in zip(before.splitlines(), after.splitlines(), strict=True) if one != other]
+        self.assertEqual(changed, [("nodes 2 sync 2 arbitrary 0 doubles 2", "nodes 2 sync 2 arbitrary 0 twice 2"),
+                                   ("nodes 8 sync 8 arbitrary 0 doubles 12", "nodes 8 sync 8 arbitrary 0 twice 12")])
 
     def test_it_writes_what_it_asks_for(self) -> None:
         self.change("docs/FORMATS.md", "KEY 1 to 1023 or empty", "KEY 1 to 10")

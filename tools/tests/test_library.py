@@ -6,6 +6,7 @@ import shutil
 import signal
 import subprocess
 import time
+import tomllib
 import unittest
 import zipfile
 
@@ -55,14 +56,40 @@ def sanitizes(compiler):
     return ended.returncode == 0
 
 
+def own_calls():
+    """What the caller includes: for each request of the table its call, with the files, the channel and the numbers among its words."""
+    with open(os.path.join(TOOLS, "commands.toml"), "rb") as file:
+        table = tomllib.load(file)
+    for request in table["request"]:
+        forms, given, files = request["words"].split(), [], iter(("FIRST", "SECOND", "THIRD"))
+        tests = [f"is_series == {int('program' in request)}", f"count == {len(forms)}"]
+        for place, form in enumerate(forms):
+            word = f"given[{place}]"
+            if form == "A|B":
+                given.append(f"CHANNEL({word})")
+            elif form not in table["words"]:
+                tests.append(f'!strcmp({word}, "{form}")')
+            elif table["words"][form]["is"] == "number":
+                tests.append(f"IS_NUMBER({word})")
+                given.append(f"number({word})")
+            else:
+                given.append(next(files))
+        if "call" in request:
+            yield f"    if ({' && '.join(tests)}) return {request['call']}({', '.join([*given, 'PLACES'])});\n"
+
+
 @unittest.skipUnless(shutil.which("cc"), "there is no C compiler cc")
 @unittest.skipUnless(os.path.exists(ARCHIVE), "tools/library has not built the library")
 class Library(Bench):
+    def setUp(self):
+        super().setUp()
+        self.write("calls.h", "".join(own_calls()))
+
     def compile(self, *words, compiler="cc"):
         """A caller that is compiled with these words."""
         caller = self.path("caller")
-        ended = built(compiler, "-std=c11", "-O1", "-g", *STRICT, f"-I{os.path.dirname(HEADER)}", CALLER, ARCHIVE, "-pthread",
-                      *words, "-o", caller)
+        ended = built(compiler, "-std=c11", "-O1", "-g", *STRICT, f"-I{os.path.dirname(HEADER)}", f"-I{self.room}", CALLER, ARCHIVE,
+                      "-pthread", *words, "-o", caller)
         self.assertEqual(ended.returncode, 0, ended.stderr)
         return caller
 
@@ -89,7 +116,7 @@ class Library(Bench):
 
     def test_every_example_by_the_shared_object(self):
         caller = self.path("caller")
-        ended = built("cc", "-std=c11", *STRICT, f"-I{os.path.dirname(HEADER)}", CALLER, f"-L{os.path.dirname(ARCHIVE)}",
+        ended = built("cc", "-std=c11", *STRICT, f"-I{os.path.dirname(HEADER)}", f"-I{self.room}", CALLER, f"-L{os.path.dirname(ARCHIVE)}",
                       f"-Wl,-rpath,{os.path.dirname(ARCHIVE)}", "-Wl,-Bdynamic", "-lflexray", "-pthread", "-o", caller)
         self.assertEqual(ended.returncode, 0, ended.stderr)
         self.every_example(caller, "typed")

@@ -1,5 +1,6 @@
 """The Python package: every example against its stored text, what is raised, small places, threads, and that units are those of
 flexlab."""
+import inspect
 import io
 import os
 import pickle
@@ -8,6 +9,7 @@ import re
 import subprocess
 import sys
 import threading
+import tomllib
 import unittest
 import zipfile
 from concurrent.futures import ThreadPoolExecutor
@@ -33,6 +35,10 @@ except flexray.LibraryMissing as missing:
     MISSING = str(missing)
 
 EXAMPLES = Path(REPOSITORY, "examples")
+with open(os.path.join(REPOSITORY, "tools", "commands.toml"), "rb") as table:
+    TABLE = tomllib.load(table)
+REQUESTS = [request for request in TABLE["request"] if "python" in request]
+NUMBERS = [word for word, told in TABLE["words"].items() if told["is"] == "number"]
 OFFSET = [Path(EXAMPLES, "offset", f"{name}.csv") for name in ("params", "drift", "script")]
 
 
@@ -43,6 +49,31 @@ def examples():
         spelt = [next(names) if (call.folder / word).is_file() else word for word in call.words]
         yield (call.name, call.is_series, spelt, [path.read_bytes() for path in call.files], call.status, call.text.decode(),
                call.line.decode().strip())
+
+
+def fits(form, word):
+    """Whether this is a word of a request where the table has that."""
+    if form in NUMBERS:
+        return word.isdigit()
+    return word in {"A|B": ("A", "B")}.get(form, ("first", "second", "third") if form.isupper() else (form,))
+
+
+def typed(is_series, words, files):
+    """The function of the table of requests for these words, and what it is called with."""
+    function, forms = next((request["python"], forms) for request in REQUESTS for forms in [request["words"].split()]
+                           if is_series == ("program" in request) and len(forms) == len(words) and all(map(fits, forms, words)))
+    given = {form.lower(): int(word) for form, word in zip(forms, words) if form in NUMBERS}
+    given.update(("channel", word) for form, word in zip(forms, words) if form == "A|B")
+    given.update({"join": True} if "join" in forms else {})
+    # Its other arguments are the files, in their order.
+    others = [name for name in inspect.signature(getattr(flexray, function)).parameters if name not in ("join", *given)]
+    return function, {**given, **dict(zip(others, files, strict=True))}
+
+
+def printed(name, form):
+    """The number that one line of this form has in what an example prints."""
+    found, = re.findall(f"(?m)^{form}$", Path(EXAMPLES, name, "printed.txt").read_text())
+    return int(found)
 
 
 class Index:
@@ -154,49 +185,23 @@ class Calls(Bench):
             self.assertEqual(call(words, *files), flexray.Answer(status, text, line), name)
 
     def test_every_example_as_a_typed_call(self):
-        calls = {"run": flexray.run, "trace": flexray.trace, "check": flexray.check, "observe": flexray.observe,
-                 "cold": flexray.cold, "upgrade": flexray.upgrade}
-        seen = set()
+        called = set()
         for name, is_series, words, files, _, text, line in examples():
             with self.subTest(name):
-                told = [word for word in words if word not in ("first", "second", "third")]
-                if is_series:
-                    found = (flexray.sharp_series if told else flexray.series)(*files)
-                elif words[0] == "run" and "sharp" in told:
-                    found = flexray.sharp_run(*files)
-                elif words[0] == "check" and "sharp" in told:
-                    found = flexray.sharp_check(*files)
-                elif words[0] == "bound" and "lost" in told:
-                    found = flexray.lost_bound(*files, flutter=int(told[2]), count=int(told[4]))
-                elif words[0] == "bound" and "sharp" in told:
-                    found = flexray.sharp_bound(*files, flutter=int(told[2]), join="join" in told)
-                elif words[0] == "bound":
-                    found = flexray.bound(*files, join="join" in told)
-                elif words[0] == "settle" and "sharp" in told:
-                    found = flexray.sharp_settle(*files, int(told[1]), int(told[2]), int(told[4]))
-                elif words[0] == "settle" and "power" in told:
-                    found = flexray.power_on(*files, int(told[2]))
-                elif words[0] == "settle":
-                    found = flexray.settle(*files, int(told[1]), int(told[2]))
-                elif words[0] in ("frame", "capture"):
-                    found = getattr(flexray, words[0])(told[1], *files)
-                elif words[0] == "nm":
-                    found = flexray.nm(int(told[1]), *files)
-                elif words[0] == "make":
-                    found = flexray.make(int(told[1]), int(told[2]))
-                else:
-                    found = calls[words[0]](*files)
+                function, given = typed(is_series, words, files)
+                found = getattr(flexray, function)(**given)
                 self.assertEqual(found.text, text)
                 if line:
                     self.assertEqual((found.passes, found.line), (False, line))
-                seen.add(type(found).__name__)
-        self.assertEqual(len(seen), 19, sorted(seen))
+                self.assertEqual(type(found).__name__, inspect.signature(getattr(flexray, function)).return_annotation)
+                called.add(function)
+        self.assertEqual(called, {request["python"] for request in REQUESTS})
 
     def test_what_a_sharp_check_says(self):
         files = [Path(EXAMPLES, "faults", "arbitrary", "params.csv"), Path(EXAMPLES, "faults", "check-beside", "trace.csv")]
         found = flexray.sharp_check(*files)
         self.assertEqual((found.passes, found.flutter, found.kind, found.precision, found.in_sync, found.lasts, found.unlike),
-                         (True, 1000000, "beside", 141023780, 0, None, 2))
+                         (True, 1000000, "beside", printed("faults/check-beside", r"precision (\d+)"), 0, None, 2))
         self.assertEqual([check.number for check in found.checks], [1, 2, 3])
         self.assertEqual((found.greatest.ticks, found.within, found.beyond), (2500000, True, None))
         text = found.text.replace("in sync 0 on\nunlike 2\ngreatest skew 2500000 cycle 0 macrotick 0\nwithin yes", "{}")
@@ -215,7 +220,8 @@ class Calls(Bench):
                          (series.flutter, series.precision, series.kind, series.sharp_covered, (), series.sharp_synced, series.lasts,
                           series.sharp_greatest, series.sharp_within, series.sharp_beyond))
         self.assertEqual((found.in_sync, found.lasts, found.greatest.ticks), (2, None, 18_760_436))
-        self.assertEqual((found.losses, series.losses), ((0, None, 36_003_994, 2),) * 2)
+        bound = printed("sharp/report", r"sharp lost 0 last - bound (\d+) double 2")
+        self.assertEqual((found.losses, series.losses), ((0, None, bound, 2),) * 2)
         self.assertEqual((found.flutter, found.fluttering, series.fluttering), (0, None, None))
         # Of this one a delay flutters, and it says which and until when.
         files = example_call("sharp/report-walk").files
@@ -542,7 +548,8 @@ class Alone(Bench):
     def test_what_an_observation_says(self):
         text = Path(EXAMPLES, "observe", "observe", "printed.txt").read_text()
         found = texts.observation(text)
-        self.assertEqual((found.text, found.precision, found.flutter, found.lost), (text, 45007594, 1000000, 0))
+        precision = printed("observe/observe", r"precision,(\d+),1000000,0,,,,")
+        self.assertEqual((found.text, found.precision, found.flutter, found.lost), (text, precision, 1000000, 0))
         self.assertEqual(found.log, flexray.LogCounts(8, 0, 0, 0, 0, 0))
         self.assertEqual(found.cycles, (flexray.ObservedCycle(0, 2, 1439448, 4520752, "within"),
                                         flexray.ObservedCycle(1, 2, 1439800, 5598648, "within"),
@@ -593,8 +600,9 @@ class Alone(Bench):
     def test_a_series_in_which_all_nodes_halt(self):
         """Where no node runs a skew is told all the same."""
         files = list(map(str, example_call("sharp/walk").files))
+        bound = printed("sharp/series-walk", r"179,no,0,0,no,all,(\d+)")
         for parse, words, last in ((texts.series, [], flexray.SeriesCycle(179, False, 0, 0)),
-                                   (texts.sharp_series, ["sharp"], flexray.SeriesCycle(179, False, 0, 0, False, "all", 96003994))):
+                                   (texts.sharp_series, ["sharp"], flexray.SeriesCycle(179, False, 0, 0, False, "all", bound))):
             text = subprocess.run([SERIES, *files, *words], capture_output=True, text=True, check=True).stdout
             told = parse(text)
             self.assertEqual((told.text, len(told.cycles), told.cycles[-1]), (text, 180, last))

@@ -97,33 +97,13 @@ static uint64_t number(const char *word) { return strtoull(word, NULL, 10); }
 #define SECOND files[1].bytes, files[1].length
 #define THIRD files[2].bytes, files[2].length
 
+#define CHANNEL(word) (strcmp(word, "B") ? FLEXRAY_A : FLEXRAY_B)
+#define IS_NUMBER(word) ((word)[strspn(word, "0123456789")] == 0)
+
 static uint32_t typed(int count, char **given, uint8_t *out, size_t out_room, uint8_t *err, size_t err_room,
                       flexray_texts *texts) {
-    const char *name = given[0];
-    uint32_t channel = count > 1 && !strcmp(given[1], "B") ? FLEXRAY_B : FLEXRAY_A;
-    if (is_series) return (count == 4 ? flexray_series_sharp : flexray_series)(FIRST, SECOND, THIRD, PLACES);
-    if (!strcmp(name, "run") && count == 5) return flexray_run_sharp(FIRST, SECOND, THIRD, PLACES);
-    if (!strcmp(name, "run")) return flexray_run(FIRST, SECOND, THIRD, PLACES);
-    if (!strcmp(name, "trace")) return flexray_trace(FIRST, SECOND, THIRD, PLACES);
-    if (!strcmp(name, "check")) return (count == 4 ? flexray_check_sharp : flexray_check)(FIRST, SECOND, PLACES);
-    if (!strcmp(name, "observe")) return flexray_observe(FIRST, SECOND, PLACES);
-    if (!strcmp(name, "cold")) return flexray_cold(FIRST, SECOND, PLACES);
-    if (!strcmp(name, "upgrade")) return flexray_upgrade(FIRST, PLACES);
-    if (!strcmp(name, "frame")) return flexray_frame_line(channel, FIRST, PLACES);
-    if (!strcmp(name, "capture")) return flexray_capture(channel, FIRST, PLACES);
-    if (!strcmp(name, "nm")) return flexray_nm((uint32_t)number(given[1]), FIRST, PLACES);
-    if (!strcmp(name, "make")) return flexray_make((uint32_t)number(given[1]), (uint32_t)number(given[2]), PLACES);
-    if (!strcmp(name, "bound") && count == 2) return flexray_bound(FIRST, PLACES);
-    if (!strcmp(name, "bound") && count == 3) return flexray_bound_join(FIRST, PLACES);
-    if (!strcmp(name, "bound") && count == 5) return flexray_bound_sharp_join(FIRST, number(given[3]), PLACES);
-    if (!strcmp(name, "bound") && count == 6)
-        return flexray_bound_lost(FIRST, number(given[3]), (uint32_t)number(given[5]), PLACES);
-    if (!strcmp(name, "bound")) return flexray_bound_sharp(FIRST, number(given[3]), PLACES);
-    if (!strcmp(name, "settle") && count == 4 && !strcmp(given[2], "power"))
-        return flexray_settle_power(FIRST, number(given[3]), PLACES);
-    if (!strcmp(name, "settle") && count == 4) return flexray_settle(FIRST, number(given[2]), number(given[3]), PLACES);
-    if (!strcmp(name, "settle"))
-        return flexray_settle_sharp(FIRST, number(given[2]), number(given[3]), number(given[5]), PLACES);
+/* A line for each request of tools/commands.toml, which the test writes: where these are its words, its call. */
+#include "calls.h"
     fail("there is no such call");
     return 0;
 }
