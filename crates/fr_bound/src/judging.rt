@@ -33,8 +33,9 @@ pub struct Known {
     pub beyond: u64,
 }
 
-/// Whether a double cycle of which so much is known is judged, where delays flutter by no more than so many ticks: the sharper checks but the first hold with its own reach, and the rate limit can follow its lengths, also
-/// by the walk further. What is known may be any numbers; of a judged one they are small.
+/// Whether a double cycle of which so much is known is judged, where delays flutter by no more than so many ticks: the
+/// sharper checks but the first hold with its own reach, and the rate limit can follow its lengths, also by the walk
+/// further. What is known may be any numbers; of a judged one they are small.
 pub fn is_judged(params: &Params, flutter: Flutter, known: Known) -> bool
     ensures value { result ≡ is_judged_double params.now flutter known }
     ensures yes { result ≡ true → IsJudgedDouble params.now flutter known }
