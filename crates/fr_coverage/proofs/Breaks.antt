@@ -9,7 +9,7 @@ use Rattle.fr_script.specs.View.{ScriptView, is_arbitrary, deed_of}
 use Rattle.fr_script.specs.Events.{event_of, event_by}
 use Rattle.fr_coverage.specs.Links.{shares, is_regular, is_free, is_carried_on, is_carried, link_gap}
 use Rattle.fr_coverage.specs.declared.gap.Gap.TheVariants as gap
-use Rattle.fr_script.specs.declared.deeds.Deed.{Deed}
+use Rattle.fr_script.specs.declared.deed.Deed.{Deed}
 
 pub broken : (s : ScriptView) (a b : NodeSpec) (double : ℕ) → is_carried s a b double ≡ false → link_gap s a b double ≡ Some (gap.Link a.id b.id double)
 broken s a b double h = rw h refl

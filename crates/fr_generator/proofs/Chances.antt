@@ -10,11 +10,12 @@ use Rattle.fr_text.specs.Fields.{is_channel, looked_up, or_else}
 use Rattle.fr_text.specs.Refusal.{NoneRefused}
 use Rattle.fr_text.proofs.Cuts.{none-empty, none-more}
 use Rattle.fr_script.specs.Deeds.{passage_of}
-use Rattle.fr_script.specs.Rows.{IsProperSay, script_row_of}
+use Rattle.fr_script.specs.Deed.{IsProperSay}
+use Rattle.fr_script.specs.Rows.{script_row_of}
 use Rattle.fr_script.specs.Reasons.{deed_by, deed_reason, deed_said, is_misplaced, is_named_in, script_reason_after, script_row_reason}
 use Rattle.fr_script.specs.Written.{arbitrary_record, say_record}
-use Rattle.fr_script.specs.declared.deeds.Deed.{Deed}
-use Rattle.fr_script.specs.declared.deeds.Deed.TheVariants as deed
+use Rattle.fr_script.specs.declared.deed.Deed.{Deed}
+use Rattle.fr_script.specs.declared.deed.Deed.TheVariants as deed
 use Rattle.fr_script.specs.declared.rows.Row.{Row}
 use Rattle.fr_script.specs.declared.rows.Row.TheVariants as row
 use Rattle.fr_script.proofs.Adding.{said_row, says-arbitrary, says-say}

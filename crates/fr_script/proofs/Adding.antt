@@ -15,14 +15,15 @@ use Rattle.fr_text.proofs.Written.{natural-decimal, within-signed}
 use Rattle.fr_cluster.specs.Values.{Values}
 use Rattle.fr_cluster.specs.Questions.{is_common}
 use Rattle.fr_script.specs.Deeds.{deed_in, passage_of, DeedsAscend}
-use Rattle.fr_script.specs.Rows.{IsProperDeed, IsProperSay, farthest, script_row_of}
+use Rattle.fr_script.specs.Deed.{farthest, IsProperDeed, IsProperSay}
+use Rattle.fr_script.specs.Rows.{script_row_of}
 use Rattle.fr_script.specs.Reasons.{deed_by, deed_reason, is_misplaced, is_named_in, join_said, knows_both, script_reason_after, script_row_reason}
 use Rattle.fr_script.specs.View.{AreDeeds, IsScript, ScriptView, deeds_on, is_arbitrary, join_of}
 use Rattle.fr_script.specs.Files.{ScriptFits, ScriptStandsFor}
 use Rattle.fr_script.specs.Written.{arbitrary_record, say_record}
 use Rattle.fr_script.specs.Adding.{AddsScriptRecord, EntersDeed, HasScriptRecord, IsDeedEntered, TakesScriptRecord}
-use Rattle.fr_script.specs.declared.deeds.Deed.{Deed}
-use Rattle.fr_script.specs.declared.deeds.Deed.TheVariants as deed
+use Rattle.fr_script.specs.declared.deed.Deed.{Deed}
+use Rattle.fr_script.specs.declared.deed.Deed.TheVariants as deed
 use Rattle.fr_script.specs.declared.deeds.Passage.{Passage}
 use Rattle.fr_script.specs.declared.fault.ScriptFault.{ScriptFault}
 use Rattle.fr_script.specs.declared.rows.DeedRow.{DeedRow}

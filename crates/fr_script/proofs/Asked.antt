@@ -10,7 +10,7 @@ use Rattle.std.proofs.lemmas.Bool.Decides.{nat_tests}
 use Rattle.fr_text.specs.Fields.{or_else}
 use Rattle.fr_text.proofs.Lookups.{or_else-none}
 use Rattle.fr_script.specs.declared.deeds.Passage.{Passage}
-use Rattle.fr_script.specs.declared.deeds.Deed.{Deed}
+use Rattle.fr_script.specs.declared.deed.Deed.{Deed}
 use Rattle.fr_script.specs.Deeds.{asked_cmp, deed_in, in_order, passage_cmp, passage_of, DeedsAscend, IsDeedPut, IsNextCycle}
 use Rattle.fr_script.proofs.Outcomes.{find-lookup, passages_total}
 use Rattle.fr_script.proofs.Existence.{ordered-keys}

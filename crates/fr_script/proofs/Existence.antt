@@ -26,7 +26,7 @@ use Rattle.fr_script.specs.Reasons.{deed_by, deed_said, is_named_in, is_same_pas
 use Rattle.fr_script.specs.View.{ScriptView, deeds_on, is_arbitrary, join_of}
 use Rattle.fr_script.specs.Files.{ScriptStandsFor, script_file}
 use Rattle.fr_script.specs.declared.deeds.Passage.{Passage}
-use Rattle.fr_script.specs.declared.deeds.Deed.{Deed}
+use Rattle.fr_script.specs.declared.deed.Deed.{Deed}
 use Rattle.fr_script.specs.declared.rows.Row.{Row}
 use Rattle.fr_script.specs.declared.rows.Row.TheVariants as row
 use Rattle.fr_script.specs.declared.fault.ScriptFault.{ScriptFault}

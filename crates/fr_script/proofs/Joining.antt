@@ -14,12 +14,12 @@ use Rattle.fr_base.specs.declared.reason.Reason.{Reason}
 use Rattle.fr_base.specs.declared.reason.Reason.TheVariants as reason
 use Rattle.fr_text.specs.Records.{FileRecord}
 use Rattle.fr_text.specs.Refusal.{NoneRefused}
-use Rattle.fr_text.specs.Fields.{both_of, field_of, hex_digits_in, is_blank, natural_of, natural_within, or_else, or_reason}
+use Rattle.fr_text.specs.Fields.{both_of, field_of, natural_of, natural_within, or_else, or_reason}
 use Rattle.fr_text.proofs.Lookups.{looked_up-nil, or_else-none}
 use Rattle.fr_cluster.specs.Values.{Values}
 use Rattle.fr_cluster.specs.Questions.{is_common, node_of, own_key}
 use Rattle.fr_cluster.specs.declared.join.Join.{Join}
-use Rattle.fr_script.specs.Rows.{arbitrary_row, flip_row, is_channel_last, is_node_alone, is_reference_last, join_in, join_row, joining, lose_row, passage_in, say_row, script_file_row, script_row_of, shift_in}
+use Rattle.fr_script.specs.Rows.{arbitrary_row, is_node_alone, is_reference_last, join_in, join_row, joining, row_of_no_deed, script_file_row, script_row_of}
 use Rattle.fr_script.specs.Reasons.{has_acted, is_deed_or_join, is_named_in, is_reference, join_by, join_reason, join_said, knows_joining, may_not_join, names, refers, script_reason_after, script_row_reason, share_channel}
 use Rattle.fr_script.specs.View.{ScriptView, is_arbitrary, join_of}
 use Rattle.fr_script.specs.Files.{ScriptFits}
@@ -27,6 +27,7 @@ use Rattle.fr_script.specs.Promises.{JoinsProperly, NodesJoinProperly}
 use Rattle.fr_script.specs.declared.rows.JoinRow.{JoinRow}
 use Rattle.fr_script.specs.declared.rows.Row.{Row}
 use Rattle.fr_script.specs.declared.rows.Row.TheVariants as row
+use Rattle.fr_script.proofs.DeedKinds.{of-deeds}
 use Rattle.fr_script.proofs.Tables.{has_acted-more, is_named-more, is_reference-more, join_by-more, or-false, or-true}
 
 -- the numbers of a `join` row lie in their ranges
@@ -90,18 +91,14 @@ range-row r =
     range-if (length r == 7) (script_file_row r) (Err reason.Shape)
     (range-if (bytes_eq (field_of r 0) (codes "arbitrary")) (arbitrary_row r) _
     (range-if (is_node_alone r) _ (Err reason.Shape) (range-read (λ node. Ok (row.Arbitrary node)) (natural_of 1 64 (field_of r 1)) (λ node. tt)) tt)
-    (range-if (bytes_eq (field_of r 0) (codes "say")) (say_row r) _ (range-read _ (both_of (passage_in r) (both_of (shift_in r) (hex_digits_in (field_of r 6)))) (λ numbers. tt))
-    (range-if (bytes_eq (field_of r 0) (codes "lose")) (lose_row r) _
-    (range-if (is_channel_last r) _ (Err reason.Shape) (range-read _ (passage_in r) (λ passage. tt)) tt)
-    (range-if (bytes_eq (field_of r 0) (codes "flip")) (flip_row r) _
-    (range-if (is_blank (field_of r 6)) _ (Err reason.Shape) (range-read _ (both_of (passage_in r) (natural_of 0 2095 (field_of r 5))) (λ numbers. tt)) tt)
+    (of-deeds JoinsInRange (λ why. tt) (λ d proper. tt) r (row_of_no_deed r)
     (range-if (bytes_eq (field_of r 0) (codes "join")) (join_row r) (Err reason.UnknownName)
     (range-if (is_reference_last r) _ (Err reason.Shape)
     (range-said (join_in r)
     (range-joining (natural_of 0 99_999 (field_of r 1)) (natural_of 1 64 (field_of r 2)) (natural_of 1 64 (field_of r 3)) (up_to-within 0 99_999 (number_of (field_of r 1)))
     (up_to-within 1 64 (number_of (field_of r 3)))))
     tt)
-    tt)))))
+    tt)))
     tt
 
 -- what holds after these records of a node that they let join

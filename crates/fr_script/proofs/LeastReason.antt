@@ -1,67 +1,32 @@
 -- The reason of a record of a script is the least that holds.
-use Rattle.std.proofs.Common.{◌≡◌, ℕ, ℤ, pos, negsuc, ◌-◌, ◌≤◌, ◌≤ℤ◌, Bool, true, false, List, [], ◌∷◌, length, Option, Some, None, Result, Ok, Err, arith, refl, sym, ◌∙◌}
-use Rattle.std.specs.Prelude.{neg_ℤ, nat_abs, nat_lt, nat_le, not, ◌||◌, ◌&&◌, ◌==◌, codes, is_none, is_some, if◌then◌else◌}
+use Rattle.std.proofs.Common.{◌≡◌, ℕ, ℤ, pos, ◌-◌, ◌≤◌, ◌≤ℤ◌, Bool, true, false, List, [], ◌∷◌, length, Option, Some, None, Result, Ok, Err, arith, refl}
+use Rattle.std.specs.Prelude.{nat_abs, not, ◌||◌, ◌&&◌, ◌==◌, codes, is_none, is_some, if◌then◌else◌}
 use Rattle.std.specs.Str.{bytes_eq}
-use Rattle.std.proofs.lemmas.Bool.Decides.{nat_tests}
 use Rattle.std.proofs.lemmas.Int.{ints}
-use Rattle.fr_base.specs.Channels.{channel_of}
-use Rattle.fr_base.specs.Number.{number_of}
 use Rattle.fr_base.specs.declared.channel.Channel.{Channel}
 use Rattle.fr_base.specs.declared.numbers.NumberFault.{NumberFault}
 use Rattle.fr_base.specs.declared.numbers.NumberFault.TheVariants as fault
 use Rattle.fr_base.specs.declared.reason.Reason.{Reason}
 use Rattle.fr_base.specs.declared.reason.Reason.TheVariants as reason
 use Rattle.fr_text.specs.Records.{FileRecord}
-use Rattle.fr_text.specs.Fields.{both_of, field_of, hex_digits_in, is_blank, natural_of, natural_within, or_reason}
-use Rattle.fr_text.specs.Forms.{NumberField, number_field, misses_form, has_unknown_name, has_no_number, is_out_of_range, has_bad_channels}
+use Rattle.fr_text.specs.Fields.{both_of, field_of, is_blank, natural_of, or_reason}
+use Rattle.fr_text.specs.Forms.{number_field, misses_form, has_unknown_name, has_no_number, is_out_of_range, has_bad_channels}
 use Rattle.fr_text.specs.Least.{GivesLeast, IsLeastReason, row_passes}
 use Rattle.fr_text.proofs.LeastReasons.{least-first}
-use Rattle.fr_text.proofs.FormFacts.{IsFault, IsFormed, IsFormedBy, IsRead, formed-five, formed-if, formed-one, formed-read, formed-sized, formed-two, is_overfull, least-formed, natural-read, never, read-both, within-read}
+use Rattle.fr_text.proofs.FormFacts.{IsFault, IsFormed, IsFormedBy, IsRead, formed-five, formed-if, formed-read, formed-sized, formed-two, is_overfull, least-formed, natural-read, never, read-both}
 use Rattle.fr_cluster.specs.Values.{Values, amount}
 use Rattle.fr_cluster.specs.Sane.{IsSane}
 use Rattle.fr_cluster.specs.Questions.{is_common, node_of, own_key}
 use Rattle.fr_cluster.specs.declared.names.ParamName.TheVariants as name
-use Rattle.fr_script.specs.Rows.{arbitrary_row, deed_row, farthest, flip_row, join_in, join_row, joining, lose_row, passage_in, passage_of_numbers, said_in, say_deed, say_row, script_file_row, script_row_of, shift_in}
-use Rattle.fr_script.specs.Reasons.{bits_of, deed_by, has_acted, is_after_frame, is_misplaced, is_named_in, is_say, join_by, knows_both, knows_joining, may_not_join, script_reason_after, script_row_reason, share_channel}
-use Rattle.fr_script.specs.Holding.{arbitrary_form, flip_form, join_form, is_not_hex, is_of_stranger, is_off_channel, is_second, lose_form, may_not_stand, passage_fields, say_form, script_form, script_holds}
+use Rattle.fr_script.specs.Deed.{bits_of, is_after_frame, is_say}
+use Rattle.fr_script.specs.Rows.{arbitrary_row, join_in, join_row, joining, row_of_no_deed, script_file_row, script_row_of}
+use Rattle.fr_script.specs.Reasons.{deed_by, has_acted, is_misplaced, is_named_in, join_by, knows_both, knows_joining, may_not_join, script_reason_after, script_row_reason, share_channel}
+use Rattle.fr_script.specs.Holding.{arbitrary_form, join_form, is_not_hex, is_of_stranger, is_off_channel, is_second, may_not_stand, script_form, script_holds}
 use Rattle.fr_script.specs.declared.deeds.Passage.{Passage}
-use Rattle.fr_script.specs.declared.deeds.Deed.{Deed}
-use Rattle.fr_script.specs.declared.deeds.Deed.TheVariants as deed
+use Rattle.fr_script.specs.declared.deed.Deed.{Deed}
 use Rattle.fr_script.specs.declared.rows.Row.{Row}
 use Rattle.fr_script.specs.declared.rows.Row.TheVariants as row
-
--- what of a row is left to ask: a bit against the end of the frame, and its channel
-far : Values → Row → Bool
-far p (row.Arbitrary node) = false
-far p (row.Deed d) = is_after_frame p d.deed
-far p (row.Join j) = false
-
-astray : Row → Bool
-astray (row.Arbitrary node) = false
-astray (row.Deed d) = is_none d.channel
-astray (row.Join j) = false
-
-spelt : (o : Option Channel) → not (is_some o) ≡ is_none o
-spelt None = refl
-spelt (Some ch) = refl
-
--- a passage
-numbers-read : (d o : Bool) (x : Result (ℕ × (ℕ × ℕ)) NumberFault) → IsFault (λ (q : ℕ × (ℕ × ℕ)). never q.0 || (never q.1.0 || never q.1.1)) d o x → IsFault never d o (passage_of_numbers x)
-numbers-read d o (Ok q) f = f
-numbers-read d o (Err fault.NotDigits) f = f
-numbers-read d o (Err fault.OutOfRange) f = f
-
-passage-read : (r : FileRecord) → IsRead never (passage_fields r) true (passage_in r)
-passage-read r =
-    let rest =
-    read-both never never (number_field (field_of r 2) 1 64 ∷ []) (number_field (field_of r 3) 1 64 ∷ []) true true (natural_of 1 64 (field_of r 2)) (natural_of 1 64 (field_of r 3))
-    (natural-read 1 64 (field_of r 2)) (natural-read 1 64 (field_of r 3))
-    in
-    let all =
-    read-both never (λ (q : ℕ × ℕ). never q.0 || never q.1) (number_field (field_of r 1) 0 199_999 ∷ []) (number_field (field_of r 2) 1 64 ∷ number_field (field_of r 3) 1 64 ∷ []) true true
-    (natural_of 0 199_999 (field_of r 1)) (both_of (natural_of 1 64 (field_of r 2)) (natural_of 1 64 (field_of r 3))) (natural-read 0 199_999 (field_of r 1)) rest
-    in
-    numbers-read _ _ (both_of (natural_of 0 199_999 (field_of r 1)) (both_of (natural_of 1 64 (field_of r 2)) (natural_of 1 64 (field_of r 3)))) all
+use Rattle.fr_script.proofs.DeedKinds.{astray, deeds-formed, far}
 
 -- a node
 arbitrary-formed : (p : Values) (r : FileRecord) → IsFormedBy (far p) astray (Some (arbitrary_form r)) (arbitrary_row r)
@@ -70,70 +35,6 @@ arbitrary-formed p r =
     formed-five (far p) astray (is_blank (field_of r 2)) (is_blank (field_of r 3)) (is_blank (field_of r 4)) (is_blank (field_of r 5)) (is_blank (field_of r 6)) _ _ _ _
     (or_reason (λ node. Ok (row.Arbitrary node)) (natural_of 1 64 (field_of r 1)))
     (formed-read (far p) astray never _ _ _ (λ node. Ok (row.Arbitrary node)) (natural_of 1 64 (field_of r 1)) (natural-read 1 64 (field_of r 1)) (λ n d o e f. (refl, refl, e, f, refl)))
-
--- what is said
-few : (n : ℕ) → nat_le n 524 ≡ not (nat_lt 524 n)
-few n = grind (arith, nat_tests)
-
-digits-if : (b : Bool) (n : ℕ) → IsFault never false (false || not (not b)) (if b then Err fault.OutOfRange else Ok n)
-digits-if true n = (refl, refl)
-digits-if false n = (refl, refl)
-
-digits-read : (text : List ℕ) → IsRead never [] (nat_le (length text) 524) (hex_digits_in text)
-digits-read text = rw (few (length text)) (digits-if (nat_lt 524 (length text)) (length text))
-
-say-before : (p : Values) (shift : ℤ) (o : Option (Option (List ℕ))) → is_after_frame p (say_deed shift o) ≡ false
-say-before p shift None = refl
-say-before p shift (Some bytes) = refl
-
-say-formed : (p : Values) (r : FileRecord) → IsFormedBy (far p) astray (Some (say_form r)) (say_row r)
-unfolding far astray
-say-formed p r =
-    let shift_field : NumberField = record { text = field_of r 5; low = neg_ℤ farthest; high = farthest } in
-    let short = nat_le (length (field_of r 6)) 524 in
-    let rest = read-both never never (shift_field ∷ []) [] true short (shift_in r) (hex_digits_in (field_of r 6)) (within-read (neg_ℤ farthest) farthest (field_of r 5)) (digits-read (field_of r 6)) in
-    let all =
-    read-both never (λ (q : ℤ × ℕ). never q.0 || never q.1) (passage_fields r) (shift_field ∷ []) true short (passage_in r) (both_of (shift_in r) (hex_digits_in (field_of r 6))) (passage-read r) rest
-    in
-    formed-read (far p) astray (λ (q : Passage × (ℤ × ℕ)). never q.0 || (never q.1.0 || never q.1.1)) _ _ _ (λ numbers. Ok (deed_row r numbers.0 (say_deed numbers.1.0 (said_in (field_of r 6)))))
-    (both_of (passage_in r) (both_of (shift_in r) (hex_digits_in (field_of r 6)))) all
-    (λ a d o e f. (refl, refl, e, f ∙ sym (say-before p a.1.0 (said_in (field_of r 6))), spelt (channel_of (field_of r 4))))
-
--- what is lost
-lose-formed : (p : Values) (r : FileRecord) → IsFormedBy (far p) astray (Some (lose_form r)) (lose_row r)
-unfolding far astray
-lose-formed p r =
-    formed-two (far p) astray (is_blank (field_of r 5)) (is_blank (field_of r 6)) _ _ _ _ (or_reason (λ passage. Ok (deed_row r passage (Some deed.Lose))) (passage_in r))
-    (formed-read (far p) astray never _ _ _ (λ passage. Ok (deed_row r passage (Some deed.Lose))) (passage_in r) (passage-read r)
-    (λ a d o e f. (refl, refl, e, f, spelt (channel_of (field_of r 4)))))
-
--- a bit that is inverted
-bit-after : (bits n : ℕ) → 1 ≤ bits → bits ≤ 2096 → (nat_lt n 0 || nat_lt 2095 n) ≡ true → (((nat_lt n 0 || nat_lt (bits - 1) n) || false) || false) ≡ true
-bit-after bits n from to h = grind (arith, nat_tests)
-
-bit-within : (bits n : ℕ) → 1 ≤ bits → (((nat_lt n 0 || nat_lt (bits - 1) n) || false) || false) ≡ nat_le bits n
-bit-within bits n from = grind (arith, nat_tests)
-
-bit-if : (bits n : ℕ) (b : Bool) → 1 ≤ bits → bits ≤ 2096 → (nat_lt n 0 || nat_lt 2095 n) ≡ b
-    → IsFault (λ bit. nat_le bits bit) false (((nat_lt n 0 || nat_lt (bits - 1) n) || false) || false) (if b then Err fault.OutOfRange else Ok n)
-bit-if bits n true from to e = (refl, bit-after bits n from to e)
-bit-if bits n false from to e = (refl, bit-within bits n from)
-
-bit-of : (bits : ℕ) (o : Option ℤ) (text : List ℕ) → 1 ≤ bits → bits ≤ 2096 → number_of text ≡ o → IsRead (λ bit. nat_le bits bit) (number_field text 0 (bits - 1) ∷ []) true (natural_within 0 2095 o)
-bit-of bits None text from to e = rw e refl
-bit-of bits (Some (pos n)) text from to e = rw e (bit-if bits n (nat_lt n 0 || nat_lt 2095 n) from to refl)
-bit-of bits (Some (negsuc n)) text from to e = rw e (refl, refl)
-
-flip-formed : (p : Values) (r : FileRecord) → 1 ≤ bits_of p → bits_of p ≤ 2096 → IsFormedBy (far p) astray (Some (flip_form p r)) (flip_row r)
-unfolding far astray
-flip-formed p r from to =
-    let all =
-    read-both never (λ bit. nat_le (bits_of p) bit) (passage_fields r) (number_field (field_of r 5) 0 (bits_of p - 1) ∷ []) true true (passage_in r) (natural_of 0 2095 (field_of r 5)) (passage-read r)
-    (bit-of (bits_of p) (number_of (field_of r 5)) (field_of r 5) from to refl)
-    in
-    formed-one (far p) astray (is_blank (field_of r 6)) _ _ _ _ (or_reason (λ numbers. Ok (deed_row r numbers.0 (Some (deed.Flip numbers.1)))) (both_of (passage_in r) (natural_of 0 2095 (field_of r 5))))
-    (formed-read (far p) astray (λ (q : Passage × ℕ). never q.0 || nat_le (bits_of p) q.1) _ _ _ (λ numbers. Ok (deed_row r numbers.0 (Some (deed.Flip numbers.1))))
-    (both_of (passage_in r) (natural_of 0 2095 (field_of r 5))) all (λ a d o e f. (refl, refl, e, f, spelt (channel_of (field_of r 4)))))
 
 -- a node that joins
 joining-read : (d o : Bool) (x : Result (ℕ × (ℕ × ℕ)) NumberFault) → IsFault (λ (q : ℕ × (ℕ × ℕ)). never q.0 || (never q.1.0 || never q.1.1)) d o x → IsFault never d o (joining x)
@@ -173,10 +74,8 @@ formed p r from to =
     formed-sized (far p) astray (length r == 7) (is_overfull (script_form p r)) (has_unknown_name (script_form p r)) (has_no_number (script_form p r)) (is_out_of_range (script_form p r)) (has_bad_channels (script_form p r))
     (script_file_row r)
     (formed-if (far p) astray (bytes_eq (field_of r 0) (codes "arbitrary")) (Some (arbitrary_form r)) _ _ _ (arbitrary-formed p r)
-    (formed-if (far p) astray (bytes_eq (field_of r 0) (codes "say")) (Some (say_form r)) _ _ _ (say-formed p r)
-    (formed-if (far p) astray (bytes_eq (field_of r 0) (codes "lose")) (Some (lose_form r)) _ _ _ (lose-formed p r)
-    (formed-if (far p) astray (bytes_eq (field_of r 0) (codes "flip")) (Some (flip_form p r)) _ _ _ (flip-formed p r from to)
-    (formed-if (far p) astray (bytes_eq (field_of r 0) (codes "join")) (Some (join_form r)) None _ (Err reason.UnknownName) (join-formed p r) (refl, refl))))))
+    (deeds-formed p r _ (row_of_no_deed r) from to
+    (formed-if (far p) astray (bytes_eq (field_of r 0) (codes "join")) (Some (join_form r)) None _ (Err reason.UnknownName) (join-formed p r) (refl, refl))))
 
 -- a deed, by its channel
 least-deed : (p : Values) (test : Reason → Bool) (before : List FileRecord) (passage : Passage) (what : Option Deed) (o : Option Channel)

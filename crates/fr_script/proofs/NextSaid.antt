@@ -6,8 +6,8 @@ use Rattle.std.proofs.lemmas.Bool.{cases_eq, cases_lt}
 use Rattle.std.proofs.lemmas.Bool.Decides.{nat_tests}
 use Rattle.std.proofs.lemmas.List.{get_or_default}
 use Rattle.fr_script.specs.declared.deeds.Passage.{Passage}
-use Rattle.fr_script.specs.declared.deeds.Deed.{Deed}
-use Rattle.fr_script.specs.declared.deeds.Deed.TheVariants as deed
+use Rattle.fr_script.specs.declared.deed.Deed.{Deed}
+use Rattle.fr_script.specs.declared.deed.Deed.TheVariants as deed
 use Rattle.fr_script.specs.Deeds.{deed_in, passage_cmp, passage_of, IsNextCycle}
 use Rattle.fr_script.specs.Sayings.{is_before, is_later, AreBefore, AreInTurn}
 use Rattle.fr_script.proofs.InTurn.{lookup-first, lookup-nowhere}

@@ -27,17 +27,19 @@ use Rattle.fr_cluster.specs.Questions.{node_of, own_key}
 use Rattle.fr_text.specs.Fields.{is_channel, or_else, looked_up}
 use Rattle.fr_script.specs.Deeds.{deed_in, passage_cmp, DeedsAscend, passage_of}
 use Rattle.fr_script.specs.Rows.{script_row_of}
-use Rattle.fr_script.specs.Reasons.{names, is_named_in, has_acted, node_reason, script_row_reason, script_reason_after, bits_of, deed_said, is_same_passage, is_after_frame}
+use Rattle.fr_script.specs.Deed.{bits_of, is_after_frame}
+use Rattle.fr_script.specs.Reasons.{names, is_named_in, has_acted, node_reason, script_row_reason, script_reason_after, deed_said, is_same_passage}
 use Rattle.fr_script.specs.View.{ScriptView, is_arbitrary, join_of, deeds_on, deed_of}
 use Rattle.fr_base.specs.Event as event
-use Rattle.fr_script.specs.Events.{event_by, event_of}
+use Rattle.fr_script.specs.Events.{event_of}
 use Rattle.fr_script.specs.Files.{ScriptStandsFor, ScriptFits, script_file}
 use Rattle.fr_script.specs.declared.deeds.Passage.{Passage}
-use Rattle.fr_script.specs.declared.deeds.Deed.{Deed}
-use Rattle.fr_script.specs.declared.deeds.Deed.TheVariants as deed
+use Rattle.fr_script.specs.declared.deed.Deed.{Deed}
+use Rattle.fr_script.specs.declared.deed.Deed.TheVariants as deed
 use Rattle.fr_script.specs.declared.rows.Row.{Row}
 use Rattle.fr_script.specs.declared.rows.Row.TheVariants as row
 use Rattle.fr_script.specs.declared.fault.ScriptFault.TheVariants as fault
+use Rattle.fr_script.proofs.DeedKinds.{flip-deed}
 use Rattle.fr_script.proofs.Tables.{same-passage}
 
 pub passages_total : IsTotalOrder passage_cmp
@@ -219,17 +221,6 @@ flip-row p before ch passage bit (Ok (row.Deed d)) says none =
     let what = chosen (is_channel ch d.channel && is_same_passage d.passage passage) d.deed (deed.Flip bit) says in
     let fits = not-refused (is_after_frame p d.deed) reason.OutOfRange _ none in
     below-not (bits_of p) bit (sym (ap (is_after_frame p) what) ∙ fits)
-
--- only a deed that inverts a bit inverts one
-flip-deed : (b : Bool) (o : Option Deed) (bit : ℕ) → event_by b o ≡ event.Flip bit → o ≡ Some (deed.Flip bit)
-flip-deed true None bit h = cc h
-flip-deed true (Some deed.Lose) bit h = cc h
-flip-deed true (Some (deed.Flip other)) bit h = cc h
-flip-deed true (Some (deed.Say shift bytes)) bit h = cc h
-flip-deed false None bit h = cc h
-flip-deed false (Some deed.Lose) bit h = cc h
-flip-deed false (Some (deed.Flip other)) bit h = cc h
-flip-deed false (Some (deed.Say shift bytes)) bit h = cc h
 
 -- a bit that a script inverts is one of a frame of the parameters that it fits
 pub fits-flip : (p : Values) (s : ScriptView) (cycle sender receiver : ℕ) (ch : Channel) (bit : ℕ) → ScriptFits p s → event_of s cycle sender receiver ch ≡ event.Flip bit → bit < bits_of p

@@ -1,24 +1,13 @@
 -- The numbers of events lie in their ranges.
-use Rattle.std.proofs.Common.{ℕ, Bool, true, false, Option, Some, None}
+use Rattle.std.proofs.Common.{ℕ}
 use Rattle.std.specs.Prelude.{IfSome}
 use Rattle.fr_base.specs.declared.channel.Channel.{Channel}
 use Rattle.fr_base.specs.declared.channel.Channel.TheVariants as channel
 use Rattle.fr_script.specs.Deeds.{passage_of}
-use Rattle.fr_script.specs.Rows.{IsProperDeed}
+use Rattle.fr_script.specs.Deed.{IsProperDeed}
 use Rattle.fr_script.specs.View.{ScriptView, IsScript, is_arbitrary, deed_of}
-use Rattle.fr_script.specs.Events.{IsProperEvent, event_by, event_of}
-use Rattle.fr_script.specs.declared.deeds.Deed.{Deed}
-use Rattle.fr_script.specs.declared.deeds.Deed.TheVariants as deed
-
-by-proper : (b : Bool) (o : Option Deed) → IfSome o IsProperDeed → IsProperEvent (event_by b o)
-by-proper true None h = tt
-by-proper true (Some deed.Lose) h = tt
-by-proper true (Some (deed.Flip bit)) h = tt
-by-proper true (Some (deed.Say shift bytes)) h = h
-by-proper false None h = tt
-by-proper false (Some deed.Lose) h = tt
-by-proper false (Some (deed.Flip bit)) h = h
-by-proper false (Some (deed.Say shift bytes)) h = tt
+use Rattle.fr_script.specs.Events.{IsProperEvent, event_of}
+use Rattle.fr_script.proofs.DeedKinds.{by-proper}
 
 deed-proper : (s : ScriptView) → IsScript s → (cycle i j : ℕ) (ch : Channel) → IfSome (deed_of s cycle i j ch) IsProperDeed
 unfolding deed_of

@@ -11,7 +11,7 @@ use Rattle.std.specs.Map.{keys_of}
 use Rattle.std.specs.declared.ops.Bound.TheVariants.{Included, Excluded}
 use Rattle.std.proofs.lemmas.Bool.Decides.{nat_tests}
 use Rattle.fr_script.specs.declared.deeds.Passage.{Passage}
-use Rattle.fr_script.specs.declared.deeds.Deed.{Deed}
+use Rattle.fr_script.specs.declared.deed.Deed.{Deed}
 use Rattle.fr_script.specs.Deeds.{asked_cmp, deed_in, passage_cmp, passage_of, IsNextCycle}
 use Rattle.fr_script.proofs.Tables.{is_same-at}
 

@@ -16,12 +16,13 @@ use Rattle.fr_cluster.specs.declared.join.Join.{Join}
 use Rattle.fr_text.specs.Fields.{is_channel, or_else, looked_up}
 use Rattle.fr_text.proofs.Lookups.{looked_up-more, looked_up-nil, or_else-none}
 use Rattle.fr_script.specs.Deeds.{deed_in, passage_cmp, DeedsAscend}
-use Rattle.fr_script.specs.Rows.{script_row_of, IsProperDeed}
+use Rattle.fr_script.specs.Deed.{IsProperDeed}
+use Rattle.fr_script.specs.Rows.{script_row_of}
 use Rattle.fr_script.specs.Reasons.{names, is_deed_or_join, is_same_passage, deed_said, is_named_in, is_reference, has_acted, deed_by, join_by, join_said, refers}
 use Rattle.fr_script.specs.View.{AreDeeds}
 use Rattle.fr_script.specs.Draft.{IsScriptDraft, repeated}
 use Rattle.fr_script.specs.declared.deeds.Passage.{Passage}
-use Rattle.fr_script.specs.declared.deeds.Deed.{Deed}
+use Rattle.fr_script.specs.declared.deed.Deed.{Deed}
 use Rattle.fr_script.specs.declared.rows.JoinRow.{JoinRow}
 use Rattle.fr_script.specs.declared.rows.Row.{Row}
 use Rattle.fr_script.specs.declared.rows.Row.TheVariants as row

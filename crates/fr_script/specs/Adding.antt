@@ -7,7 +7,7 @@ use Rattle.fr_script.specs.Deeds.{DeedsAscend, IsDeedPut}
 use Rattle.fr_script.specs.Reasons.{script_reason_after}
 use Rattle.fr_script.specs.View.{ScriptView}
 use Rattle.fr_script.specs.Files.{ScriptFits, ScriptStandsFor}
-use Rattle.fr_script.specs.declared.deeds.Deed.{Deed}
+use Rattle.fr_script.specs.declared.deed.Deed.{Deed}
 use Rattle.fr_script.specs.declared.deeds.Passage.{Passage}
 use Rattle.fr_script.specs.declared.fault.ScriptFault.{ScriptFault}
 use Rattle.fr_script.specs.declared.fault.ScriptFault.TheVariants as fault

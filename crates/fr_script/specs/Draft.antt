@@ -9,7 +9,7 @@ use Rattle.fr_script.specs.Deeds.{deed_in}
 use Rattle.fr_script.specs.Reasons.{is_named_in, is_reference, has_acted, deed_by, deed_reason, join_by, script_row_reason}
 use Rattle.fr_script.specs.Rows.{script_row_of}
 use Rattle.fr_script.specs.View.{AreDeeds}
-use Rattle.fr_script.specs.declared.deeds.Deed.{Deed}
+use Rattle.fr_script.specs.declared.deed.Deed.{Deed}
 use Rattle.fr_script.specs.declared.deeds.Passage.{Passage}
 use Rattle.fr_script.specs.declared.draft.Act.{Act}
 use Rattle.fr_script.specs.declared.draft.Draft.{Draft}

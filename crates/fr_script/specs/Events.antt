@@ -1,29 +1,15 @@
 -- What becomes of the frames of a passage.
-use Rattle.std.specs.Prelude.{ℕ, ◌<◌, Bool, true, false, Option, Some, None, option_map}
+use Rattle.std.specs.Prelude.{ℕ, ◌<◌, Bool, true, false, Option, option_map}
 use Rattle.fr_base.specs.Event.{Event}
 use Rattle.fr_base.specs.Event as event
 use Rattle.fr_base.specs.declared.channel.Channel.{Channel}
-use Rattle.fr_script.specs.Rows.{IsProperSay, most_bits}
+use Rattle.fr_script.specs.Deed.{IsProperSay, done_by, event_of_deed, most_bits}
 use Rattle.fr_script.specs.View.{ScriptView, is_arbitrary, deed_of}
-use Rattle.fr_script.specs.declared.deeds.Deed.{Deed}
-use Rattle.fr_script.specs.declared.deeds.Deed.TheVariants as deed
+use Rattle.fr_script.specs.declared.deed.Deed.{Deed}
 use Rattle.fr_script.specs.declared.script.Event.{Event as Shown}
 use Rattle.fr_script.specs.declared.script.Event.TheVariants as shown
 
--- what a deed makes of the frames of a correct sender
-abbrev pub done_by : Option Deed → Event
-done_by None = event.Regular
-done_by (Some deed.Lose) = event.Silent
-done_by (Some (deed.Flip bit)) = event.Flip bit
-done_by (Some (deed.Say shift bytes)) = event.Regular
-
--- and what an arbitrary sender says by it
-abbrev pub event_of_deed : Option Deed → Event
-event_of_deed None = event.Silent
-event_of_deed (Some deed.Lose) = event.Silent
-event_of_deed (Some (deed.Flip bit)) = event.Silent
-event_of_deed (Some (deed.Say shift bytes)) = event.Say shift bytes
-
+-- and of the frames of a sender that is arbitrary, or is not
 abbrev pub event_by : Bool → Option Deed → Event
 event_by true what = event_of_deed what
 event_by false what = done_by what

@@ -11,8 +11,9 @@ use Rattle.fr_text.specs.Forms.{Form, NumberField, number_field, misses_form, ha
 use Rattle.fr_text.specs.Least.{row_passes}
 use Rattle.fr_cluster.specs.Values.{Values}
 use Rattle.fr_cluster.specs.Questions.{is_common, node_of, own_key}
-use Rattle.fr_script.specs.Rows.{farthest, script_row_of}
-use Rattle.fr_script.specs.Reasons.{bits_of, deed_by, has_acted, is_misplaced, is_named_in, is_say, join_by, knows_both, knows_joining, may_not_join, share_channel}
+use Rattle.fr_script.specs.Deed.{bits_of, farthest, is_say}
+use Rattle.fr_script.specs.Rows.{script_row_of}
+use Rattle.fr_script.specs.Reasons.{deed_by, has_acted, is_misplaced, is_named_in, join_by, knows_both, knows_joining, may_not_join, share_channel}
 use Rattle.fr_script.specs.declared.rows.Row.{Row}
 use Rattle.fr_script.specs.declared.rows.Row.TheVariants as row
 

@@ -2,6 +2,8 @@
 pub mod Said
 pub mod Deeds
 pub mod Sayings
+pub mod Columns
+pub mod Deed
 pub mod Rows
 pub mod Reasons
 pub mod View

@@ -5,7 +5,7 @@ use Rattle.fr_base.specs.declared.channel.Channel.{Channel}
 use Rattle.fr_cluster.specs.Values.{Values}
 use Rattle.fr_cluster.specs.Questions.{is_common, node_of, own_key}
 use Rattle.fr_cluster.specs.declared.join.Join.{Join}
-use Rattle.fr_script.specs.Reasons.{bits_of}
+use Rattle.fr_script.specs.Deed.{bits_of}
 use Rattle.fr_script.specs.View.{IsScript, ScriptView, is_arbitrary, join_of}
 use Rattle.fr_script.specs.Events.{IsProperEvent, event_of}
 

@@ -1,21 +1,20 @@
 -- Why a record of a script is refused after the records before it: what the earlier records say is looked up
 -- in their list.
-use Rattle.std.specs.Prelude.{ℕ, ◌+◌, ◌*◌, nat_le, Bool, true, false, not, ◌==◌, ◌&&◌, ◌||◌, List, Option, Some, None, is_some, is_none, Result, Ok, Err, if◌then◌else◌}
+use Rattle.std.specs.Prelude.{ℕ, Bool, true, false, not, ◌==◌, ◌&&◌, ◌||◌, List, Option, Some, None, is_some, is_none, Result, Ok, Err, if◌then◌else◌}
 use Rattle.std.specs.List.{list_any}
 use Rattle.fr_base.specs.declared.channel.Channel.{Channel}
 use Rattle.fr_base.specs.declared.channel.Channel.TheVariants as channel
 use Rattle.fr_base.specs.declared.reason.Reason.{Reason}
 use Rattle.fr_base.specs.declared.reason.Reason.TheVariants as reason
 use Rattle.fr_text.specs.Records.{FileRecord}
-use Rattle.fr_cluster.specs.Values.{Values, amount}
+use Rattle.fr_cluster.specs.Values.{Values}
 use Rattle.fr_cluster.specs.declared.join.Join.{Join}
 use Rattle.fr_cluster.specs.Questions.{is_common, node_of, own_key}
 use Rattle.fr_text.specs.Fields.{is_channel, looked_up}
-use Rattle.fr_cluster.specs.declared.names.ParamName.TheVariants as name
+use Rattle.fr_script.specs.Deed.{is_after_frame, is_say}
 use Rattle.fr_script.specs.Rows.{script_row_of}
 use Rattle.fr_script.specs.declared.deeds.Passage.{Passage}
-use Rattle.fr_script.specs.declared.deeds.Deed.{Deed}
-use Rattle.fr_script.specs.declared.deeds.Deed.TheVariants as deed
+use Rattle.fr_script.specs.declared.deed.Deed.{Deed}
 use Rattle.fr_script.specs.declared.rows.DeedRow.{DeedRow}
 use Rattle.fr_script.specs.declared.rows.JoinRow.{JoinRow}
 use Rattle.fr_script.specs.declared.rows.Row.{Row}
@@ -76,23 +75,6 @@ is_reference node records = list_any (λ r. refers node (script_row_of r)) recor
 -- the deed of a passage on a channel that the records say
 abbrev pub deed_by : Channel → Passage → List FileRecord → Option Deed
 deed_by ch passage records = looked_up (λ r. deed_said ch passage (script_row_of r)) records
-
--- whether a row is a `say` row: it is where its bytes are not hexadecimal
-abbrev pub is_say : Option Deed → Bool
-is_say None = true
-is_say (Some (deed.Say shift bytes)) = true
-is_say (Some deed.Lose) = false
-is_say (Some (deed.Flip bit)) = false
-
--- the bits of a frame of the cluster, and whether a row inverts one that is not there
-abbrev pub bits_of : Values → ℕ
-bits_of p = 8 * (8 + 2 * amount p name.gPayloadLengthStatic)
-
-abbrev pub is_after_frame : Values → Option Deed → Bool
-is_after_frame p None = false
-is_after_frame p (Some deed.Lose) = false
-is_after_frame p (Some (deed.Flip bit)) = nat_le (bits_of p) bit
-is_after_frame p (Some (deed.Say shift bytes)) = false
 
 -- a `say` row is of an arbitrary sender, and any other row of a correct one; the receiver is another node, and correct
 abbrev pub is_misplaced : List FileRecord → Passage → Bool → Bool

@@ -1,7 +1,7 @@
 -- Deeds in the order of cycle, sender and receiver, behind one another.
 use Rattle.std.specs.Prelude.{ℕ, ◌≡◌, ◌<◌, ◌≤◌, ◌==◌, ◌&&◌, ◌||◌, nat_le, nat_lt, Bool, true, List, length, slice_index_or}
 use Rattle.fr_script.specs.declared.deeds.Passage.{Passage}
-use Rattle.fr_script.specs.declared.deeds.Deed.{Deed}
+use Rattle.fr_script.specs.declared.deed.Deed.{Deed}
 
 -- whether a passage comes before another by cycle, then by sender, then by receiver: neither the order of the map, by
 -- sender, cycle and receiver, nor that in which contracts see deeds

@@ -4,9 +4,9 @@ use Rattle.fr_base.specs.declared.channel.Channel.{Channel}
 use Rattle.fr_base.specs.declared.channel.Channel.TheVariants as channel
 use Rattle.fr_cluster.specs.declared.join.Join.{Join}
 use Rattle.fr_script.specs.Deeds.{deed_in, passage_of, DeedsAscend, IsNextCycle}
-use Rattle.fr_script.specs.Rows.{IsProperDeed}
+use Rattle.fr_script.specs.Deed.{IsProperDeed}
 use Rattle.fr_script.specs.declared.deeds.Passage.{Passage}
-use Rattle.fr_script.specs.declared.deeds.Deed.{Deed}
+use Rattle.fr_script.specs.declared.deed.Deed.{Deed}
 
 -- whether the node of each number is arbitrary, how it joins the running cluster, and the deeds of each channel in ascending
 -- order

@@ -2,6 +2,7 @@ ghost use Rattle.std.specs.Prelude.{◌≡◌, ◌≤◌, ◌<◌, ◌&&◌, ◌
 ghost use Rattle.std.specs.Option.{option_copied};
 ghost use Rattle.fr_script.specs.Deeds.{DeedsAscend, HasNoDeed, IsDeedPut, IsNextCycle, IsQuiet, MarksSenders, deed_in, passage_of};
 
+use crate::deed::{Deed, is_saying};
 use crate::sayings::Sayings;
 use fr_base::NodeId;
 use std::alloc::{AllocError, Global};
@@ -16,64 +17,6 @@ pub struct Passage {
     pub sender: NodeId,
     pub cycle: u32,
     pub receiver: NodeId,
-}
-
-/// The bytes of a frame that an arbitrary node says, at most 262, seen as their list.
-pub struct SaidBytes {
-    bytes: Vec<u8>,
-}
-
-impl Model for SaidBytes {
-    ghost use Rattle.std.specs.Prelude.{List, ℕ};
-
-    ghost Value = { List ℕ };
-
-    ghost view = { λ a. a.bytes.items };
-}
-
-// One call: a derived drop is opened in each function that drops a value, and proved there.
-impl Drop for SaidBytes {
-    fn drop(self) {
-        let SaidBytes { bytes: _ } = self;
-    }
-}
-
-impl SaidBytes {
-    pub(crate) fn of(bytes: Vec<u8>) -> SaidBytes
-        ensures { result ≡ bytes.items }
-    {
-        SaidBytes { bytes }
-    }
-
-    pub(crate) fn as_slice(&self) -> &[u8]
-        ensures { result.now ≡ self.now }
-    {
-        self.bytes.as_slice()
-    }
-}
-
-/// What a record of a script does to the frames of a passage on a channel.
-pub enum Deed {
-    /// They are lost.
-    Lose,
-    /// Of each one bit is inverted, counted from 0, the first bit sent.
-    Flip(u32),
-    /// The sender says a frame, so many ticks later than expected: of these bytes, or else its regular one.
-    Say {
-        shift: i64,
-        bytes: Option<SaidBytes>,
-    },
-}
-
-// One call: a derived drop is opened in each function that drops a value, and proved there.
-impl Drop for Deed {
-    fn drop(self) {
-        match self {
-            Deed::Lose => {}
-            Deed::Flip(_) => {}
-            Deed::Say { shift: _, bytes: _ } => {}
-        }
-    }
 }
 
 /// The deeds of one channel by their passage, seen as a list in ascending order: by sender, then by receiver, then by
@@ -91,7 +34,7 @@ pub struct DeedTable {
 impl Model for DeedTable {
     ghost use Rattle.std.specs.Prelude.{List, ◌++◌};
     ghost use Rattle.fr_script.specs.declared.deeds.Passage.{Passage};
-    ghost use Rattle.fr_script.specs.declared.deeds.Deed.{Deed};
+    ghost use Rattle.fr_script.specs.declared.deed.Deed.{Deed};
     ghost use Rattle.fr_script.specs.Deeds.{MarksSenders, in_order};
 
     ghost Value = { List (Passage × Deed) };
@@ -195,10 +138,6 @@ fn either_of(first: bool, second: bool) -> bool
     ensures { result ≡ (first || second) }
 {
     first || second
-}
-
-fn is_saying(deed: &Deed) -> bool {
-    matches!(deed, Deed::Say { .. })
 }
 
 // The deed of a passage in a map, where these are the senders that have one there.

@@ -1,14 +1,16 @@
 ghost use Rattle.std.specs.Prelude.{◌≡◌, ◌≤◌, ◌*◌, [], List, IfOk, IfErr, IfSome, None, Some, slice_set, true, if◌then◌else◌};
 ghost use Rattle.fr_text.specs.Records.{FileRecord};
 ghost use Rattle.fr_cluster.specs.Questions.{is_common};
-ghost use Rattle.fr_script.specs.Rows.{IsProperDeed, IsProperScriptRow};
+ghost use Rattle.fr_script.specs.Deed.{IsProperDeed};
+ghost use Rattle.fr_script.specs.Rows.{IsProperScriptRow};
 ghost use Rattle.fr_base.specs.declared.reason.Reason.TheVariants as reason;
-ghost use Rattle.fr_script.specs.Reasons.{bits_of, is_after_frame, is_misplaced, is_named_in, is_say, knows_both, script_reason_after};
+ghost use Rattle.fr_script.specs.Reasons.{is_misplaced, is_named_in, knows_both, script_reason_after};
 ghost use Rattle.fr_script.specs.View.{IsScript};
 ghost use Rattle.fr_script.specs.Draft.{IsActOf, IsRefusedRow, IsScriptDraft, PutsAct, TakesScriptRow, TakesScriptRowAtOnce};
 ghost use Rattle.fr_script.specs.declared.rows.Row.TheVariants as said;
 
-use crate::deeds::{Deed, DeedTable, Passage};
+use crate::deed::{Deed, is_after_frame, says};
+use crate::deeds::{DeedTable, Passage};
 use crate::rows::{DeedRow, Row, read_row};
 use crate::script::Script;
 use fr_base::{Channel, NodeId, Reason};
@@ -151,7 +153,7 @@ impl<'a> Draft<'a> {
             channel,
             deed,
         } = row;
-        if self.is_after_frame(&deed) {
+        if is_after_frame(self.params, &deed) {
             return Err(Reason::OutOfRange);
         }
         if !self.knows_both(&passage) {
@@ -174,15 +176,6 @@ impl<'a> Draft<'a> {
             channel,
             deed,
         })
-    }
-
-    fn is_after_frame(&self, deed: &Option<Deed>) -> bool
-        ensures { result ≡ is_after_frame self.now.params.now deed.now }
-    {
-        match deed {
-            Some(Deed::Flip(bit)) => bits_of(self.params) <= *bit as usize,
-            Some(Deed::Lose | Deed::Say { .. }) | None => false,
-        }
     }
 
     fn knows_both(&self, passage: &Passage) -> bool
@@ -239,21 +232,6 @@ fn unless_free(free: bool) -> Option<Reason>
     ensures { result ≡ (if free then None else Some reason.Repeated) }
 {
     if free { None } else { Some(Reason::Repeated) }
-}
-
-fn says(deed: &Option<Deed>) -> bool
-    ensures { result ≡ is_say deed.now }
-{
-    match deed {
-        None | Some(Deed::Say { .. }) => true,
-        Some(Deed::Lose | Deed::Flip(_)) => false,
-    }
-}
-
-fn bits_of(params: &Params) -> usize
-    ensures { result ≡ bits_of params.now }
-{
-    8 * params.frame_bytes()
 }
 
 impl<'a> RecordTable for Draft<'a> {

@@ -2,9 +2,11 @@
 //! frame.
 #![tactic(auto)]
 
+mod deed;
 mod deeds;
 mod draft;
 mod fault;
+mod fields;
 mod joins;
 mod kind;
 mod laws;

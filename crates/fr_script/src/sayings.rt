@@ -3,7 +3,8 @@ ghost use Rattle.std.specs.Option.{option_copied};
 ghost use Rattle.fr_script.specs.Deeds.{IsNextCycle, deed_in, passage_of};
 ghost use Rattle.fr_script.specs.Sayings.{is_before, is_later, AreAfter, AreBefore, AreInTurn};
 
-use crate::deeds::{Deed, Passage};
+use crate::deed::Deed;
+use crate::deeds::Passage;
 use fr_base::NodeId;
 use std::alloc::{AllocError, Global};
 use std::marker::Model;
@@ -20,7 +21,7 @@ pub(crate) struct Sayings {
 impl Model for Sayings {
     ghost use Rattle.std.specs.Prelude.{List};
     ghost use Rattle.fr_script.specs.declared.deeds.Passage.{Passage};
-    ghost use Rattle.fr_script.specs.declared.deeds.Deed.{Deed};
+    ghost use Rattle.fr_script.specs.declared.deed.Deed.{Deed};
     ghost use Rattle.fr_script.specs.Sayings.{AreInTurn};
 
     ghost Value = { List (Passage × Deed) };

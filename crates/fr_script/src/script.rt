@@ -4,9 +4,11 @@ ghost use Rattle.fr_base.specs.declared.channel.Channel.{Channel as Line};
 ghost use Rattle.fr_base.specs.declared.channel.Channel.TheVariants as line;
 ghost use Rattle.fr_script.specs.View.{IsNextAct, IsScript, deed_of, deeds_on, is_arbitrary, join_of};
 ghost use Rattle.fr_script.specs.Deeds.{HasNoDeed};
-ghost use Rattle.fr_script.specs.Events.{IsProperEvent, done_by, event_by, event_of, event_seen, event_of_deed};
+ghost use Rattle.fr_script.specs.Deed.{done_by, event_of_deed};
+ghost use Rattle.fr_script.specs.Events.{IsProperEvent, event_by, event_of, event_seen};
 
-use crate::deeds::{Deed, DeedTable, Passage};
+use crate::deed::{Deed, done, said};
+use crate::deeds::{DeedTable, Passage};
 use fr_base::{Channel, NodeId};
 use fr_cluster::Join;
 use std::marker::Model;
@@ -171,36 +173,5 @@ impl Script {
             Channel::A => self.on_a.get(&passage),
             Channel::B => self.on_b.get(&passage),
         }
-    }
-}
-
-fn done(deed: Option<&Deed>) -> Event<'_>
-    ensures { event_seen result ≡ done_by (option_copied deed.entry) }
-{
-    match deed {
-        Some(Deed::Lose) => Event::Silent,
-        Some(Deed::Flip(bit)) => Event::Flip(*bit),
-        Some(Deed::Say { .. }) | None => Event::Regular,
-    }
-}
-
-fn said(deed: Option<&Deed>) -> Event<'_>
-    ensures { event_seen result ≡ event_of_deed (option_copied deed.entry) }
-{
-    match deed {
-        Some(
-            Deed::Say {
-                shift,
-                bytes: Some(bytes),
-            },
-        ) => Event::Say {
-            shift: *shift,
-            bytes: Some(bytes.as_slice()),
-        },
-        Some(Deed::Say { shift, bytes: None }) => Event::Say {
-            shift: *shift,
-            bytes: None,
-        },
-        Some(Deed::Lose | Deed::Flip(_)) | None => Event::Silent,
     }
 }

@@ -1,11 +1,12 @@
 ghost use Rattle.std.specs.Prelude.{◌≡◌, ◌≤◌, [], None, Ok, IsOk};
 ghost use Rattle.fr_cluster.specs.Values.{Values};
-ghost use Rattle.fr_script.specs.Rows.{IsProperSay};
+ghost use Rattle.fr_script.specs.Deed.{IsProperSay};
 ghost use Rattle.fr_script.specs.Files.{ScriptFits, ScriptStandsFor};
 ghost use Rattle.fr_script.specs.Written.{arbitrary_record, say_record};
 ghost use Rattle.fr_script.specs.Adding.{AddsScriptRecord, EntersDeed, TakesScriptRecord};
 
-use crate::deeds::{Deed, DeedTable, Passage};
+use crate::deed::Deed;
+use crate::deeds::{DeedTable, Passage};
 use crate::draft::mark;
 use crate::fault::ScriptFault;
 use crate::script::Script;

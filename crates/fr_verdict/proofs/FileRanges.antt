@@ -46,11 +46,12 @@ use Rattle.fr_script.proofs.Outcomes.{fits-key}
 use Rattle.fr_script.specs.Deeds.{passage_of}
 use Rattle.fr_script.specs.Events.{event_by, event_of}
 use Rattle.fr_script.specs.Files.{ScriptFits}
-use Rattle.fr_script.specs.Reasons.{channel_reason, deed_said, is_after_frame, is_misplaced, is_same_passage, is_say, knows_both, script_row_reason}
+use Rattle.fr_script.specs.Deed.{is_after_frame, is_say}
+use Rattle.fr_script.specs.Reasons.{channel_reason, deed_said, is_misplaced, is_same_passage, knows_both, script_row_reason}
 use Rattle.fr_script.specs.Rows.{script_row_of}
 use Rattle.fr_script.specs.View.{ScriptView, deed_of, is_arbitrary, join_of}
-use Rattle.fr_script.specs.declared.deeds.Deed.{Deed}
-use Rattle.fr_script.specs.declared.deeds.Deed.TheVariants as deed
+use Rattle.fr_script.specs.declared.deed.Deed.{Deed}
+use Rattle.fr_script.specs.declared.deed.Deed.TheVariants as deed
 use Rattle.fr_script.specs.declared.rows.Row.{Row as ScriptRow}
 use Rattle.fr_script.specs.declared.rows.Row.TheVariants as script_row
 use Rattle.fr_text.specs.Fields.{both_of, field_of, is_blank, is_channel, looked_up, natural_of, natural_within, or_else, or_reason}

@@ -1,6 +1,6 @@
 use Rattle.std.proofs.Common.{◌<◌, ◌≤◌, ◌+◌, ◌-◌, ◌/◌, ◌∙◌, ℕ, ap, sym, length, arith, Some}
 use Rattle.fr_script.specs.Sayings.{is_before}
-use Rattle.fr_script.specs.declared.deeds.Deed.{Deed}
+use Rattle.fr_script.specs.declared.deed.Deed.{Deed}
 use Rattle.fr_script.specs.declared.deeds.Passage.{Passage}
 use Rattle.fr_script.proofs.InTurn.{all-after, all-before, found-nowhere, found-there}
 use Rattle.fr_script.proofs.sayings.search.Goals as goal

@@ -2,7 +2,7 @@ use Rattle.std.proofs.Common.{◌≡◌, ◌∙◌, List, Option, None, Some, ap
 use Rattle.std.specs.Option.{option_copied}
 use Rattle.fr_text.specs.Fields.{or_else}
 use Rattle.fr_script.specs.Deeds.{deed_in}
-use Rattle.fr_script.specs.declared.deeds.Deed.{Deed}
+use Rattle.fr_script.specs.declared.deed.Deed.{Deed}
 use Rattle.fr_script.specs.declared.deeds.Passage.{Passage}
 use Rattle.fr_script.proofs.Asked.{both-deed}
 use Rattle.fr_script.proofs.deeds.DeedTable.get.Goals as goal

@@ -2,7 +2,7 @@ use Rattle.std.proofs.Common.{◌≡◌, ◌∙◌, Bool, true, false, List, Non
 use Rattle.std.specs.Prelude.{◌||◌}
 use Rattle.fr_text.specs.Fields.{or_else}
 use Rattle.fr_script.specs.Deeds.{deed_in, passage_of}
-use Rattle.fr_script.specs.declared.deeds.Deed.{Deed}
+use Rattle.fr_script.specs.declared.deed.Deed.{Deed}
 use Rattle.fr_script.specs.declared.deeds.Passage.{Passage}
 use Rattle.fr_script.proofs.Asked.{both-deed}
 use Rattle.fr_script.proofs.deeds.DeedTable.may_have.Goals as goal

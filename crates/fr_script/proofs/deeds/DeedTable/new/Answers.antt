@@ -1,6 +1,6 @@
 use Rattle.std.proofs.Common.{◌∙◌, ◌++◌, ap, List}
 use Rattle.fr_script.specs.Deeds.{in_order}
-use Rattle.fr_script.specs.declared.deeds.Deed.{Deed}
+use Rattle.fr_script.specs.declared.deed.Deed.{Deed}
 use Rattle.fr_script.specs.declared.deeds.Passage.{Passage}
 use Rattle.fr_script.proofs.Asked.{ordered-nil}
 use Rattle.fr_script.proofs.Marks.{marks-none}

@@ -2,7 +2,7 @@ use Rattle.std.proofs.Common.{◌≡◌, ◌≤◌, ◌⊎◌, ◌∙◌, ◌++�
 use Rattle.std.specs.Prelude.{◌&&◌, is_none, is_some, not, slice_index_or}
 use Rattle.fr_text.specs.Fields.{or_else}
 use Rattle.fr_script.specs.Deeds.{IsDeedPut, deed_in}
-use Rattle.fr_script.specs.declared.deeds.Deed.{Deed}
+use Rattle.fr_script.specs.declared.deed.Deed.{Deed}
 use Rattle.fr_script.specs.declared.deeds.Passage.{Passage}
 use Rattle.fr_script.proofs.Asked.{asked-deed, asked-put, both-deed, free-both, ordered-ascend, put-behind, put-first, put-second}
 use Rattle.fr_script.proofs.InTurn.{found-nowhere, none-after}
