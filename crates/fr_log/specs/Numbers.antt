@@ -16,6 +16,10 @@ head_number_of kind =
     else if bytes_eq kind (codes "lost") then Some head.Lost
     else None
 
+-- the greatest number of ticks that one of them says
+abbrev pub most_head_ticks : ℕ
+most_head_ticks = 1_000_000_000
+
 -- the least and the greatest that it may be
 abbrev pub least_number : HeadNumber → ℕ
 least_number head.Unit = 1
@@ -27,12 +31,12 @@ least_number head.Flutter = 0
 least_number head.Lost = 0
 
 abbrev pub greatest_number : HeadNumber → ℕ
-greatest_number head.Unit = 1_000_000_000
+greatest_number head.Unit = most_head_ticks
 greatest_number head.Drift = 1000
-greatest_number head.Error = 1_000_000_000
-greatest_number head.Jitter = 1_000_000_000
+greatest_number head.Error = most_head_ticks
+greatest_number head.Jitter = most_head_ticks
 greatest_number head.Since = 199_998
-greatest_number head.Flutter = 1_000_000_000
+greatest_number head.Flutter = most_head_ticks
 greatest_number head.Lost = 14
 
 pub record IsHeadNumber (name : HeadNumber) (number : ℕ) : Type 0 where

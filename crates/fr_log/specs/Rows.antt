@@ -1,5 +1,5 @@
 -- What a record of a log says by itself.
-use Rattle.std.specs.Prelude.{ℕ, ◌<◌, ◌≤◌, ◌==◌, ◌&&◌, not, Bool, List, length, All, Option, Some, None, IfSome, Result, Ok, Err, codes, if◌then◌else◌}
+use Rattle.std.specs.Prelude.{ℕ, ◌<◌, ◌≤◌, ◌==◌, ◌&&◌, not, Bool, List, [], ◌∷◌, length, All, Option, Some, None, IfSome, Result, Ok, Err, codes, if◌then◌else◌}
 use Rattle.std.specs.Str.{bytes_eq}
 use Rattle.hex.specs.Hex.{decode_of}
 use Rattle.hex.specs.declared.error.FromHexError.{FromHexError}
@@ -12,18 +12,23 @@ use Rattle.fr_text.specs.Fields.{both_of, field_of, hex_digits_in, is_blank, nat
 use Rattle.fr_log.specs.Numbers.{IsHeadNumber, greatest_number, head_number_of, least_number}
 use Rattle.fr_log.specs.declared.entry.EntryKind.{EntryKind}
 use Rattle.fr_log.specs.declared.entry.EntryKind.TheVariants as kind
+use Rattle.fr_log.specs.declared.fields.Fields.{Fields}
 use Rattle.fr_log.specs.declared.rows.DelayLimits.{DelayLimits}
 use Rattle.fr_log.specs.declared.rows.EntryRow.{EntryRow}
 use Rattle.fr_log.specs.declared.rows.HeadNumber.{HeadNumber}
 use Rattle.fr_log.specs.declared.rows.Row.{Row}
 use Rattle.fr_log.specs.declared.rows.Row.TheVariants as row
 
--- the greatest delay in ticks, and the greatest stamp in units
+-- the greatest delay in ticks, and the greatest stamp in units: no frame comes at a greater tick
 abbrev pub most_delay : ℕ
 most_delay = 1_000_000_000
 
 abbrev pub last_stamp : ℕ
 last_stamp = 900_000_000_000_000_000
+
+-- the record that has these fields
+abbrev pub log_fields : Fields → FileRecord
+log_fields fields = fields.kind.now ∷ fields.number.now ∷ fields.channel.now ∷ fields.low_or_bytes.now ∷ fields.high.now ∷ []
 
 -- the fields after the second one are empty
 abbrev pub is_alone : FileRecord → Bool

@@ -5,21 +5,18 @@ ghost use Rattle.fr_log.specs.Draft.{EndsLog, IsLogDraft, TakesLogRow, TakesLogR
 ghost use Rattle.fr_log.specs.Files.{lacks_delay, lacks_limits, lacks_on};
 ghost use Rattle.fr_log.specs.Numbers.{IsHeadNumber, head_place};
 ghost use Rattle.fr_log.specs.Reasons.{comes_out_of_turn, delay_limits_by, has_entry, is_arbitrary_by, is_below_last, is_beyond_last, is_misfit, log_reason_after, number_by};
-ghost use Rattle.fr_log.specs.Rows.{IsProperCame, IsProperLogRow, last_stamp};
+ghost use Rattle.fr_log.specs.Rows.{IsProperCame, IsProperLogRow, last_stamp, most_delay};
 ghost use Rattle.fr_log.specs.declared.rows.HeadNumber.TheVariants as head;
 ghost use Rattle.fr_log.specs.declared.rows.Row.TheVariants as said;
 
 use crate::entry::Entry;
 use crate::fault::LogFault;
 use crate::log::Log;
-use crate::rows::{DelayLimits, DelayRow, EntryRow, HeadNumber, Row, read_row};
+use crate::rows::{DelayLimits, DelayRow, EntryRow, HeadNumber, LAST_STAMP, Row, read_row};
 use fr_base::{Channel, NodeId, Reason};
 use fr_cluster::{NodeList, NodeSpec, Params};
 use fr_text::{Record, RecordTable};
 use std::alloc::{AllocError, Global};
-
-// The greatest instant of an entry, in ticks.
-const LAST_TICK: u64 = 900_000_000_000_000_000;
 
 // What the records so far say: the numbers of the head by their place, whether no frame was missed, which nodes are
 // arbitrary and what limits the delays of their frames on each channel, by their number, what limits all others, and
@@ -130,7 +127,7 @@ impl<'a> Draft<'a> {
     }
 
     fn take_delay(&mut self, row: &DelayRow) -> Option<Reason>
-        requires { row.now.limits.high ≤ 1_000_000_000 }
+        requires { row.now.limits.high ≤ most_delay }
         ensures { TakesLogRowAtOnce self.old self.new (said.Delay row.now) result }
     {
         let params = self.params;
@@ -157,7 +154,7 @@ impl<'a> Draft<'a> {
     }
 
     fn take_each(&mut self, limits: DelayLimits) -> Option<Reason>
-        requires { limits.high ≤ 1_000_000_000 }
+        requires { limits.high ≤ most_delay }
         ensures { TakesLogRowAtOnce self.old self.new (said.EachDelay limits) result }
     {
         if limits.high < limits.low || self.has_entry() {
@@ -354,7 +351,7 @@ fn is_beyond(unit: u64, stamp: u64) -> bool
     ensures { result ≡ nat_lt last_stamp (unit * stamp) }
 {
     match unit.checked_mul(stamp) {
-        Some(ticks) => LAST_TICK < ticks,
+        Some(ticks) => LAST_STAMP < ticks,
         None => true,
     }
 }

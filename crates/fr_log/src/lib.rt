@@ -4,6 +4,7 @@
 mod draft;
 mod entry;
 mod fault;
+mod fields;
 mod file_laws;
 mod kind;
 mod log;

@@ -1,5 +1,7 @@
 ghost use Rattle.std.specs.Prelude.{◌≡◌, ◌≤◌, All, IfSome};
 ghost use Rattle.std.specs.List.Sorted.{IsNonDecreasingBy};
+ghost use Rattle.fr_log.specs.Numbers.{most_head_ticks};
+ghost use Rattle.fr_log.specs.Rows.{most_delay};
 ghost use Rattle.fr_log.specs.View.{AreDelayLimits, IsEntry, IsEvenCycle, IsLog, delay_limits_of, is_arbitrary_in, jitter_of, jitter_within, own_limits};
 
 use crate::entry::Entry;
@@ -62,7 +64,7 @@ impl Log {
     pub fn unit(&self) -> u64
         ensures value { result ≡ self.now.unit }
         ensures from { 1 ≤ result }
-        ensures to { result ≤ 1_000_000_000 }
+        ensures to { result ≤ most_head_ticks }
     {
         self.unit
     }
@@ -78,7 +80,7 @@ impl Log {
     /// What a stamp is off beside rounding, in ticks: 0 where no record says it.
     pub fn error(&self) -> u64
         ensures value { result ≡ self.now.error }
-        ensures to { result ≤ 1_000_000_000 }
+        ensures to { result ≤ most_head_ticks }
     {
         self.error
     }
@@ -87,7 +89,7 @@ impl Log {
     /// cycles of a double cycle, in ticks, where the log says it: else what is stated of delays suffices.
     pub fn flutter(&self) -> Option<u64>
         ensures value { result ≡ self.now.flutter }
-        ensures to { IfSome result (λ flutter. flutter ≤ 1_000_000_000) }
+        ensures to { IfSome result (λ flutter. flutter ≤ most_head_ticks) }
     {
         self.flutter
     }
@@ -115,7 +117,7 @@ impl Log {
     #[tactic(auto, unfolding(crate::specs::View::jitter_of))]
     pub fn jitter_of(&self, node: NodeId, channel: Channel) -> Option<u64>
         ensures value { result ≡ jitter_of self.now node channel }
-        ensures most { IfSome result (λ jitter. jitter ≤ 1_000_000_000) }
+        ensures most { IfSome result (λ jitter. jitter ≤ most_delay) }
     {
         match self.limits_of(node, channel) {
             Some(limits) => Some(self.jitter_within(&limits)),
@@ -170,7 +172,7 @@ impl Log {
     fn jitter_within(&self, limits: &DelayLimits) -> u64
         requires { AreDelayLimits limits.now }
         ensures value { result ≡ jitter_within self.now.jitter limits.now }
-        ensures most { result ≤ 1_000_000_000 }
+        ensures most { result ≤ most_delay }
     {
         let width = limits.high - limits.low;
         match self.jitter {

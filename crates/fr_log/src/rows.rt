@@ -1,20 +1,24 @@
 ghost use Rattle.std.specs.Prelude.{◌≡◌, ◌≤◌, length, IfOk, IfSome};
 ghost use Rattle.fr_text.specs.Plain.{fields_of};
-ghost use Rattle.fr_text.specs.Fields.{field_of, hex_digits_in, is_blank};
-ghost use Rattle.fr_log.specs.Numbers.{greatest_number, head_number_of, head_place, least_number};
-ghost use Rattle.fr_log.specs.Rows.{AreEntryBytes, IsProperLogRow, each_row, entry_bytes_in, entry_row, is_alone, limits_in, link_row, log_delay_row, log_node_row, log_row_of, number_row, other_row, whole_row};
+ghost use Rattle.fr_text.specs.Fields.{hex_digits_in};
+ghost use Rattle.fr_log.specs.Numbers.{greatest_number, head_number_of, head_place, least_number, most_head_ticks};
+ghost use Rattle.fr_log.specs.Rows.{AreEntryBytes, IsProperLogRow, each_row, entry_bytes_in, entry_row, limits_in, link_row, log_fields, log_delay_row, log_file_row, log_node_row, log_row_of, most_delay, number_row, other_row, whole_row};
 
 use crate::entry::{EntryBytes, EntryKind};
+use crate::fields::Fields;
 use fr_base::{Channel, NodeId, NumberFault, Reason};
 use fr_text::{Record, both, natural, reason_of};
 use hex::FromHexError;
 use std::alloc::{AllocError, Global};
 
+// The greatest number of the head that counts ticks.
+const MOST_HEAD_TICKS: u64 = 1_000_000_000;
+
 // The greatest delay, in ticks.
 const MOST_DELAY: u64 = 1_000_000_000;
 
-// The greatest stamp, in units.
-const LAST_STAMP: u64 = 900_000_000_000_000_000;
+// The greatest stamp, in units, and the greatest instant of a frame, in ticks.
+pub(crate) const LAST_STAMP: u64 = 900_000_000_000_000_000;
 
 // The greatest number of hexadecimal digits of a frame, which has 262 bytes at most.
 const MOST_DIGITS: usize = 524;
@@ -112,15 +116,15 @@ impl HeadNumber {
         ensures low { result.0 ≡ least_number self }
         ensures high { result.1 ≡ greatest_number self }
         ensures ordered { result.0 ≤ result.1 }
-        ensures most { result.1 ≤ 1_000_000_000 }
+        ensures most { result.1 ≤ most_head_ticks }
     {
         match self {
-            HeadNumber::Unit => (1, 1_000_000_000),
+            HeadNumber::Unit => (1, MOST_HEAD_TICKS),
             HeadNumber::Drift => (0, 1000),
-            HeadNumber::Error => (0, 1_000_000_000),
-            HeadNumber::Jitter => (0, 1_000_000_000),
+            HeadNumber::Error => (0, MOST_HEAD_TICKS),
+            HeadNumber::Jitter => (0, MOST_HEAD_TICKS),
             HeadNumber::Since => (0, 199_998),
-            HeadNumber::Flutter => (0, 1_000_000_000),
+            HeadNumber::Flutter => (0, MOST_HEAD_TICKS),
             HeadNumber::Lost => (0, 14),
         }
     }
@@ -141,44 +145,41 @@ pub fn read_row(alloc: Global, row: &Record<'_>) -> Result<Result<Row, Reason>, 
     ensures said { IfOk result (λ said. said ≡ log_row_of (fields_of row.now)) }
     ensures proper { IfOk result (λ said. IfOk said IsProperLogRow) }
 {
-    if row.len() != 5 {
-        return Ok(Err(Reason::Shape));
+    match Fields::of(row) {
+        Some(fields) => read_fields(alloc, &fields),
+        None => Ok(Err(Reason::Shape)),
     }
-    match HeadNumber::spelt(row.field(0)) {
+}
+
+fn read_fields(alloc: Global, row: &Fields<'_>) -> Result<Result<Row, Reason>, AllocError>
+    ensures said { IfOk result (λ said. said ≡ log_file_row (log_fields row.now)) }
+    ensures proper { IfOk result (λ said. IfOk said IsProperLogRow) }
+{
+    match HeadNumber::spelt(row.kind) {
         Some(name) => Ok(read_number(name, row)),
         None => read_other(alloc, row),
     }
 }
 
-fn read_number(name: HeadNumber, row: &Record<'_>) -> Result<Row, Reason>
-    requires { length (fields_of row.now) ≡ 5 }
-    ensures said { result ≡ number_row name (fields_of row.now) }
+fn read_number(name: HeadNumber, row: &Fields<'_>) -> Result<Row, Reason>
+    ensures said { result ≡ number_row name (log_fields row.now) }
     ensures proper { IfOk result IsProperLogRow }
 {
-    if !is_alone(row) {
+    if !row.is_alone() {
         return Err(Reason::Shape);
     }
     let (low, high) = name.range();
-    match natural(row.field(1), low, high) {
+    match natural(row.number, low, high) {
         Ok(number) => Ok(Row::Number(name, number)),
         Err(fault) => Err(reason_of(fault)),
     }
 }
 
-// Whether the fields after the second one are empty.
-fn is_alone(row: &Record<'_>) -> bool
-    requires { length (fields_of row.now) ≡ 5 }
-    ensures { result ≡ is_alone (fields_of row.now) }
-{
-    row.field(2).is_empty() && row.field(3).is_empty() && row.field(4).is_empty()
-}
-
-fn read_other(alloc: Global, row: &Record<'_>) -> Result<Result<Row, Reason>, AllocError>
-    requires { length (fields_of row.now) ≡ 5 }
-    ensures said { IfOk result (λ said. said ≡ other_row (fields_of row.now)) }
+fn read_other(alloc: Global, row: &Fields<'_>) -> Result<Result<Row, Reason>, AllocError>
+    ensures said { IfOk result (λ said. said ≡ other_row (log_fields row.now)) }
     ensures proper { IfOk result (λ said. IfOk said IsProperLogRow) }
 {
-    let kind = row.field(0);
+    let kind = row.kind;
     if kind == b"whole".as_slice() {
         Ok(read_whole(row))
     } else if kind == b"arbitrary".as_slice() {
@@ -194,65 +195,58 @@ fn read_other(alloc: Global, row: &Record<'_>) -> Result<Result<Row, Reason>, Al
     }
 }
 
-fn read_whole(row: &Record<'_>) -> Result<Row, Reason>
-    requires { length (fields_of row.now) ≡ 5 }
-    ensures said { result ≡ whole_row (fields_of row.now) }
+fn read_whole(row: &Fields<'_>) -> Result<Row, Reason>
+    ensures said { result ≡ whole_row (log_fields row.now) }
     ensures proper { IfOk result IsProperLogRow }
 {
-    if !row.field(1).is_empty() || !is_alone(row) {
+    if !row.number.is_empty() || !row.is_alone() {
         return Err(Reason::Shape);
     }
     Ok(Row::Whole)
 }
 
-fn read_arbitrary(row: &Record<'_>) -> Result<Row, Reason>
-    requires { length (fields_of row.now) ≡ 5 }
-    ensures said { result ≡ log_node_row (fields_of row.now) }
+fn read_arbitrary(row: &Fields<'_>) -> Result<Row, Reason>
+    ensures said { result ≡ log_node_row (log_fields row.now) }
     ensures proper { IfOk result IsProperLogRow }
 {
-    if !is_alone(row) {
+    if !row.is_alone() {
         return Err(Reason::Shape);
     }
-    match natural(row.field(1), 1, 64) {
+    match natural(row.number, 1, 64) {
         Ok(node) => Ok(Row::Arbitrary(NodeId(node as u8))),
         Err(fault) => Err(reason_of(fault)),
     }
 }
 
-fn read_delay(row: &Record<'_>) -> Result<Row, Reason>
-    requires { length (fields_of row.now) ≡ 5 }
-    ensures said { result ≡ log_delay_row (fields_of row.now) }
+fn read_delay(row: &Fields<'_>) -> Result<Row, Reason>
+    ensures said { result ≡ log_delay_row (log_fields row.now) }
     ensures proper { IfOk result IsProperLogRow }
 {
-    let node = row.field(1);
-    let channel = row.field(2);
-    if !node.is_empty() && !channel.is_empty() {
+    if !row.number.is_empty() && !row.channel.is_empty() {
         read_link(row)
-    } else if node.is_empty() && channel.is_empty() {
+    } else if row.number.is_empty() && row.channel.is_empty() {
         read_each(row)
     } else {
         Err(Reason::Shape)
     }
 }
 
-fn read_link(row: &Record<'_>) -> Result<Row, Reason>
-    requires { length (fields_of row.now) ≡ 5 }
-    ensures said { result ≡ link_row (fields_of row.now) }
+fn read_link(row: &Fields<'_>) -> Result<Row, Reason>
+    ensures said { result ≡ link_row (log_fields row.now) }
     ensures proper { IfOk result IsProperLogRow }
 {
-    match both(natural(row.field(1), 1, 64), read_limits(row)) {
+    match both(natural(row.number, 1, 64), read_limits(row)) {
         Ok((node, limits)) => Ok(Row::Delay(DelayRow {
             node: NodeId(node as u8),
-            channel: Channel::spelt(row.field(2)),
+            channel: Channel::spelt(row.channel),
             limits,
         })),
         Err(fault) => Err(reason_of(fault)),
     }
 }
 
-fn read_each(row: &Record<'_>) -> Result<Row, Reason>
-    requires { length (fields_of row.now) ≡ 5 }
-    ensures said { result ≡ each_row (fields_of row.now) }
+fn read_each(row: &Fields<'_>) -> Result<Row, Reason>
+    ensures said { result ≡ each_row (log_fields row.now) }
     ensures proper { IfOk result IsProperLogRow }
 {
     match read_limits(row) {
@@ -261,14 +255,13 @@ fn read_each(row: &Record<'_>) -> Result<Row, Reason>
     }
 }
 
-fn read_limits(row: &Record<'_>) -> Result<DelayLimits, NumberFault>
-    requires { length (fields_of row.now) ≡ 5 }
-    ensures said { result ≡ limits_in (fields_of row.now) }
-    ensures proper { IfOk result (λ limits. limits.high ≤ 1_000_000_000) }
+fn read_limits(row: &Fields<'_>) -> Result<DelayLimits, NumberFault>
+    ensures said { result ≡ limits_in (log_fields row.now) }
+    ensures proper { IfOk result (λ limits. limits.high ≤ most_delay) }
 {
     let (low, high) = both(
-        natural(row.field(3), 0, MOST_DELAY),
-        natural(row.field(4), 0, MOST_DELAY),
+        natural(row.low_or_bytes, 0, MOST_DELAY),
+        natural(row.high, 0, MOST_DELAY),
     )?;
     Ok(DelayLimits { low, high })
 }
@@ -276,24 +269,25 @@ fn read_limits(row: &Record<'_>) -> Result<DelayLimits, NumberFault>
 fn read_entry(
     alloc: Global,
     kind: EntryKind,
-    row: &Record<'_>,
+    row: &Fields<'_>,
 ) -> Result<Result<Row, Reason>, AllocError>
-    requires { length (fields_of row.now) ≡ 5 }
-    ensures said { IfOk result (λ said. said ≡ entry_row kind (fields_of row.now)) }
+    ensures said { IfOk result (λ said. said ≡ entry_row kind (log_fields row.now)) }
     ensures proper { IfOk result (λ said. IfOk said IsProperLogRow) }
 {
-    if !row.field(4).is_empty() {
+    if !row.high.is_empty() {
         return Ok(Err(Reason::Shape));
     }
-    let text = row.field(3);
-    match both(natural(row.field(1), 0, LAST_STAMP), few_digits(text)) {
+    match both(
+        natural(row.number, 0, LAST_STAMP),
+        few_digits(row.low_or_bytes),
+    ) {
         Err(fault) => Ok(Err(reason_of(fault))),
         Ok((stamp, _)) => {
-            let bytes = read_bytes(alloc, text)?;
+            let bytes = read_bytes(alloc, row.low_or_bytes)?;
             Ok(Ok(Row::Came(EntryRow {
                 kind,
                 stamp,
-                channel: Channel::spelt(row.field(2)),
+                channel: Channel::spelt(row.channel),
                 bytes,
             })))
         }

@@ -1,14 +1,18 @@
 -- What a record of a recording says by itself.
-use Rattle.std.specs.Prelude.{ℕ, ◌==◌, List, length, Option, Some, None, Result, Ok, Err, if◌then◌else◌}
+use Rattle.std.specs.Prelude.{ℕ, ◌==◌, List, [], ◌∷◌, length, Option, Some, None, Result, Ok, Err, if◌then◌else◌}
 use Rattle.hex.specs.Hex.{decode_of}
 use Rattle.hex.specs.declared.error.FromHexError.{FromHexError}
 use Rattle.fr_base.specs.Channels.{channel_of}
-use Rattle.fr_base.specs.declared.numbers.NumberFault.TheVariants as fault
 use Rattle.fr_base.specs.declared.reason.Reason.{Reason}
 use Rattle.fr_base.specs.declared.reason.Reason.TheVariants as reason
 use Rattle.fr_text.specs.Records.{FileRecord}
 use Rattle.fr_text.specs.Fields.{both_of, field_of, hex_digits_in, natural_of, or_reason}
+use Rattle.fr_nm.specs.declared.fields.Fields.{Fields}
 use Rattle.fr_nm.specs.declared.rows.Row.{Row}
+
+-- the record that has these fields
+abbrev pub vector_fields : Fields → FileRecord
+vector_fields fields = fields.cycle.now ∷ fields.channel.now ∷ fields.bytes.now ∷ []
 
 -- the bytes that a field writes; none where it is not hexadecimal
 abbrev pub decoded : Result (List ℕ) FromHexError → Option (List ℕ)

@@ -11,7 +11,7 @@ use fr_text::accepted;
 use std::alloc::Global;
 
 /// Writes a line for each cycle of the recording in the file that has a network management vector of so many bytes, 1
-/// to 12, and then how many records count and how many do not. Each line is one put. It loads the file once. A failure
+/// to 12, and then how many records count and how many do not. Puts have whole lines. It loads the file once. A failure
 /// comes where the file can't be loaded, is not accepted, or memory runs out (`Stopped`), or where the sink counted a
 /// fault (`WriteFault`).
 pub fn answer_nm<S: Shelf, O: Sink>(

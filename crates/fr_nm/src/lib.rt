@@ -6,6 +6,7 @@ mod answering;
 mod command_laws;
 mod counting;
 mod fault;
+mod fields;
 mod folding;
 mod kind;
 mod laws;

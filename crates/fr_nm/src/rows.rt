@@ -1,11 +1,12 @@
-ghost use Rattle.std.specs.Prelude.{◌≡◌, ◌≤◌, length, IfOk};
+ghost use Rattle.std.specs.Prelude.{◌≡◌, ◌≤◌, IfOk};
 ghost use Rattle.csv.specs.Records.{fields_of};
-ghost use Rattle.fr_nm.specs.Rows.{hex_bytes_in, said_row, vectors_row_of};
+ghost use Rattle.fr_nm.specs.Rows.{hex_bytes_in, vector_fields, said_row, vectors_row_of};
 ghost use Rattle.fr_text.specs.Fields.{hex_digits_in};
 
+use crate::fields::Fields;
 use csv::ByteRecord;
 use fr_base::{Channel, NumberFault, Reason};
-use fr_text::{both, field, natural, reason_of};
+use fr_text::{both, natural, reason_of};
 use hex::FromHexError;
 use std::alloc::{AllocError, Global};
 use std::marker::Model;
@@ -64,25 +65,23 @@ pub fn read_row(alloc: Global, row: &ByteRecord) -> Result<Result<Row, Reason>, 
     ensures said { IfOk result (λ said. said ≡ vectors_row_of (fields_of row.now)) }
     ensures proper { IfOk result (λ said. IfOk said (λ r. r.cycle ≤ 199_999)) }
 {
-    if row.len() != 3 {
-        return Ok(Err(Reason::Shape));
+    match Fields::of(row) {
+        Some(fields) => read_fields(alloc, &fields),
+        None => Ok(Err(Reason::Shape)),
     }
-    read_fields(alloc, row)
 }
 
-fn read_fields(alloc: Global, row: &ByteRecord) -> Result<Result<Row, Reason>, AllocError>
-    requires { length (fields_of row.now) ≡ 3 }
-    ensures said { IfOk result (λ said. said ≡ said_row (fields_of row.now)) }
+fn read_fields(alloc: Global, row: &Fields<'_>) -> Result<Result<Row, Reason>, AllocError>
+    ensures said { IfOk result (λ said. said ≡ said_row (vector_fields row.now)) }
     ensures proper { IfOk result (λ said. IfOk said (λ r. r.cycle ≤ 199_999)) }
 {
-    let text = field(row, 2);
-    match both(natural(field(row, 0), 0, 199_999), few_digits(text)) {
+    match both(natural(row.cycle, 0, 199_999), few_digits(row.bytes)) {
         Err(fault) => Ok(Err(reason_of(fault))),
         Ok((cycle, _)) => {
-            let bytes = read_bytes(alloc, text)?;
+            let bytes = read_bytes(alloc, row.bytes)?;
             Ok(Ok(Row {
                 cycle: cycle as u32,
-                channel: Channel::spelt(field(row, 1)),
+                channel: Channel::spelt(row.channel),
                 bytes,
             }))
         }

@@ -1,5 +1,5 @@
 -- What a record of a trace says by itself.
-use Rattle.std.specs.Prelude.{◌≡◌, ℕ, ℤ, ◌≤◌, ◌≤ℤ◌, pos, negsuc, Bool, ◌==◌, ◌&&◌, List, length, Option, Some, None, Result, Ok, Err, codes, if◌then◌else◌}
+use Rattle.std.specs.Prelude.{◌≡◌, ℕ, ℤ, ◌≤◌, ◌≤ℤ◌, pos, negsuc, Bool, ◌==◌, ◌&&◌, List, [], ◌∷◌, length, Option, Some, None, Result, Ok, Err, codes, if◌then◌else◌}
 use Rattle.std.specs.Str.{bytes_eq}
 use Rattle.fr_base.specs.Channels.{channel_of}
 use Rattle.fr_base.specs.Number.{number_of, within}
@@ -13,6 +13,7 @@ use Rattle.fr_base.specs.declared.state.State.{State}
 use Rattle.fr_base.specs.declared.state.State.TheVariants.{Active, Passive, Halt}
 use Rattle.fr_text.specs.Fields.{both_of, field_of, is_blank, natural_of, or_reason}
 use Rattle.fr_text.specs.Records.{FileRecord}
+use Rattle.fr_trace.specs.declared.fields.Fields.{Fields}
 use Rattle.fr_trace.specs.declared.rows.HeardRow.{HeardRow}
 use Rattle.fr_trace.specs.declared.rows.Row.{Row}
 use Rattle.fr_trace.specs.declared.rows.Row.TheVariants as row
@@ -123,6 +124,11 @@ trace_file_row kind first second third fourth fifth sixth seventh =
     else if bytes_eq kind (codes "cycle") then clock_row first second third fourth fifth sixth seventh
     else if bytes_eq kind (codes "dev") then heard_fields first second third fourth fifth sixth seventh
     else Err reason.UnknownName
+
+-- the record that has these fields
+abbrev pub trace_fields : Fields → FileRecord
+trace_fields f =
+    f.kind.now ∷ f.number.now ∷ f.node.now ∷ f.start_or_slot.now ∷ f.length_or_channel.now ∷ f.rate_or_value.now ∷ f.offset.now ∷ f.state.now ∷ []
 
 -- what a record says, or the least of the reasons that it shows by itself
 unfoldable pub trace_row_of : FileRecord → Result Row Reason

@@ -6,6 +6,7 @@
 mod dev_line;
 mod draft;
 mod fault;
+mod fields;
 mod kind;
 mod laws;
 mod numbered;

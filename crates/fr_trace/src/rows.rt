@@ -1,10 +1,10 @@
-ghost use Rattle.std.specs.Prelude.{◌≡◌, ◌≤ℤ◌, ◌&&◌, false, true, codes, pos, negsuc, IfOk, IfSome};
+ghost use Rattle.std.specs.Prelude.{◌≡◌, ◌≤ℤ◌, false, true, codes, pos, negsuc, IfOk, IfSome};
 ghost use Rattle.std.specs.Str.{bytes_eq};
 ghost use Rattle.fr_base.specs.Channels.{channel_of};
 ghost use Rattle.fr_text.specs.Plain.{fields_of};
-ghost use Rattle.fr_text.specs.Fields.{is_blank};
-ghost use Rattle.fr_trace.specs.Rows.{IsProperHeard, IsProperTraceRow, heard_fields, heard_said, is_heard_record, traced_arbitrary_row, are_blank, traced_join_row, AreProperTerms, IsProperSpan, clock_in, clock_row, heard_row, offset_in, traced_rate_in, run_row, span_in, state_of, terms_in, trace_file_row, trace_row_of, value_in};
+ghost use Rattle.fr_trace.specs.Rows.{IsProperHeard, IsProperTraceRow, heard_fields, heard_said, is_heard_record, traced_arbitrary_row, are_blank, traced_join_row, AreProperTerms, IsProperSpan, clock_in, clock_row, offset_in, traced_rate_in, run_row, span_in, state_of, terms_in, trace_fields, trace_row_of, value_in};
 
+use crate::fields::Fields;
 use crate::trace::TracedJoin;
 use fr_base::{Channel, NodeId, NodeRow, NumberFault, Reason, Slot, State, number};
 use fr_cluster::Join;
@@ -57,76 +57,61 @@ fn is_dev(field: &[u8]) -> bool
 
 /// The deviation that a record of this form says, or the least of the reasons that it shows by itself: Shape,
 /// NotNumber, OutOfRange. It is read apart from other rows, since most records are deviations.
+#[tactic(auto, unfolding(crate::specs::Rows::trace_row_of))]
 pub fn read_heard(row: &Record<'_>) -> Result<HeardRow, Reason>
     requires { is_heard_record (fields_of row.now) ≡ true }
     ensures said { heard_said result ≡ trace_row_of (fields_of row.now) }
     ensures proper { IfOk result IsProperHeard }
 {
-    read_fields(
-        row.field(1),
-        row.field(2),
-        row.field(3),
-        row.field(4),
-        row.field(5),
-        row.field(6),
-        row.field(7),
-    )
+    match Fields::of(row) {
+        Some(fields) => read_fields(&fields),
+        None => Err(Reason::Shape),
+    }
 }
 
 /// What a record of another form says, or the least of the reasons that it shows by itself: Shape, UnknownName,
 /// NotNumber, OutOfRange.
+#[tactic(auto, unfolding(crate::specs::Rows::trace_row_of))]
 pub fn read_row(row: &Record<'_>) -> Result<Row, Reason>
     requires { is_heard_record (fields_of row.now) ≡ false }
     ensures said { result ≡ trace_row_of (fields_of row.now) }
     ensures proper { IfOk result (λ said. IsProperTraceRow said) }
 {
-    if row.len() != 8 {
-        return Err(Reason::Shape);
+    match Fields::of(row) {
+        Some(fields) => read_kind(&fields),
+        None => Err(Reason::Shape),
     }
-    read_kind(
-        row.field(0),
-        row.field(1),
-        row.field(2),
-        row.field(3),
-        row.field(4),
-        row.field(5),
-        row.field(6),
-        row.field(7),
-    )
 }
 
-fn read_kind(
-    kind: &[u8],
-    first: &[u8],
-    second: &[u8],
-    third: &[u8],
-    fourth: &[u8],
-    fifth: &[u8],
-    sixth: &[u8],
-    seventh: &[u8],
-) -> Result<Row, Reason>
-    requires { bytes_eq kind.now (codes "dev") ≡ false }
-    ensures said { result ≡
-        trace_file_row kind.now first.now second.now third.now fourth.now fifth.now sixth.now seventh.now }
+#[tactic(auto, unfolding(crate::specs::Rows::trace_row_of))]
+fn read_kind(row: &Fields<'_>) -> Result<Row, Reason>
+    requires { bytes_eq row.now.kind.now (codes "dev") ≡ false }
+    ensures said { result ≡ trace_row_of (trace_fields row.now) }
     ensures proper { IfOk result (λ said. IsProperTraceRow said) }
 {
-    if kind == b"run".as_slice() {
-        if !are_empty(second, third, fourth) || !are_empty(fifth, sixth, seventh) {
+    if row.kind == b"run".as_slice() {
+        if !are_empty(row.node, row.start_or_slot, row.length_or_channel)
+            || !are_empty(row.rate_or_value, row.offset, row.state)
+        {
             return Err(Reason::Shape);
         }
-        read_run(first)
-    } else if kind == b"arbitrary".as_slice() {
-        if !are_empty(second, third, fourth) || !are_empty(fifth, sixth, seventh) {
+        read_run(row.number)
+    } else if row.kind == b"arbitrary".as_slice() {
+        if !are_empty(row.node, row.start_or_slot, row.length_or_channel)
+            || !are_empty(row.rate_or_value, row.offset, row.state)
+        {
             return Err(Reason::Shape);
         }
-        read_arbitrary(first)
-    } else if kind == b"join".as_slice() {
-        if !are_empty(fourth, fifth, sixth) || !seventh.is_empty() {
+        read_arbitrary(row.number)
+    } else if row.kind == b"join".as_slice() {
+        if !are_empty(row.length_or_channel, row.rate_or_value, row.offset)
+            || !row.state.is_empty()
+        {
             return Err(Reason::Shape);
         }
-        read_join(first, second, third)
-    } else if kind == b"cycle".as_slice() {
-        read_clock(first, second, third, fourth, fifth, sixth, seventh)
+        read_join(row.number, row.node, row.start_or_slot)
+    } else if row.kind == b"cycle".as_slice() {
+        read_clock(row)
     } else {
         Err(Reason::UnknownName)
     }
@@ -177,39 +162,28 @@ fn read_join(node: &[u8], reference: &[u8], double: &[u8]) -> Result<Row, Reason
     }
 }
 
-fn read_clock(
-    cycle: &[u8],
-    node: &[u8],
-    start: &[u8],
-    length: &[u8],
-    rate: &[u8],
-    offset: &[u8],
-    state: &[u8],
-) -> Result<Row, Reason>
-    ensures said { result ≡ clock_row cycle.now node.now start.now length.now rate.now offset.now state.now }
+fn read_clock(row: &Fields<'_>) -> Result<Row, Reason>
+    ensures said { result ≡ clock_row row.now.number.now row.now.node.now row.now.start_or_slot.now
+        row.now.length_or_channel.now row.now.rate_or_value.now row.now.offset.now row.now.state.now }
     ensures proper { IfOk result (λ said. IsProperTraceRow said) }
 {
-    match read_state(state) {
+    match read_state(row.state) {
         None => Err(Reason::UnknownName),
-        Some(state) => read_clock_in(state, cycle, node, start, length, rate, offset),
+        Some(state) => read_clock_in(state, row),
     }
 }
 
-fn read_clock_in(
-    state: State,
-    cycle: &[u8],
-    node: &[u8],
-    start: &[u8],
-    length: &[u8],
-    rate: &[u8],
-    offset: &[u8],
-) -> Result<Row, Reason>
-    ensures said { result ≡ clock_in cycle.now node.now start.now length.now rate.now offset.now state }
+fn read_clock_in(state: State, row: &Fields<'_>) -> Result<Row, Reason>
+    ensures said { result ≡ clock_in row.now.number.now row.now.node.now row.now.start_or_slot.now
+        row.now.length_or_channel.now row.now.rate_or_value.now row.now.offset.now state }
     ensures proper { IfOk result (λ said. IsProperTraceRow said) }
 {
     match both(
-        both(natural(cycle, 0, 199_999), natural(node, 1, 64)),
-        both(read_span(start, length), read_terms(rate, offset)),
+        both(natural(row.number, 0, 199_999), natural(row.node, 1, 64)),
+        both(
+            read_span(row.start_or_slot, row.length_or_channel),
+            read_terms(row.rate_or_value, row.offset),
+        ),
     ) {
         Err(fault) => Err(reason_of(fault)),
         Ok(((cycle, node), (span, terms))) => Ok(Row::Clock(
@@ -288,45 +262,28 @@ fn read_value(text: &[u8]) -> Result<i32, NumberFault>
 }
 
 // A deviation of these fields, of which the last two are to be empty.
-fn read_fields(
-    first: &[u8],
-    second: &[u8],
-    third: &[u8],
-    fourth: &[u8],
-    fifth: &[u8],
-    sixth: &[u8],
-    seventh: &[u8],
-) -> Result<HeardRow, Reason>
+fn read_fields(row: &Fields<'_>) -> Result<HeardRow, Reason>
     ensures said { heard_said result ≡
-        heard_fields first.now second.now third.now fourth.now fifth.now sixth.now seventh.now }
+        heard_fields row.now.number.now row.now.node.now row.now.start_or_slot.now row.now.length_or_channel.now
+        row.now.rate_or_value.now row.now.offset.now row.now.state.now }
     ensures proper { IfOk result IsProperHeard }
 {
-    if !sixth.is_empty() || !seventh.is_empty() {
+    if !row.offset.is_empty() || !row.state.is_empty() {
         return Err(Reason::Shape);
     }
-    heard_of(first, second, third, fourth, fifth)
-}
-
-fn heard_of(
-    cycle: &[u8],
-    receiver: &[u8],
-    slot: &[u8],
-    channel: &[u8],
-    value: &[u8],
-) -> Result<HeardRow, Reason>
-    ensures said { heard_said result ≡ heard_row cycle.now receiver.now slot.now channel.now value.now }
-    ensures proper { IfOk result IsProperHeard }
-{
     match both(
-        both(natural(cycle, 0, 199_999), natural(receiver, 1, 64)),
-        both(natural(slot, 1, 1023), read_value(value)),
+        both(natural(row.number, 0, 199_999), natural(row.node, 1, 64)),
+        both(
+            natural(row.start_or_slot, 1, 1023),
+            read_value(row.rate_or_value),
+        ),
     ) {
         Err(fault) => Err(reason_of(fault)),
         Ok(((cycle, receiver), (slot, value))) => Ok(HeardRow {
             cycle: cycle as u32,
             receiver: NodeId(receiver as u8),
             slot: Slot(slot as u16),
-            channel: channel_of(channel),
+            channel: channel_of(row.length_or_channel),
             value,
         }),
     }
