@@ -1,5 +1,5 @@
 -- What the types of a scale and of how nodes measure say of their values.
-use Rattle.std.proofs.Common.{◌≡◌, ℕ, ℤ, subst, ap}
+use Rattle.std.proofs.Common.{◌≡◌, subst, ap}
 use Rattle.fr_course.specs.Measures.{IsMeasuring, Measuring}
 use Rattle.fr_course.specs.Scales.{IsReadingScale, Scale}
 

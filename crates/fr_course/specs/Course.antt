@@ -1,6 +1,6 @@
 -- Where the clock of a node can lie in a double cycle, by the stamps of the frames that it sent in its slot: readings of an
--- observer's clock. None passes 3,000,000,000,000,000,000 on either side, and no product with the macroticks of a cycle, at
--- most 16,000, passes 127 bits.
+-- observer's clock. None passes `greatest_corner` on either side, and no product with the macroticks of a cycle, at most
+-- 16,000, passes 127 bits.
 use Rattle.std.specs.Prelude.{◌+◌, ℤ, pos, ◌+ℤ◌, ◌-ℤ◌, ◌*ℤ◌, Bool, not, ◌||◌, int_le, int_lt, Option, Some, None, if◌then◌else◌}
 use Rattle.std.specs.Int.{int_max, int_min}
 use Rattle.fr_time.specs.Position.{floor_of}

@@ -1,4 +1,5 @@
 -- what the public contract cites
+pub mod Ranges
 pub mod Scales
 pub mod Measures
 pub mod Readings

@@ -1,6 +1,7 @@
 -- How the nodes of a cluster measure.
 use Rattle.std.specs.Prelude.{ℤ, pos}
 use Rattle.fr_base.specs.Within.{IsBetween}
+use Rattle.fr_course.specs.Ranges.{greatest_damping, IsError, IsMicrotick}
 
 -- the error of an arrival, and how far a rate value may place a sender's action points from their true distance; the shortest and
 -- the longest microtick, all in ticks; the damping of rate terms, in microticks
@@ -13,8 +14,8 @@ pub record Measuring : Type 0 where
 
 -- they lie in the ranges of clusters
 pub record IsMeasuring (m : Measuring) : Type 0 where
-  pub arrival_error : IsBetween (pos 0) (pos 10_000_000_000_000_000_000) m.arrival_error
-  pub rate_error : IsBetween (pos 0) (pos 10_000_000_000_000_000_000) m.rate_error
-  pub shortest : IsBetween (pos 998_500) (pos 1_001_500) m.shortest
-  pub longest : IsBetween (pos 998_500) (pos 1_001_500) m.longest
-  pub damping : IsBetween (pos 0) (pos 1_000_000) m.damping
+  pub arrival_error : IsError m.arrival_error
+  pub rate_error : IsError m.rate_error
+  pub shortest : IsMicrotick m.shortest
+  pub longest : IsMicrotick m.longest
+  pub damping : IsBetween (pos 0) greatest_damping m.damping

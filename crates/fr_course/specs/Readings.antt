@@ -1,7 +1,7 @@
 -- Numbers on an observer's clock, and ticks. The clock is straight, and within a drift of so many parts per million: for a
 -- rate of one clock against the other within the drift, so many ticks are from the one to the other number on the
--- observer's clock (a *reading*), and a reading is from one number of ticks to another. Ticks and readings are below
--- 7,000,000,000,000,000,000 on either side, and the drift is at most 1,000: so no product passes 127 bits.
+-- observer's clock (a *reading*), and a reading is from one number of ticks to another. None passes
+-- `greatest_ticks` on either side, and the drift is at most 1,000: so no product passes 127 bits.
 use Rattle.std.specs.Prelude.{ℕ, ℤ, pos, neg_ℤ, ◌+ℤ◌, ◌-ℤ◌, ◌*ℤ◌, int_lt, List, [], ◌∷◌, Option, Some, None, if◌then◌else◌}
 use Rattle.std.specs.Int.{int_max, int_min}
 use Rattle.fr_cluster.specs.Values.{Values, amount}

@@ -1,7 +1,8 @@
 ghost use Rattle.std.specs.Prelude.{◌≡◌, pos, neg_ℤ, ◌+ℤ◌, ◌-ℤ◌};
 ghost use Rattle.fr_base.specs.Within.{IsBetween, IsWithin};
 ghost use Rattle.fr_course.specs.Course.{even_start, even_turn, mean_from, mean_to, odd_macrotick, odd_start, odd_turn, share_from, share_to};
-ghost use Rattle.fr_course.specs.Near.{IsNearCourse, EndWithin};
+ghost use Rattle.fr_course.specs.Near.{IsCorner, IsNearCourse};
+ghost use Rattle.fr_course.specs.Ranges.{greatest_corner, greatest_length, greatest_mean, greatest_sharp_corner};
 
 use crate::courses::Course;
 use crate::intervals::Interval;
@@ -12,7 +13,7 @@ use crate::shares::{mean_from, mean_to, share_from, share_to};
 pub fn even_start(scale: &Scale, course: &Course) -> Interval
     requires course { IsNearCourse scale.now course.now }
     ensures value { result ≡ even_start scale.now course.now }
-    ensures near { EndWithin (pos 3_000_000_000_000_000_000) result }
+    ensures near { IsCorner result }
 {
     Interval {
         low: course.even.low - action_to(scale, course),
@@ -24,7 +25,7 @@ pub fn even_start(scale: &Scale, course: &Course) -> Interval
 pub fn odd_start(scale: &Scale, course: &Course) -> Interval
     requires course { IsNearCourse scale.now course.now }
     ensures value { result ≡ odd_start scale.now course.now }
-    ensures near { EndWithin (pos 3_000_000_000_000_000_000) result }
+    ensures near { IsCorner result }
 {
     Interval {
         low: odd_start_from(scale, course),
@@ -37,7 +38,7 @@ pub fn odd_start(scale: &Scale, course: &Course) -> Interval
 pub fn even_turn(scale: &Scale, course: &Course) -> Interval
     requires course { IsNearCourse scale.now course.now }
     ensures value { result ≡ even_turn scale.now course.now }
-    ensures near { EndWithin (pos 3_000_000_000_000_000_000) result }
+    ensures near { IsCorner result }
 {
     Interval {
         low: even_turn_from(scale, course),
@@ -50,7 +51,7 @@ pub fn even_turn(scale: &Scale, course: &Course) -> Interval
 pub fn odd_turn(scale: &Scale, course: &Course) -> Interval
     requires course { IsNearCourse scale.now course.now }
     ensures value { result ≡ odd_turn scale.now course.now }
-    ensures near { EndWithin (pos 3_000_000_000_000_000_000) result }
+    ensures near { IsCorner result }
 {
     Interval {
         low: course.odd.low + ahead_from(scale, course),
@@ -63,7 +64,7 @@ pub(crate) fn odd_macrotick(scale: &Scale, course: &Course, macrotick: i128) -> 
     requires course { IsNearCourse scale.now course.now }
     requires macrotick { IsBetween (pos 0) scale.now.correction macrotick }
     ensures value { result ≡ odd_macrotick scale.now course.now macrotick }
-    ensures near { EndWithin (pos 3_000_000_000_000_000_000) result }
+    ensures near { IsCorner result }
 {
     let _of_cycle = scale.macros;
     let ahead = macrotick - course.action;
@@ -82,7 +83,7 @@ fn macrotick_behind(scale: &Scale, course: &Course, ahead: i128) -> Interval
         (course.now.odd.low +ℤ share_from scale.now ahead course.now.length.low) -ℤ scale.now.micro_to }
     ensures high { result.high ≡
         (course.now.odd.high +ℤ share_to scale.now ahead course.now.length.high) +ℤ scale.now.micro_to }
-    ensures near { EndWithin (pos 3_000_000_000_000_000_000) result }
+    ensures near { IsCorner result }
 {
     Interval {
         low: course.odd.low + share_from(scale, ahead, course.length.low) - scale.micro_to,
@@ -98,7 +99,7 @@ fn macrotick_before(scale: &Scale, course: &Course, ahead: i128) -> Interval
         (course.now.odd.low +ℤ share_from scale.now ahead course.now.length.high) -ℤ scale.now.micro_to }
     ensures high { result.high ≡
         (course.now.odd.high +ℤ share_to scale.now ahead course.now.length.low) +ℤ scale.now.micro_to }
-    ensures near { EndWithin (pos 3_000_000_000_000_000_000) result }
+    ensures near { IsCorner result }
 {
     let micro = scale.micro_to;
     Interval {
@@ -111,7 +112,7 @@ fn macrotick_before(scale: &Scale, course: &Course, ahead: i128) -> Interval
 fn action_from(scale: &Scale, course: &Course) -> i128
     requires course { IsNearCourse scale.now course.now }
     ensures value { result ≡ share_from scale.now course.now.action course.now.length.low }
-    ensures within { IsWithin (pos 930_000_000_000_000_000) result }
+    ensures within { IsWithin greatest_length result }
 {
     let _of_cycle = scale.macros;
     share_from(scale, course.action, course.length.low)
@@ -120,7 +121,7 @@ fn action_from(scale: &Scale, course: &Course) -> i128
 fn action_to(scale: &Scale, course: &Course) -> i128
     requires course { IsNearCourse scale.now course.now }
     ensures value { result ≡ share_to scale.now course.now.action course.now.length.high }
-    ensures within { IsWithin (pos 930_000_000_000_000_000) result }
+    ensures within { IsWithin greatest_length result }
 {
     let _of_cycle = scale.macros;
     share_to(scale, course.action, course.length.high)
@@ -131,7 +132,7 @@ pub(crate) fn rest_from(scale: &Scale, course: &Course) -> i128
     requires course { IsNearCourse scale.now course.now }
     ensures value { result ≡
         share_from scale.now (scale.now.macros -ℤ course.now.action) course.now.length.low }
-    ensures within { IsWithin (pos 930_000_000_000_000_000) result }
+    ensures within { IsWithin greatest_length result }
 {
     let rest = scale.macros - course.action;
     share_from(scale, rest, course.length.low)
@@ -141,7 +142,7 @@ pub(crate) fn rest_to(scale: &Scale, course: &Course) -> i128
     requires course { IsNearCourse scale.now course.now }
     ensures value { result ≡
         share_to scale.now (scale.now.macros -ℤ course.now.action) course.now.length.high }
-    ensures within { IsWithin (pos 930_000_000_000_000_000) result }
+    ensures within { IsWithin greatest_length result }
 {
     let rest = scale.macros - course.action;
     share_to(scale, rest, course.length.high)
@@ -152,7 +153,7 @@ fn ahead_from(scale: &Scale, course: &Course) -> i128
     requires course { IsNearCourse scale.now course.now }
     ensures value { result ≡
         share_from scale.now (scale.now.correction -ℤ course.now.action) course.now.length.low }
-    ensures within { IsWithin (pos 930_000_000_000_000_000) result }
+    ensures within { IsWithin greatest_length result }
 {
     let ahead = scale.correction - course.action;
     share_from(scale, ahead, course.length.low)
@@ -162,7 +163,7 @@ fn ahead_to(scale: &Scale, course: &Course) -> i128
     requires course { IsNearCourse scale.now course.now }
     ensures value { result ≡
         share_to scale.now (scale.now.correction -ℤ course.now.action) course.now.length.high }
-    ensures within { IsWithin (pos 930_000_000_000_000_000) result }
+    ensures within { IsWithin greatest_length result }
 {
     let ahead = scale.correction - course.action;
     share_to(scale, ahead, course.length.high)
@@ -172,7 +173,7 @@ fn ahead_to(scale: &Scale, course: &Course) -> i128
 fn odd_start_from(scale: &Scale, course: &Course) -> i128
     requires course { IsNearCourse scale.now course.now }
     ensures value { result ≡ (odd_start scale.now course.now).low }
-    ensures within { IsWithin (pos 2_900_000_000_000_000_000) result }
+    ensures within { IsWithin greatest_sharp_corner result }
 {
     let before = course.even.low + rest_from(scale, course);
     let behind = course.odd.low - action_to(scale, course);
@@ -182,7 +183,7 @@ fn odd_start_from(scale: &Scale, course: &Course) -> i128
 fn odd_start_to(scale: &Scale, course: &Course) -> i128
     requires course { IsNearCourse scale.now course.now }
     ensures value { result ≡ (odd_start scale.now course.now).high }
-    ensures within { IsWithin (pos 3_000_000_000_000_000_000) result }
+    ensures within { IsWithin greatest_corner result }
 {
     let before = course.even.high + rest_to(scale, course);
     let behind = course.odd.high - action_from(scale, course);
@@ -195,7 +196,7 @@ fn between_from(scale: &Scale, course: &Course) -> i128
     ensures value { result ≡
         mean_from scale.now course.now.action course.now.even.low course.now.odd.low
         -ℤ scale.now.change }
-    ensures within { IsWithin (pos 2_000_000_000_000_000_000) result }
+    ensures within { IsWithin greatest_mean result }
 {
     let change = scale.change;
     mean_from(scale, course.action, course.even.low, course.odd.low) - change
@@ -206,7 +207,7 @@ fn between_to(scale: &Scale, course: &Course) -> i128
     ensures value { result ≡
         mean_to scale.now course.now.action course.now.even.high course.now.odd.high
         +ℤ scale.now.change }
-    ensures within { IsWithin (pos 2_000_000_000_000_000_000) result }
+    ensures within { IsWithin greatest_mean result }
 {
     let change = scale.change;
     mean_to(scale, course.action, course.even.high, course.odd.high) + change
@@ -217,7 +218,7 @@ fn between_to(scale: &Scale, course: &Course) -> i128
 fn even_turn_from(scale: &Scale, course: &Course) -> i128
     requires course { IsNearCourse scale.now course.now }
     ensures value { result ≡ (even_turn scale.now course.now).low }
-    ensures within { IsWithin (pos 2_900_000_000_000_000_000) result }
+    ensures within { IsWithin greatest_sharp_corner result }
 {
     let before = course.even.low + ahead_from(scale, course);
     before.max(turn_from(scale, course))
@@ -226,7 +227,7 @@ fn even_turn_from(scale: &Scale, course: &Course) -> i128
 fn even_turn_to(scale: &Scale, course: &Course) -> i128
     requires course { IsNearCourse scale.now course.now }
     ensures value { result ≡ (even_turn scale.now course.now).high }
-    ensures within { IsWithin (pos 3_000_000_000_000_000_000) result }
+    ensures within { IsWithin greatest_corner result }
 {
     let before = course.even.high + ahead_to(scale, course);
     before.min(turn_to(scale, course)) + scale.micro_to
@@ -239,7 +240,7 @@ fn turn_from(scale: &Scale, course: &Course) -> i128
         mean_from scale.now (scale.now.macros -ℤ (scale.now.correction -ℤ course.now.action))
         course.now.even.low course.now.odd.low
         -ℤ scale.now.change }
-    ensures within { IsWithin (pos 2_000_000_000_000_000_000) result }
+    ensures within { IsWithin greatest_mean result }
 {
     let ahead = scale.correction - course.action;
     let before = scale.macros - ahead;
@@ -252,7 +253,7 @@ fn turn_to(scale: &Scale, course: &Course) -> i128
         mean_to scale.now (scale.now.macros -ℤ (scale.now.correction -ℤ course.now.action))
         course.now.even.high course.now.odd.high
         +ℤ scale.now.change }
-    ensures within { IsWithin (pos 2_000_000_000_000_000_000) result }
+    ensures within { IsWithin greatest_mean result }
 {
     let ahead = scale.correction - course.action;
     let before = scale.macros - ahead;

@@ -1,9 +1,10 @@
 ghost use Rattle.std.specs.Prelude.{◌≡◌, pos, int_lt, if◌then◌else◌, IfSome};
-ghost use Rattle.fr_base.specs.Within.{IsBetween, IsWithin};
+ghost use Rattle.fr_base.specs.Within.{IsWithin};
 ghost use Rattle.fr_course.specs.Course.{share_from, share_to};
-ghost use Rattle.fr_course.specs.Near.{IsNearCourse, IsSpan, EndWithin};
+ghost use Rattle.fr_course.specs.Near.{EndWithin, IsNearCourse, IsPoint, IsSpan, IsTerm};
 ghost use Rattle.fr_course.specs.Readings.{micros_from, micros_in, micros_to};
 ghost use Rattle.fr_course.specs.Terms.{offset_reading, offset_seen, onward, rate_step_seen, step_reading};
+ghost use Rattle.fr_course.specs.Ranges.{greatest_length, greatest_points_apart, greatest_term, IsMicroReading};
 
 use crate::corners::{rest_from, rest_to};
 use crate::courses::{Course, between};
@@ -24,7 +25,7 @@ pub fn offset_seen(
     requires next { IsNearCourse scale.now next.now }
     requires span { IfSome span IsSpan }
     ensures value { result ≡ offset_seen scale.now course.now next.now span }
-    ensures near { EndWithin (pos 6_000_000_000_000_000_000) result }
+    ensures near { IsTerm result }
 {
     micros_in(scale, &offset_reading(scale, course, next, span))
 }
@@ -35,18 +36,18 @@ pub fn rate_step_seen(scale: &Scale, course: &Course, next: &Course) -> Interval
     requires course { IsNearCourse scale.now course.now }
     requires next { IsNearCourse scale.now next.now }
     ensures value { result ≡ rate_step_seen scale.now course.now next.now }
-    ensures near { EndWithin (pos 6_000_000_000_000_000_000) result }
+    ensures near { IsTerm result }
 {
     micros_in(scale, &step_reading(scale, course, next))
 }
 
 // How far the action point of the next even cycle can lie behind that of the odd one.
 fn onward(course: &Course, next: &Course, span: Option<Interval>) -> Interval
-    requires course { EndWithin (pos 1_900_000_000_000_000_000) course.now.odd }
-    requires next { EndWithin (pos 1_900_000_000_000_000_000) next.now.even }
+    requires course { IsPoint course.now.odd }
+    requires next { IsPoint next.now.even }
     requires span { IfSome span IsSpan }
     ensures value { result ≡ onward course.now next.now span }
-    ensures near { EndWithin (pos 3_800_000_000_000_000_000) result }
+    ensures near { EndWithin greatest_points_apart result }
 {
     meet_if(span, &between(&course.odd, &next.even))
 }
@@ -57,7 +58,7 @@ fn offset_reading(scale: &Scale, course: &Course, next: &Course, span: Option<In
     requires next { IsNearCourse scale.now next.now }
     requires span { IfSome span IsSpan }
     ensures value { result ≡ offset_reading scale.now course.now next.now span }
-    ensures near { EndWithin (pos 6_000_000_000_000_000_000) result }
+    ensures near { IsTerm result }
 {
     let from = onward(course, next, span);
     Interval {
@@ -72,7 +73,7 @@ fn begun_from(scale: &Scale, course: &Course, next: &Course) -> i128
     requires course { IsNearCourse scale.now course.now }
     requires next { IsNearCourse scale.now next.now }
     ensures value { result ≡ share_from scale.now course.now.action next.now.length.low }
-    ensures within { IsWithin (pos 930_000_000_000_000_000) result }
+    ensures within { IsWithin greatest_length result }
 {
     let _of_cycle = scale.macros;
     share_from(scale, course.action, next.length.low)
@@ -82,7 +83,7 @@ fn begun_to(scale: &Scale, course: &Course, next: &Course) -> i128
     requires course { IsNearCourse scale.now course.now }
     requires next { IsNearCourse scale.now next.now }
     ensures value { result ≡ share_to scale.now course.now.action next.now.length.high }
-    ensures within { IsWithin (pos 930_000_000_000_000_000) result }
+    ensures within { IsWithin greatest_length result }
 {
     let _of_cycle = scale.macros;
     share_to(scale, course.action, next.length.high)
@@ -93,7 +94,7 @@ fn step_reading(scale: &Scale, course: &Course, next: &Course) -> Interval
     requires course { IsNearCourse scale.now course.now }
     requires next { IsNearCourse scale.now next.now }
     ensures value { result ≡ step_reading scale.now course.now next.now }
-    ensures near { EndWithin (pos 6_000_000_000_000_000_000) result }
+    ensures near { IsTerm result }
 {
     Interval {
         low: next.length.low - course.length.high - scale.change,
@@ -103,9 +104,9 @@ fn step_reading(scale: &Scale, course: &Course, next: &Course) -> Interval
 
 // The least and the greatest number of microticks that so long can be, in readings.
 fn micros_in(scale: &Scale, long: &Interval) -> Interval
-    requires long { EndWithin (pos 6_000_000_000_000_000_000) long.now }
+    requires long { IsTerm long.now }
     ensures value { result ≡ micros_in scale.now long.now }
-    ensures near { EndWithin (pos 6_000_000_000_000_000_000) result }
+    ensures near { IsTerm result }
 {
     Interval {
         low: micros_from(scale, long.low),
@@ -114,17 +115,17 @@ fn micros_in(scale: &Scale, long: &Interval) -> Interval
 }
 
 fn micros_from(scale: &Scale, long: i128) -> i128
-    requires long { IsWithin (pos 6_000_000_000_000_000_000) long }
+    requires long { IsWithin greatest_term long }
     ensures value { result ≡ micros_from scale.now long }
-    ensures within { IsWithin (pos 6_000_000_000_000_000_000) result }
+    ensures within { IsWithin greatest_term result }
 {
     ceiling(long, inner_micro(scale, long))
 }
 
 fn micros_to(scale: &Scale, long: i128) -> i128
-    requires long { IsWithin (pos 6_000_000_000_000_000_000) long }
+    requires long { IsWithin greatest_term long }
     ensures value { result ≡ micros_to scale.now long }
-    ensures within { IsWithin (pos 6_000_000_000_000_000_000) result }
+    ensures within { IsWithin greatest_term result }
 {
     floor(long, outer_micro(scale, long))
 }
@@ -133,7 +134,7 @@ fn micros_to(scale: &Scale, long: i128) -> i128
 fn inner_micro(scale: &Scale, long: i128) -> i128
     ensures value { result ≡
         (if int_lt long (pos 0) then scale.now.micro_from else scale.now.micro_to) }
-    ensures within { IsBetween (pos 1) (pos 1_001_000_000_000) result }
+    ensures within { IsMicroReading result }
 {
     if long < 0 {
         scale.micro_from
@@ -146,7 +147,7 @@ fn inner_micro(scale: &Scale, long: i128) -> i128
 fn outer_micro(scale: &Scale, long: i128) -> i128
     ensures value { result ≡
         (if int_lt long (pos 0) then scale.now.micro_to else scale.now.micro_from) }
-    ensures within { IsBetween (pos 1) (pos 1_001_000_000_000) result }
+    ensures within { IsMicroReading result }
 {
     if long < 0 {
         scale.micro_to

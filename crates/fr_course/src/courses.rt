@@ -2,7 +2,8 @@ ghost use Rattle.std.specs.Prelude.{◌≡◌, pos, ◌+ℤ◌, ◌-ℤ◌, IfSo
 ghost use Rattle.std.specs.Int.{int_max, int_min};
 ghost use Rattle.fr_base.specs.Within.{IsBetween};
 ghost use Rattle.fr_course.specs.Course.{allowed, apart_by, between, course_back, course_by, course_from, course_on, is_there, length_seen, seen_apart};
-ghost use Rattle.fr_course.specs.Near.{IsBox, IsNearCourse, IsSpan, EndBetween, EndWithin};
+ghost use Rattle.fr_course.specs.Near.{EndWithin, IsApart, IsBox, IsCorner, IsNearCourse, IsPoint, IsSeenLength, IsSpan};
+ghost use Rattle.fr_course.specs.Ranges.{greatest_corners_apart, greatest_cycle_reading, greatest_points_apart};
 
 use crate::intervals::{Interval, is_empty, meet, meet_if};
 use crate::scales::Scale;
@@ -124,7 +125,7 @@ fn course_by(
     requires action { IsBetween (pos 0) scale.now.correction action }
     requires even { IsBox even.now }
     requires odd { IsBox odd.now }
-    requires apart { EndWithin (pos 920_000_000_000_000_000) apart.now }
+    requires apart { IsApart apart.now }
     ensures value { result ≡ course_by scale.now action even.now odd.now apart.now }
     ensures near { IsNearCourse scale.now result }
 {
@@ -141,10 +142,10 @@ fn course_by(
 fn before(even: &Interval, odd: &Interval, apart: &Interval) -> Interval
     requires even { IsBox even.now }
     requires odd { IsBox odd.now }
-    requires apart { EndWithin (pos 920_000_000_000_000_000) apart.now }
+    requires apart { IsApart apart.now }
     ensures low { result.low ≡ int_max even.now.low (odd.now.low -ℤ apart.now.high) }
     ensures high { result.high ≡ int_min even.now.high (odd.now.high -ℤ apart.now.low) }
-    ensures near { EndWithin (pos 1_900_000_000_000_000_000) result }
+    ensures near { IsPoint result }
 {
     Interval {
         low: even.low.max(odd.low - apart.high),
@@ -156,10 +157,10 @@ fn before(even: &Interval, odd: &Interval, apart: &Interval) -> Interval
 fn behind(even: &Interval, odd: &Interval, apart: &Interval) -> Interval
     requires even { IsBox even.now }
     requires odd { IsBox odd.now }
-    requires apart { EndWithin (pos 920_000_000_000_000_000) apart.now }
+    requires apart { IsApart apart.now }
     ensures low { result.low ≡ int_max odd.now.low (even.now.low +ℤ apart.now.low) }
     ensures high { result.high ≡ int_min odd.now.high (even.now.high +ℤ apart.now.high) }
-    ensures near { EndWithin (pos 1_900_000_000_000_000_000) result }
+    ensures near { IsPoint result }
 {
     Interval {
         low: odd.low.max(even.low + apart.low),
@@ -170,7 +171,7 @@ fn behind(even: &Interval, odd: &Interval, apart: &Interval) -> Interval
 /// The lengths of cycles, before their offset correction, that a cluster allows, as readings.
 pub fn allowed(scale: &Scale) -> Interval
     ensures value { result ≡ allowed scale.now }
-    ensures near { EndWithin (pos 1_001_000_000_000) result }
+    ensures near { EndWithin greatest_cycle_reading result }
 {
     Interval {
         low: scale.length_from,
@@ -180,15 +181,13 @@ pub fn allowed(scale: &Scale) -> Interval
 
 /// How much later points can be that lie in one interval than points that lie in another, as readings.
 pub fn between(from: &Interval, to: &Interval) -> Interval
-    requires from { EndWithin (pos 3_000_000_000_000_000_000) from.now }
-    requires to { EndWithin (pos 3_000_000_000_000_000_000) to.now }
+    requires from { IsCorner from.now }
+    requires to { IsCorner to.now }
     ensures value { result ≡ between from.now to.now }
-    ensures near { EndWithin (pos 6_000_000_000_000_000_000) result }
-    ensures courses { EndWithin (pos 1_900_000_000_000_000_000) from.now →
-        EndWithin (pos 1_900_000_000_000_000_000) to.now →
-        EndWithin (pos 3_800_000_000_000_000_000) result }
-    ensures boxes { IsBox from.now → IsBox to.now →
-        EndWithin (pos 920_000_000_000_000_000) result }
+    ensures near { EndWithin greatest_corners_apart result }
+    ensures courses { IsPoint from.now → IsPoint to.now →
+        EndWithin greatest_points_apart result }
+    ensures boxes { IsBox from.now → IsBox to.now → IsApart result }
 {
     Interval {
         low: to.low - from.high,
@@ -203,7 +202,7 @@ pub fn seen_apart(even: &Interval, odd: &Interval, span: Option<Interval>) -> In
     requires odd { IsBox odd.now }
     requires span { IfSome span IsSpan }
     ensures value { result ≡ seen_apart even.now odd.now span }
-    ensures near { EndWithin (pos 920_000_000_000_000_000) result }
+    ensures near { IsApart result }
 {
     meet_if(span, &between(even, odd))
 }
@@ -214,16 +213,16 @@ fn apart_by(scale: &Scale, even: &Interval, odd: &Interval, span: Option<Interva
     requires odd { IsBox odd.now }
     requires span { IfSome span IsSpan }
     ensures value { result ≡ apart_by scale.now even.now odd.now span }
-    ensures near { EndWithin (pos 920_000_000_000_000_000) result }
+    ensures near { IsApart result }
 {
     meet_if(span, &meet(&allowed(scale), &between(even, odd)))
 }
 
 // How long cycles can be whose action points lie so far apart.
 fn length_seen(scale: &Scale, apart: &Interval) -> Interval
-    requires apart { EndWithin (pos 920_000_000_000_000_000) apart.now }
+    requires apart { IsApart apart.now }
     ensures value { result ≡ length_seen scale.now apart.now }
-    ensures near { EndWithin (pos 930_000_000_000_000_000) result }
+    ensures near { IsSeenLength result }
 {
     Interval {
         low: (apart.low - scale.change).max(scale.length_from),

@@ -2,7 +2,8 @@ ghost use Rattle.std.specs.Prelude.{◌≡◌, ◌≤◌, ◌+ℤ◌, ℤ, pos, 
 ghost use Rattle.std.specs.Option.{option_map};
 ghost use Rattle.fr_base.specs.Within.{IsBetween, IsWithin};
 ghost use Rattle.fr_course.specs.Computed.{further_by, measuring_of, placed_from, placed_in, values_from, counted_in, values_to};
-ghost use Rattle.fr_course.specs.Near.{EndWithin};
+ghost use Rattle.fr_course.specs.Near.{EndWithin, HasUndamped, HasValues, IsInTicks};
+ghost use Rattle.fr_course.specs.Ranges.{greatest_error, greatest_measured, greatest_ticks, IsError, IsMicrotick, IsValue};
 
 use crate::intervals::Interval;
 use crate::quotients::{ceiling, floor};
@@ -55,10 +56,10 @@ impl Measuring {
 
 // What a receiver can have counted of so many ticks with an error, in microticks: from the least to the greatest.
 pub(crate) fn counted_in(measuring: &Measuring, error: i128, ticks: &Interval) -> Interval
-    requires error { IsBetween (pos 0) (pos 10_000_000_000_000_000_000) error }
-    requires ticks { EndWithin (pos 6_200_000_000_000_000_000) ticks.now }
+    requires error { IsError error }
+    requires ticks { IsInTicks ticks.now }
     ensures value { result ≡ counted_in measuring.now error ticks.now }
-    ensures near { EndWithin (pos 21_000_000_000_000) result }
+    ensures near { HasValues result }
 {
     let off = further_by(error, ticks);
     Interval {
@@ -69,10 +70,10 @@ pub(crate) fn counted_in(measuring: &Measuring, error: i128, ticks: &Interval) -
 
 // How many of a receiver's microticks can give so many ticks, with an error: from the least to the greatest number.
 pub(crate) fn placed_in(measuring: &Measuring, error: i128, ticks: &Interval) -> Interval
-    requires error { IsBetween (pos 0) (pos 10_000_000_000_000_000_000) error }
-    requires ticks { EndWithin (pos 6_200_000_000_000_000_000) ticks.now }
+    requires error { IsError error }
+    requires ticks { IsInTicks ticks.now }
     ensures value { result ≡ placed_in measuring.now error ticks.now }
-    ensures near { EndWithin (pos 21_000_000_000_000) result }
+    ensures near { HasValues result }
 {
     let off = further_by(error, ticks);
     Interval {
@@ -83,8 +84,8 @@ pub(crate) fn placed_in(measuring: &Measuring, error: i128, ticks: &Interval) ->
 
 // An interval that goes so much farther at both ends.
 pub(crate) fn further_by(more: i128, interval: &Interval) -> Interval
-    requires more { IsBetween (pos 0) (pos 10_000_000_000_000_000_000) more }
-    requires interval { EndWithin (pos 6_200_000_000_000_000_000) interval.now }
+    requires more { IsBetween (pos 0) greatest_error more }
+    requires interval { EndWithin greatest_ticks interval.now }
     ensures value { result ≡ further_by more interval.now }
     ensures near { (bound : ℤ) → EndWithin bound interval.now → EndWithin (bound +ℤ more) result }
 {
@@ -96,9 +97,9 @@ pub(crate) fn further_by(more: i128, interval: &Interval) -> Interval
 
 /// The numbers that a damped one of these numbers (section 8.6.3) can have been, in microticks; none where it has no limits.
 pub fn undamped(measuring: &Measuring, damped: Option<Interval>) -> Option<Interval>
-    requires damped { IfSome damped (EndWithin (pos 21_000_000_000_000)) }
+    requires damped { IfSome damped HasValues }
     ensures value { result ≡ option_map (further_by measuring.now.damping) damped }
-    ensures near { IfSome result (EndWithin (pos 22_000_000_000_000)) }
+    ensures near { IfSome result HasUndamped }
 {
     match damped {
         None => None,
@@ -108,27 +109,27 @@ pub fn undamped(measuring: &Measuring, damped: Option<Interval>) -> Option<Inter
 
 // The least number of a receiver's microticks that so many ticks are, rounded down.
 fn values_from(measuring: &Measuring, ticks: i128) -> i128
-    requires ticks { IsWithin (pos 20_000_000_000_000_000_000) ticks }
+    requires ticks { IsWithin greatest_measured ticks }
     ensures value { result ≡ values_from measuring.now ticks }
-    ensures within { IsWithin (pos 21_000_000_000_000) result }
+    ensures within { IsValue result }
 {
     floor(ticks, outer_measure(measuring, ticks))
 }
 
 // The greatest number of them.
 fn values_to(measuring: &Measuring, ticks: i128) -> i128
-    requires ticks { IsWithin (pos 20_000_000_000_000_000_000) ticks }
+    requires ticks { IsWithin greatest_measured ticks }
     ensures value { result ≡ values_to measuring.now ticks }
-    ensures within { IsWithin (pos 21_000_000_000_000) result }
+    ensures within { IsValue result }
 {
     floor(ticks, inner_measure(measuring, ticks))
 }
 
 // The least number of them that gives so many ticks, rounded up.
 fn placed_from(measuring: &Measuring, ticks: i128) -> i128
-    requires ticks { IsWithin (pos 20_000_000_000_000_000_000) ticks }
+    requires ticks { IsWithin greatest_measured ticks }
     ensures value { result ≡ placed_from measuring.now ticks }
-    ensures within { IsWithin (pos 21_000_000_000_000) result }
+    ensures within { IsValue result }
 {
     ceiling(ticks, outer_measure(measuring, ticks))
 }
@@ -137,7 +138,7 @@ fn placed_from(measuring: &Measuring, ticks: i128) -> i128
 fn outer_measure(measuring: &Measuring, ticks: i128) -> i128
     ensures value { result ≡
         (if int_lt ticks (pos 0) then measuring.now.shortest else measuring.now.longest) }
-    ensures within { IsBetween (pos 998_500) (pos 1_001_500) result }
+    ensures within { IsMicrotick result }
 {
     if ticks < 0 {
         measuring.shortest
@@ -150,7 +151,7 @@ fn outer_measure(measuring: &Measuring, ticks: i128) -> i128
 fn inner_measure(measuring: &Measuring, ticks: i128) -> i128
     ensures value { result ≡
         (if int_lt ticks (pos 0) then measuring.now.longest else measuring.now.shortest) }
-    ensures within { IsBetween (pos 998_500) (pos 1_001_500) result }
+    ensures within { IsMicrotick result }
 {
     if ticks < 0 {
         measuring.longest

@@ -1,10 +1,10 @@
 ghost use Rattle.std.specs.Prelude.{◌≡◌, ◌≤◌, ◌<◌, ◌-◌, ◌∷◌, [], ◌++◌, min, if◌then◌else◌, List, ℤ, pos, All, IfSome, length, map};
-ghost use Rattle.fr_base.specs.Within.{IsWithin};
 ghost use Rattle.fr_midpoint.specs.Midpoint.{half_of_sum};
 ghost use Rattle.fr_course.specs.Ends.{interval_end, AreRanked};
 ghost use Rattle.fr_course.specs.Middles.{greatest_left, highs_of, hull, joined, least_left, lows_of, middle, middle_missing, middle_where, middle_with};
-ghost use Rattle.fr_course.specs.Near.{EndWithin};
+ghost use Rattle.fr_course.specs.Near.{HasValues};
 ghost use Rattle.fr_course.specs.Readings.{Interval as Known};
+ghost use Rattle.fr_course.specs.Ranges.{AreValues, IsValue};
 
 use crate::intervals::Interval;
 use fr_midpoint::discarded_of;
@@ -17,7 +17,7 @@ pub(crate) enum End {
     High,
 }
 
-// At most 64 ends of intervals, each within 21,000,000,000,000 of 0: contracts see their list.
+// At most 64 ends of intervals, each a value: contracts see their list.
 #[derive(Drop)]
 struct EndList {
     ends: [i64; 64],
@@ -25,14 +25,14 @@ struct EndList {
 }
 
 impl Model for EndList {
-    ghost use Rattle.std.specs.Prelude.{◌≤◌, List, ℤ, pos, All, take};
-    ghost use Rattle.fr_base.specs.Within.{IsWithin};
+    ghost use Rattle.std.specs.Prelude.{◌≤◌, List, ℤ, take};
+    ghost use Rattle.fr_course.specs.Ranges.{AreValues};
 
     ghost Value = { List ℤ };
 
     ghost view = { λ list. take list.used list.ends };
 
-    ghost invariant = { λ list. (list.used ≤ 64) × All (IsWithin (pos 21_000_000_000_000)) (take list.used list.ends) };
+    ghost invariant = { λ list. (list.used ≤ 64) × AreValues (take list.used list.ends) };
 }
 
 impl EndList {
@@ -49,7 +49,7 @@ impl EndList {
     // Appends an end.
     fn push(&mut self, end: i64)
         requires room { length self.old < 64 }
-        requires within { IsWithin (pos 21_000_000_000_000) end }
+        requires within { IsValue end }
         ensures { self.new ≡ self.old ++ end ∷ [] }
     {
         self.ends[self.used] = end;
@@ -66,7 +66,7 @@ impl EndList {
     // They as a slice.
     fn as_slice(&self) -> &[i64]
         ensures value { result.now ≡ self.now }
-        ensures within { All (IsWithin (pos 21_000_000_000_000)) result.now }
+        ensures within { AreValues result.now }
     {
         &self.ends[..self.used]
     }
@@ -79,9 +79,9 @@ pub fn middle(further: usize, lost: usize, known: &[Interval]) -> Option<Interva
     requires further { further ≤ 64 }
     requires lost { lost ≤ 64 }
     requires few { length known.now ≤ 64 }
-    requires known { All (EndWithin (pos 21_000_000_000_000)) known.now }
+    requires known { All HasValues known.now }
     ensures value { result ≡ middle further lost known.now }
-    ensures near { IfSome result (EndWithin (pos 21_000_000_000_000)) }
+    ensures near { IfSome result HasValues }
 {
     let low_ends = ranked(End::Low, known);
     let high_ends = ranked(End::High, known);
@@ -104,12 +104,12 @@ fn most_missed(lost: usize, count: usize) -> usize
 fn middle_missing(further: usize, missed: usize, lows: &[i64], highs: &[i64]) -> Option<Interval>
     requires further { further ≤ 64 }
     requires missed { missed ≤ 64 }
-    requires lows { All (IsWithin (pos 21_000_000_000_000)) lows.now }
-    requires highs { All (IsWithin (pos 21_000_000_000_000)) highs.now }
+    requires lows { AreValues lows.now }
+    requires highs { AreValues highs.now }
     requires few { length lows.now ≤ 64 }
     ensures value { (known : List Known) → AreRanked (lows_of known) lows.now →
         AreRanked (highs_of known) highs.now → result ≡ middle_missing further missed known }
-    ensures near { IfSome result (EndWithin (pos 21_000_000_000_000)) }
+    ensures near { IfSome result HasValues }
 {
     let mut all = middle_with(0, missed, lows, highs);
     for less in 0..further {
@@ -121,7 +121,7 @@ fn middle_missing(further: usize, missed: usize, lows: &[i64], highs: &[i64]) ->
 // The ends of some intervals in ascending order.
 fn ranked(end: End, known: &[Interval]) -> EndList
     requires few { length known.now ≤ 64 }
-    requires known { All (EndWithin (pos 21_000_000_000_000)) known.now }
+    requires known { All HasValues known.now }
     ensures { AreRanked (map (interval_end end) known.now) result }
 {
     let mut list = EndList::new();
@@ -134,10 +134,10 @@ fn ranked(end: End, known: &[Interval]) -> EndList
 
 // What lies in one interval, in the other, or between both.
 fn hull(one: Option<Interval>, other: Option<Interval>) -> Option<Interval>
-    requires one { IfSome one (EndWithin (pos 21_000_000_000_000)) }
-    requires other { IfSome other (EndWithin (pos 21_000_000_000_000)) }
+    requires one { IfSome one HasValues }
+    requires other { IfSome other HasValues }
     ensures value { result ≡ hull one other }
-    ensures near { IfSome result (EndWithin (pos 21_000_000_000_000)) }
+    ensures near { IfSome result HasValues }
 {
     match (one, other) {
         (Some(one), Some(other)) => Some(joined(&one, &other)),
@@ -146,10 +146,10 @@ fn hull(one: Option<Interval>, other: Option<Interval>) -> Option<Interval>
 }
 
 fn joined(one: &Interval, other: &Interval) -> Interval
-    requires one { EndWithin (pos 21_000_000_000_000) one.now }
-    requires other { EndWithin (pos 21_000_000_000_000) other.now }
+    requires one { HasValues one.now }
+    requires other { HasValues other.now }
     ensures value { result ≡ joined one.now other.now }
-    ensures near { EndWithin (pos 21_000_000_000_000) result }
+    ensures near { HasValues result }
 {
     Interval {
         low: one.low.min(other.low),
@@ -161,12 +161,12 @@ fn joined(one: &Interval, other: &Interval) -> Interval
 fn middle_with(further: usize, missed: usize, lows: &[i64], highs: &[i64]) -> Option<Interval>
     requires further { further ≤ 64 }
     requires missed { missed ≤ 64 }
-    requires lows { All (IsWithin (pos 21_000_000_000_000)) lows.now }
-    requires highs { All (IsWithin (pos 21_000_000_000_000)) highs.now }
+    requires lows { AreValues lows.now }
+    requires highs { AreValues highs.now }
     requires few { length lows.now ≤ 64 }
     ensures value { (known : List Known) → AreRanked (lows_of known) lows.now →
         AreRanked (highs_of known) highs.now → result ≡ middle_with further missed known }
-    ensures near { IfSome result (EndWithin (pos 21_000_000_000_000)) }
+    ensures near { IfSome result HasValues }
 {
     let ends = discarded_of(lows.len().saturating_sub(missed) + further);
     middle_where(further, missed, ends, lows, highs)
@@ -182,11 +182,11 @@ fn middle_where(
 ) -> Option<Interval>
     requires missed { missed ≤ 64 }
     requires ends { ends ≤ 2 }
-    requires lows { All (IsWithin (pos 21_000_000_000_000)) lows.now }
-    requires highs { All (IsWithin (pos 21_000_000_000_000)) highs.now }
+    requires lows { AreValues lows.now }
+    requires highs { AreValues highs.now }
     ensures value { (known : List Known) → AreRanked (lows_of known) lows.now →
         AreRanked (highs_of known) highs.now → result ≡ middle_where further missed ends known }
-    ensures near { IfSome result (EndWithin (pos 21_000_000_000_000)) }
+    ensures near { IfSome result HasValues }
 {
     if ends < further {
         return None;
@@ -205,28 +205,28 @@ fn middle_where(
 
 // Half of the sum of two values, truncated toward zero.
 fn half_sum(low: i64, high: i64) -> i128
-    requires low { IsWithin (pos 21_000_000_000_000) low }
-    requires high { IsWithin (pos 21_000_000_000_000) high }
+    requires low { IsValue low }
+    requires high { IsValue high }
     ensures value { result ≡ half_of_sum low high }
-    ensures within { IsWithin (pos 21_000_000_000_000) result }
+    ensures within { IsValue result }
 {
     i128::from((low + high) / 2)
 }
 
 // The least of some ends that remains where so many are discarded at each end, in ascending order.
 fn least_left(ranked: &[i64], ends: usize) -> i64
-    requires { All (IsWithin (pos 21_000_000_000_000)) ranked.now }
+    requires { AreValues ranked.now }
     ensures value { (values : List ℤ) → AreRanked values ranked.now → result ≡ least_left ends values }
-    ensures within { IsWithin (pos 21_000_000_000_000) result }
+    ensures within { IsValue result }
 {
     if ends < ranked.len() { ranked[ends] } else { 0 }
 }
 
 // The greatest one.
 fn greatest_left(ranked: &[i64], ends: usize) -> i64
-    requires { All (IsWithin (pos 21_000_000_000_000)) ranked.now }
+    requires { AreValues ranked.now }
     ensures value { (values : List ℤ) → AreRanked values ranked.now → result ≡ greatest_left ends values }
-    ensures within { IsWithin (pos 21_000_000_000_000) result }
+    ensures within { IsValue result }
 {
     if ends < ranked.len() {
         ranked[ranked.len() - 1 - ends]
@@ -236,9 +236,9 @@ fn greatest_left(ranked: &[i64], ends: usize) -> i64
 }
 
 fn interval_end(interval: &Interval, end: End) -> i64
-    requires { EndWithin (pos 21_000_000_000_000) interval.now }
+    requires { HasValues interval.now }
     ensures value { result ≡ interval_end end interval.now }
-    ensures within { IsWithin (pos 21_000_000_000_000) result }
+    ensures within { IsValue result }
 {
     match end {
         End::Low => interval.low as i64,

@@ -2,6 +2,7 @@ ghost use Rattle.std.specs.Prelude.{◌≡◌, ◌≤ℤ◌, pos};
 ghost use Rattle.fr_base.specs.Within.{IsWithin};
 ghost use Rattle.fr_course.specs.Readings.{ceiling_of};
 ghost use Rattle.fr_time.specs.Position.{floor_of};
+ghost use Rattle.fr_course.specs.Ranges.{greatest_dividend};
 
 // What 64 bits hold, nearly.
 const SHORT: i128 = 9_000_000_000_000_000_000;
@@ -28,7 +29,7 @@ fn short_floor(number: i64, divisor: i64) -> i64
 // A quotient rounded up.
 pub(crate) fn ceiling(number: i128, divisor: i128) -> i128
     requires divisor { pos 1 ≤ℤ divisor }
-    requires number { IsWithin (pos 10_000_000_000_000_000_000_000_000_000_000) number }
+    requires number { IsWithin greatest_dividend number }
     ensures { result ≡ ceiling_of number divisor }
 {
     -floor(-number, divisor)

@@ -1,6 +1,7 @@
 ghost use Rattle.std.specs.Prelude.{◌≡◌, ◌≤◌, ◌≤ℤ◌, pos, neg_ℤ, int_lt, if◌then◌else◌};
-ghost use Rattle.fr_base.specs.Within.{IsBetween, IsWithin};
+ghost use Rattle.fr_base.specs.Within.{IsWithin};
 ghost use Rattle.fr_course.specs.Readings.{fast_million, least_reading, least_ticks, most_reading, most_ticks, slow_million};
+ghost use Rattle.fr_course.specs.Ranges.{greatest_cycle, greatest_cycle_reading, greatest_reading, greatest_ticks, IsDriftedMillion};
 
 use crate::quotients::{ceiling, floor};
 
@@ -10,9 +11,9 @@ const NOMINAL: i128 = 1_000_000;
 // The least reading that so many ticks can be.
 pub(crate) fn least_reading(drift: u64, ticks: i128) -> i128
     requires drift { drift ≤ 1000 }
-    requires ticks { IsWithin (pos 1_000_000_000_000) ticks }
+    requires ticks { IsWithin greatest_cycle ticks }
     ensures value { result ≡ least_reading drift ticks }
-    ensures within { IsWithin (pos 1_001_000_000_000) result }
+    ensures within { IsWithin greatest_cycle_reading result }
     ensures some { pos 2 ≤ℤ ticks → pos 1 ≤ℤ result }
     ensures less { ticks ≤ℤ neg_ℤ (pos 1) → result ≤ℤ neg_ℤ (pos 1) }
 {
@@ -24,9 +25,9 @@ pub(crate) fn least_reading(drift: u64, ticks: i128) -> i128
 // The greatest reading that so many ticks can be.
 pub(crate) fn most_reading(drift: u64, ticks: i128) -> i128
     requires drift { drift ≤ 1000 }
-    requires ticks { IsWithin (pos 1_000_000_000_000) ticks }
+    requires ticks { IsWithin greatest_cycle ticks }
     ensures value { result ≡ most_reading drift ticks }
-    ensures within { IsWithin (pos 1_001_000_000_000) result }
+    ensures within { IsWithin greatest_cycle_reading result }
     ensures some { pos 1 ≤ℤ ticks → pos 1 ≤ℤ result }
 {
     -least_reading(drift, -ticks)
@@ -35,9 +36,9 @@ pub(crate) fn most_reading(drift: u64, ticks: i128) -> i128
 // The least number of ticks that a reading can be.
 pub(crate) fn least_ticks(drift: u64, reading: i128) -> i128
     requires drift { drift ≤ 1000 }
-    requires reading { IsWithin (pos 6_100_000_000_000_000_000) reading }
+    requires reading { IsWithin greatest_reading reading }
     ensures value { result ≡ least_ticks drift reading }
-    ensures within { IsWithin (pos 6_200_000_000_000_000_000) result }
+    ensures within { IsWithin greatest_ticks result }
 {
     let million = inner_million(drift, reading);
     let parts = reading * NOMINAL;
@@ -47,9 +48,9 @@ pub(crate) fn least_ticks(drift: u64, reading: i128) -> i128
 // The greatest number of ticks that a reading can be.
 pub(crate) fn most_ticks(drift: u64, reading: i128) -> i128
     requires drift { drift ≤ 1000 }
-    requires reading { IsWithin (pos 6_100_000_000_000_000_000) reading }
+    requires reading { IsWithin greatest_reading reading }
     ensures value { result ≡ most_ticks drift reading }
-    ensures within { IsWithin (pos 6_200_000_000_000_000_000) result }
+    ensures within { IsWithin greatest_ticks result }
 {
     -least_ticks(drift, -reading)
 }
@@ -58,7 +59,7 @@ pub(crate) fn most_ticks(drift: u64, reading: i128) -> i128
 fn slow_million(drift: u64) -> i128
     requires { drift ≤ 1000 }
     ensures value { result ≡ slow_million drift }
-    ensures within { IsBetween (pos 999_000) (pos 1_001_000) result }
+    ensures within { IsDriftedMillion result }
 {
     NOMINAL - drift as i128
 }
@@ -67,7 +68,7 @@ fn slow_million(drift: u64) -> i128
 fn fast_million(drift: u64) -> i128
     requires { drift ≤ 1000 }
     ensures value { result ≡ fast_million drift }
-    ensures within { IsBetween (pos 999_000) (pos 1_001_000) result }
+    ensures within { IsDriftedMillion result }
 {
     NOMINAL + drift as i128
 }
@@ -77,7 +78,7 @@ fn outer_million(drift: u64, ticks: i128) -> i128
     requires { drift ≤ 1000 }
     ensures value { result ≡
         (if int_lt ticks (pos 0) then fast_million drift else slow_million drift) }
-    ensures within { IsBetween (pos 999_000) (pos 1_001_000) result }
+    ensures within { IsDriftedMillion result }
 {
     if ticks < 0 {
         fast_million(drift)
@@ -91,7 +92,7 @@ fn inner_million(drift: u64, reading: i128) -> i128
     requires { drift ≤ 1000 }
     ensures value { result ≡
         (if int_lt reading (pos 0) then slow_million drift else fast_million drift) }
-    ensures within { IsBetween (pos 999_000) (pos 1_001_000) result }
+    ensures within { IsDriftedMillion result }
 {
     if reading < 0 {
         slow_million(drift)

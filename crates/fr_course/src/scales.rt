@@ -3,12 +3,16 @@ ghost use Rattle.fr_base.specs.Within.{IsBetween};
 ghost use Rattle.fr_bound.specs.Bounds.{cycle_change, longest_micro, shortest_micro};
 ghost use Rattle.fr_bound.specs.Checks.{least_cycle};
 ghost use Rattle.fr_course.specs.Readings.{most_cycle, reading_scale};
+ghost use Rattle.fr_course.specs.Ranges.{greatest_cycle, IsMicrotick};
 
 use crate::readings::{least_reading, most_reading};
 use fr_bound::{cycle_change, longest_microtick, shortest_microtick};
 use fr_cluster::{ParamName, Params};
 use fr_time::grid_of;
 use std::marker::Model;
+
+// The ticks of a nominal microtick.
+const NOMINAL: u64 = 1_000_000;
 
 /// The numbers of a cluster as readings of an observer's clock.
 #[derive(Clone, Copy, Debug, PartialEq, Eq)]
@@ -76,7 +80,7 @@ fn fewest_micros(params: &Params) -> u64
 // The ticks of that cycle.
 fn shortest_cycle(params: &Params) -> i128
     ensures value { result ≡ pos (least_cycle params.now) *ℤ pos (shortest_micro params.now) }
-    ensures within { IsBetween (pos 0) (pos 1_000_000_000_000) result }
+    ensures within { IsBetween (pos 0) greatest_cycle result }
 {
     (fewest_micros(params) * shortest_microtick(params)) as i128
 }
@@ -84,7 +88,7 @@ fn shortest_cycle(params: &Params) -> i128
 // The ticks of the longest cycle before its offset correction.
 fn longest_cycle(params: &Params) -> i128
     ensures value { result ≡ most_cycle params.now *ℤ pos (longest_micro params.now) }
-    ensures within { IsBetween (pos 0) (pos 1_000_000_000_000) result }
+    ensures within { IsBetween (pos 0) greatest_cycle result }
 {
     let micros = params.natural(ParamName::pMicroPerCycle)
         + params.natural(ParamName::pRateCorrectionOut);
@@ -94,7 +98,7 @@ fn longest_cycle(params: &Params) -> i128
 // By how many ticks a cycle changes from one to the next.
 fn greatest_change(params: &Params) -> i128
     ensures value { result ≡ pos (cycle_change params.now) }
-    ensures within { IsBetween (pos 0) (pos 1_000_000_000_000) result }
+    ensures within { IsBetween (pos 0) greatest_cycle result }
 {
     cycle_change(params) as i128
 }
@@ -102,15 +106,15 @@ fn greatest_change(params: &Params) -> i128
 // The ticks of the shortest microtick.
 pub(crate) fn shortest_micro(params: &Params) -> i128
     ensures value { result ≡ pos (shortest_micro params.now) }
-    ensures within { IsBetween (pos 998_500) (pos 1_001_500) result }
+    ensures within { IsMicrotick result }
 {
-    (1_000_000 - params.natural(ParamName::xRateBound)) as i128
+    (NOMINAL - params.natural(ParamName::xRateBound)) as i128
 }
 
 // The ticks of the longest microtick.
 pub(crate) fn longest_micro(params: &Params) -> i128
     ensures value { result ≡ pos (longest_micro params.now) }
-    ensures within { IsBetween (pos 998_500) (pos 1_001_500) result }
+    ensures within { IsMicrotick result }
 {
-    (1_000_000 + params.natural(ParamName::xRateBound)) as i128
+    (NOMINAL + params.natural(ParamName::xRateBound)) as i128
 }

@@ -1,6 +1,7 @@
 ghost use Rattle.std.specs.Prelude.{◌≡◌, pos, ◌+ℤ◌, ◌-ℤ◌, ◌*ℤ◌};
 ghost use Rattle.fr_base.specs.Within.{IsBetween, IsWithin};
 ghost use Rattle.fr_course.specs.Course.{mean_from, mean_to, share_from, share_to};
+ghost use Rattle.fr_course.specs.Ranges.{greatest_length, greatest_point};
 
 use crate::quotients::{ceiling, floor};
 use crate::scales::Scale;
@@ -8,9 +9,9 @@ use crate::scales::Scale;
 // A share of a length, so many macroticks of a cycle, at least.
 pub(crate) fn share_from(scale: &Scale, macroticks: i128, length: i128) -> i128
     requires macroticks { IsBetween (pos 0) scale.now.macros macroticks }
-    requires length { IsWithin (pos 930_000_000_000_000_000) length }
+    requires length { IsWithin greatest_length length }
     ensures value { result ≡ share_from scale.now macroticks length }
-    ensures within { IsWithin (pos 930_000_000_000_000_000) result }
+    ensures within { IsWithin greatest_length result }
 {
     let macros = scale.macros;
     let whole = macroticks * length;
@@ -20,9 +21,9 @@ pub(crate) fn share_from(scale: &Scale, macroticks: i128, length: i128) -> i128
 // The same at most.
 pub(crate) fn share_to(scale: &Scale, macroticks: i128, length: i128) -> i128
     requires macroticks { IsBetween (pos 0) scale.now.macros macroticks }
-    requires length { IsWithin (pos 930_000_000_000_000_000) length }
+    requires length { IsWithin greatest_length length }
     ensures value { result ≡ share_to scale.now macroticks length }
-    ensures within { IsWithin (pos 930_000_000_000_000_000) result }
+    ensures within { IsWithin greatest_length result }
 {
     let macros = scale.macros;
     let whole = macroticks * length;
@@ -32,10 +33,10 @@ pub(crate) fn share_to(scale: &Scale, macroticks: i128, length: i128) -> i128
 // A point between two others that lie a cycle apart, so many macroticks before the second, at least.
 pub(crate) fn mean_from(scale: &Scale, before: i128, first: i128, second: i128) -> i128
     requires before { IsBetween (pos 0) scale.now.macros before }
-    requires first { IsWithin (pos 1_900_000_000_000_000_000) first }
-    requires second { IsWithin (pos 1_900_000_000_000_000_000) second }
+    requires first { IsWithin greatest_point first }
+    requires second { IsWithin greatest_point second }
     ensures value { result ≡ mean_from scale.now before first second }
-    ensures within { IsWithin (pos 1_900_000_000_000_000_000) result }
+    ensures within { IsWithin greatest_point result }
 {
     let macros = scale.macros;
     floor(weighed(scale, before, first, second), macros)
@@ -44,10 +45,10 @@ pub(crate) fn mean_from(scale: &Scale, before: i128, first: i128, second: i128) 
 // The same at most.
 pub(crate) fn mean_to(scale: &Scale, before: i128, first: i128, second: i128) -> i128
     requires before { IsBetween (pos 0) scale.now.macros before }
-    requires first { IsWithin (pos 1_900_000_000_000_000_000) first }
-    requires second { IsWithin (pos 1_900_000_000_000_000_000) second }
+    requires first { IsWithin greatest_point first }
+    requires second { IsWithin greatest_point second }
     ensures value { result ≡ mean_to scale.now before first second }
-    ensures within { IsWithin (pos 1_900_000_000_000_000_000) result }
+    ensures within { IsWithin greatest_point result }
 {
     let macros = scale.macros;
     ceiling(weighed(scale, before, first, second), macros)
@@ -56,10 +57,10 @@ pub(crate) fn mean_to(scale: &Scale, before: i128, first: i128, second: i128) ->
 // The point, times the macroticks of a cycle.
 fn weighed(scale: &Scale, before: i128, first: i128, second: i128) -> i128
     requires before { IsBetween (pos 0) scale.now.macros before }
-    requires first { IsWithin (pos 1_900_000_000_000_000_000) first }
-    requires second { IsWithin (pos 1_900_000_000_000_000_000) second }
+    requires first { IsWithin greatest_point first }
+    requires second { IsWithin greatest_point second }
     ensures value { result ≡ (before *ℤ first) +ℤ ((scale.now.macros -ℤ before) *ℤ second) }
-    ensures within { IsWithin (scale.now.macros *ℤ pos 1_900_000_000_000_000_000) result }
+    ensures within { IsWithin (scale.now.macros *ℤ greatest_point) result }
 {
     let macros = scale.macros;
     let one = before * first;

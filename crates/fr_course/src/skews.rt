@@ -2,14 +2,18 @@ ghost use Rattle.std.specs.Prelude.{◌≡◌, pos, All};
 ghost use Rattle.fr_base.specs.Within.{IsBetween, IsWithin};
 ghost use Rattle.fr_course.specs.Corners.{corner_place};
 ghost use Rattle.fr_course.specs.Extremes.{join};
-ghost use Rattle.fr_course.specs.Near.{IsNearCourse, EndWithin};
+ghost use Rattle.fr_course.specs.Near.{IsCorner, IsInTicks, IsNearCourse};
 ghost use Rattle.fr_course.specs.Spread.{least_at, least_distance, least_even_skew, least_odd_skew, lengths_apart, most_at, most_distance, most_even_skew, most_odd_skew, starts_apart};
+ghost use Rattle.fr_course.specs.Ranges.{greatest_corners_apart};
 
 use crate::corners::{even_start, even_turn, odd_start, odd_turn};
 use crate::courses::Course;
 use crate::intervals::{Interval, meet};
 use crate::readings::{least_ticks, most_ticks};
 use crate::scales::Scale;
+
+// The reading that no corner of a course passes on either side of 0: `greatest_corner`.
+const CORNER: i128 = 3_000_000_000_000_000_000;
 
 // A corner of a course, or the length of its cycles.
 #[derive(Clone, Copy)]
@@ -69,7 +73,7 @@ pub fn most_odd_skew(scale: &Scale, courses: &[Course], next: &[Course]) -> i64
 pub fn starts_apart(scale: &Scale, courses: &[Course]) -> Interval
     requires courses { All (IsNearCourse scale.now) courses.now }
     ensures value { result ≡ starts_apart scale.now courses.now }
-    ensures near { EndWithin (pos 6_200_000_000_000_000_000) result }
+    ensures near { IsInTicks result }
 {
     Interval {
         low: least_ticks(scale.drift, least_at(scale, Corner::EvenStart, courses)),
@@ -81,7 +85,7 @@ pub fn starts_apart(scale: &Scale, courses: &[Course]) -> Interval
 pub fn lengths_apart(scale: &Scale, courses: &[Course]) -> Interval
     requires courses { All (IsNearCourse scale.now) courses.now }
     ensures value { result ≡ lengths_apart scale.now courses.now }
-    ensures near { EndWithin (pos 6_200_000_000_000_000_000) result }
+    ensures near { IsInTicks result }
 {
     Interval {
         low: least_ticks(scale.drift, least_at(scale, Corner::Length, courses)),
@@ -93,12 +97,12 @@ pub fn lengths_apart(scale: &Scale, courses: &[Course]) -> Interval
 fn least_at(scale: &Scale, corner: Corner, courses: &[Course]) -> i128
     requires courses { All (IsNearCourse scale.now) courses.now }
     ensures value { result ≡ least_at scale.now (corner_place corner) courses.now }
-    ensures within { IsBetween (pos 0) (pos 6_000_000_000_000_000_000) result }
+    ensures within { IsBetween (pos 0) greatest_corners_apart result }
 {
     let mut least = 0;
     let mut behind = Interval {
-        low: -3_000_000_000_000_000_000,
-        high: 3_000_000_000_000_000_000,
+        low: -CORNER,
+        high: CORNER,
     };
     for place in (0..courses.len()).rev() {
         let point = corner_place(scale, corner, &courses[place]);
@@ -112,12 +116,12 @@ fn least_at(scale: &Scale, corner: Corner, courses: &[Course]) -> i128
 fn most_at(scale: &Scale, corner: Corner, courses: &[Course]) -> i128
     requires courses { All (IsNearCourse scale.now) courses.now }
     ensures value { result ≡ most_at scale.now (corner_place corner) courses.now }
-    ensures within { IsBetween (pos 0) (pos 6_000_000_000_000_000_000) result }
+    ensures within { IsBetween (pos 0) greatest_corners_apart result }
 {
     let mut most = 0;
     let mut behind = Interval {
-        low: 3_000_000_000_000_000_000,
-        high: -3_000_000_000_000_000_000,
+        low: CORNER,
+        high: -CORNER,
     };
     for place in (0..courses.len()).rev() {
         let point = corner_place(scale, corner, &courses[place]);
@@ -131,7 +135,7 @@ fn most_at(scale: &Scale, corner: Corner, courses: &[Course]) -> i128
 fn corner_place(scale: &Scale, corner: Corner, course: &Course) -> Interval
     requires course { IsNearCourse scale.now course.now }
     ensures value { result ≡ corner_place corner scale.now course.now }
-    ensures near { EndWithin (pos 3_000_000_000_000_000_000) result }
+    ensures near { IsCorner result }
 {
     match corner {
         Corner::EvenStart => even_start(scale, course),
@@ -144,30 +148,30 @@ fn corner_place(scale: &Scale, corner: Corner, course: &Course) -> Interval
 
 // How far apart two points lie at least that lie in two intervals.
 fn least_distance(one: &Interval, other: &Interval) -> i128
-    requires one { EndWithin (pos 3_000_000_000_000_000_000) one.now }
-    requires other { EndWithin (pos 3_000_000_000_000_000_000) other.now }
+    requires one { IsCorner one.now }
+    requires other { IsCorner other.now }
     ensures value { result ≡ least_distance one.now other.now }
-    ensures within { IsWithin (pos 6_000_000_000_000_000_000) result }
+    ensures within { IsWithin greatest_corners_apart result }
 {
     (one.low - other.high).max(other.low - one.high)
 }
 
 // How far apart they lie at most.
 fn most_distance(one: &Interval, other: &Interval) -> i128
-    requires one { EndWithin (pos 3_000_000_000_000_000_000) one.now }
-    requires other { EndWithin (pos 3_000_000_000_000_000_000) other.now }
+    requires one { IsCorner one.now }
+    requires other { IsCorner other.now }
     ensures value { result ≡ most_distance one.now other.now }
-    ensures within { IsWithin (pos 6_000_000_000_000_000_000) result }
+    ensures within { IsWithin greatest_corners_apart result }
 {
     (one.high - other.low).max(other.high - one.low)
 }
 
 // From where the one begins that begins first to where the one ends that ends last.
 fn join(one: &Interval, other: &Interval) -> Interval
-    requires one { EndWithin (pos 3_000_000_000_000_000_000) one.now }
-    requires other { EndWithin (pos 3_000_000_000_000_000_000) other.now }
+    requires one { IsCorner one.now }
+    requires other { IsCorner other.now }
     ensures value { result ≡ join one.now other.now }
-    ensures near { EndWithin (pos 3_000_000_000_000_000_000) result }
+    ensures near { IsCorner result }
 {
     Interval {
         low: one.low.min(other.low),

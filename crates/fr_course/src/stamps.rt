@@ -3,6 +3,7 @@ ghost use Rattle.fr_base.specs.Within.{IsBetween, IsWithin};
 ghost use Rattle.fr_course.specs.Course.{breadth_of, span_of, stamped};
 ghost use Rattle.fr_course.specs.Near.{AreDelays, IsBox, IsObserver, IsSpan};
 ghost use Rattle.fr_course.specs.Readings.{least_reading, most_reading};
+ghost use Rattle.fr_course.specs.Ranges.{greatest_breadth, greatest_off, greatest_stamp, IsSeenPoint, IsStamp};
 
 use crate::intervals::Interval;
 use crate::readings::{least_reading, most_reading};
@@ -31,7 +32,7 @@ pub struct Delays {
 pub fn stamped(observer: &Observer, delays: &Delays, stamp: u64) -> Interval
     requires observer { IsObserver observer.now }
     requires delays { AreDelays delays.now }
-    requires stamp { observer.now.unit * stamp ≤ 900_000_000_000_000_000 }
+    requires stamp { IsStamp observer.now.unit stamp }
     ensures value { result ≡ stamped observer.now delays.now (pos stamp) }
     ensures near { IsBox result }
 {
@@ -46,8 +47,8 @@ pub fn stamped(observer: &Observer, delays: &Delays, stamp: u64) -> Interval
 pub fn span_of(observer: &Observer, delays: &Delays, stamp: u64, later: u64) -> Interval
     requires observer { IsObserver observer.now }
     requires delays { AreDelays delays.now }
-    requires stamp { observer.now.unit * stamp ≤ 900_000_000_000_000_000 }
-    requires later { observer.now.unit * later ≤ 900_000_000_000_000_000 }
+    requires stamp { IsStamp observer.now.unit stamp }
+    requires later { IsStamp observer.now.unit later }
     ensures value { result ≡ span_of observer.now delays.now (pos stamp) (pos later) }
     ensures near { IsSpan result }
 {
@@ -61,9 +62,9 @@ pub fn span_of(observer: &Observer, delays: &Delays, stamp: u64, later: u64) -> 
 
 // The stamp in ticks.
 fn ticks_at(observer: &Observer, stamp: u64) -> i128
-    requires { observer.now.unit * stamp ≤ 900_000_000_000_000_000 }
+    requires { IsStamp observer.now.unit stamp }
     ensures value { result ≡ pos observer.now.unit *ℤ pos stamp }
-    ensures within { IsBetween (pos 0) (pos 900_000_000_000_000_000) result }
+    ensures within { IsBetween (pos 0) (pos greatest_stamp) result }
 {
     (observer.unit * stamp) as i128
 }
@@ -72,7 +73,7 @@ fn ticks_at(observer: &Observer, stamp: u64) -> i128
 fn breadth(observer: &Observer) -> i128
     requires { IsObserver observer.now }
     ensures value { result ≡ breadth_of observer.now }
-    ensures within { IsBetween (pos 0) (pos 2_000_000_000) result }
+    ensures within { IsBetween (pos 0) greatest_breadth result }
 {
     (observer.unit + observer.error) as i128
 }
@@ -80,11 +81,11 @@ fn breadth(observer: &Observer) -> i128
 fn earliest(observer: &Observer, delays: &Delays, stamp: u64) -> i128
     requires observer { IsObserver observer.now }
     requires delays { AreDelays delays.now }
-    requires stamp { observer.now.unit * stamp ≤ 900_000_000_000_000_000 }
+    requires stamp { IsStamp observer.now.unit stamp }
     ensures value { result ≡
         (pos observer.now.unit *ℤ pos stamp)
         -ℤ most_reading observer.now.drift (pos delays.now.most) }
-    ensures within { IsBetween (neg_ℤ (pos 2_000_000_000_000)) (pos 910_000_000_000_000_000) result }
+    ensures within { IsSeenPoint result }
 {
     ticks_at(observer, stamp) - most_reading(observer.drift, delays.most as i128)
 }
@@ -92,11 +93,11 @@ fn earliest(observer: &Observer, delays: &Delays, stamp: u64) -> i128
 fn latest(observer: &Observer, delays: &Delays, stamp: u64) -> i128
     requires observer { IsObserver observer.now }
     requires delays { AreDelays delays.now }
-    requires stamp { observer.now.unit * stamp ≤ 900_000_000_000_000_000 }
+    requires stamp { IsStamp observer.now.unit stamp }
     ensures value { result ≡
         ((pos observer.now.unit *ℤ pos stamp) +ℤ breadth_of observer.now)
         -ℤ least_reading observer.now.drift (pos delays.now.least) }
-    ensures within { IsBetween (neg_ℤ (pos 2_000_000_000_000)) (pos 910_000_000_000_000_000) result }
+    ensures within { IsSeenPoint result }
 {
     ticks_at(observer, stamp) + breadth(observer)
         - least_reading(observer.drift, delays.least as i128)
@@ -104,10 +105,10 @@ fn latest(observer: &Observer, delays: &Delays, stamp: u64) -> i128
 
 // By how much the units between two stamps lie apart.
 fn units_apart(observer: &Observer, stamp: u64, later: u64) -> i128
-    requires stamp { observer.now.unit * stamp ≤ 900_000_000_000_000_000 }
-    requires later { observer.now.unit * later ≤ 900_000_000_000_000_000 }
+    requires stamp { IsStamp observer.now.unit stamp }
+    requires later { IsStamp observer.now.unit later }
     ensures value { result ≡ pos observer.now.unit *ℤ (pos later -ℤ pos stamp) }
-    ensures within { IsWithin (pos 900_000_000_000_000_000) result }
+    ensures within { IsWithin (pos greatest_stamp) result }
 {
     ticks_at(observer, later) - ticks_at(observer, stamp)
 }
@@ -118,7 +119,7 @@ fn off_by(observer: &Observer, delays: &Delays) -> i128
     requires delays { AreDelays delays.now }
     ensures value { result ≡
         breadth_of observer.now +ℤ most_reading observer.now.drift (pos delays.now.jitter) }
-    ensures within { IsWithin (pos 2_000_000_000_000) result }
+    ensures within { IsWithin greatest_off result }
 {
     breadth(observer) + most_reading(observer.drift, delays.jitter as i128)
 }

@@ -1,6 +1,7 @@
 ghost use Rattle.std.specs.Prelude.{◌≡◌, pos};
 ghost use Rattle.fr_course.specs.Computed.{deviation_seen, length_ticks, rate_value_seen, ticks_in};
-ghost use Rattle.fr_course.specs.Near.{EndWithin, IsNearCourse};
+ghost use Rattle.fr_course.specs.Near.{EndWithin, HasValues, IsInTicks, IsNearCourse};
+ghost use Rattle.fr_course.specs.Ranges.{greatest_reading};
 
 use crate::corners::odd_macrotick;
 use crate::courses::{Course, between};
@@ -13,7 +14,7 @@ use crate::scales::Scale;
 pub fn length_ticks(scale: &Scale, course: &Course) -> Interval
     requires course { IsNearCourse scale.now course.now }
     ensures value { result ≡ length_ticks scale.now course.now }
-    ensures near { EndWithin (pos 6_200_000_000_000_000_000) result }
+    ensures near { IsInTicks result }
 {
     ticks_in(scale, &course.length)
 }
@@ -28,7 +29,7 @@ pub fn deviation_seen(
     requires receiver { IsNearCourse scale.now receiver.now }
     requires sender { IsNearCourse scale.now sender.now }
     ensures value { result ≡ deviation_seen scale.now measuring.now receiver.now sender.now }
-    ensures near { EndWithin (pos 21_000_000_000_000) result }
+    ensures near { HasValues result }
 {
     let at = odd_macrotick(scale, receiver, sender.action);
     let late = ticks_in(scale, &between(&at, &sender.odd));
@@ -46,7 +47,7 @@ pub fn rate_value_seen(
     requires receiver { IsNearCourse scale.now receiver.now }
     requires sender { IsNearCourse scale.now sender.now }
     ensures value { result ≡ rate_value_seen scale.now measuring.now receiver.now sender.now }
-    ensures near { EndWithin (pos 21_000_000_000_000) result }
+    ensures near { HasValues result }
 {
     let longer = ticks_in(scale, &between(&receiver.length, &sender.apart));
     placed_in(measuring, measuring.rate_error, &longer)
@@ -54,9 +55,9 @@ pub fn rate_value_seen(
 
 // Readings as ticks.
 pub(crate) fn ticks_in(scale: &Scale, readings: &Interval) -> Interval
-    requires readings { EndWithin (pos 6_100_000_000_000_000_000) readings.now }
+    requires readings { EndWithin greatest_reading readings.now }
     ensures value { result ≡ ticks_in scale.now readings.now }
-    ensures near { EndWithin (pos 6_200_000_000_000_000_000) result }
+    ensures near { IsInTicks result }
 {
     Interval {
         low: least_ticks(scale.drift, readings.low),

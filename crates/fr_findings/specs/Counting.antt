@@ -40,6 +40,10 @@ counted counts said =
 abbrev pub no_cycles_told : Counts
 no_cycles_told = record { within = 0; over = 0; neither = 0 }
 
+-- so many cycles are counted at most where one more is
+abbrev pub most_counted : ℕ
+most_counted = 1_000_000
+
 -- no count passes a number
 pub record AreFewCycles (most : ℕ) (counts : Counts) : Type 0 where
   pub within : counts.within ≤ most

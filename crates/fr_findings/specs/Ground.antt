@@ -1,6 +1,7 @@
 -- What functions pass to each other: what stays the same over a log, and a double cycle.
 use Rattle.std.specs.Prelude.{ℕ, ◌+◌, ◌<◌, ◌≤◌, Bool, All, List, [], ◌∷◌, ◌++◌, length, Option}
 use Rattle.std.specs.Option.{option_or}
+use Rattle.fr_bound.specs.DoubleNumbers.{too_many_doubles}
 use Rattle.fr_log.specs.View.{LogView}
 use Rattle.fr_observe.specs.Faults.{first_of_faults}
 use Rattle.fr_judging.specs.Obstacles.{farther}
@@ -74,7 +75,7 @@ pub record IsAround (g : Ground) (a : Around) : Type 0 where
 
 -- and senders are those of a cluster, with the limits of their skew
 pub record IsDouble (g : Ground) (d : Double) : Type 0 where
-  pub number : d.number < 1_000_000
+  pub number : d.number < too_many_doubles
   pub here : AreLogStamps g.log.now d.here.now
   pub offending : AreOffending g.log.now (offending_given d.offending)
   pub few : length d.senders.now ≤ 64

@@ -1,6 +1,5 @@
 ghost use Rattle.std.specs.Prelude.{◌≡◌, ◌∷◌, []};
-ghost use Rattle.fr_findings.specs.Counting.{counted};
-ghost use Rattle.fr_findings.specs.Counting.{AreFewCycles};
+ghost use Rattle.fr_findings.specs.Counting.{AreFewCycles, counted, most_counted};
 
 use fr_observe::Says;
 
@@ -26,7 +25,7 @@ impl Counts {
 
     // One more.
     pub(crate) fn add(&mut self, says: Says)
-        requires { AreFewCycles 1_000_000 self.old }
+        requires { AreFewCycles most_counted self.old }
         ensures { self.new ≡ counted self.old (says ∷ []) }
     {
         match says {

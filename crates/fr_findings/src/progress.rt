@@ -2,6 +2,7 @@ ghost use Rattle.std.specs.Prelude.{◌≡◌, ◌≤◌, ◌<◌, ◌∷◌, []
 ghost use Rattle.fr_findings.specs.Ground.{CountsFew, reach_passed, with_both};
 ghost use Rattle.fr_findings.specs.Counting.{AreFewCycles, counted};
 ghost use Rattle.fr_findings.specs.Verdict.{further_within, judged_by, no_progress, none_judged, reach_behind, reach_by, reach_where, span_to};
+ghost use Rattle.fr_bound.specs.DoubleNumbers.{too_many_doubles};
 
 use crate::counts::Counts;
 use fr_bound::{DoubleNumber, Known};
@@ -117,7 +118,7 @@ impl Progress {
 
     // How far rows say within, and whether one of them said something else, behind a double cycle.
     pub(crate) fn reach_passed(&self, outcome: &Outcome) -> (Option<Reach>, bool)
-        requires { outcome.now.double < 1_000_000 }
+        requires { outcome.now.double < too_many_doubles }
         ensures { result ≡ reach_passed self.now outcome.now.double outcome.now.is_judged outcome.now.said.0
             outcome.now.said.1 }
     {
@@ -138,7 +139,7 @@ impl Progress {
         reach: (Option<Reach>, bool),
         over: Option<OverRow>,
     )
-        requires double { outcome.now.double < 1_000_000 }
+        requires double { outcome.now.double < too_many_doubles }
         requires few { CountsFew 900_000 self.old }
         ensures { self.new ≡ with_both self.old outcome.now.double outcome.now.is_judged outcome.now.said.0
             outcome.now.said.1 reach over }

@@ -6,3 +6,4 @@ pub mod Missing
 pub mod Zeros
 pub mod LeastMissed
 pub mod Reasons
+pub mod Ranges

@@ -1,16 +1,19 @@
 ghost use Rattle.std.specs.Prelude.{◌≡◌, ◌≤◌, ◌<◌, ◌-ℤ◌, ◌&&◌, pos, true, All, IfSome, Some, is_none, length};
 ghost use Rattle.std.specs.Int.{int_max};
 ghost use Rattle.fr_base.specs.Within.{IsWithin};
+ghost use Rattle.fr_bound.specs.Greatest.{most_sharp_reach};
 ghost use Rattle.fr_bound.specs.Judged.{IsSmall, all_but_first_hold, from_none};
 ghost use Rattle.fr_bound.specs.Settling.{IsSettleCheck};
 ghost use Rattle.fr_bound.specs.SharpChecks.{sharp_holds_of};
 ghost use Rattle.fr_bound.specs.SharpSpreads.{sharply_near_in};
-ghost use Rattle.fr_course.specs.Near.{EndWithin};
+ghost use Rattle.fr_course.specs.Near.{EndWithin, IsInTicks};
 ghost use Rattle.fr_sightings.specs.Ranges.{IsProperSender};
 ghost use Rattle.fr_observe.specs.Faults.{stated_flutter};
 ghost use Rattle.fr_judging.specs.Knowing.{JudgedBySmall, beyond_of, is_judged_by, is_stated_at, known_as_stated, known_by, known_next, known_next_by, known_seen, most_beyond, standing_of, standing_with, unfit, unjudged_by};
 ghost use Rattle.fr_judging.specs.Obstacles.{first_unseen};
 ghost use Rattle.fr_observe.specs.Scenes.{IsScene};
+ghost use Rattle.fr_course.specs.Ranges.{greatest_cycle};
+ghost use Rattle.fr_judging.specs.Ranges.{greatest_beyond};
 
 use crate::hearing::{synced_with, unheard};
 use crate::knowing::{Standing, judged_met};
@@ -30,7 +33,7 @@ use fr_sightings::Sender;
 
 // A number, or 0 for one below 0.
 fn from_none(number: i128) -> u64
-    requires { IsWithin (pos 6_200_001_000_000_000_000) number }
+    requires { IsWithin greatest_beyond number }
     ensures { result ≡ from_none number }
 {
     if number <= 0 { 0 } else { number as u64 }
@@ -38,10 +41,10 @@ fn from_none(number: i128) -> u64
 
 // How far lengths of cycles may lie beyond a range, in ticks; below 0 where they lie inside.
 fn outside(proper: &Interval, long: &Interval) -> i128
-    requires proper { EndWithin (pos 1_000_000_000_000) proper.now }
-    requires long { EndWithin (pos 6_200_000_000_000_000_000) long.now }
+    requires proper { EndWithin greatest_cycle proper.now }
+    requires long { IsInTicks long.now }
     ensures value { result ≡ int_max (proper.now.low -ℤ long.now.low) (long.now.high -ℤ proper.now.high) }
-    ensures near { IsWithin (pos 6_200_001_000_000_000_000) result }
+    ensures near { IsWithin greatest_beyond result }
 {
     (proper.low - long.low).max(long.high - proper.high)
 }
@@ -50,7 +53,7 @@ fn outside(proper: &Interval, long: &Interval) -> i128
 fn beyond_of(params: &Params, scale: &Scale, sender: &Sender) -> i128
     requires sender { IsProperSender scale.now sender.now }
     ensures value { result ≡ beyond_of params.now scale.now sender.now }
-    ensures near { IsWithin (pos 6_200_001_000_000_000_000) result }
+    ensures near { IsWithin greatest_beyond result }
 {
     outside(
         &proper_lengths(params),
@@ -72,7 +75,7 @@ fn most_beyond(params: &Params, scale: &Scale, senders: &[Sender]) -> u64
 
 // How far the starts, or the lengths, of their even cycles may lie apart, in ticks.
 fn most_apart(apart: &Interval) -> u64
-    requires { EndWithin (pos 6_200_000_000_000_000_000) apart.now }
+    requires { IsInTicks apart.now }
     ensures { result ≡ from_none apart.now.high }
 {
     from_none(apart.high)
@@ -144,7 +147,7 @@ fn known_as_stated(params: &Params, log: &Log, heard: Heard, double: DoubleNumbe
 // A sharper check holds with a reach, in ticks.
 fn holds(params: &Params, flutter: Flutter, reach: u64, number: u8) -> bool
     requires number { IsSettleCheck number }
-    requires reach { reach ≤ 5_200_000_000_000 }
+    requires reach { reach ≤ most_sharp_reach }
     ensures { result ≡ sharp_holds_of number flutter reach params.now }
 {
     sharp_side_within(params, flutter, reach, number).holds
@@ -152,7 +155,7 @@ fn holds(params: &Params, flutter: Flutter, reach: u64, number: u8) -> bool
 
 // All but the first do.
 fn checks_hold(params: &Params, flutter: Flutter, reach: u64) -> bool
-    requires reach { reach ≤ 5_200_000_000_000 }
+    requires reach { reach ≤ most_sharp_reach }
     ensures { result ≡ all_but_first_hold flutter reach params.now }
 {
     let rest = holds(params, flutter, reach, 4) && holds(params, flutter, reach, 5);

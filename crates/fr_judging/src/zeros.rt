@@ -2,11 +2,13 @@ ghost use Rattle.std.specs.Prelude.{◌≡◌, ◌==◌, ◌+ℤ◌, ◌-ℤ◌,
 ghost use Rattle.fr_base.specs.Within.{IsWithin};
 ghost use Rattle.fr_course.specs.Course.{between, odd_macrotick};
 ghost use Rattle.fr_course.specs.Computed.{measuring_of};
-ghost use Rattle.fr_course.specs.Near.{IsNearCourse, EndWithin};
+ghost use Rattle.fr_course.specs.Near.{IsApart, IsNearCourse, IsPoint, IsSeenLength};
 ghost use Rattle.fr_sightings.specs.Ranges.{IsProperSender};
 ghost use Rattle.fr_observe.specs.Faults.{stated_flutter};
 ghost use Rattle.fr_observe.specs.Scenes.{IsScene};
 ghost use Rattle.fr_judging.specs.Zeros.{MayMeet, OthersMayBeZero, MayBeZero, seen_for, value_for};
+ghost use Rattle.fr_course.specs.Ranges.{greatest_length};
+ghost use Rattle.fr_judging.specs.Ranges.{greatest_room};
 
 use fr_course::{Course, Interval, Measuring, Scale, between};
 use fr_observe::{Scene, Term, stated_flutter, step_of, terms_of};
@@ -42,8 +44,8 @@ fn seen_may_be_0(what: Term, scale: &Scale, sender: &Sender) -> bool
 
 // Whether the action points of a sender may lie as far apart as a receiver's cycle is long: no quotient is needed for that.
 fn apart_may_be_0(receiver: &Course, sender: &Course) -> bool
-    requires receiver { EndWithin (pos 930_000_000_000_000_000) receiver.now.length }
-    requires sender { EndWithin (pos 920_000_000_000_000_000) sender.now.apart }
+    requires receiver { IsSeenLength receiver.now.length }
+    requires sender { IsApart sender.now.apart }
     ensures { result ≡ true → MayBeZero (between receiver.now.length sender.now.apart) }
 {
     may_be_0(&between(&receiver.length, &sender.apart))
@@ -52,7 +54,7 @@ fn apart_may_be_0(receiver: &Course, sender: &Course) -> bool
 // A number of macroticks times a number of readings.
 fn times(macroticks: i128, readings: i128) -> i128
     requires macroticks { IsWithin (pos 16_000) macroticks }
-    requires readings { IsWithin (pos 4_000_000_000_000_000_000) readings }
+    requires readings { IsWithin greatest_room readings }
     ensures { result ≡ macroticks *ℤ readings }
 {
     macroticks * readings
@@ -60,10 +62,10 @@ fn times(macroticks: i128, readings: i128) -> i128
 
 // How much a macrotick of the receiver can lie behind its action point, at most, so that it lies before the sender's.
 fn room_before(scale: &Scale, receiver: &Interval, sender: &Interval) -> i128
-    requires receiver { EndWithin (pos 1_900_000_000_000_000_000) receiver.now }
-    requires sender { EndWithin (pos 1_900_000_000_000_000_000) sender.now }
+    requires receiver { IsPoint receiver.now }
+    requires sender { IsPoint sender.now }
     ensures value { result ≡ (sender.now.high -ℤ receiver.now.low) +ℤ scale.now.micro_to }
-    ensures within { IsWithin (pos 4_000_000_000_000_000_000) result }
+    ensures within { IsWithin greatest_room result }
 {
     let micro = scale.micro_to;
     sender.high - receiver.low + micro
@@ -71,10 +73,10 @@ fn room_before(scale: &Scale, receiver: &Interval, sender: &Interval) -> i128
 
 // And at least, so that it lies behind it.
 fn room_behind(scale: &Scale, receiver: &Interval, sender: &Interval) -> i128
-    requires receiver { EndWithin (pos 1_900_000_000_000_000_000) receiver.now }
-    requires sender { EndWithin (pos 1_900_000_000_000_000_000) sender.now }
+    requires receiver { IsPoint receiver.now }
+    requires sender { IsPoint sender.now }
     ensures value { result ≡ (sender.now.low -ℤ receiver.now.high) -ℤ scale.now.micro_to }
-    ensures within { IsWithin (pos 4_000_000_000_000_000_000) result }
+    ensures within { IsWithin greatest_room result }
 {
     let micro = scale.micro_to;
     sender.low - receiver.high - micro
@@ -83,8 +85,8 @@ fn room_behind(scale: &Scale, receiver: &Interval, sender: &Interval) -> i128
 // Whether so many macroticks of cycles of a length can take no more than so long: no quotient is needed for that.
 fn take_at_most(scale: &Scale, macroticks: i128, length: i128, most: i128) -> bool
     requires macroticks { IsWithin (pos 16_000) macroticks }
-    requires length { IsWithin (pos 930_000_000_000_000_000) length }
-    requires most { IsWithin (pos 4_000_000_000_000_000_000) most }
+    requires length { IsWithin greatest_length length }
+    requires most { IsWithin greatest_room most }
     ensures { result ≡ true → (macroticks *ℤ length) ≤ℤ (scale.now.macros *ℤ most) }
 {
     times(macroticks, length) <= times(scale.macros, most)
@@ -93,8 +95,8 @@ fn take_at_most(scale: &Scale, macroticks: i128, length: i128, most: i128) -> bo
 // And no less.
 fn take_at_least(scale: &Scale, macroticks: i128, length: i128, least: i128) -> bool
     requires macroticks { IsWithin (pos 16_000) macroticks }
-    requires length { IsWithin (pos 930_000_000_000_000_000) length }
-    requires least { IsWithin (pos 4_000_000_000_000_000_000) least }
+    requires length { IsWithin greatest_length length }
+    requires least { IsWithin greatest_room least }
     ensures { result ≡ true → (scale.now.macros *ℤ least) ≤ℤ (macroticks *ℤ length) }
 {
     times(scale.macros, least) <= times(macroticks, length)
@@ -109,10 +111,10 @@ fn has_room(
     ahead: i128,
     lengths: &Interval,
 ) -> bool
-    requires receiver { EndWithin (pos 1_900_000_000_000_000_000) receiver.now }
-    requires sender { EndWithin (pos 1_900_000_000_000_000_000) sender.now }
+    requires receiver { IsPoint receiver.now }
+    requires sender { IsPoint sender.now }
     requires ahead { IsWithin (pos 16_000) ahead }
-    requires lengths { EndWithin (pos 930_000_000_000_000_000) lengths.now }
+    requires lengths { IsSeenLength lengths.now }
     ensures { result ≡ true → MayMeet scale.now receiver.now sender.now ahead lengths.now }
 {
     take_at_most(
@@ -130,10 +132,10 @@ fn has_room(
 
 // The ends exchanged.
 fn turned(lengths: &Interval) -> Interval
-    requires { EndWithin (pos 930_000_000_000_000_000) lengths.now }
+    requires { IsSeenLength lengths.now }
     ensures low { result.low ≡ lengths.now.high }
     ensures high { result.high ≡ lengths.now.low }
-    ensures near { EndWithin (pos 930_000_000_000_000_000) result }
+    ensures near { IsSeenLength result }
 {
     Interval {
         low: lengths.high,

@@ -4,3 +4,4 @@ pub mod Faults
 pub mod Telling
 pub mod Skews
 pub mod Scenes
+pub mod Ranges

@@ -1,10 +1,12 @@
-ghost use Rattle.std.specs.Prelude.{◌≡◌, ◌≤ℤ◌, All, neg_ℤ, pos};
+ghost use Rattle.std.specs.Prelude.{◌≡◌, ◌≤ℤ◌, All};
 ghost use Rattle.fr_base.specs.Within.{IsBetween};
-ghost use Rattle.fr_course.specs.Near.{EndWithin, IsNearCourse};
+ghost use Rattle.fr_course.specs.Near.{IsInTicks, IsNearCourse};
 ghost use Rattle.fr_course.specs.Spread.{lengths_apart, starts_apart};
 ghost use Rattle.fr_observe.specs.Faults.{beyond_fault, beyond_with, skew_fault};
 ghost use Rattle.fr_observe.specs.Scenes.{IsScene};
 ghost use Rattle.fr_observe.specs.Telling.{TellsFaults, apart_faults, skew_faults};
+ghost use Rattle.fr_course.specs.Ranges.{greatest_ticks};
+ghost use Rattle.fr_observe.specs.Ranges.{least_bound};
 
 use crate::fault::{Fault, Range};
 use crate::scene::Scene;
@@ -15,7 +17,7 @@ use fr_course::{Course, Interval, Scale, lengths_apart, starts_apart};
 
 // The skew was certainly greater than a bound.
 fn skew_fault(bound: i128, cycle: u32, low: i64, high: Option<i64>) -> Option<Fault>
-    requires { neg_ℤ (pos 9_223_372_036_854_775_808) ≤ℤ bound }
+    requires { least_bound ≤ℤ bound }
     ensures { result ≡ skew_fault bound cycle low high }
 {
     if bound < i128::from(low) {
@@ -38,7 +40,7 @@ pub fn put_skews<O: Sink>(
     first: &mut Option<Fault>,
     out: &mut O,
 ) -> Result<(), PutFault>
-    requires bound { neg_ℤ (pos 9_223_372_036_854_775_808) ≤ℤ bound }
+    requires bound { least_bound ≤ℤ bound }
     requires scene { IsScene scene.now }
     ensures { TellsFaults result (O.state out.old) (O.state out.new) first.old first.new
         (skew_faults bound scene.now.scale.now scene.now.number scene.now.senders.now) }
@@ -65,8 +67,8 @@ pub enum Apart {
 
 // They lay further apart than a bound.
 fn beyond_with(what: Apart, cycle: u32, bound: i128, seen: &Interval) -> Fault
-    requires bound { IsBetween (neg_ℤ (pos 9_223_372_036_854_775_808)) (pos 6_200_000_000_000_000_000) bound }
-    requires seen { EndWithin (pos 6_200_000_000_000_000_000) seen.now }
+    requires bound { IsBetween least_bound greatest_ticks bound }
+    requires seen { IsInTicks seen.now }
     ensures { result ≡ beyond_with what cycle bound seen.now }
 {
     match what {
@@ -85,8 +87,8 @@ fn beyond_with(what: Apart, cycle: u32, bound: i128, seen: &Interval) -> Fault
 
 // They certainly did.
 fn beyond_fault(what: Apart, cycle: u32, bound: i128, seen: &Interval) -> Option<Fault>
-    requires bound { neg_ℤ (pos 9_223_372_036_854_775_808) ≤ℤ bound }
-    requires seen { EndWithin (pos 6_200_000_000_000_000_000) seen.now }
+    requires bound { least_bound ≤ℤ bound }
+    requires seen { IsInTicks seen.now }
     ensures { result ≡ beyond_fault what cycle bound seen.now }
 {
     if bound < seen.low {
@@ -97,7 +99,7 @@ fn beyond_fault(what: Apart, cycle: u32, bound: i128, seen: &Interval) -> Option
 }
 
 fn starts_fault(scale: &Scale, cycle: u32, bound: i128, courses: &[Course]) -> Option<Fault>
-    requires bound { neg_ℤ (pos 9_223_372_036_854_775_808) ≤ℤ bound }
+    requires bound { least_bound ≤ℤ bound }
     requires courses { All (IsNearCourse scale.now) courses.now }
     ensures { result ≡ beyond_fault Apart.Starts cycle bound (starts_apart scale.now courses.now) }
 {
@@ -105,7 +107,7 @@ fn starts_fault(scale: &Scale, cycle: u32, bound: i128, courses: &[Course]) -> O
 }
 
 fn lengths_fault(scale: &Scale, cycle: u32, bound: i128, courses: &[Course]) -> Option<Fault>
-    requires bound { neg_ℤ (pos 9_223_372_036_854_775_808) ≤ℤ bound }
+    requires bound { least_bound ≤ℤ bound }
     requires courses { All (IsNearCourse scale.now) courses.now }
     ensures { result ≡ beyond_fault Apart.Lengths cycle bound (lengths_apart scale.now courses.now) }
 {
@@ -121,8 +123,8 @@ pub fn put_apart<O: Sink>(
     first: &mut Option<Fault>,
     out: &mut O,
 ) -> Result<(), PutFault>
-    requires starts { neg_ℤ (pos 9_223_372_036_854_775_808) ≤ℤ starts }
-    requires lengths { neg_ℤ (pos 9_223_372_036_854_775_808) ≤ℤ lengths }
+    requires starts { least_bound ≤ℤ starts }
+    requires lengths { least_bound ≤ℤ lengths }
     requires scene { IsScene scene.now }
     ensures { TellsFaults result (O.state out.old) (O.state out.new) first.old first.new
         (apart_faults starts lengths scene.now.scale.now scene.now.number scene.now.senders.now) }

@@ -1,9 +1,10 @@
-ghost use Rattle.std.specs.Prelude.{◌≡◌, ◌≤◌, length, pos};
+ghost use Rattle.std.specs.Prelude.{◌≡◌, ◌≤◌, length};
 ghost use Rattle.fr_base.specs.Within.{IsWithin};
 ghost use Rattle.fr_course.specs.Near.{EndWithin};
 ghost use Rattle.fr_text.specs.Pieces.{Spells};
 ghost use Rattle.fr_observe.specs.Faults.{AreSpelt, against_fields, fault_cycle, fault_node, fault_row, fault_word, range_fields, range_of, seen_fields, stamp_fields};
 ghost use Rattle.fr_observe.specs.Observing.{known_count};
+ghost use Rattle.fr_observe.specs.Ranges.{greatest_printed};
 
 use crate::rows::known;
 use crate::term::Term;
@@ -22,7 +23,7 @@ pub struct Range {
 impl Range {
     // Between the limits of what was seen or computed.
     pub(crate) fn of(limits: &Interval) -> Range
-        requires { EndWithin (pos 6_400_000_000_000_000_000) limits.now }
+        requires { EndWithin greatest_printed limits.now }
         ensures { result ≡ range_of limits.now }
     {
         Range {
@@ -34,7 +35,7 @@ impl Range {
 
 // A number that is printed.
 fn printed(number: i128) -> i64
-    requires { IsWithin (pos 6_400_000_000_000_000_000) number }
+    requires { IsWithin greatest_printed number }
     ensures { result ≡ number }
 {
     number as i64

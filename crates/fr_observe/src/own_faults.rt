@@ -1,7 +1,7 @@
-ghost use Rattle.std.specs.Prelude.{◌≡◌, ◌+◌, ◌*◌, ◌≤◌, ◌<◌, Some, All, IfSome, filter_map, length, map, pos};
+ghost use Rattle.std.specs.Prelude.{◌≡◌, ◌+◌, ◌*◌, ◌≤◌, ◌<◌, Some, All, IfSome, filter_map, map, pos};
 ghost use Rattle.std.specs.List.{flat_map};
 ghost use Rattle.fr_course.specs.Course.{apart_by};
-ghost use Rattle.fr_course.specs.Near.{EndWithin, IsBox, IsSpan};
+ghost use Rattle.fr_course.specs.Near.{IsApart, IsBox, IsSpan};
 ghost use Rattle.fr_log.specs.Rows.{last_stamp};
 ghost use Rattle.fr_sightings.specs.Ranges.{AreLogStamps};
 ghost use Rattle.fr_sightings.specs.Senders.{first_stamp, seen_span};
@@ -52,7 +52,7 @@ fn apart_by(scale: &Scale, even: &Interval, odd: &Interval, span: Option<Interva
 
 // They lie so far apart as no cycle is long.
 fn limit_with(scale: &Scale, cycle: u32, node: NodeId, apart: &Interval) -> Fault
-    requires apart { EndWithin (pos 920_000_000_000_000_000) apart.now }
+    requires apart { IsApart apart.now }
     ensures { result ≡ limit_with scale.now cycle node apart.now }
 {
     Fault::Limit {

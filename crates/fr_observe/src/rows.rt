@@ -1,11 +1,12 @@
-ghost use Rattle.std.specs.Prelude.{◌≡◌, pos, IfSome};
+ghost use Rattle.std.specs.Prelude.{◌≡◌, IfSome};
 ghost use Rattle.std.specs.Fmt.{decimal, signed_decimal};
 ghost use Rattle.std.specs.Option.{option_map};
 ghost use Rattle.fr_base.specs.Within.{IsWithin};
-ghost use Rattle.fr_course.specs.Near.{EndWithin};
+ghost use Rattle.fr_course.specs.Near.{IsTerm};
 ghost use Rattle.fr_text.specs.Pieces.{Spells};
 ghost use Rattle.fr_observe.specs.Observing.{cycle_row, known, node_row, precision_row, terms_of};
 ghost use Rattle.fr_sightings.specs.Ranges.{IsProperSender};
+ghost use Rattle.fr_observe.specs.Ranges.{greatest_printed_length};
 
 use crate::says::Says;
 use fr_course::{Interval, Scale, offset_seen};
@@ -66,7 +67,7 @@ pub fn cycle_row(precision: i64, cycle: u32, senders: usize, low: i64, high: Opt
 pub fn terms_of(scale: &Scale, sender: &Sender) -> Option<Interval>
     requires sender { IsProperSender scale.now sender.now }
     ensures value { result ≡ terms_of scale.now sender.now }
-    ensures near { IfSome result (EndWithin (pos 6_000_000_000_000_000_000)) }
+    ensures near { IfSome result IsTerm }
 {
     match sender.next {
         None => None,
@@ -75,7 +76,7 @@ pub fn terms_of(scale: &Scale, sender: &Sender) -> Option<Interval>
 }
 
 fn low_of(term: Option<Interval>) -> Option<i64>
-    requires { IfSome term (EndWithin (pos 6_000_000_000_000_000_000)) }
+    requires { IfSome term IsTerm }
     ensures { result ≡ option_map (λ t. t.low) term }
 {
     match term {
@@ -85,7 +86,7 @@ fn low_of(term: Option<Interval>) -> Option<i64>
 }
 
 fn high_of(term: Option<Interval>) -> Option<i64>
-    requires { IfSome term (EndWithin (pos 6_000_000_000_000_000_000)) }
+    requires { IfSome term IsTerm }
     ensures { result ≡ option_map (λ t. t.high) term }
 {
     match term {
@@ -96,14 +97,14 @@ fn high_of(term: Option<Interval>) -> Option<i64>
 
 // The least and the greatest one of these terms.
 fn least_term(term: Option<Interval>) -> Piece<'static>
-    requires { IfSome term (EndWithin (pos 6_000_000_000_000_000_000)) }
+    requires { IfSome term IsTerm }
     ensures { Spells result (known (option_map (λ t. t.low) term)) 20 }
 {
     known(low_of(term))
 }
 
 fn most_term(term: Option<Interval>) -> Piece<'static>
-    requires { IfSome term (EndWithin (pos 6_000_000_000_000_000_000)) }
+    requires { IfSome term IsTerm }
     ensures { Spells result (known (option_map (λ t. t.high) term)) 20 }
 {
     known(high_of(term))
@@ -111,7 +112,7 @@ fn most_term(term: Option<Interval>) -> Piece<'static>
 
 // A length of cycles, in ticks of the observer's clock.
 fn ticks(value: i128) -> Piece<'static>
-    requires { IsWithin (pos 1_000_000_000_000_000_000) value }
+    requires { IsWithin greatest_printed_length value }
     ensures { Spells result (signed_decimal value) 20 }
 {
     Signed(value as i64)

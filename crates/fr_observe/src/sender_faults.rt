@@ -1,15 +1,16 @@
-ghost use Rattle.std.specs.Prelude.{◌≡◌, ◌≤◌, ◌<◌, ◌||◌, ◌+ℤ◌, ◌-ℤ◌, Some, All, IfSome, filter_map, int_lt, is_some, length, neg_ℤ, pos};
+ghost use Rattle.std.specs.Prelude.{◌≡◌, ◌≤◌, ◌<◌, ◌||◌, ◌+ℤ◌, ◌-ℤ◌, Some, IfSome, filter_map, int_lt, length, neg_ℤ, pos};
 ghost use Rattle.std.specs.List.{Contains};
 ghost use Rattle.std.specs.Option.{option_map};
 ghost use Rattle.fr_base.specs.Within.{IsBetween};
 ghost use Rattle.fr_course.specs.Computed.{measuring_of};
 ghost use Rattle.fr_course.specs.Course.{is_empty};
-ghost use Rattle.fr_course.specs.Near.{EndWithin};
+ghost use Rattle.fr_course.specs.Near.{EndWithin, HasUndamped, IsInTicks, IsTerm};
 ghost use Rattle.fr_course.specs.Terms.{rate_step_seen};
 ghost use Rattle.fr_sightings.specs.Ranges.{IsProperSender};
 ghost use Rattle.fr_observe.specs.Faults.{correction_fault, further_of, length_beyond, length_fault_by, longest_cycle_of, offset_due, offset_fault, rate_due, rate_fault, shortest_cycle_of, stated_flutter, term_fault, unlike_fault, unlike_with};
 ghost use Rattle.fr_observe.specs.Scenes.{IsScene};
 ghost use Rattle.fr_observe.specs.Telling.{IsFewAsked, TellsFaults, sender_fault};
+ghost use Rattle.fr_course.specs.Ranges.{greatest_cycle};
 
 use crate::fault::{Fault, Range};
 use crate::rows::terms_of;
@@ -65,7 +66,7 @@ fn is_beyond(term: &Interval, allowed: &Interval) -> bool
 
 // An offset term is none that the limits allow.
 fn term_fault(params: &Params, cycle: u32, node: NodeId, term: &Interval) -> Option<Fault>
-    requires { EndWithin (pos 6_000_000_000_000_000_000) term.now }
+    requires { IsTerm term.now }
     ensures { result ≡ term_fault params.now cycle node term.now }
 {
     let allowed = allowed_terms(params);
@@ -100,7 +101,7 @@ fn correction_fault(
 pub fn proper_lengths(params: &Params) -> Interval
     ensures low { result.low ≡ shortest_cycle_of params.now }
     ensures high { result.high ≡ longest_cycle_of params.now }
-    ensures near { EndWithin (pos 1_000_000_000_000) result }
+    ensures near { EndWithin greatest_cycle result }
 {
     let micros = params.natural(ParamName::pMicroPerCycle);
     Interval {
@@ -111,7 +112,7 @@ pub fn proper_lengths(params: &Params) -> Interval
 
 // Lengths beyond these by so much, in ticks.
 fn lengths_beyond(proper: &Interval, beyond: u64) -> Interval
-    requires { EndWithin (pos 1_000_000_000_000) proper.now }
+    requires { EndWithin greatest_cycle proper.now }
     ensures low { result.low ≡ proper.now.low -ℤ pos beyond }
     ensures high { result.high ≡ proper.now.high +ℤ pos beyond }
 {
@@ -136,8 +137,8 @@ fn length_by(
     proper: &Interval,
     long: &Interval,
 ) -> Option<Fault>
-    requires proper { EndWithin (pos 1_000_000_000_000) proper.now }
-    requires long { EndWithin (pos 6_200_000_000_000_000_000) long.now }
+    requires proper { EndWithin greatest_cycle proper.now }
+    requires long { IsInTicks long.now }
     ensures { result ≡ length_fault_by cycle node (proper.now.low -ℤ pos beyond) (proper.now.high +ℤ pos beyond)
         long.now }
 {
@@ -175,8 +176,8 @@ fn length_beyond(
 }
 
 fn unlike_with(what: Term, cycle: u32, node: NodeId, seen: &Interval, computed: &Interval) -> Fault
-    requires seen { EndWithin (pos 6_000_000_000_000_000_000) seen.now }
-    requires computed { EndWithin (pos 22_000_000_000_000) computed.now }
+    requires seen { IsTerm seen.now }
+    requires computed { HasUndamped computed.now }
     ensures { result ≡ unlike_with what cycle node seen.now computed.now }
 {
     let (seen, due) = (Range::of(seen), Range::of(computed));
@@ -203,8 +204,8 @@ fn unlike_by(
     seen: &Interval,
     computed: &Interval,
 ) -> Option<Fault>
-    requires seen { EndWithin (pos 6_000_000_000_000_000_000) seen.now }
-    requires computed { EndWithin (pos 22_000_000_000_000) computed.now }
+    requires seen { IsTerm seen.now }
+    requires computed { HasUndamped computed.now }
     ensures { result ≡ unlike_fault what cycle node (Some seen.now) (Some computed.now) }
 {
     if lie_apart(seen, computed) {
@@ -222,8 +223,8 @@ fn unlike_fault(
     seen: Option<Interval>,
     computed: Option<Interval>,
 ) -> Option<Fault>
-    requires seen { IfSome seen (EndWithin (pos 6_000_000_000_000_000_000)) }
-    requires computed { IfSome computed (EndWithin (pos 22_000_000_000_000)) }
+    requires seen { IfSome seen IsTerm }
+    requires computed { IfSome computed HasUndamped }
     ensures { result ≡ unlike_fault what cycle node seen computed }
 {
     match seen {
@@ -283,7 +284,7 @@ fn offset_due(scene: &Scene<'_>, lost: usize, sender: &Sender) -> Option<Interva
     requires sender { IsProperSender scene.now.scale.now sender.now }
     ensures value { result ≡ offset_due scene.now.params.now scene.now.log.now scene.now.scale.now scene.now.senders.now
         lost sender.now }
-    ensures near { IfSome result (EndWithin (pos 22_000_000_000_000)) }
+    ensures near { IfSome result HasUndamped }
 {
     offset_computed(
         scene.scale,
@@ -302,7 +303,7 @@ fn rate_due(scene: &Scene<'_>, lost: usize, sender: &Sender) -> Option<Interval>
     requires sender { IsProperSender scene.now.scale.now sender.now }
     ensures value { result ≡ rate_due scene.now.params.now scene.now.log.now scene.now.scale.now scene.now.senders.now
         lost sender.now }
-    ensures near { IfSome result (EndWithin (pos 22_000_000_000_000)) }
+    ensures near { IfSome result HasUndamped }
 {
     rate_computed(
         scene.scale,
@@ -334,7 +335,7 @@ fn offset_fault(scene: &Scene<'_>, lost: usize, sender: &Sender) -> Option<Fault
 pub fn step_of(scale: &Scale, sender: &Sender) -> Option<Interval>
     requires sender { IsProperSender scale.now sender.now }
     ensures value { result ≡ option_map (rate_step_seen scale.now sender.now.course) sender.now.next }
-    ensures near { IfSome result (EndWithin (pos 6_000_000_000_000_000_000)) }
+    ensures near { IfSome result IsTerm }
 {
     match sender.next {
         None => None,

@@ -1,5 +1,5 @@
 -- What holds of the sightings of a log, and of courses and senders by them.
-use Rattle.std.specs.Prelude.{◌≡◌, ℕ, ◌≤◌, ◌*◌, ℤ, List, All, IfSome}
+use Rattle.std.specs.Prelude.{◌≡◌, ℕ, ◌≤◌, ◌*◌, ℤ, pos, List, All, IfSome}
 use Rattle.std.specs.List.Sorted.{IsNonDecreasingBy}
 use Rattle.fr_cluster.specs.Values.{Values, amount}
 use Rattle.fr_cluster.specs.declared.names.ParamName.TheVariants as name
@@ -50,6 +50,32 @@ pub record IsProperSender (scale : Scale) (s : Sender) : Type 0 where
   pub course : IsNearCourse scale s.course
   pub next : IfSome s.next (IsCourseAt scale s.course.action)
   pub onward : IfSome s.onward IsSpan
+
+-- ---- the greatest amounts of what frames are placed by, in ticks; of signed ones, on either side of 0
+
+-- a cycle at the nominal microtick, and half of one
+abbrev pub greatest_nominal_cycle : ℤ
+greatest_nominal_cycle = pos 640_000_000_000
+
+-- how far the schedule has two action points apart
+abbrev pub greatest_scheduled : ℤ
+greatest_scheduled = pos 400_000_000_000_000_000
+
+-- how far off clocks are, a reading is, and starts of nodes are apart: `clocks_off`, `reading_off` and `off_schedule` tell how
+abbrev pub greatest_clocks_off : ℕ
+greatest_clocks_off = 400_000_000_000
+
+abbrev pub greatest_reading_off : ℕ
+greatest_reading_off = 30_000_000_000
+
+abbrev pub greatest_starts_off : ℕ
+greatest_starts_off = 20_000_000_000
+
+-- how far off the schedule a frame comes, by all of them and a delay
+abbrev pub greatest_off_schedule : ℕ
+greatest_off_schedule = 1_000_000_000_000
+
+-- ---- scales
 
 -- a scale is that of a cluster
 pub record IsScaleOf (p : Values) (scale : Scale) : Type 0 where

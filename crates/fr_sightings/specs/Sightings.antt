@@ -1,5 +1,5 @@
 -- The sightings of a log: which of its frames say where their senders' clocks were, and what becomes of all others.
-use Rattle.std.specs.Prelude.{◌≡◌, ℕ, ◌+◌, ◌*◌, ◌≤◌, ◌&&◌, nat_abs, nat_le, ℤ, pos, ◌-ℤ◌, ◌*ℤ◌, int_le, int_lt, Bool, true, false, if◌then◌else◌, List, [], ◌∷◌, Option, Some, None}
+use Rattle.std.specs.Prelude.{◌≡◌, ℕ, ◌+◌, ◌*◌, ◌<◌, ◌≤◌, ◌&&◌, nat_abs, nat_le, ℤ, pos, ◌-ℤ◌, ◌*ℤ◌, int_le, int_lt, Bool, true, false, if◌then◌else◌, List, [], ◌∷◌, Option, Some, None}
 use Rattle.std.specs.List.{filter_map, fold}
 use Rattle.std.specs.Option.{option_or}
 use Rattle.fr_cluster.specs.Questions.{has_channel, node_of, own_key}
@@ -198,6 +198,10 @@ pub record IsSighting (p : Values) (l : LogView) (sighting : Sighting) : Type 0 
 -- the entries that were counted
 abbrev pub all_tallied : Tally → ℕ
 all_tallied tally = tally.judged + tally.damaged + tally.arbitrary + tally.other + tally.stray + tally.behind
+
+-- one more may be counted: no count passes 64 bits
+abbrev pub MayTally : Tally → Type 0
+MayTally tally = all_tallied tally < 18_446_744_073_709_551_615
 
 -- ---- silence
 

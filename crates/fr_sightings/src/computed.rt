@@ -1,7 +1,7 @@
 ghost use Rattle.std.specs.Prelude.{◌≡◌, ◌≤◌, ◌∷◌, pos, All, IfSome, length, map};
 ghost use Rattle.std.specs.List.{Contains};
 ghost use Rattle.fr_course.specs.Computed.{offset_computed, own_value, rate_computed};
-ghost use Rattle.fr_course.specs.Near.{EndWithin, IsNearCourse};
+ghost use Rattle.fr_course.specs.Near.{HasUndamped, HasValues, IsNearCourse};
 ghost use Rattle.fr_sightings.specs.Computing.{heard_courses, value_seen};
 ghost use Rattle.fr_sightings.specs.Ranges.{IsProperSender};
 
@@ -44,7 +44,7 @@ pub fn offset_computed(
     requires lost { reception.lost ≤ 64 }
     ensures value { result ≡ offset_computed scale.now measuring.now sender.now.course
         (heard_courses senders.now sender.now.node) reception.further reception.lost }
-    ensures near { IfSome result (EndWithin (pos 21_000_000_000_000)) }
+    ensures near { IfSome result HasValues }
 {
     let known = values_seen(Measured::Deviation, scale, measuring, senders, sender);
     middle(reception.further, reception.lost, known.as_slice())
@@ -66,7 +66,7 @@ pub fn rate_computed(
     requires lost { reception.lost ≤ 64 }
     ensures value { result ≡ rate_computed scale.now measuring.now sender.now.course
         (heard_courses senders.now sender.now.node) reception.further reception.lost }
-    ensures near { IfSome result (EndWithin (pos 22_000_000_000_000)) }
+    ensures near { IfSome result HasUndamped }
 {
     let known = values_seen(Measured::RateValue, scale, measuring, senders, sender);
     undamped(
@@ -89,7 +89,7 @@ fn values_seen(
     ensures value { result ≡
         own_value ∷ map (value_seen measured scale.now measuring.now sender.now.course)
         (heard_courses senders.now sender.now.node) }
-    ensures near { All (EndWithin (pos 21_000_000_000_000)) result }
+    ensures near { All HasValues result }
 {
     let mut known = IntervalList::new();
     known.push(Interval { low: 0, high: 0 });
@@ -112,7 +112,7 @@ fn value_seen(
     requires receiver { IsNearCourse scale.now receiver.now }
     requires sender { IsNearCourse scale.now sender.now }
     ensures value { result ≡ value_seen measured scale.now measuring.now receiver.now sender.now }
-    ensures near { EndWithin (pos 21_000_000_000_000) result }
+    ensures near { HasValues result }
 {
     match measured {
         Measured::Deviation => deviation_seen(scale, measuring, receiver, sender),

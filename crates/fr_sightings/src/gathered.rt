@@ -1,7 +1,7 @@
 ghost use Rattle.std.specs.Prelude.{◌≡◌, ◌<◌, ◌++◌, [], OnOk};
 ghost use Rattle.std.specs.Option.{option_copied, option_to_list};
 ghost use Rattle.fr_sightings.specs.Passing.{last_sighting, with_fate};
-ghost use Rattle.fr_sightings.specs.Sightings.{all_tallied, irregular_in, no_tally, sighting_in, untimely_in, fate_counted};
+ghost use Rattle.fr_sightings.specs.Sightings.{irregular_in, no_tally, sighting_in, untimely_in, fate_counted, MayTally};
 
 use crate::sighting::{Fate, Sighting, Tally};
 use std::alloc::{AllocError, Global};
@@ -102,7 +102,7 @@ impl SightingList {
 
     // With one entry more.
     pub(crate) fn note(&mut self, fate: Fate) -> Result<(), AllocError>
-        requires { all_tallied self.old.tally < 18_446_744_073_709_551_615 }
+        requires { MayTally self.old.tally }
         ensures { OnOk result (self.new ≡ with_fate self.old fate) }
     {
         count(&mut self.tally, &fate);
@@ -114,7 +114,7 @@ impl SightingList {
 
 // One entry more of its fate.
 fn count(tally: &mut Tally, fate: &Fate)
-    requires { all_tallied tally.old < 18_446_744_073_709_551_615 }
+    requires { MayTally tally.old }
     ensures { tally.new ≡ fate_counted tally.old fate.now }
 {
     match fate {

@@ -5,6 +5,7 @@ ghost use Rattle.fr_log.specs.Rows.{last_stamp};
 ghost use Rattle.fr_log.specs.View.{AreDelayLimits};
 ghost use Rattle.fr_sightings.specs.Ranges.{AreLogStamps};
 ghost use Rattle.fr_sightings.specs.Senders.{seen_box, box_on, delays_by, delays_in, first_stamp, is_sent_in, observer_of, on_both_channels, seen_span, span_on};
+ghost use Rattle.fr_course.specs.Ranges.{greatest_delay};
 
 use crate::sighting::Sighting;
 use fr_base::{Channel, NodeId};
@@ -33,7 +34,7 @@ fn observer(log: &Log) -> Observer
 
 fn delays_by(limits: Option<DelayLimits>, jitter: Option<u64>) -> Option<Delays>
     requires limits { IfSome limits AreDelayLimits }
-    requires jitter { IfSome jitter (λ ticks. ticks ≤ 1_000_000_000) }
+    requires jitter { IfSome jitter (λ ticks. ticks ≤ greatest_delay) }
     ensures value { result ≡ delays_by limits jitter }
     ensures proper { IfSome result AreDelays }
 {

@@ -2,8 +2,13 @@ ghost use Rattle.std.specs.Prelude.{◌≡◌, ◌≤◌, ◌≤ℤ◌, ◌+ℤ�
 ghost use Rattle.fr_base.specs.Within.{IsBetween, IsWithin, lies_within};
 ghost use Rattle.fr_time.specs.Position.{floor_of};
 ghost use Rattle.fr_course.specs.Numbering.{is_timely, longest_silence, next_number, nominal_cycle, scheduled};
+ghost use Rattle.fr_course.specs.Ranges.{greatest_stamp};
+ghost use Rattle.fr_sightings.specs.Ranges.{greatest_nominal_cycle, greatest_scheduled};
 
 use fr_cluster::{ParamName, Params};
+
+// The ticks of a nominal microtick.
+pub(crate) const NOMINAL: u64 = 1_000_000;
 
 // The number with a cycle count that lies from 32 cycles before another one to 31 behind it.
 pub(crate) fn next_number(last: u32, count: u8) -> i64
@@ -38,9 +43,9 @@ fn turns(ahead: i64) -> i64
 fn nominal_cycle(params: &Params) -> i64
     ensures value { result ≡ nominal_cycle params.now }
     ensures from { pos 0 ≤ℤ result }
-    ensures to { result ≤ℤ pos 640_000_000_000 }
+    ensures to { result ≤ℤ greatest_nominal_cycle }
 {
-    (params.natural(ParamName::pMicroPerCycle) * 1_000_000) as i64
+    (params.natural(ParamName::pMicroPerCycle) * NOMINAL) as i64
 }
 
 // The longest silence behind which a log goes on, in ticks.
@@ -72,10 +77,10 @@ fn macroticks_apart(cycles: i64, macros: i64, macroticks: i64) -> i64
 // So many of the parts of a length, rounded down.
 fn share(count: i64, length: i64, parts: i64) -> i64
     requires count { IsWithin (pos 600_000) count }
-    requires length { IsBetween (pos 0) (pos 640_000_000_000) length }
+    requires length { IsBetween (pos 0) greatest_nominal_cycle length }
     requires parts { IsBetween (pos 1) (pos 16_000) parts }
     ensures value { result ≡ floor_of (count *ℤ length) parts }
-    ensures within { IsWithin (pos 400_000_000_000_000_000) result }
+    ensures within { IsWithin greatest_scheduled result }
 {
     (count * length).div_euclid(parts)
 }
@@ -85,7 +90,7 @@ fn scheduled(params: &Params, cycles: i64, macroticks: i64) -> i64
     requires cycles { IsWithin (pos 32) cycles }
     requires macroticks { IsWithin (pos 16_000) macroticks }
     ensures value { result ≡ scheduled params.now cycles macroticks }
-    ensures within { IsWithin (pos 400_000_000_000_000_000) result }
+    ensures within { IsWithin greatest_scheduled result }
 {
     let macros = macros_of(params);
     let apart = macroticks_apart(cycles, macros, macroticks);
@@ -95,14 +100,14 @@ fn scheduled(params: &Params, cycles: i64, macroticks: i64) -> i64
 // Half of a cycle, in ticks.
 fn half_cycle(params: &Params) -> i64
     ensures value { result ≡ floor_of (nominal_cycle params.now) (pos 2) }
-    ensures within { IsBetween (pos 0) (pos 640_000_000_000) result }
+    ensures within { IsBetween (pos 0) greatest_nominal_cycle result }
 {
     nominal_cycle(params).div_euclid(2)
 }
 
 // Whether frames that come so many ticks of the observer's clock apart come within half a cycle of the schedule.
 pub(crate) fn is_timely(params: &Params, apart: i64, cycles: i64, macroticks: i64) -> bool
-    requires apart { IsWithin (pos 900_000_000_000_000_000) apart }
+    requires apart { IsWithin (pos greatest_stamp) apart }
     requires cycles { IsWithin (pos 32) cycles }
     requires macroticks { IsWithin (pos 16_000) macroticks }
     ensures { result ≡ is_timely params.now apart cycles macroticks }
@@ -115,7 +120,7 @@ pub(crate) fn is_timely(params: &Params, apart: i64, cycles: i64, macroticks: i6
 
 // Whether a number lies within a bound of 0.
 fn lies_within(bound: i64, value: i64) -> bool
-    requires { IsBetween (pos 0) (pos 640_000_000_000) bound }
+    requires { IsBetween (pos 0) greatest_nominal_cycle bound }
     ensures { result ≡ lies_within bound value }
 {
     !(value < -bound || bound < value)

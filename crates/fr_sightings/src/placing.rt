@@ -9,6 +9,7 @@ ghost use Rattle.fr_log.specs.View.{IsEntry};
 ghost use Rattle.fr_course.specs.Numbering.{is_timely, longest_silence};
 ghost use Rattle.fr_sightings.specs.Judging.{IsIrregular, IsJudged};
 ghost use Rattle.fr_sightings.specs.Sightings.{IsSighting, fate_of, keeps_order, fate_irregular, fate_irregular_behind, fate_judged, fate_behind, fate_timely, sighting_with, stamped_behind};
+ghost use Rattle.fr_course.specs.Ranges.{greatest_stamp, IsStamp};
 
 use crate::judging::{Judged, Judgement, judgement_of};
 use crate::numbering::{is_timely, longest_silence, next_number};
@@ -102,10 +103,10 @@ fn fate_timely(last: &Sighting, number: i64, judged: &Judged) -> Fate
 
 // How much later it is stamped, in ticks of the observer's clock.
 fn stamped_behind(log: &Log, last: &Sighting, judged: &Judged) -> i64
-    requires last { log.now.unit * last.now.stamp ≤ 900_000_000_000_000_000 }
-    requires judged { log.now.unit * judged.now.stamp ≤ 900_000_000_000_000_000 }
+    requires last { IsStamp log.now.unit last.now.stamp }
+    requires judged { IsStamp log.now.unit judged.now.stamp }
     ensures value { result ≡ stamped_behind log.now last.now judged.now }
-    ensures within { IsWithin (pos 900_000_000_000_000_000) result }
+    ensures within { IsWithin (pos greatest_stamp) result }
 {
     let unit = log.unit();
     (unit * judged.stamp) as i64 - (unit * last.stamp) as i64
@@ -120,7 +121,7 @@ fn is_silence(params: &Params, apart: i64) -> bool
 
 // Whether it comes when the schedule has its number.
 fn is_in_time(params: &Params, apart: i64, number: i64, last: &Sighting, judged: &Judged) -> bool
-    requires apart { IsWithin (pos 900_000_000_000_000_000) apart }
+    requires apart { IsWithin (pos greatest_stamp) apart }
     requires number { IsBetween (neg_ℤ (pos 32)) (pos 31) (number -ℤ pos last.now.number) }
     requires last { last.now.slot ≤ amount params.now name.gNumberOfStaticSlots }
     requires judged { judged.now.slot ≤ amount params.now name.gNumberOfStaticSlots }

@@ -10,6 +10,7 @@ ghost use Rattle.fr_course.specs.declared.scales.Scale.{Scale as Measure};
 ghost use Rattle.fr_time.specs.Slots.{action_point_of};
 ghost use Rattle.fr_sightings.specs.Ranges.{AreLogStamps, HasStaticKey, IsCourseAt, IsProperSender, IsScaleOf};
 ghost use Rattle.fr_sightings.specs.Senders.{course_in, if_there, own_slot, seen_sender_by, seen_sender, seen_senders, seen_span};
+ghost use Rattle.fr_bound.specs.DoubleNumbers.{too_many_doubles};
 
 use crate::intervals::{SeenCycle, seen_box, seen_span};
 use crate::sender::Sender;
@@ -75,7 +76,7 @@ fn course_in(
     key: &KeySlot,
 ) -> Option<Course>
     requires seen { AreLogStamps observed.now.log.now seen.now }
-    requires double { double ≤ 1_000_000 }
+    requires double { double ≤ too_many_doubles }
     requires slot { key.now.slot ≤ amount observed.now.params.now name.gNumberOfStaticSlots }
     ensures value { result ≡ course_in observed.now.scale.now observed.now.params.now observed.now.log.now seen.now
         double key.now.node key.now.slot }
@@ -122,7 +123,7 @@ fn known_course(
     key: &KeySlot,
 ) -> Option<Course>
     requires seen { AreLogStamps observed.now.log.now seen.now }
-    requires double { double ≤ 1_000_000 }
+    requires double { double ≤ too_many_doubles }
     requires slot { key.now.slot ≤ amount observed.now.params.now name.gNumberOfStaticSlots }
     ensures value { result ≡ if_there (course_in observed.now.scale.now observed.now.params.now observed.now.log.now
         seen.now double key.now.node key.now.slot) }

@@ -5,7 +5,10 @@ ghost use Rattle.fr_cluster.specs.Values.{amount};
 ghost use Rattle.fr_cluster.specs.declared.names.ParamName.TheVariants as name;
 ghost use Rattle.fr_log.specs.View.{AreDelayLimits};
 ghost use Rattle.fr_sightings.specs.Sure.{are_numbers_sure, clocks_off, is_named_as, is_node_sure, is_sure_on, is_sure_within, is_sync_as, off_schedule, reading_off};
+ghost use Rattle.fr_course.specs.Ranges.{greatest_delay};
+ghost use Rattle.fr_sightings.specs.Ranges.{greatest_clocks_off, greatest_off_schedule, greatest_reading_off, greatest_starts_off};
 
+use crate::numbering::NOMINAL;
 use fr_base::Channel;
 use fr_bound::{longest_microtick, shortest_microtick};
 use fr_cluster::{NodeList, NodeSpec, ParamName, Params};
@@ -28,7 +31,7 @@ fn is_named_as(log: &Log, arbitrary: bool, node: &NodeSpec) -> bool
 // How far off the clock of a node can be over 16 double cycles and two action points, in ticks.
 fn clocks_off(params: &Params) -> u64
     ensures value { result ≡ clocks_off params.now }
-    ensures most { result ≤ 400_000_000_000 }
+    ensures most { result ≤ greatest_clocks_off }
 {
     let longest = longest_microtick(params);
     let rate = params.natural(ParamName::pRateCorrectionOut) * longest;
@@ -40,7 +43,7 @@ fn clocks_off(params: &Params) -> u64
 // And a reading of the observer's clock.
 fn reading_off(params: &Params, log: &Log) -> u64
     ensures value { result ≡ reading_off params.now log.now }
-    ensures most { result ≤ 30_000_000_000 }
+    ensures most { result ≤ greatest_reading_off }
 {
     let drift = params.natural(ParamName::pMicroPerCycle) * log.drift();
     31 * drift + (log.unit() + log.error())
@@ -49,16 +52,16 @@ fn reading_off(params: &Params, log: &Log) -> u64
 // How far apart the starts of two nodes lie at most: the offset limit at the shortest microtick, in ticks.
 fn starts_off(params: &Params) -> u64
     ensures value { result ≡ amount params.now name.pOffsetCorrectionOut * shortest_micro params.now }
-    ensures most { result ≤ 20_000_000_000 }
+    ensures most { result ≤ greatest_starts_off }
 {
     params.natural(ParamName::pOffsetCorrectionOut) * shortest_microtick(params)
 }
 
 // How far off the schedule a frame comes at most, with a delay of so many ticks.
 fn off_schedule(params: &Params, log: &Log, delay: u64) -> u64
-    requires { delay ≤ 1_000_000_000 }
+    requires { delay ≤ greatest_delay }
     ensures value { result ≡ off_schedule params.now log.now delay }
-    ensures most { result ≤ 1_000_000_000_000 }
+    ensures most { result ≤ greatest_off_schedule }
 {
     clocks_off(params) + delay + reading_off(params, log) + starts_off(params)
 }
@@ -67,7 +70,7 @@ fn off_schedule(params: &Params, log: &Log, delay: u64) -> u64
 fn nominal_cycle(params: &Params) -> u64
     ensures { result ≡ amount params.now name.pMicroPerCycle * nominal }
 {
-    params.natural(ParamName::pMicroPerCycle) * 1_000_000
+    params.natural(ParamName::pMicroPerCycle) * NOMINAL
 }
 
 // That is no more than half a cycle, with delays within limits.

@@ -4,7 +4,7 @@ ghost use Rattle.fr_time.specs.Cycles.{double_cycle_of};
 ghost use Rattle.fr_log.specs.View.{IsEntry};
 ghost use Rattle.fr_sightings.specs.Ranges.{AreLate};
 ghost use Rattle.fr_sightings.specs.Passing.{last_sighting, with_fate};
-ghost use Rattle.fr_sightings.specs.Sightings.{IsSighting, all_tallied, fate_of, offending_frames_of, sightings_of, tally_of};
+ghost use Rattle.fr_sightings.specs.Sightings.{IsSighting, MayTally, all_tallied, fate_of, offending_frames_of, sightings_of, tally_of};
 
 use crate::gathered::SightingList;
 use crate::placing::{fate_of, sane};
@@ -46,7 +46,7 @@ fn pass(
     log: &Log,
     entry: &Entry,
 ) -> Result<(), AllocError>
-    requires room { all_tallied seen.old.tally < 18_446_744_073_709_551_615 }
+    requires room { MayTally seen.old.tally }
     requires last { IfSome (last_sighting seen.old.list) (IsSighting params.now log.now) }
     requires entry { IsEntry log.now.unit entry.now }
     ensures { OnOk result (seen.new ≡

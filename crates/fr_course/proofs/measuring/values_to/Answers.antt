@@ -1,4 +1,4 @@
-use Rattle.std.proofs.Common.{◌≡◌, FitsSigned, ℤ, pos, refl, subst, sym}
+use Rattle.std.proofs.Common.{◌≡◌, FitsSigned, pos, refl, subst, sym}
 use Rattle.std.specs.Prelude.{int_lt, if◌then◌else◌}
 use mir.Syntax.{w128}
 use Rattle.std.proofs.lemmas.Int.{to_z-of_z}
