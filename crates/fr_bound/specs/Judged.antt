@@ -8,6 +8,7 @@ use Rattle.fr_bound.specs.declared.judging.Known.{Known}
 use Rattle.fr_bound.specs.declared.settling.Spread.{Spread}
 use Rattle.fr_bound.specs.Bounds.{longest_micro}
 use Rattle.fr_bound.specs.Checks.{left_of}
+use Rattle.fr_bound.specs.Greatest.{most_judged}
 use Rattle.fr_bound.specs.SharpBounds.{rate_room, rate_walk}
 use Rattle.fr_bound.specs.SharpChecks.{sharp_holds_of, SharpChecksHold}
 use Rattle.fr_bound.specs.SharpSpreads.{next_lost_spread, next_sharp_spread, sharply_apart_in, sharply_near_in}
@@ -76,6 +77,6 @@ is_taken_in p known =
 
 -- the numbers are no greater than so, in ticks: those of a judged one are
 pub record IsSmall (known : Known) : Type 0 where
-  pub starts : known.spread.starts ≤ 20_000_000_000
-  pub lengths : known.spread.lengths ≤ 20_000_000_000
-  pub beyond : known.beyond ≤ 20_000_000_000
+  pub starts : known.spread.starts ≤ most_judged
+  pub lengths : known.spread.lengths ≤ most_judged
+  pub beyond : known.beyond ≤ most_judged

@@ -2,6 +2,7 @@
 pub mod Bounds
 pub mod Checks
 pub mod DoubleNumbers
+pub mod Greatest
 pub mod Judged
 pub mod Settling
 pub mod SharpBounds

@@ -1,6 +1,7 @@
 ghost use Rattle.std.specs.Prelude.{◌≡◌, ◌≤◌, ◌*◌, OnOk, IfErr};
 ghost use Rattle.fr_bound.specs.Checks.{back_need_of, clear_micros, front_need_of};
 ghost use Rattle.fr_bound.specs.Checks.{AllChecksHold, AllJoinChecksHold, AreSides, FirstFailing, FirstFailingToJoin, IsCheck, IsCheckOf};
+ghost use Rattle.fr_bound.specs.Greatest.{most_peak, most_side};
 
 use crate::bounding::{
     NOMINAL, arrival_error, compensation, cycle_change, follower_error, longest_microtick,
@@ -175,18 +176,18 @@ fn back_reach_sides(params: &Params) -> (u64, u64)
 
 // What a slot needs before its action point, where macroticks may lie so far apart.
 pub(crate) fn front_need(params: &Params, apart: u64) -> u64
-    requires { apart ≤ 8_200_000_000_000 }
+    requires { apart ≤ most_peak }
     ensures value { result ≡ front_need_of params.now apart }
-    ensures most { result ≤ 1_000_000_000_000_000_000 }
+    ensures most { result ≤ most_side }
 {
     params.natural(ParamName::gMacroPerCycle) * (apart + params.natural(ParamName::xDelayError))
 }
 
 // And behind it.
 pub(crate) fn back_need(params: &Params, apart: u64) -> u64
-    requires { apart ≤ 8_200_000_000_000 }
+    requires { apart ≤ most_peak }
     ensures value { result ≡ back_need_of params.now apart }
-    ensures most { result ≤ 1_000_000_000_000_000_000 }
+    ensures most { result ≤ most_side }
 {
     let delay = compensation(params) * NOMINAL;
     let within = apart + delay + params.natural(ParamName::xDelayError);

@@ -1,4 +1,5 @@
 ghost use Rattle.std.specs.Prelude.{ℕ, ◌≡◌, ◌≤◌, ◌+◌, nat_le, true, false};
+ghost use Rattle.fr_bound.specs.Greatest.{most_judged, most_sharp_reach, most_sharp_starts};
 ghost use Rattle.fr_bound.specs.Judged.{IsJudgedDouble, IsSmall, apart_through, from_none, heard_spread, is_judged_double, is_taken_in, known_after, met_of, met_with, walked_on};
 ghost use Rattle.fr_bound.specs.SharpBounds.{rate_room, rate_walk};
 ghost use Rattle.fr_bound.specs.SharpChecks.{SharpChecksHold};
@@ -62,7 +63,7 @@ fn is_taken_in(params: &Params, known: Known) -> bool
 
 // Whether the sharper checks but the first hold with a reach, in ticks.
 fn checks_hold(params: &Params, flutter: Flutter, reach: u64) -> bool
-    requires reach { reach ≤ 5_200_000_000_000 }
+    requires reach { reach ≤ most_sharp_reach }
     ensures yes { result ≡ true → SharpChecksHold flutter reach params.now }
     ensures no { result ≡ false → SharpChecksHold flutter reach params.now → ⊥ }
 {
@@ -76,7 +77,7 @@ fn checks_hold(params: &Params, flutter: Flutter, reach: u64) -> bool
 
 // Whether the rate limit can follow lengths that lie so far beyond their range, and walk further.
 fn has_room(params: &Params, flutter: Flutter, beyond: u64) -> bool
-    requires beyond { beyond ≤ 20_000_000_000 }
+    requires beyond { beyond ≤ most_judged }
     ensures { result ≡ nat_le (beyond + from_none (rate_walk params.now flutter)) (rate_room params.now) }
 {
     let (gain, loss) = rate_walk(params, flutter);
@@ -131,10 +132,10 @@ pub fn apart_through(params: &Params, what: Heard, flutter: Flutter, known: Know
 
 // How far starts and even lengths may lie apart in the next double cycle.
 fn heard_spread(params: &Params, what: Heard, flutter: Flutter, spread: Spread) -> Spread
-    requires starts { spread.starts ≤ 20_000_000_000 }
-    requires lengths { spread.lengths ≤ 20_000_000_000 }
+    requires starts { spread.starts ≤ most_judged }
+    requires lengths { spread.lengths ≤ most_judged }
     ensures value { result ≡ heard_spread what params.now flutter spread }
-    ensures most { result.starts ≤ 3_100_000_000_000 }
+    ensures most { result.starts ≤ most_sharp_starts }
 {
     match what {
         Heard::Clean => next_sharp_spread(params, false, flutter, spread),
@@ -144,10 +145,10 @@ fn heard_spread(params: &Params, what: Heard, flutter: Flutter, spread: Spread) 
 }
 
 fn lost_spread(params: &Params, flutter: Flutter, spread: Spread) -> Spread
-    requires starts { spread.starts ≤ 20_000_000_000 }
-    requires lengths { spread.lengths ≤ 20_000_000_000 }
+    requires starts { spread.starts ≤ most_judged }
+    requires lengths { spread.lengths ≤ most_judged }
     ensures value { result ≡ next_lost_spread false params.now flutter spread }
-    ensures most { result.starts ≤ 3_100_000_000_000 }
+    ensures most { result.starts ≤ most_sharp_starts }
 {
     let longest = longest_microtick(params);
     let odd = odd_spread(params, spread.lengths);
@@ -161,7 +162,7 @@ fn lost_spread(params: &Params, flutter: Flutter, spread: Spread) -> Spread
 
 // How far lengths may lie beyond their range in the next double cycle.
 fn walked_on(params: &Params, flutter: Flutter, beyond: u64) -> u64
-    requires beyond { beyond ≤ 20_000_000_000 }
+    requires beyond { beyond ≤ most_judged }
     ensures { result ≡ walked_on params.now flutter beyond }
 {
     let (gain, loss) = rate_walk(params, flutter);

@@ -1,4 +1,5 @@
 ghost use Rattle.std.specs.Prelude.{◌≡◌, ◌≤◌, ◌≤ℤ◌, ℕ, pos, true, false, nat_abs};
+ghost use Rattle.fr_bound.specs.Greatest.{most_peak, most_side, most_starts};
 ghost use Rattle.fr_bound.specs.Settling.{IsPeakTo, IsSettleCheck, IsSettleCheckOf, IsSettleVerdict, IsSettled};
 ghost use Rattle.fr_bound.specs.Settling.{SettlesAt, apart_in, first_spread, most_stated, next_spread, settle_right_of};
 
@@ -53,7 +54,7 @@ fn way(params: &Params, start: u64, rate: u64) -> (u32, u64)
     ensures settles { SettlesAt params.now start rate result.0 }
     ensures soon { result.0 ≤ 83 }
     ensures peak { IsPeakTo params.now start rate result.0 result.1 }
-    ensures most { result.1 ≤ 8_200_000_000_000 }
+    ensures most { result.1 ≤ most_peak }
 {
     let mut spread = first(params, start, rate);
     let mut peak = apart(params, spread);
@@ -71,7 +72,7 @@ fn first(params: &Params, start: u64, rate: u64) -> Spread
     requires start { start ≤ most_stated }
     requires rate { rate ≤ most_stated }
     ensures value { result ≡ first_spread params.now start rate }
-    ensures starts { result.starts ≤ 6_100_000_000_000 }
+    ensures starts { result.starts ≤ most_starts }
     ensures lengths { result.lengths ≤ most_stated }
 {
     Spread {
@@ -81,10 +82,10 @@ fn first(params: &Params, start: u64, rate: u64) -> Spread
 }
 
 fn next(params: &Params, spread: Spread) -> Spread
-    requires starts { spread.starts ≤ 6_100_000_000_000 }
+    requires starts { spread.starts ≤ most_starts }
     requires lengths { spread.lengths ≤ most_stated }
     ensures value { result ≡ next_spread params.now spread }
-    ensures starts { result.starts ≤ 6_100_000_000_000 }
+    ensures starts { result.starts ≤ most_starts }
     ensures lengths { result.lengths ≤ most_stated }
 {
     let more = 4 * arrival_error(params) + 8 * longest_microtick(params);
@@ -102,17 +103,17 @@ fn is_settled(params: &Params, spread: Spread) -> bool
 }
 
 fn apart(params: &Params, spread: Spread) -> u64
-    requires starts { spread.starts ≤ 6_100_000_000_000 }
+    requires starts { spread.starts ≤ most_starts }
     requires lengths { spread.lengths ≤ most_stated }
     ensures value { result ≡ apart_in params.now spread }
-    ensures most { result ≤ 8_200_000_000_000 }
+    ensures most { result ≤ most_peak }
 {
     spread.starts + 2 * spread.lengths + 2 * longest_microtick(params)
 }
 
 // The first check for the way that fails, with both sides.
 fn first_failing(params: &Params, peak: u64) -> Option<(u8, i64, i64)>
-    requires { peak ≤ 8_200_000_000_000 }
+    requires { peak ≤ most_peak }
     ensures { IsSettleVerdict params.now peak result }
 {
     for number in 1..6 {
@@ -128,7 +129,7 @@ fn first_failing(params: &Params, peak: u64) -> Option<(u8, i64, i64)>
 /// one on with that in place of the precision.
 pub fn side_within(params: &Params, number: u8, peak: u64) -> CheckSides
     requires number { IsSettleCheck number }
-    requires peak { peak ≤ 8_200_000_000_000 }
+    requires peak { peak ≤ most_peak }
     ensures { IsSettleCheckOf number peak params.now result }
 {
     let (left, _right) = sides(params, number);
@@ -147,9 +148,9 @@ pub fn side_within(params: &Params, number: u8, peak: u64) -> CheckSides
 // What a check for the way needs: the last three with the peak in place of the precision.
 fn need(params: &Params, number: u8, peak: u64) -> u64
     requires number { IsSettleCheck number }
-    requires peak { peak ≤ 8_200_000_000_000 }
+    requires peak { peak ≤ most_peak }
     ensures value { result ≡ settle_right_of number peak params.now }
-    ensures most { result ≤ 1_000_000_000_000_000_000 }
+    ensures most { result ≤ most_side }
 {
     match number {
         3 => peak + arrival_error(params) + longest_microtick(params),

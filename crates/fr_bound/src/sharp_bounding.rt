@@ -4,6 +4,7 @@ ghost use Rattle.fr_cluster.specs.Constraints.{key_slots};
 ghost use Rattle.fr_cluster.specs.Values.{amount};
 ghost use Rattle.fr_cluster.specs.declared.names.ParamName.TheVariants as name;
 ghost use Rattle.fr_bound.specs.Bounds.{cycle_change};
+ghost use Rattle.fr_bound.specs.Greatest.{most_odd_lengths, most_sharp_reach, most_sharp_starts};
 ghost use Rattle.fr_bound.specs.Settling.{most_stated};
 ghost use Rattle.fr_bound.specs.SharpBounds.{last_action, last_of, near_by, odd_spread, precision_by};
 ghost use Rattle.fr_bound.specs.SharpBounds.{rate_room, rate_walk, sharp_lambda, sharp_near, sharp_pi, sharp_precision};
@@ -150,27 +151,27 @@ pub fn sharp_pi(params: &Params, beside: bool, flutter: Flutter) -> u64
 pub fn odd_spread(params: &Params, lengths: u64) -> u64
     requires { lengths ≤ most_stated }
     ensures value { result ≡ odd_spread params.now lengths }
-    ensures most { result ≤ 1_002_000_000_000 }
+    ensures most { result ≤ most_odd_lengths }
 {
     lengths + 2 * cycle_change(params)
 }
 
 /// How far macroticks may lie apart, where starts and even lengths lie so far apart, in ticks.
 pub fn precision_by(params: &Params, starts: u64, lengths: u64) -> u64
-    requires starts { starts ≤ 3_100_000_000_000 }
+    requires starts { starts ≤ most_sharp_starts }
     requires lengths { lengths ≤ most_stated }
     ensures value { result ≡ precision_by params.now starts lengths }
-    ensures most { result ≤ 5_200_000_000_000 }
+    ensures most { result ≤ most_sharp_reach }
 {
     starts + lengths + odd_spread(params, lengths) + 2 * longest_microtick(params)
 }
 
 /// How far action points may then lie apart, up to that of the last key slot, in ticks.
 pub fn near_by(params: &Params, starts: u64, lengths: u64) -> u64
-    requires starts { starts ≤ 3_100_000_000_000 }
+    requires starts { starts ≤ most_sharp_starts }
     requires lengths { lengths ≤ most_stated }
     ensures value { result ≡ near_by params.now starts lengths }
-    ensures most { result ≤ 5_200_000_000_000 }
+    ensures most { result ≤ most_sharp_reach }
 {
     starts + lengths + share(params, odd_spread(params, lengths)) + longest_microtick(params)
 }
@@ -178,10 +179,10 @@ pub fn near_by(params: &Params, starts: u64, lengths: u64) -> u64
 /// How far starts and even lengths may lie apart in the next double cycle, in ticks, where they lie so far apart in one in
 /// which all is heard, beside arbitrary sync nodes or without. Delays flutter by no more than so many ticks.
 pub fn next_sharp_spread(params: &Params, beside: bool, flutter: Flutter, spread: Spread) -> Spread
-    requires starts { spread.starts ≤ 3_100_000_000_000 }
+    requires starts { spread.starts ≤ most_sharp_starts }
     requires lengths { spread.lengths ≤ most_stated }
     ensures value { result ≡ next_sharp_spread beside params.now flutter spread }
-    ensures starts { result.starts ≤ 3_100_000_000_000 }
+    ensures starts { result.starts ≤ most_sharp_starts }
     ensures lengths { result.lengths ≤ most_stated }
 {
     let odd = odd_spread(params, spread.lengths);
@@ -203,9 +204,9 @@ pub fn next_sharp_spread(params: &Params, beside: bool, flutter: Flutter, spread
 
 // The share of such ticks of a cycle that lies before the last action point.
 fn share(params: &Params, ticks: u64) -> u64
-    requires { ticks ≤ 1_002_000_000_000 }
+    requires { ticks ≤ most_odd_lengths }
     ensures value { result ≡ last_action params.now * ticks / amount params.now name.gMacroPerCycle }
-    ensures most { result ≤ 1_002_000_000_000 }
+    ensures most { result ≤ most_odd_lengths }
 {
     let macros = params.natural(ParamName::gMacroPerCycle);
     last_action(params) * ticks / macros

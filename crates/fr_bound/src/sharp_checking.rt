@@ -1,4 +1,5 @@
 ghost use Rattle.std.specs.Prelude.{Bool, ℕ, ◌≡◌, ◌≤◌, OnOk, IfErr};
+ghost use Rattle.fr_bound.specs.Greatest.{most_sharp_reach};
 ghost use Rattle.fr_bound.specs.Settling.{IsSettleCheck};
 ghost use Rattle.fr_bound.specs.SharpBounds.{sharp_near};
 ghost use Rattle.fr_bound.specs.SharpChecks.{FirstSharpFailing, IsSharpCheckFor, IsSharpCheckOf, SharpChecksHold};
@@ -40,7 +41,7 @@ pub fn sharp_checks(params: &Params, beside: bool, flutter: Flutter) -> Result<(
 /// The sides of that check with any reach, in ticks, 0 to 5,200,000,000,000.
 pub fn sharp_side_within(params: &Params, flutter: Flutter, reach: u64, number: u8) -> CheckSides
     requires number { IsSettleCheck number }
-    requires reach { reach ≤ 5_200_000_000_000 }
+    requires reach { reach ≤ most_sharp_reach }
     ensures { IsSharpCheckFor number flutter reach params.now result }
 {
     match number {

@@ -26,10 +26,17 @@ dev_limits_of p odd slot sender receiver = record {
   length = receiver.length;
 }
 
+-- how far two action points lie apart at most, and a limit from the receiver's, in ticks
+abbrev pub most_gap : ℕ
+most_gap = 1_111_000_000_000_000_000
+
+abbrev pub most_limit : ℕ
+most_limit = 1_112_000_000_000_000_000
+
 -- limits with which can be computed
 pub record AreTicks (limits : Limits) : Type 0 where
-  pub least : IsWithin (pos 1_112_000_000_000_000_000) limits.least
-  pub most : IsWithin (pos 1_112_000_000_000_000_000) limits.most
+  pub least : IsWithin (pos most_limit) limits.least
+  pub most : IsWithin (pos most_limit) limits.most
   pub lasts : IsLength limits.length
 
 abbrev pub limits_by : Values → Bool → ℕ → Option NodeRow → Option NodeRow → Option Limits

@@ -17,7 +17,7 @@ ghost use Rattle.fr_trace.specs.Trace.{TraceView};
 ghost use Rattle.fr_verdict.specs.Breach.{halted_state, is_away, sender_is_away, sender_row, silent_state};
 ghost use Rattle.fr_verdict.specs.Search.{breach_at};
 ghost use Rattle.fr_verdict.specs.Sound.{IsSound};
-ghost use Rattle.fr_check.specs.Allowed.{allowed_by, limits_by, dev_limits_of, outside_of, silent_by, AreTicks, IsAllowedFor};
+ghost use Rattle.fr_check.specs.Allowed.{allowed_by, limits_by, dev_limits_of, outside_of, silent_by, AreTicks, IsAllowedFor, most_gap, most_limit};
 
 use crate::apart::apart;
 use crate::first::first_of;
@@ -141,7 +141,7 @@ fn action_instant(params: &Params, odd: bool, row: &NodeRow, action: i64) -> i64
     requires row { KeepsLimits params.now row.now }
     requires action { IsEarly params.now action }
     ensures value { result ≡ instant_of (grid_for params.now) row.now odd action }
-    ensures within { IsBetween (pos 0) (pos 1_111_000_000_000_000_000) result }
+    ensures within { IsBetween (pos 0) (pos most_gap) result }
 {
     instant(&grid_of(params), row, odd, action)
 }
@@ -152,7 +152,7 @@ fn gap(params: &Params, odd: bool, slot: Slot, sender: &NodeRow, receiver: &Node
     requires sender { KeepsLimits params.now sender.now }
     requires receiver { KeepsLimits params.now receiver.now }
     ensures value { result ≡ gap_of params.now odd (pos (action_point_of params.now slot)) sender.now receiver.now }
-    ensures within { IsWithin (pos 1_111_000_000_000_000_000) result }
+    ensures within { IsWithin (pos most_gap) result }
 {
     let action = action_point(params, slot);
     difference(
@@ -163,36 +163,36 @@ fn gap(params: &Params, odd: bool, slot: Slot, sender: &NodeRow, receiver: &Node
 
 // How far an instant lies after another.
 fn difference(one: i64, other: i64) -> i64
-    requires one { IsBetween (pos 0) (pos 1_111_000_000_000_000_000) one }
-    requires other { IsBetween (pos 0) (pos 1_111_000_000_000_000_000) other }
+    requires one { IsBetween (pos 0) (pos most_gap) one }
+    requires other { IsBetween (pos 0) (pos most_gap) other }
     ensures value { result ≡ one -ℤ other }
-    ensures within { IsWithin (pos 1_111_000_000_000_000_000) result }
+    ensures within { IsWithin (pos most_gap) result }
 {
     one - other
 }
 
 // A number of ticks less an error, and more by it.
 fn less(ticks: i64, error: i64) -> i64
-    requires ticks { IsWithin (pos 1_111_000_000_000_000_000) ticks }
+    requires ticks { IsWithin (pos most_gap) ticks }
     requires error { IsBetween (pos 0) (pos 10_300_000) error }
     ensures value { result ≡ ticks -ℤ error }
-    ensures within { IsWithin (pos 1_112_000_000_000_000_000) result }
+    ensures within { IsWithin (pos most_limit) result }
 {
     ticks - error
 }
 
 fn more(ticks: i64, error: i64) -> i64
-    requires ticks { IsWithin (pos 1_111_000_000_000_000_000) ticks }
+    requires ticks { IsWithin (pos most_gap) ticks }
     requires error { IsBetween (pos 0) (pos 10_300_000) error }
     ensures value { result ≡ ticks +ℤ error }
-    ensures within { IsWithin (pos 1_112_000_000_000_000_000) result }
+    ensures within { IsWithin (pos most_limit) result }
 {
     ticks + error
 }
 
 // A quotient rounded down.
 fn floor(n: i64, length: i64) -> i64
-    requires n { IsWithin (pos 1_112_000_000_000_000_000) n }
+    requires n { IsWithin (pos most_limit) n }
     requires length { IsLength length }
     ensures { result ≡ floor_of n length }
 {
@@ -210,7 +210,7 @@ fn ticks(count: i64, length: i64) -> i64
 
 // Whether a deviation is less than so many ticks, rounded down to microticks. It divides nothing.
 fn is_less(value: i32, ticks_least: i64, length: i64) -> bool
-    requires least { IsWithin (pos 1_112_000_000_000_000_000) ticks_least }
+    requires least { IsWithin (pos most_limit) ticks_least }
     requires length { IsLength length }
     ensures { result ≡ int_lt value (floor_of ticks_least length) }
 {

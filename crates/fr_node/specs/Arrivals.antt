@@ -1,5 +1,6 @@
 -- A frame as a node receives it, and its answer.
-use Rattle.std.specs.Prelude.{◌≡◌, ℕ, ℤ, int_le, int_lt, Bool, true, false, ◌||◌, List}
+use Rattle.std.specs.Prelude.{◌≡◌, ℕ, ℤ, pos, int_le, int_lt, Bool, true, false, ◌||◌, List}
+use Rattle.fr_base.specs.Within.{IsWithin}
 use Rattle.fr_base.specs.declared.node_row.NodeRow.{NodeRow}
 use Rattle.fr_cluster.specs.Values.{Values}
 use Rattle.fr_time.specs.Instant.{IsInCycle, slot_begins, slot_ends}
@@ -11,6 +12,14 @@ use Rattle.fr_reception.specs.declared.heard.Heard.TheVariants.{Stored, Ignored}
 -- the offer of these bytes
 abbrev pub offer_with : Arrival → List ℕ → Offer
 offer_with arrival bytes = record { slot = arrival.slot; channel = arrival.channel; arrival = arrival.at; bytes = bytes }
+
+-- an instant at which a node can be offered a frame, in ticks: an arbitrary node says one at any time near a run
+abbrev pub IsOfferedAt : ℤ → Type 0
+IsOfferedAt at = IsWithin (pos 4_000_000_000_000_000_000) at
+
+-- how far an arrival lies behind the start of its cycle at most, in ticks
+abbrev pub most_behind_start : ℕ
+most_behind_start = 1_050_000_000_000
 
 -- a fact about a deviation that is stored
 abbrev pub IfStored : Heard → (ℤ → Type 0) → Type 0

@@ -27,6 +27,10 @@ pub record ListenerView : Type 0 where
 abbrev pub IsArrival : ℤ → Type 0
 IsArrival at = IsWithin (pos 900_000_000_000_000_000) at
 
+-- the greatest first start of one that begins to follow, in ticks
+abbrev pub most_first_start : ℕ
+most_first_start = 904_000_000_000_000_000
+
 -- the arrivals of a listener can be
 pub record AreArrivals (l : ListenerView) : Type 0 where
   pub even_a : IfSome l.even_a IsArrival

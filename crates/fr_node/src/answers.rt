@@ -8,7 +8,7 @@ ghost use Rattle.fr_time.specs.Instant.{IsInCycle, IsSlotOf};
 ghost use Rattle.fr_time.specs.Position.{floor_of};
 ghost use Rattle.fr_time.specs.Slots.{slot_end_of, slot_start_of};
 ghost use Rattle.fr_reception.specs.Offers.{deviation_of};
-ghost use Rattle.fr_node.specs.Arrivals.{offer_with, IfStored, LiesInSlot, LiesOutside};
+ghost use Rattle.fr_node.specs.Arrivals.{offer_with, IfStored, LiesInSlot, LiesOutside, most_behind_start};
 ghost use Rattle.fr_node.specs.Receptions.{answer_with, received_as};
 
 use crate::quotients::{lies_between, quotient};
@@ -55,7 +55,7 @@ fn ticks_until(row: &NodeRow, at: i64) -> u64
     requires timed { IsTimed row.now }
     requires at { IsInCycle row.now at }
     ensures value { pos result ≡ at -ℤ row.now.start }
-    ensures most { result ≤ 1_050_000_000_000 }
+    ensures most { result ≤ most_behind_start }
 {
     (at - row.start) as u64
 }
@@ -155,7 +155,7 @@ fn ticks_since(row: &NodeRow, at: i64) -> Option<u64>
     requires { IsTimed row.now }
     ensures value { IfSome result (λ ticks. pos ticks ≡ at -ℤ row.now.start) }
     ensures in_cycle { IfSome result (λ ticks. IsInCycle row.now at) }
-    ensures most { IfSome result (λ ticks. ticks ≤ 1_050_000_000_000) }
+    ensures most { IfSome result (λ ticks. ticks ≤ most_behind_start) }
 {
     if at < row.start {
         return None;

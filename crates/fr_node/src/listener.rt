@@ -2,7 +2,7 @@ ghost use Rattle.std.specs.Prelude.{◌≡◌, ◌≤◌, ◌<◌, ◌-ℤ◌, �
 ghost use Rattle.std.specs.Option.{option_map};
 ghost use Rattle.fr_base.specs.Timed.{IsLength};
 ghost use Rattle.fr_base.specs.Within.{IsBetween, IsWithin};
-ghost use Rattle.fr_cluster.specs.Questions.{compensation_of, key_index_of, node_of};
+ghost use Rattle.fr_cluster.specs.Questions.{key_index_of, node_of};
 ghost use Rattle.fr_cluster.specs.Values.{amount};
 ghost use Rattle.fr_cluster.specs.declared.names.ParamName.TheVariants as name;
 ghost use Rattle.fr_frame.specs.Reading.{read_as};
@@ -11,7 +11,7 @@ ghost use Rattle.fr_time.specs.Cycles.{is_odd};
 ghost use Rattle.fr_time.specs.Position.{even_position, floor_of, grid_for};
 ghost use Rattle.fr_time.specs.Slots.{action_point_of};
 ghost use Rattle.fr_node.specs.Fits.{NodeFits};
-ghost use Rattle.fr_node.specs.Listening.{caught_in, follower_by, is_in_limit, IsArrival, IsCatch};
+ghost use Rattle.fr_node.specs.Listening.{caught_in, follower_by, is_in_limit, IsArrival, IsCatch, most_first_start};
 
 use crate::answers::read;
 use crate::node::Node;
@@ -80,7 +80,7 @@ impl Listener {
     /// a sync frame of the reference's slot: then its arrival is kept for the channel and the cycle, and nothing else
     /// changes. After false nothing changed.
     pub fn catch(&mut self, channel: Channel, odd: bool, arrival: i64, bytes: &[u8]) -> bool
-        requires { IsWithin (pos 900_000_000_000_000_000) arrival }
+        requires { IsArrival arrival }
         ensures good { result ≡ is_sync_of self.old.reference (read_as channel bytes.now) }
         ensures after { self.new ≡ after_catching self.old odd channel arrival result }
     {
@@ -97,7 +97,7 @@ impl Listener {
         bytes: &[u8],
         told: &Result<Header, FrameFault>,
     ) -> bool
-        requires arrival { IsWithin (pos 900_000_000_000_000_000) arrival }
+        requires arrival { IsArrival arrival }
         requires told { told.now ≡ read_as channel bytes.now }
         ensures good { result ≡ is_sync_of self.old.reference (read_as channel bytes.now) }
         ensures after { self.new ≡ after_catching self.old odd channel arrival result }
@@ -375,7 +375,7 @@ fn behind(at: i64, ticks: i64) -> i64
     requires at { IsArrival at }
     requires ticks { IsWithin (pos 3_300_000_000_000_000) ticks }
     ensures value { result ≡ at +ℤ ticks }
-    ensures within { IsWithin (pos 904_000_000_000_000_000) result }
+    ensures within { IsWithin (pos most_first_start) result }
 {
     at + ticks
 }
@@ -387,7 +387,7 @@ fn first_start(params: &Params, caught: &Catch, rate: i32) -> i64
     requires rate { rate ≡ first_rate_of params.now (caught_in caught.now) }
     requires within { IsWithin params.now.rate_limit rate }
     ensures value { result ≡ first_start_of params.now (caught_in caught.now) }
-    ensures within { IsWithin (pos 904_000_000_000_000_000) result }
+    ensures within { IsWithin (pos most_first_start) result }
 {
     sane(params);
     let rest = rest_of(params, caught.slot, rate);

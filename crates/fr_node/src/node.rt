@@ -58,8 +58,8 @@ impl Node {
     ghost use Rattle.fr_node.specs.Cycle.{after_hearing, control_after_terms, in_cycle, corrected_row, corrects, ended, ended_but, ended_corrected, ended_row_of_node, fresh, as_joined, offset_term_of_node, own_index_of_node, passed, rate_term_of_node};
     ghost use Rattle.fr_correct.specs.Terms.{are_uncut};
     ghost use Rattle.fr_node.specs.Fits.{AreTermsOf};
-    ghost use Rattle.fr_node.specs.Listening.{follower_of};
-    ghost use Rattle.fr_node.specs.Arrivals.{IfStored, LiesInSlot, LiesOutside};
+    ghost use Rattle.fr_node.specs.Listening.{follower_of, most_first_start};
+    ghost use Rattle.fr_node.specs.Arrivals.{IfStored, LiesInSlot, LiesOutside, IsOfferedAt};
     ghost use Rattle.fr_node.specs.Receptions.{answer_with, received_as};
 
     /// A node before cycle 0: active, with no deviation. The start of cycle 0 is in ticks, the rate term in
@@ -88,7 +88,7 @@ impl Node {
     pub(crate) fn following(params: &Params, id: NodeId, cycle: u32, start: i64, rate: i32) -> Node
         requires known { IsSome (node_of params.now id) }
         requires in_run { cycle < 200_000 }
-        requires start { IsBetween (pos 0) (pos 904_000_000_000_000_000) start }
+        requires start { IsBetween (pos 0) (pos most_first_start) start }
         requires rate { IsWithin params.now.rate_limit rate }
         ensures value { result ≡ follower_of params.now id cycle start rate }
         ensures fits { NodeFits params.now result }
@@ -136,7 +136,7 @@ impl Node {
         bytes: &[u8],
     ) -> Heard
         requires receives { CanReceive params.now self.old slot channel }
-        requires arrival { IsWithin (pos 4_000_000_000_000_000_000) arrival }
+        requires arrival { IsOfferedAt arrival }
         ensures answer { result ≡ answer_of params.now self.old.cycle (node_row_of self.old)
             (record { slot = slot; channel = channel; arrival = arrival; bytes = bytes.now }) }
         ensures after { self.new ≡ after_hearing params.now self.old slot channel result }
@@ -159,7 +159,7 @@ impl Node {
         told: &Result<Header, FrameFault>,
     ) -> Heard
         requires receives { CanReceive params.now self.old slot channel }
-        requires arrival { IsWithin (pos 4_000_000_000_000_000_000) arrival }
+        requires arrival { IsOfferedAt arrival }
         requires told { told.now ≡ read_as channel bytes.now }
         ensures answer { result ≡ answer_of params.now self.old.cycle (node_row_of self.old)
             (record { slot = slot; channel = channel; arrival = arrival; bytes = bytes.now }) }
@@ -183,7 +183,7 @@ impl Node {
         reception: &Reception,
     ) -> Heard
         requires receives { CanReceive params.now self.old slot channel }
-        requires arrival { IsWithin (pos 4_000_000_000_000_000_000) arrival }
+        requires arrival { IsOfferedAt arrival }
         ensures answer { (bytes : List ℕ) →
             reception.now ≡ received_as params.now self.old.cycle slot (read_as channel bytes) →
             result ≡ answer_of params.now self.old.cycle (node_row_of self.old)

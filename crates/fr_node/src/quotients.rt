@@ -1,4 +1,5 @@
 ghost use Rattle.std.specs.Prelude.{◌≡◌, ◌≤◌, ◌<◌, ◌*◌, ◌/◌, true};
+ghost use Rattle.fr_node.specs.Arrivals.{most_behind_start};
 
 // The quotient of ticks and a length, rounded down. Where `near` is not above it, and not far below, the division has
 // 32 bits.
@@ -6,9 +7,9 @@ pub(crate) fn quotient(ticks: u64, length: u64, near: u64) -> u64
     requires some { 1 ≤ length }
     requires short { length ≤ 1_500_000 }
     requires near { near ≤ 700_000 }
-    requires few { ticks ≤ 1_050_000_000_000 }
+    requires few { ticks ≤ most_behind_start }
     ensures value { result ≡ ticks / length }
-    ensures most { result ≤ 1_050_000_000_000 }
+    ensures most { result ≤ most_behind_start }
 {
     let before = near * length;
     if ticks < before {
@@ -38,7 +39,7 @@ pub(crate) fn lies_between(
     requires macros { macros ≤ 16_000 }
     requires long { 1 ≤ length }
     requires length { length ≤ 1_500_000 }
-    requires ticks { ticks ≤ 1_050_000_000_000 }
+    requires ticks { ticks ≤ most_behind_start }
     ensures begun { result ≡ true → begin * micros / macros * length ≤ ticks }
     ensures not_ended { result ≡ true → ticks < end * micros / macros * length }
 {

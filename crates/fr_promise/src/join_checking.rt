@@ -1,5 +1,6 @@
 ghost use Rattle.std.specs.Prelude.{Bool, ◌≡◌, ◌≤◌, pos, OnOk, IfErr};
 ghost use Rattle.fr_promise.specs.JoinedHistories.{first_rates_last, first_rates_of_walk};
+ghost use Rattle.fr_bound.specs.Greatest.{most_sharp_reach};
 ghost use Rattle.fr_bound.specs.SharpBounds.{rate_room, rate_walk};
 ghost use Rattle.fr_promise.specs.SharpJoining.{counted_error, sharp_first_apart, sharp_first_lengths, sharp_reach};
 ghost use Rattle.fr_promise.specs.SharpJoining.{FirstSharpJoinFailing, IsSharpJoinCheckOf, SharpJoinChecksHold};
@@ -98,7 +99,7 @@ fn counted_error(params: &Params, flutter: Flutter) -> u64
 
 fn ticks_of_reach(params: &Params, beside: bool, flutter: Flutter) -> u64
     ensures value { result ≡ sharp_reach beside params.now flutter }
-    ensures most { result ≤ 5_200_000_000_000 }
+    ensures most { result ≤ most_sharp_reach }
 {
     let lengths = first_lengths(params, beside, flutter);
     near_by(params, first_apart(params, beside, flutter), lengths)

@@ -1,4 +1,5 @@
 ghost use Rattle.std.specs.Prelude.{Option, ◌≡◌, ◌≤◌, true, false};
+ghost use Rattle.fr_bound.specs.Greatest.{most_sharp_reach, most_sharp_starts};
 ghost use Rattle.fr_bound.specs.Settling.{most_stated, IsSettleCheck};
 ghost use Rattle.fr_bound.specs.SharpSpreads.{next_sharp_spread};
 ghost use Rattle.fr_bound.specs.SharpSpreads.{first_sharp_spread, IsSharplySettled};
@@ -59,7 +60,7 @@ fn until_settled(
     requires start { start ≤ most_stated }
     requires rate { rate ≤ most_stated }
     ensures leads { LeadsTo beside params.now flutter start rate result.0 result.1 result.2 }
-    ensures most { result.2 ≤ 5_200_000_000_000 }
+    ensures most { result.2 ≤ most_sharp_reach }
 {
     let mut spread = first(params, beside, start, rate, flutter);
     let mut peak = precision_by(params, spread.starts, spread.lengths);
@@ -79,7 +80,7 @@ fn first(params: &Params, beside: bool, start: u64, rate: u64, flutter: Flutter)
     requires start { start ≤ most_stated }
     requires rate { rate ≤ most_stated }
     ensures value { result ≡ first_sharp_spread beside params.now flutter start rate }
-    ensures starts { result.starts ≤ 3_100_000_000_000 }
+    ensures starts { result.starts ≤ most_sharp_starts }
     ensures lengths { result.lengths ≤ most_stated }
 {
     Spread {
@@ -103,7 +104,7 @@ fn first_failing(
     doubles: u32,
     reach: u64,
 ) -> Option<(u8, i64, i64)>
-    requires reach { reach ≤ 5_200_000_000_000 }
+    requires reach { reach ≤ most_sharp_reach }
     ensures { IsWayVerdict params.now flutter doubles reach result }
 {
     for number in 1..6 {
@@ -117,7 +118,7 @@ fn first_failing(
 
 fn way_side(params: &Params, flutter: Flutter, doubles: u32, reach: u64, number: u8) -> CheckSides
     requires number { IsSettleCheck number }
-    requires reach { reach ≤ 5_200_000_000_000 }
+    requires reach { reach ≤ most_sharp_reach }
     ensures { IsWayCheckOf number flutter doubles reach params.now result }
 {
     let CheckSides { left, right, holds } = sharp_side_within(params, flutter, reach, number);

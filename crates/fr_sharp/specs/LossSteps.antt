@@ -8,6 +8,13 @@ use Rattle.fr_precision.specs.declared.kinds.Kinds.{Kinds}
 use Rattle.fr_bound.specs.SharpBounds.{precision_by}
 use Rattle.fr_promise.specs.SharpJoining.{GroupSpread}
 
+-- how far starts and lengths come apart at most in a run, whatever is lost of it, in ticks
+abbrev pub most_lost_starts : ℕ
+most_lost_starts = 30_000_100_000_000_000_000_000
+
+abbrev pub most_lost_lengths : ℕ
+most_lost_lengths = 14_000_000_000_000_000
+
 -- how far starts and even lengths may lie apart
 abbrev pub spread_with : ℕ → ℕ → Spread
 spread_with starts lengths = record { starts = starts; lengths = lengths }

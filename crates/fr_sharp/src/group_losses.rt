@@ -4,7 +4,7 @@ ghost use Rattle.fr_runs.specs.Gathered.{listened_by};
 ghost use Rattle.fr_precision.specs.declared.kinds.Kinds.{Kinds};
 ghost use Rattle.fr_promise.specs.SharpJoining.{all_heard, first_apart_by, first_lengths_by, group_spread_through, next_group_spread, second_apart_by};
 ghost use Rattle.fr_sharp.specs.LossRuns.{near_in_group, some_listened};
-ghost use Rattle.fr_sharp.specs.LossSteps.{AreReckoned, LossGroup, heard_apart, most_lost, most_passed};
+ghost use Rattle.fr_sharp.specs.LossSteps.{AreReckoned, LossGroup, heard_apart, most_lost, most_passed, most_lost_lengths, most_lost_starts};
 
 use crate::loss_steps::{LossSpread, near_by, odd};
 use fr_bound::{
@@ -110,8 +110,8 @@ fn all_heard(beside: bool) -> Heard
 
 // How far the starts of those that follow for the first time may lie from the others.
 fn first_apart(params: &Params, flutter: Flutter, starts: u128, lengths: u128) -> u128
-    requires starts { starts ≤ 30_000_100_000_000_000_000_000 }
-    requires lengths { lengths ≤ 14_000_000_000_000_000 }
+    requires starts { starts ≤ most_lost_starts }
+    requires lengths { lengths ≤ most_lost_lengths }
     ensures value { result ≡ first_apart_by params.now flutter starts lengths }
     ensures most { result ≤ starts + 2 * lengths + 30_000_000_000 }
 {
@@ -125,7 +125,7 @@ fn first_apart(params: &Params, flutter: Flutter, starts: u128, lengths: u128) -
 
 // And their even lengths.
 fn first_lengths(params: &Params, flutter: Flutter, lengths: u128) -> u128
-    requires lengths { lengths ≤ 14_000_000_000_000_000 }
+    requires lengths { lengths ≤ most_lost_lengths }
     ensures value { result ≡ first_lengths_by params.now flutter lengths }
     ensures most { result ≤ lengths + 30_000_000_000 }
 {
@@ -138,9 +138,9 @@ fn first_lengths(params: &Params, flutter: Flutter, lengths: u128) -> u128
 
 // How far the starts of those that follow for the second time may, by what was heard of offsets in their first double cycle.
 fn second_apart(params: &Params, what: Heard, starts: u128, lengths: u128, first: u128) -> u128
-    requires starts { starts ≤ 30_000_100_000_000_000_000_000 }
-    requires lengths { lengths ≤ 14_000_000_000_000_000 }
-    requires first { first ≤ 14_000_000_000_000_000 }
+    requires starts { starts ≤ most_lost_starts }
+    requires lengths { lengths ≤ most_lost_lengths }
+    requires first { first ≤ most_lost_lengths }
     ensures value { result ≡ second_apart_by what params.now starts lengths first }
     ensures most { result ≤ starts + lengths + first + 30_000_000_000 }
 {

@@ -1,4 +1,4 @@
-ghost use Rattle.std.specs.Prelude.{◌≡◌, ◌≤◌, ◌<◌, ◌+◌, ◌-◌, None, Some};
+ghost use Rattle.std.specs.Prelude.{◌≡◌, ◌≤◌, ◌<◌, ◌+◌, ◌-◌, IfSome, None, Some};
 ghost use Rattle.fr_precision.specs.Among.{all_or_any, both, lost_spread};
 ghost use Rattle.fr_sharp.specs.LossCosts.{IsCrossingCost, IsLongest, IsLossCost, IsSecondCost, heard_behind};
 ghost use Rattle.fr_sharp.specs.LossSteps.{most_lost};
@@ -125,7 +125,8 @@ pub fn every_second_cost(params: &Params, flutter: Flutter) -> SecondCost
 /// In how many double cycles in a row any frames may be lost so that the checks of the limits hold with the reach of that,
 /// 0 to 98; none where they fail though nothing is lost. Delays flutter by no more than so many ticks.
 pub fn longest_loss(params: &Params, flutter: Flutter) -> Option<u32>
-    ensures { IsLongest params.now flutter result }
+    ensures is { IsLongest params.now flutter result }
+    ensures most { IfSome result (λ longest. longest ≤ 98) }
 {
     let _macros = params.value(ParamName::gMacroPerCycle);
     let mut spread = LossSpread::first(params, false, flutter);
@@ -140,8 +141,10 @@ pub fn longest_loss(params: &Params, flutter: Flutter) -> Option<u32>
 
 // The number before this one.
 fn before(count: u32) -> Option<u32>
+    requires { count ≤ 99 }
     ensures none { count ≡ 0 → result ≡ None }
     ensures some { 0 < count → result ≡ Some (count - 1) }
+    ensures most { IfSome result (λ number. number ≤ 98) }
 {
     if count == 0 { None } else { Some(count - 1) }
 }

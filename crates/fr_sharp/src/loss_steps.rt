@@ -5,7 +5,7 @@ ghost use Rattle.fr_cluster.specs.declared.names.ParamName.TheVariants as name;
 ghost use Rattle.fr_bound.specs.Judged.{heard_spread};
 ghost use Rattle.fr_precision.specs.Among.{kinds_spread, spread_through_losses};
 ghost use Rattle.fr_precision.specs.declared.kinds.Kinds.{Kinds};
-ghost use Rattle.fr_sharp.specs.LossSteps.{LossDouble, IsReckoned, heard_apart, most_lost, most_passed, spread_with};
+ghost use Rattle.fr_sharp.specs.LossSteps.{LossDouble, IsReckoned, heard_apart, most_lost, most_passed, spread_with, most_lost_lengths, most_lost_starts};
 ghost use Rattle.fr_bound.specs.SharpBounds.{last_action, near_by, odd_spread, precision_by, steady_error};
 ghost use Rattle.fr_bound.specs.SharpSpreads.{sharply_near_in};
 
@@ -94,7 +94,7 @@ impl LossSpread {
 // How far instants of the same action point may lie apart by starts and even lengths.
 pub(crate) fn near_by(params: &Params, starts: u128, lengths: u128) -> u128
     requires starts { starts ≤ 31_000_000_000_000_000_000_000 }
-    requires lengths { lengths ≤ 14_000_000_000_000_000 }
+    requires lengths { lengths ≤ most_lost_lengths }
     ensures value { result ≡ near_by params.now starts lengths }
     ensures most { result ≤ most_lost }
 {
@@ -104,8 +104,8 @@ pub(crate) fn near_by(params: &Params, starts: u128, lengths: u128) -> u128
 
 // The next starts and the next lengths.
 fn next(params: &Params, flutter: Flutter, what: Kinds, starts: u128, lengths: u128) -> (u128, u128)
-    requires starts { starts ≤ 30_000_100_000_000_000_000_000 }
-    requires lengths { lengths ≤ 14_000_000_000_000_000 }
+    requires starts { starts ≤ most_lost_starts }
+    requires lengths { lengths ≤ most_lost_lengths }
     ensures next { spread_with result.0 result.1 ≡
         kinds_spread what params.now flutter (spread_with starts lengths) }
     ensures starts { result.0 ≤ starts + 30_000_000_000_000_000 }
@@ -119,8 +119,8 @@ fn next(params: &Params, flutter: Flutter, what: Kinds, starts: u128, lengths: u
 
 // The next starts, by what is heard of offsets.
 fn next_starts(params: &Params, what: Heard, starts: u128, lengths: u128) -> u128
-    requires starts { starts ≤ 30_000_100_000_000_000_000_000 }
-    requires lengths { lengths ≤ 14_000_000_000_000_000 }
+    requires starts { starts ≤ most_lost_starts }
+    requires lengths { lengths ≤ most_lost_lengths }
     ensures value { (flutter : ℕ) → result ≡
         (heard_spread what params.now flutter (spread_with starts lengths)).starts }
     ensures most { result ≤ starts + 30_000_000_000_000_000 }
@@ -139,7 +139,7 @@ fn next_starts(params: &Params, what: Heard, starts: u128, lengths: u128) -> u12
 
 // The next lengths, by what is heard of rates.
 fn next_lengths(params: &Params, flutter: Flutter, what: Heard, lengths: u128) -> u128
-    requires lengths { lengths ≤ 14_000_000_000_000_000 }
+    requires lengths { lengths ≤ most_lost_lengths }
     ensures value { (starts : ℕ) → result ≡
         (heard_spread what params.now flutter (spread_with starts lengths)).lengths }
     ensures most { result ≤ lengths + 13_000_000_000 }
@@ -163,7 +163,7 @@ fn lengthened(params: &Params, flutter: Flutter) -> u64
 
 // How far the lengths of odd cycles may lie apart.
 pub(crate) fn odd(params: &Params, lengths: u128) -> u128
-    requires { lengths ≤ 14_000_000_000_000_000 }
+    requires { lengths ≤ most_lost_lengths }
     ensures value { result ≡ odd_spread params.now lengths }
     ensures most { result ≤ lengths + 2_000_000_000 }
 {
@@ -172,8 +172,8 @@ pub(crate) fn odd(params: &Params, lengths: u128) -> u128
 
 // How far macroticks may lie apart by starts and even lengths.
 fn macroticks(params: &Params, starts: u128, lengths: u128) -> u128
-    requires starts { starts ≤ 30_000_100_000_000_000_000_000 }
-    requires lengths { lengths ≤ 14_000_000_000_000_000 }
+    requires starts { starts ≤ most_lost_starts }
+    requires lengths { lengths ≤ most_lost_lengths }
     ensures value { result ≡ precision_by params.now starts lengths }
     ensures most { result ≤ most_lost }
 {

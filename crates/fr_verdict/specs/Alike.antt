@@ -29,6 +29,17 @@ use Rattle.fr_verdict.specs.declared.unlawful.Verdict.{Verdict}
 
 -- ---- places
 
+-- the ranges in which they are computed: in ticks where a row ends and where a value places its sender, and in microticks how far
+-- a deviation lies from another
+abbrev pub IsRowEnd : ℤ → Type 0
+IsRowEnd at = IsWithin (pos 1_114_000_000_000_000_000) at
+
+abbrev pub IsValuePlace : ℤ → Type 0
+IsValuePlace at = IsWithin (pos 1_200_000_000_000_000_000) at
+
+abbrev pub IsDevChange : ℤ → Type 0
+IsDevChange value = IsWithin (pos 4_294_967_296) value
+
 -- the offset value that a receiver has of the node of a slot, by its deviations of an odd cycle
 abbrev pub said_offset : List Dev → ℕ → ℕ → Option ℤ
 said_offset odds receiver slot = least_of (dev_in odds receiver slot channel.A) (dev_in odds receiver slot channel.B)

@@ -409,10 +409,7 @@ fn is_dev_of(dev: &Dev, receiver: u8, slot: u16, channel: Channel) -> bool
 fn is_channel(one: Channel, other: Channel) -> bool
     ensures { result ≡ (channel_rank one == channel_rank other) }
 {
-    matches!(
-        (one, other),
-        (Channel::A, Channel::A) | (Channel::B, Channel::B)
-    )
+    one == other
 }
 
 // Whether a receiver has a deviation of a sender in a cycle on a channel.

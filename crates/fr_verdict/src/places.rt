@@ -7,7 +7,7 @@ ghost use Rattle.fr_bound.specs.Sync.{cycle_length_of};
 ghost use Rattle.fr_measure.specs.Values.{change_of, least_of, mean_of};
 ghost use Rattle.fr_midpoint.specs.Midpoint.{half_of_sum};
 ghost use Rattle.fr_precision.specs.Rows.{end_of};
-ghost use Rattle.fr_verdict.specs.Alike.{alike_offsets, alike_rates, are_both_near, is_near_all, is_said_alike_in, offset_place_in, rate_place_in, said_offset, said_rate};
+ghost use Rattle.fr_verdict.specs.Alike.{alike_offsets, alike_rates, are_both_near, is_near_all, is_said_alike_in, offset_place_in, rate_place_in, said_offset, said_rate, IsDevChange, IsRowEnd, IsValuePlace};
 ghost use Rattle.fr_verdict.specs.SharpTraces.{recorded_flutter};
 
 use crate::covering::dev_in;
@@ -141,8 +141,8 @@ fn alike_rates(params: &Params) -> u64
 // Whether neither of two places is there, or both are and lie so near.
 fn are_both_near(bound: u64, one: Option<i64>, other: Option<i64>) -> bool
     requires bound { bound ≤ 43_000_000_000 }
-    requires one { IfSome one (IsWithin (pos 1_200_000_000_000_000_000)) }
-    requires other { IfSome other (IsWithin (pos 1_200_000_000_000_000_000)) }
+    requires one { IfSome one IsValuePlace }
+    requires other { IfSome other IsValuePlace }
     ensures { result ≡ are_both_near bound one other }
 {
     match one {
@@ -155,16 +155,16 @@ fn are_both_near(bound: u64, one: Option<i64>, other: Option<i64>) -> bool
 }
 
 fn are_near(bound: i64, one: i64, other: i64) -> bool
-    requires one { IsWithin (pos 1_200_000_000_000_000_000) one }
-    requires other { IsWithin (pos 1_200_000_000_000_000_000) other }
+    requires one { IsValuePlace one }
+    requires other { IsValuePlace other }
     ensures { result ≡ (int_le (one -ℤ other) bound && int_le (other -ℤ one) bound) }
 {
     difference(one, other) <= bound && difference(other, one) <= bound
 }
 
 fn difference(one: i64, other: i64) -> i64
-    requires one { IsWithin (pos 1_200_000_000_000_000_000) one }
-    requires other { IsWithin (pos 1_200_000_000_000_000_000) other }
+    requires one { IsValuePlace one }
+    requires other { IsValuePlace other }
     ensures { result ≡ one -ℤ other }
 {
     one - other
@@ -177,7 +177,7 @@ fn offset_place(params: &Params, odds: &[Dev], slot: Slot, row: &NodeRow) -> Opt
     requires odds { AreAscendingDevs odds.now }
     requires row { IsTimed row.now }
     ensures value { result ≡ offset_place_in odds.now slot params.now row.now }
-    ensures within { IfSome result (IsWithin (pos 1_200_000_000_000_000_000)) }
+    ensures within { IfSome result IsValuePlace }
 {
     match said_offset(odds, row.node, slot) {
         None => None,
@@ -197,7 +197,7 @@ fn rate_place(
     requires odds { AreAscendingDevs odds.now }
     requires row { IsTimed row.now }
     ensures value { result ≡ rate_place_in evens.now odds.now slot params.now row.now }
-    ensures within { IfSome result (IsWithin (pos 1_200_000_000_000_000_000)) }
+    ensures within { IfSome result IsValuePlace }
 {
     match said_rate(evens, odds, row.node, slot) {
         None => None,
@@ -206,27 +206,27 @@ fn rate_place(
 }
 
 fn placed(base: i64, value: i64, length: i64) -> i64
-    requires base { IsWithin (pos 1_114_000_000_000_000_000) base }
-    requires value { IsWithin (pos 4_294_967_296) value }
+    requires base { IsRowEnd base }
+    requires value { IsDevChange value }
     requires length { IsLength length }
     ensures value { result ≡ base +ℤ (value *ℤ length) }
-    ensures within { IsWithin (pos 1_200_000_000_000_000_000) result }
+    ensures within { IsValuePlace result }
 {
     sum(base, ticks(value, length))
 }
 
 fn sum(base: i64, ticks: i64) -> i64
-    requires base { IsWithin (pos 1_114_000_000_000_000_000) base }
+    requires base { IsRowEnd base }
     requires ticks { IsWithin (pos 6_442_450_944_000_000) ticks }
     ensures value { result ≡ base +ℤ ticks }
-    ensures within { IsWithin (pos 1_200_000_000_000_000_000) result }
+    ensures within { IsValuePlace result }
 {
     base + ticks
 }
 
 // What so many microticks of a length are, in ticks.
 fn ticks(count: i64, length: i64) -> i64
-    requires count { IsWithin (pos 4_294_967_296) count }
+    requires count { IsDevChange count }
     requires length { IsLength length }
     ensures value { result ≡ count *ℤ length }
     ensures within { IsWithin (pos 6_442_450_944_000_000) result }
@@ -237,7 +237,7 @@ fn ticks(count: i64, length: i64) -> i64
 fn end_of(params: &Params, row: &NodeRow) -> i64
     requires { IsTimed row.now }
     ensures value { result ≡ end_of params.now row.now }
-    ensures within { IsWithin (pos 1_114_000_000_000_000_000) result }
+    ensures within { IsRowEnd result }
 {
     end_behind(row.start, cycle_length(params, row))
 }
@@ -246,7 +246,7 @@ fn end_behind(start: i64, length: i64) -> i64
     requires start { IsBetween (pos 0) (pos 1_110_000_000_000_000_000) start }
     requires length { IsWithin (pos 3_300_000_000_000_000) length }
     ensures value { result ≡ start +ℤ length }
-    ensures within { IsWithin (pos 1_114_000_000_000_000_000) result }
+    ensures within { IsRowEnd result }
 {
     start + length
 }
@@ -254,7 +254,7 @@ fn end_behind(start: i64, length: i64) -> i64
 fn length_as_end(params: &Params, row: &NodeRow) -> i64
     requires { IsTimed row.now }
     ensures value { result ≡ cycle_length_of params.now row.now }
-    ensures within { IsWithin (pos 1_114_000_000_000_000_000) result }
+    ensures within { IsRowEnd result }
 {
     end_behind(0, cycle_length(params, row))
 }
@@ -301,7 +301,7 @@ fn said_rate(evens: &[Dev], odds: &[Dev], receiver: NodeId, slot: Slot) -> Optio
     requires evens { AreAscendingDevs evens.now }
     requires odds { AreAscendingDevs odds.now }
     ensures value { result ≡ said_rate evens.now odds.now receiver slot }
-    ensures within { IfSome result (IsWithin (pos 4_294_967_296)) }
+    ensures within { IfSome result IsDevChange }
 {
     mean(
         change(
@@ -327,7 +327,7 @@ fn least(a: Option<i32>, b: Option<i32>) -> Option<i32>
 
 fn change(even: Option<i32>, odd: Option<i32>) -> Option<i64>
     ensures value { result ≡ change_of even odd }
-    ensures within { IfSome result (IsWithin (pos 4_294_967_296)) }
+    ensures within { IfSome result IsDevChange }
 {
     match (even, odd) {
         (Some(x), Some(y)) => Some(rise(x, y)),
@@ -338,16 +338,16 @@ fn change(even: Option<i32>, odd: Option<i32>) -> Option<i64>
 // The later deviation less the earlier one.
 fn rise(even: i32, odd: i32) -> i64
     ensures value { result ≡ odd -ℤ even }
-    ensures within { IsWithin (pos 4_294_967_296) result }
+    ensures within { IsDevChange result }
 {
     odd as i64 - even as i64
 }
 
 fn mean(a: Option<i64>, b: Option<i64>) -> Option<i64>
-    requires a { IfSome a (IsWithin (pos 4_294_967_296)) }
-    requires b { IfSome b (IsWithin (pos 4_294_967_296)) }
+    requires a { IfSome a IsDevChange }
+    requires b { IfSome b IsDevChange }
     ensures value { result ≡ mean_of a b }
-    ensures within { IfSome result (IsWithin (pos 4_294_967_296)) }
+    ensures within { IfSome result IsDevChange }
 {
     match (a, b) {
         (Some(x), Some(y)) => Some(half_sum(x, y)),
@@ -358,10 +358,10 @@ fn mean(a: Option<i64>, b: Option<i64>) -> Option<i64>
 
 // Half of the sum of two values, truncated toward zero.
 fn half_sum(low: i64, high: i64) -> i64
-    requires low { IsWithin (pos 4_294_967_296) low }
-    requires high { IsWithin (pos 4_294_967_296) high }
+    requires low { IsDevChange low }
+    requires high { IsDevChange high }
     ensures value { result ≡ half_of_sum low high }
-    ensures within { IsWithin (pos 4_294_967_296) result }
+    ensures within { IsDevChange result }
 {
     (low + high) / 2
 }

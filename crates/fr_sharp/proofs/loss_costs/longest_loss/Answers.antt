@@ -14,8 +14,8 @@ loop-count-init c = record {
   all = λ k less. absurd (omega (arith, less));
 }
 
-pub returns-then-not-limits_hold : goal.returns-then-not-limits_hold
-returns-then-not-limits_hold c =
+pub returns-then-not-limits_hold-clause-is : goal.returns-then-not-limits_hold-clause-is
+returns-then-not-limits_hold-clause-is c =
     let p = c.args.params.now in
     let t = c.args.flutter in
     let n = c.loop-count.count in
@@ -23,6 +23,9 @@ returns-then-not-limits_hold c =
     let fails : c.limits_hold.result ≡ false = search rules in
     let told : limits_hold t (reach_of_row p t n) p ≡ false = sym (ap (λ (r : ℕ). limits_hold t r p) near) ∙ sym c.limits_hold.ensures ∙ fails in
     longest_by p t n c.before-then-not-limits_hold.result c.value-macros.ensures.sane c.loop-count.invariant.all told c.before-then-not-limits_hold.ensures.none c.before-then-not-limits_hold.ensures.some
+
+pub returns-then-not-limits_hold-clause-most : goal.returns-then-not-limits_hold-clause-most
+returns-then-not-limits_hold-clause-most c = c.before-then-not-limits_hold.ensures.most
 
 pub loop-count-preserved : goal.loop-count-preserved
 loop-count-preserved c =
