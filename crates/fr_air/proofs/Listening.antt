@@ -1,5 +1,5 @@
 -- A node that hears a sender can hear in the sender's slot.
-use Rattle.std.proofs.Common.{◌≡◌, ◌≢◌, ◌⊎◌, inl, inr, ℕ, ◌≤◌, ℤ, pos, IsSome, Bool, true, false, not, ◌&&◌, ◌==◌, List, [], ◌∷◌, Option, Some, None, refl, ap, sym, subst, ◌∙◌}
+use Rattle.std.proofs.Common.{◌≡◌, ◌≢◌, ℕ, ◌≤◌, ℤ, pos, IsSome, Bool, true, false, not, ◌&&◌, ◌==◌, List, [], ◌∷◌, Option, Some, None, refl, ap, sym, subst, ◌∙◌}
 use Rattle.std.specs.Prelude.{Contains, find}
 use Rattle.std.specs.Option.{option_map}
 use Rattle.std.proofs.lemmas.Bool.{and_parts, cond_both, eqb-true, eq-eqb}
@@ -24,10 +24,9 @@ use Rattle.fr_base.specs.Event.{Event}
 use Rattle.fr_base.specs.Event.Event.{Say}
 use Rattle.fr_base.specs.Within.{IsWithin}
 use Rattle.fr_history.specs.Offers.{arrived_of, said_in_event}
-use Rattle.fr_air.specs.Sending.{bytes_by, hears, offer_at, offer_from, offer_heard, said_by, said_instant, said_with, sent_instant, sent_with, AreShort, ComesAs}
-use Rattle.fr_script.specs.Events.{event_seen, IsProperEvent}
-use Rattle.fr_script.specs.declared.script.Event.{Event as Shown}
-use Rattle.fr_script.specs.declared.script.Event.TheVariants as shows
+use Rattle.fr_air.specs.Listening.{frame_with}
+use Rattle.fr_air.specs.Sending.{bytes_by, carried, hears, offer_at, offer_from, offer_heard, said_by, said_instant, said_with, sent_instant, sent_with, AreShort, ComesAs}
+use Rattle.fr_script.specs.Events.{IsProperEvent}
 use Rattle.fr_air.specs.declared.turn.Bytes.{Bytes}
 use Rattle.fr_air.specs.declared.turn.Coming.{Coming}
 use Rattle.fr_air.specs.Cycling.{IsReady}
@@ -142,6 +141,15 @@ sent_comes x turn sender frame receiver arrival event bytes is arrives short at 
   within = record { arrival = within; short = short };
 }
 
+-- the bytes of one with a bit inverted, or none, are these, and no longer than a frame
+pub carried_frame : (bit : Option ℕ) (frame : List ℕ) → frame_with bit frame ≡ bytes_by frame (carried bit)
+carried_frame None frame = refl
+carried_frame (Some bit) frame = refl
+
+pub carried_short : (bit : Option ℕ) → AreShort (carried bit)
+carried_short None = tt
+carried_short (Some bit) = tt
+
 -- and nothing comes of one of which nothing arrives
 pub nothing_comes : (x : Setting) (turn : Turn) (sender : NodeRow) (frame : List ℕ) (receiver : ℕ) (event : Event) → event ≡ x.event turn.cycle sender.node receiver turn.channel → arrived_of event frame ≡ None →
     ComesAs turn frame (sent_with x turn sender frame receiver) None
@@ -149,8 +157,3 @@ nothing_comes x turn sender frame receiver event is none = record {
   offer_is = ap (option_map (offer_at turn (sent_instant x turn sender receiver))) (sym none ∙ ap (λ (e : Event). arrived_of e frame) is);
   within = tt;
 }
-
--- nothing arrives of what is lost, or said by an arbitrary node
-pub nothing_arrives : (shown : Shown) (frame : List ℕ) → (shown ≡ shows.Silent) ⊎ ((shift : ℤ) × (bytes : Option (Bor (List ℕ))) × (shown ≡ shows.Say shift bytes)) → arrived_of (event_seen shown) frame ≡ None
-nothing_arrives shown frame (inl is) = ap (λ (s : Shown). arrived_of (event_seen s) frame) is
-nothing_arrives shown frame (inr (shift, bytes, is)) = ap (λ (s : Shown). arrived_of (event_seen s) frame) is

@@ -14,6 +14,10 @@ use Rattle.fr_air.specs.declared.lines.Room.{Room}
 use Rattle.fr_air.specs.declared.lines.Sight.{Sight}
 use Rattle.fr_air.specs.declared.lines.Spread.{Spread}
 
+-- a start that a recorded row can have, in ticks
+abbrev pub IsRowStart : ℤ → Type 0
+IsRowStart at = IsBetween (pos 0) (pos 1_110_000_000_000_000_000) at
+
 -- the numbers of a line and of a room lie in their ranges
 pub record IsLine (line : Line) : Type 0 where
   pub near : line.start ≤ 1_000_000_000_000

@@ -11,6 +11,7 @@ use Rattle.fr_cluster.specs.Questions.{compensation_of}
 use Rattle.fr_cluster.specs.Values.{Values}
 use Rattle.fr_reception.specs.Offers.{Offer, flipped}
 use Rattle.fr_time.specs.Instant.{action_instant}
+use Rattle.fr_node.specs.Arrivals.{IsOfferedAt}
 use Rattle.fr_node.specs.View.{NodeView, node_row_of}
 use Rattle.fr_cluster.specs.Setting.{Setting}
 use Rattle.fr_history.specs.History.{row_of as row_in}
@@ -22,6 +23,10 @@ use Rattle.fr_air.specs.declared.turn.Bytes.TheVariants.{Frame, Flipped, Said}
 use Rattle.fr_air.specs.declared.turn.Coming.{Coming}
 use Rattle.fr_air.specs.declared.turn.Sender.{Sender}
 use Rattle.fr_air.specs.declared.turn.Turn.{Turn}
+
+-- a start of a row that an arrival can be caught of, in ticks
+abbrev pub IsEarlyStart : ℤ → Type 0
+IsEarlyStart at = IsBetween (pos 0) (pos 200_000_000_000_000_000) at
 
 -- a row whose instants can be computed, before its corrections
 pub record IsEarlyRow (p : Values) (row : NodeRow) : Type 0 where
@@ -39,6 +44,11 @@ bytes_by frame Frame = frame
 bytes_by frame (Flipped bit) = flipped bit frame
 bytes_by frame (Said bytes) = bytes.now
 
+-- those that come with this bit inverted, if one is
+abbrev pub carried : Option ℕ → Bytes
+carried None = Frame
+carried (Some bit) = Flipped bit
+
 -- what comes of a frame in a turn, as an offer
 abbrev pub coming_offer : Turn → List ℕ → Coming → Offer
 coming_offer turn frame coming = offer_at turn coming.arrival (bytes_by frame coming.bytes)
@@ -51,7 +61,7 @@ AreShort (Said bytes) = length bytes.now ≤ 262
 
 -- it comes within any run
 pub record IsComing (coming : Coming) : Type 0 where
-  pub arrival : IsWithin (pos 4_000_000_000_000_000_000) coming.arrival
+  pub arrival : IsOfferedAt coming.arrival
   pub short : AreShort coming.bytes
 
 -- what an arbitrary sender says: its regular frame, or other bytes

@@ -1,5 +1,4 @@
-ghost use Rattle.std.specs.Prelude.{◌≡◌, ◌+◌, ◌≤◌, ◌++◌, drop, length, map, pos, take, true, All, Some, None};
-ghost use Rattle.fr_base.specs.Within.{IsBetween, IsWithin};
+ghost use Rattle.std.specs.Prelude.{◌≡◌, ◌+◌, ◌≤◌, ◌++◌, drop, length, map, take, true, All, Some, None};
 ghost use Rattle.fr_cluster.specs.Values.{amount};
 ghost use Rattle.fr_cluster.specs.declared.names.ParamName.TheVariants as name;
 ghost use Rattle.fr_pool.specs.Pool.{HasFree};
@@ -10,12 +9,13 @@ ghost use Rattle.fr_time.specs.Senders.{sender_of};
 ghost use Rattle.fr_air.specs.Cells.{Stays};
 ghost use Rattle.fr_air.specs.Files.{setting_in};
 ghost use Rattle.fr_air.specs.Listening.{after_catch, after_frame, after_listening, frame_with, heard_by_listener, offer_caught, CanBeHeard, CatchesTurn, HasListened, IsListener};
-ghost use Rattle.fr_air.specs.Sending.{offer_at, sending_row_in, sent_with, IsEarlyRow};
+ghost use Rattle.fr_air.specs.Sending.{offer_at, sending_row_in, sent_with, IsEarlyRow, IsEarlyStart};
 ghost use Rattle.fr_air.specs.Turns.{frame_of_turn};
+ghost use Rattle.fr_node.specs.Listening.{IsArrival};
 
 use crate::cells::{give_back, take_spare, write_frame};
 use crate::files::{RunInputs, sane};
-use crate::flipping::flip_front;
+use crate::flipping::{arrived, flip_front};
 use crate::instants::caught_at;
 use crate::memory::Memory;
 use crate::senders::sending_row;
@@ -23,7 +23,6 @@ use crate::turn::Turn;
 use fr_base::{Channel, NodeRow};
 use fr_node::Listener;
 use fr_pool::Pool;
-use fr_script::Event;
 use fr_time::{Sending, is_odd, sender};
 
 // Inverts a bit of so many bytes at the front of others, if one is to be inverted.
@@ -58,7 +57,7 @@ fn write_inverted(
 
 // A listener catches bytes that come in a turn at an instant.
 fn catch_bytes(turn: &Turn, arrival: i64, bytes: &[u8], listener: &mut Listener)
-    requires { IsWithin (pos 900_000_000_000_000_000) arrival }
+    requires { IsArrival arrival }
     ensures { listener.new ≡ after_catch turn.now (Some (offer_at turn.now arrival bytes.now)) listener.old }
 {
     listener.catch(turn.channel, is_odd(turn.cycle), arrival, bytes);
@@ -76,7 +75,7 @@ pub fn catch_copy(
     listener: &mut Listener,
 )
     requires sends { sender_of files.now.params turn.now.slot turn.now.cycle ≡ Some sending.now }
-    requires arrival { IsWithin (pos 900_000_000_000_000_000) arrival }
+    requires arrival { IsArrival arrival }
     requires spare { HasFree pool.old }
     requires whole { length pool.old.bytes ≡ length pool.old.out }
     ensures caught { listener.new
@@ -102,7 +101,7 @@ fn catch_sent(
     requires slot { turn.now.slot ≤ amount files.now.params name.gNumberOfStaticSlots }
     requires sends { sender_of files.now.params turn.now.slot turn.now.cycle ≡ Some sending.now }
     requires row { IsEarlyRow files.now.params row.now }
-    requires start { IsBetween (pos 0) (pos 200_000_000_000_000_000) row.now.start }
+    requires start { IsEarlyStart row.now.start }
     ensures caught { listener.new ≡ after_catch turn.now
         (sent_with (setting_in files.now) turn.now row.now
         (frame_of_turn files.now turn.now sending.now) listener.old.id)
@@ -110,13 +109,11 @@ fn catch_sent(
     ensures stays { memory.new ≡ memory.old }
 {
     let arrival = caught_at(files, turn, row, listener.id());
-    match files
+    let event = files
         .script
-        .at(turn.cycle, row.node, listener.id(), turn.channel)
-    {
-        Event::Regular => memory.catch(files, turn, sending, arrival, None, listener),
-        Event::Flip(bit) => memory.catch(files, turn, sending, arrival, Some(bit), listener),
-        Event::Silent | Event::Say { .. } => {}
+        .at(turn.cycle, row.node, listener.id(), turn.channel);
+    if let Some(bit) = arrived(&event) {
+        memory.catch(files, turn, sending, arrival, bit, listener);
     }
 }
 

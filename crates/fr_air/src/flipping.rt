@@ -1,5 +1,24 @@
-ghost use Rattle.std.specs.Prelude.{◌≡◌, ◌-◌, ◌^◌, ◌<◌, ◌≤◌, ◌++◌, drop, length, take};
+ghost use Rattle.std.specs.Prelude.{◌≡◌, ◌-◌, ◌^◌, ◌<◌, ◌≤◌, ◌++◌, ℕ, List, drop, length, take};
+ghost use Rattle.std.specs.Option.{option_map};
+ghost use Rattle.fr_history.specs.Offers.{arrived_of};
 ghost use Rattle.fr_reception.specs.Offers.{flipped};
+ghost use Rattle.fr_script.specs.Events.{event_seen};
+ghost use Rattle.fr_air.specs.Listening.{frame_with};
+
+use fr_script::Event;
+
+// What arrives of the frame of a correct sender, by what becomes of it: with which bit inverted, if one is; None where
+// nothing arrives.
+pub fn arrived(event: &Event<'_>) -> Option<Option<u32>>
+    ensures { (frame : List ℕ) →
+        option_map (λ bit. frame_with bit frame) result ≡ arrived_of (event_seen event.now) frame }
+{
+    match event {
+        Event::Regular => Some(None),
+        Event::Flip(bit) => Some(Some(*bit)),
+        Event::Silent | Event::Say { .. } => None,
+    }
+}
 
 // Inverts a bit of so many bytes at the front of others. The bit counts from 0, the first bit sent.
 pub fn flip_front(bytes: &mut [u8], count: usize, bit: u32)

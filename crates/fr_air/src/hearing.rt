@@ -1,11 +1,11 @@
-ghost use Rattle.std.specs.Prelude.{◌≡◌, ℕ, ◌≤◌, pos, List, length};
-ghost use Rattle.fr_base.specs.Within.{IsWithin};
+ghost use Rattle.std.specs.Prelude.{◌≡◌, ℕ, ◌≤◌, List, length};
 ghost use Rattle.fr_pool.specs.Pool.{HasFree};
 ghost use Rattle.fr_reception.specs.Offers.{flipped};
 ghost use Rattle.fr_air.specs.Cells.{StandsInCell, Stays};
 ghost use Rattle.fr_air.specs.Memory.{frame_at};
 ghost use Rattle.fr_air.specs.Sending.{coming_offer, offer_at, IsComing};
 ghost use Rattle.fr_air.specs.Turns.{CanHear, HasAnswered, IsMadeOf};
+ghost use Rattle.fr_node.specs.Arrivals.{IsOfferedAt};
 
 use crate::cells::{give_back, put_front, take_spare};
 use crate::files::RunInputs;
@@ -24,7 +24,7 @@ fn hear_frame(
     node: &mut Node,
 ) -> Heard
     requires hears { CanHear files.now turn.now node.old }
-    requires arrival { IsWithin (pos 4_000_000_000_000_000_000) arrival }
+    requires arrival { IsOfferedAt arrival }
     ensures { (frame : List ℕ) → IsMadeOf files.now turn.now frame reception.now →
         HasAnswered files.now turn.now (offer_at turn.now arrival frame) node.old node.new result }
 {
@@ -34,7 +34,7 @@ fn hear_frame(
 // A node hears bytes.
 fn hear_bytes(files: &RunInputs, turn: &Turn, arrival: i64, bytes: &[u8], node: &mut Node) -> Heard
     requires hears { CanHear files.now turn.now node.old }
-    requires arrival { IsWithin (pos 4_000_000_000_000_000_000) arrival }
+    requires arrival { IsOfferedAt arrival }
     ensures { HasAnswered files.now turn.now (offer_at turn.now arrival bytes.now) node.old node.new result }
 {
     node.hear(&files.params, turn.slot, turn.channel, arrival, bytes)
@@ -51,7 +51,7 @@ fn hear_copy(
     node: &mut Node,
 ) -> Heard
     requires hears { CanHear files.now turn.now node.old }
-    requires arrival { IsWithin (pos 4_000_000_000_000_000_000) arrival }
+    requires arrival { IsOfferedAt arrival }
     requires bytes { length bytes.now ≤ 262 }
     requires spare { HasFree pool.old }
     requires whole { length pool.old.bytes ≡ length pool.old.out }
@@ -80,7 +80,7 @@ fn hear_flipped(
     node: &mut Node,
 ) -> Heard
     requires hears { CanHear files.now turn.now node.old }
-    requires arrival { IsWithin (pos 4_000_000_000_000_000_000) arrival }
+    requires arrival { IsOfferedAt arrival }
     requires stands { StandsInCell pool.old cell.now bytes }
     ensures answered { HasAnswered files.now turn.now
         (offer_at turn.now arrival (flipped bit (frame_at pool.old cell.now bytes)))

@@ -5,7 +5,8 @@ ghost use Rattle.fr_cluster.specs.Values.{amount};
 ghost use Rattle.fr_cluster.specs.declared.names.ParamName.TheVariants as name;
 ghost use Rattle.fr_time.specs.Instant.{action_instant, IsSlotOf};
 ghost use Rattle.fr_air.specs.Files.{setting_in};
-ghost use Rattle.fr_air.specs.Sending.{sent_instant, said_instant, IsDue, IsEarlyRow};
+ghost use Rattle.fr_air.specs.Sending.{sent_instant, said_instant, IsDue, IsEarlyRow, IsEarlyStart};
+ghost use Rattle.fr_node.specs.Listening.{IsArrival};
 
 use crate::files::RunInputs;
 use crate::turn::Turn;
@@ -43,7 +44,7 @@ pub fn sent_at(files: &RunInputs, turn: &Turn, sender: &NodeRow, due: i64, recei
 fn early_due_at(files: &RunInputs, turn: &Turn, sender: &NodeRow) -> i64
     requires slot { turn.now.slot ≤ amount files.now.params name.gNumberOfStaticSlots }
     requires row { IsEarlyRow files.now.params sender.now }
-    requires start { IsBetween (pos 0) (pos 200_000_000_000_000_000) sender.now.start }
+    requires start { IsEarlyStart sender.now.start }
     ensures due { IsDue files.now turn.now sender.now result }
     ensures early { IsBetween (pos 0) (pos 800_000_000_000_000_000) result }
 {
@@ -59,9 +60,9 @@ fn early_due_at(files: &RunInputs, turn: &Turn, sender: &NodeRow) -> i64
 pub fn caught_at(files: &RunInputs, turn: &Turn, sender: &NodeRow, receiver: NodeId) -> i64
     requires slot { turn.now.slot ≤ amount files.now.params name.gNumberOfStaticSlots }
     requires row { IsEarlyRow files.now.params sender.now }
-    requires start { IsBetween (pos 0) (pos 200_000_000_000_000_000) sender.now.start }
+    requires start { IsEarlyStart sender.now.start }
     ensures value { result ≡ sent_instant (setting_in files.now) turn.now sender.now receiver }
-    ensures within { IsWithin (pos 900_000_000_000_000_000) result }
+    ensures within { IsArrival result }
 {
     let due = early_due_at(files, turn, sender);
     sent_at(files, turn, sender, due, receiver)

@@ -13,7 +13,6 @@ pub mod kept;
 pub mod lines;
 pub mod memory;
 pub mod offering;
-pub mod places;
 pub mod reach;
 pub mod senders;
 mod standing;

@@ -1,10 +1,10 @@
-ghost use Rattle.std.specs.Prelude.{◌≡◌, ℕ, ◌+◌, ◌*◌, ◌≤◌, ◌≤ℤ◌, ◌+ℤ◌, ◌-ℤ◌, pos, true, All, IfSome};
+ghost use Rattle.std.specs.Prelude.{◌≡◌, ◌+◌, ◌*◌, ◌≤◌, ◌≤ℤ◌, ◌+ℤ◌, ◌-ℤ◌, pos, true, All, IfSome};
 ghost use Rattle.fr_cluster.specs.Values.{amount, Values};
 ghost use Rattle.fr_cluster.specs.declared.names.ParamName.TheVariants as name;
 ghost use Rattle.fr_time.specs.Slots.{slot_start_of};
 ghost use Rattle.fr_base.specs.Within.{IsBetween, IsWithin};
 ghost use Rattle.fr_base.specs.declared.node_row.NodeRow.{NodeRow};
-ghost use Rattle.fr_air.specs.Lines.{ComesInside, IsLine, IsLineOf, IsOnLine, IsRoom, IsRoomOf, IsSight, IsSpread, IsWider, LeavesSlack, LiesIn, LiesInSight};
+ghost use Rattle.fr_air.specs.Lines.{ComesInside, IsLine, IsLineOf, IsOnLine, IsRoom, IsRoomOf, IsSight, IsSpread, IsWider, LeavesSlack, LiesIn, LiesInSight, IsRowStart};
 ghost use Rattle.fr_air.specs.Sending.{IsEarlyRow};
 
 use fr_base::{NodeRow, Slot, State};
@@ -160,8 +160,8 @@ fn ticks(delay: i64) -> u64
 
 // Whether the start of a cycle lies behind an instant by no more than the longest cycle that a line reaches.
 fn is_near(early: i64, late: i64) -> bool
-    requires early { IsBetween (pos 0) (pos 1_110_000_000_000_000_000) early }
-    requires late { IsBetween (pos 0) (pos 1_110_000_000_000_000_000) late }
+    requires early { IsRowStart early }
+    requires late { IsRowStart late }
     ensures { result ≡ true → IsBetween (pos 0) (pos 1_000_000_000_000) (late -ℤ early) }
 {
     early <= late && late - early <= 1_000_000_000_000
@@ -170,7 +170,7 @@ fn is_near(early: i64, late: i64) -> bool
 // A spread that takes in the line of one more row, unless its node is halted.
 fn with_row(params: &Params, spread: &Spread, row: &NodeRow) -> Option<Spread>
     requires spread { IsSpread spread.now }
-    requires base { IsBetween (pos 0) (pos 1_110_000_000_000_000_000) spread.now.base }
+    requires base { IsRowStart spread.now.base }
     requires row { IsEarlyRow params.now row.now }
     ensures spread { IfSome result IsSpread }
     ensures wider { IfSome result (IsWider spread.now) }
@@ -188,7 +188,7 @@ fn with_row(params: &Params, spread: &Spread, row: &NodeRow) -> Option<Spread>
 // An instant soon before the starts of rows, if they lie near one another.
 fn base_of(params: &Params, rows: &[NodeRow]) -> i64
     requires { All (IsEarlyRow params.now) rows.now }
-    ensures { IsBetween (pos 0) (pos 1_110_000_000_000_000_000) result }
+    ensures { IsRowStart result }
 {
     if rows.is_empty() || rows[0].start < 500_000_000_000 {
         return 0;
@@ -199,7 +199,7 @@ fn base_of(params: &Params, rows: &[NodeRow]) -> i64
 // The spread of the lines of rows from an instant on; None where one of them starts not soon behind it.
 fn spread_of(params: &Params, base: i64, rows: &[NodeRow]) -> Option<Spread>
     requires rows { All (IsEarlyRow params.now) rows.now }
-    requires base { IsBetween (pos 0) (pos 1_110_000_000_000_000_000) base }
+    requires base { IsRowStart base }
     ensures spread { IfSome result IsSpread }
     ensures rows { IfSome result (λ spread. All (LiesInSight params.now spread) rows.now) }
 {
@@ -219,7 +219,7 @@ fn spread_of(params: &Params, base: i64, rows: &[NodeRow]) -> Option<Spread>
     Some(spread)
 }
 
-// The cycles of rows beside the slots; None where they lie too far apart for any frame to come inside of its slot.
+// The cycles of rows beside the slots; None where they may lie too far apart for that, and each frame is held against its slot.
 pub fn sight_of(params: &Params, rows: &[NodeRow]) -> Option<Sight>
     requires { All (IsEarlyRow params.now) rows.now }
     ensures sight { IfSome result (IsSight params.now) }

@@ -1,6 +1,5 @@
-ghost use Rattle.std.specs.Prelude.{◌≡◌, ℕ, ◌+◌, ◌*◌, ◌<◌, ◌≤◌, ◌++◌, ◌∷◌, List, [], length, slice_index_or, None, option_copied, pos, vec_capacity, IfOk, IfSome, Some};
+ghost use Rattle.std.specs.Prelude.{◌≡◌, ℕ, ◌+◌, ◌*◌, ◌<◌, ◌≤◌, ◌++◌, ◌∷◌, List, [], length, slice_index_or, None, option_copied, vec_capacity, IfOk, IfSome, Some};
 ghost use Rattle.fr_base.specs.Counts.{AreAtMost};
-ghost use Rattle.fr_base.specs.Within.{IsWithin};
 ghost use Rattle.fr_pool.specs.Pool.{IsFree, IsOut};
 ghost use Rattle.fr_reception.specs.Regular.{payload_bytes};
 ghost use Rattle.fr_time.specs.Senders.{sender_of};
@@ -11,6 +10,7 @@ ghost use Rattle.fr_air.specs.Listening.{after_frame};
 ghost use Rattle.fr_air.specs.Memory.{cell_of, frame_in_cell, frame_on, held_at, IsPoolOf, memory_with, place_of_slot, sent_at, with_frame};
 ghost use Rattle.fr_air.specs.Sending.{coming_offer, IsComing};
 ghost use Rattle.fr_air.specs.Turns.{frame_of_turn, CanHear, HasAnswered, IsOnAir, SendsInTurn};
+ghost use Rattle.fr_node.specs.Listening.{IsArrival};
 
 use crate::catching::catch_copy;
 use crate::cells::{take_spare, write_frame};
@@ -327,7 +327,7 @@ impl Memory {
         listener: &mut Listener,
     )
         requires sends { sender_of files.now.params turn.now.slot turn.now.cycle ≡ Some sending.now }
-        requires arrival { IsWithin (pos 900_000_000_000_000_000) arrival }
+        requires arrival { IsArrival arrival }
         ensures caught { listener.new
             ≡ after_frame turn.now arrival bit (frame_of_turn files.now turn.now sending.now) listener.old }
         ensures stays { self.new ≡ self.old }

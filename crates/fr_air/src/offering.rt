@@ -8,10 +8,11 @@ ghost use Rattle.fr_air.specs.Cycling.{IsReady};
 ghost use Rattle.fr_air.specs.Files.{setting_in};
 ghost use Rattle.fr_air.specs.Memory.{frame_on};
 ghost use Rattle.fr_air.specs.Reaching.{listening_on, IsReach, SendsAmong};
-ghost use Rattle.fr_air.specs.Sending.{coming_offer, hears, offer_heard, said_by, said_with, sent_with, ComesAs, IsComing, IsDue, IsEarlyRow};
+ghost use Rattle.fr_air.specs.Sending.{carried, coming_offer, hears, offer_heard, said_by, said_with, sent_with, ComesAs, IsComing, IsDue, IsEarlyRow};
 ghost use Rattle.fr_air.specs.Turns.{heard_on_air, offer_on, AreReady, CanHear, HasHeard, HaveHeard, IsOnAir, IsSent};
 
 use crate::files::RunInputs;
+use crate::flipping::arrived;
 use crate::instants::{said_at, sent_at};
 use crate::memory::Memory;
 use crate::reach::Reach;
@@ -45,19 +46,25 @@ fn sent_to<'a>(
         ComesAs turn.now frame (sent_with (setting_in files.now) turn.now sender.now frame receiver) result }
 {
     let arrival = sent_at(files, turn, sender, due, receiver);
-    match files
+    let event = files
         .script
-        .at(turn.cycle, sender.node, receiver, turn.channel)
-    {
-        Event::Regular => Some(Coming {
+        .at(turn.cycle, sender.node, receiver, turn.channel);
+    match arrived(&event) {
+        Some(bit) => Some(Coming {
             arrival,
-            bytes: Bytes::Frame,
+            bytes: carried(bit),
         }),
-        Event::Flip(bit) => Some(Coming {
-            arrival,
-            bytes: Bytes::Flipped(bit),
-        }),
-        Event::Silent | Event::Say { .. } => None,
+        None => None,
+    }
+}
+
+// The bytes that come of a frame with this bit inverted, if one is.
+fn carried<'a>(bit: Option<u32>) -> Bytes<'a>
+    ensures { result ≡ carried bit }
+{
+    match bit {
+        None => Bytes::Frame,
+        Some(bit) => Bytes::Flipped(bit),
     }
 }
 
@@ -91,7 +98,7 @@ fn said_to<'a>(
             arrival: said_at(files, turn, receiver, shift),
             bytes: said_by(bytes),
         }),
-        Event::Regular | Event::Silent | Event::Flip(_) => None,
+        _ => None,
     }
 }
 

@@ -10,7 +10,6 @@ ghost use Rattle.fr_world.specs.Succeeding.{first_now, listener_by, listener_now
 
 use crate::joining::put;
 use fr_air::files::{RunInputs, sane};
-use fr_air::places::{node_count, spec_at};
 use fr_base::{NodeId, Slot};
 use fr_cluster::{Join, NodeSpec, Params};
 use fr_node::{Listener, Node};
@@ -125,7 +124,7 @@ pub(crate) fn begin_listening(files: &RunInputs, double: u32, listeners: &mut Ve
 {
     sane(&files.params);
     listeners.clear();
-    for place in 0..node_count(&files.params) {
-        push_listener(files, double, spec_at(&files.params, place), listeners);
+    for place in 0..files.params.node_count() {
+        push_listener(files, double, files.params.node_at(place), listeners);
     }
 }

@@ -10,7 +10,6 @@ ghost use Rattle.fr_world.specs.World.{fresh_of, is_fresh, AreFresh, CanStart};
 ghost use Rattle.fr_world.specs.Standing.{nodes_kept};
 
 use fr_air::files::{RunInputs, sane};
-use fr_air::places::{node_count, spec_at};
 use fr_base::Slot;
 use fr_cluster::{NodeSpec, ParamName, Params};
 use fr_node::Node;
@@ -72,8 +71,8 @@ pub(crate) fn fresh_nodes(alloc: Global, files: &RunInputs) -> Result<Vec<Node>,
     ensures room { IfOk result (λ nodes. 64 ≤ vec_capacity nodes) }
 {
     let mut nodes = Vec::with_capacity(alloc, 64)?;
-    for place in 0..node_count(&files.params) {
-        let spec = spec_at(&files.params, place);
+    for place in 0..files.params.node_count() {
+        let spec = files.params.node_at(place);
         push_fresh(files, spec, &mut nodes)?;
     }
     Ok(nodes)

@@ -1,11 +1,11 @@
-use Rattle.std.proofs.Common.{pos, Some, None, refl}
-use Rattle.fr_base.specs.Event.Event.{Flip, Regular}
+use Rattle.std.proofs.Common.{◌≡◌, ◌∙◌, ℕ, pos, Option, Some, None, ap, sym, refl}
+use Rattle.std.specs.Option.{option_map}
 use Rattle.fr_base.specs.Within.{IsWithin}
 use Rattle.fr_script.specs.Events.{event_seen}
 use Rattle.fr_air.proofs.Caught.{caught-sent, nothing-sent}
 use Rattle.fr_air.proofs.Fitting.{back, caught-fits}
-use Rattle.fr_air.proofs.Listening.{nothing_arrives}
 use Rattle.fr_air.specs.Files.{setting_in}
+use Rattle.fr_air.specs.Listening.{frame_with}
 use Rattle.fr_air.specs.Turns.{frame_of_turn}
 use Rattle.fr_air.proofs.catching.catch_sent.Goals as goal
 
@@ -26,41 +26,25 @@ catch-requires-clause-arrival c =
     let arrival = c.caught_at-arrival in
     back (IsWithin (pos 900_000_000_000_000_000)) arrival.result (caught-fits arrival.result arrival.ensures.within) arrival.ensures.within
 
-pub catch-requires-in-Flip-clause-sends : goal.catch-requires-in-Flip-clause-sends
-catch-requires-in-Flip-clause-sends c = c.requires.sends
-
-pub catch-requires-in-Flip-clause-arrival : goal.catch-requires-in-Flip-clause-arrival
-catch-requires-in-Flip-clause-arrival c =
-    let arrival = c.caught_at-arrival in
-    back (IsWithin (pos 900_000_000_000_000_000)) arrival.result (caught-fits arrival.result arrival.ensures.within) arrival.ensures.within
-
-pub returns-in-Regular-clause-caught : goal.returns-in-Regular-clause-caught
-returns-in-Regular-clause-caught c =
+pub returns-in-Some-clause-caught : goal.returns-in-Some-clause-caught
+returns-in-Some-clause-caught c =
     let a = c.args in
     let arrival = c.caught_at-arrival in
-    caught-sent (setting_in a.files.now) a.turn.now a.row.now (frame_of_turn a.files.now a.turn.now a.sending.now) a.listener.now c.id.result c.id-2.result Regular c.id.ensures c.id-2.ensures c.in-Regular.ensures.value
-    arrival.result None c.catch.new.listener (caught-fits arrival.result arrival.ensures.within) arrival.ensures.value refl c.catch.ensures.caught
+    let bit = c.in-Some.bit in
+    let frame = frame_of_turn a.files.now a.turn.now a.sending.now in
+    caught-sent (setting_in a.files.now) a.turn.now a.row.now frame a.listener.now c.id.result c.id-2.result (event_seen c.at-event.result) c.id.ensures c.id-2.ensures c.at-event.ensures.value
+    arrival.result bit c.catch.new.listener (caught-fits arrival.result arrival.ensures.within) arrival.ensures.value
+    (sym (c.arrived.ensures frame) ∙ ap (option_map (λ (b : Option ℕ). frame_with b frame)) c.in-Some.is) c.catch.ensures.caught
 
-pub returns-in-Regular-clause-stays : goal.returns-in-Regular-clause-stays
-returns-in-Regular-clause-stays c = c.catch.ensures.stays
+pub returns-in-Some-clause-stays : goal.returns-in-Some-clause-stays
+returns-in-Some-clause-stays c = c.catch.ensures.stays
 
-pub returns-in-Flip-clause-caught : goal.returns-in-Flip-clause-caught
-returns-in-Flip-clause-caught c =
-    let a = c.args in
-    let arrival = c.caught_at-arrival in
-    let bit = c.in-Flip.bit in
-    caught-sent (setting_in a.files.now) a.turn.now a.row.now (frame_of_turn a.files.now a.turn.now a.sending.now) a.listener.now c.id.result c.id-2.result (Flip bit) c.id.ensures c.id-2.ensures c.in-Flip.ensures.value
-    arrival.result (Some bit) c.catch-in-Flip.new.listener (caught-fits arrival.result arrival.ensures.within) arrival.ensures.value refl c.catch-in-Flip.ensures.caught
-
-pub returns-in-Flip-clause-stays : goal.returns-in-Flip-clause-stays
-returns-in-Flip-clause-stays c = c.catch-in-Flip.ensures.stays
-
-pub returns-in-Silent-clause-caught : goal.returns-in-Silent-clause-caught
-returns-in-Silent-clause-caught c =
+pub returns-in_default-clause-caught : goal.returns-in_default-clause-caught
+returns-in_default-clause-caught c =
     let a = c.args in
     let frame = frame_of_turn a.files.now a.turn.now a.sending.now in
-    nothing-sent (setting_in a.files.now) a.turn.now a.row.now frame a.listener.now c.id.result c.id-2.result (event_seen c.at.result) c.id.ensures c.id-2.ensures c.at.ensures.value
-    (nothing_arrives c.at.result frame c.in-Silent.is)
+    nothing-sent (setting_in a.files.now) a.turn.now a.row.now frame a.listener.now c.id.result c.id-2.result (event_seen c.at-event.result) c.id.ensures c.id-2.ensures c.at-event.ensures.value
+    (sym (c.arrived.ensures frame) ∙ ap (option_map (λ (b : Option ℕ). frame_with b frame)) c.in_default.is)
 
-pub returns-in-Silent-clause-stays : goal.returns-in-Silent-clause-stays
-returns-in-Silent-clause-stays c = refl
+pub returns-in_default-clause-stays : goal.returns-in_default-clause-stays
+returns-in_default-clause-stays c = refl

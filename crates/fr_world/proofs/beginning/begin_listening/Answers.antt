@@ -23,9 +23,9 @@ loop-place-preserved c =
     let a = c.args in
     let specs = a.files.now.params.nodes in
     let i = c.loop-place.place in
-    let spec = c.spec_at.result.now in
+    let spec = c.node_at.result.now in
     let lt : i < length specs = omega arith in
-    let at : spec ≡ get_or specs i spec = sym (get_or_from_slice_get specs i spec spec c.spec_at.ensures) in
+    let at : spec ≡ get_or specs i spec = sym (get_or_from_slice_get specs i spec spec c.node_at.ensures) in
     (given-more (listener_now a.files.now a.double) specs i spec c.loop-place.listeners.items c.push_listener.new.listeners.items lt at c.loop-place.invariant.0 c.push_listener.ensures.pushed, c.push_listener.ensures.capacity ∙ c.loop-place.invariant.1)
 
 pub returns-clause-begun : goal.returns-clause-begun

@@ -16,19 +16,19 @@ use Rattle.fr_world.proofs.building.fresh_nodes.Goals as goal
 pub push_fresh-requires-clause-start : goal.push_fresh-requires-clause-start
 push_fresh-requires-clause-start c =
     let specs = c.args.files.now.params.nodes in
-    let spec = c.spec_at-spec.result.now in
+    let spec = c.node_at-spec.result.now in
     let lt : c.loop-place.place < length specs = omega arith in
-    record { drift_fits = c.requires.drift; known = among-known specs c.loop-place.place spec spec lt (sym (get_or_from_slice_get specs c.loop-place.place spec spec c.spec_at-spec.ensures)) }
+    record { drift_fits = c.requires.drift; known = among-known specs c.loop-place.place spec spec lt (sym (get_or_from_slice_get specs c.loop-place.place spec spec c.node_at-spec.ensures)) }
 
 pub loop-place-preserved : goal.loop-place-preserved
 loop-place-preserved c =
     let x : Setting = setting_in c.args.files.now in
     let specs = c.args.files.now.params.nodes in
-    let spec = c.spec_at-spec.result.now in
+    let spec = c.node_at-spec.result.now in
     let test : NodeSpec → Bool = λ node. is_fresh x node.id in
     let f : NodeSpec → NodeView = λ node. node_of_next x [] false node.id in
     let lt : c.loop-place.place < length specs = omega arith in
-    let at : spec ≡ get_or specs c.loop-place.place spec = sym (get_or_from_slice_get specs c.loop-place.place spec spec c.spec_at-spec.ensures) in
+    let at : spec ≡ get_or specs c.loop-place.place spec = sym (get_or_from_slice_get specs c.loop-place.place spec spec c.node_at-spec.ensures) in
     let pushed = c.in_ok-push_fresh.ensures.fresh in
     record {
       nodes_are = made-step test f specs c.loop-place.place spec c.loop-place.nodes.items c.push_fresh.new.nodes.items lt at c.loop-place.invariant.nodes_are pushed.nodes_are;
