@@ -20,9 +20,9 @@ use Rattle.fr_drift.specs.declared.keys.DelayKey.{DelayKey}
 use Rattle.fr_drift.specs.declared.keys.LengthKey.{LengthKey}
 use Rattle.fr_script.specs.Deeds.{DeedsAscend, deed_in, passage_cmp}
 use Rattle.fr_script.specs.Reasons.{is_same_passage}
-use Rattle.fr_script.specs.Rows.{IsProperDeed}
+use Rattle.fr_script.specs.Deed.{IsProperDeed}
 use Rattle.fr_script.specs.View.{AreDeeds}
-use Rattle.fr_script.specs.declared.deeds.Deed.{Deed}
+use Rattle.fr_script.specs.declared.deed.Deed.{Deed}
 use Rattle.fr_script.specs.declared.deeds.Passage.{Passage}
 use Rattle.fr_script.proofs.Existence.{ordered-keys}
 

@@ -6,9 +6,10 @@ use Rattle.fr_base.specs.Event.Event.{Regular, Silent, Flip}
 use Rattle.fr_base.specs.declared.channel.Channel.{Channel}
 use Rattle.fr_base.specs.declared.channel.Channel.TheVariants.{A, B}
 use Rattle.fr_script.specs.Deeds.{deed_in, passage_of}
-use Rattle.fr_script.specs.Events.{done_by, event_of}
-use Rattle.fr_script.specs.declared.deeds.Deed.{Deed}
-use Rattle.fr_script.specs.declared.deeds.Deed.TheVariants as deed
+use Rattle.fr_script.specs.Deed.{done_by}
+use Rattle.fr_script.specs.Events.{event_of}
+use Rattle.fr_script.specs.declared.deed.Deed.{Deed}
+use Rattle.fr_script.specs.declared.deed.Deed.TheVariants as deed
 use Rattle.fr_worked.proofs.Decided.{decided, event_is, no_row, none_marked, passage_is, plain_joins}
 use Rattle.fr_worked.proofs.Offset.{offset_delays, offset_doubles, offset_lengths, offset_rates, offset_starts}
 use Rattle.fr_drift.specs.View.{DriftView}

@@ -8,8 +8,8 @@ use Rattle.fr_cluster.specs.declared.join.Join.{Join}
 use Rattle.fr_drift.specs.View.{DriftView}
 use Rattle.fr_script.specs.Deeds.{passage_of}
 use Rattle.fr_script.specs.View.{ScriptView}
-use Rattle.fr_script.specs.declared.deeds.Deed.{Deed}
-use Rattle.fr_script.specs.declared.deeds.Deed.TheVariants.{Say}
+use Rattle.fr_script.specs.declared.deed.Deed.{Deed}
+use Rattle.fr_script.specs.declared.deed.Deed.TheVariants.{Say}
 use Rattle.fr_script.specs.declared.deeds.Passage.{Passage}
 
 -- a row of a script on channel A, or else what becomes of a frame that no row names

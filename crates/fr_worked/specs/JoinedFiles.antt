@@ -5,7 +5,7 @@ use Rattle.std.specs.Prelude.{pos, neg_ℤ, true, false, [], ◌∷◌, ◌++◌
 use Rattle.fr_drift.specs.Keys.{delay_key, length_key}
 use Rattle.fr_history.specs.Worked.{roomy_cluster}
 use Rattle.fr_script.specs.Deeds.{passage_of}
-use Rattle.fr_script.specs.declared.deeds.Deed.TheVariants.{Flip, Lose, Say}
+use Rattle.fr_script.specs.declared.deed.Deed.TheVariants.{Flip, Lose, Say}
 use Rattle.fr_worked.specs.Files.{no_arbitrary, no_join, steady_drift}
 use Rattle.fr_worked.specs.RunFiles.{RunFiles}
 use Rattle.fr_worked.specs.Uneven.{small_cluster}

@@ -5,8 +5,8 @@ use Rattle.fr_cluster.specs.Sane.{IsSane}
 use Rattle.fr_drift.specs.Files.{IsDriftFile}
 use Rattle.fr_script.specs.Deeds.{passage_of}
 use Rattle.fr_script.specs.Files.{IsScriptFile}
-use Rattle.fr_script.specs.declared.deeds.Deed.{Deed}
-use Rattle.fr_script.specs.declared.deeds.Deed.TheVariants as deed
+use Rattle.fr_script.specs.declared.deed.Deed.{Deed}
+use Rattle.fr_script.specs.declared.deed.Deed.TheVariants as deed
 use Rattle.fr_script.specs.declared.deeds.Passage.{Passage}
 use Rattle.fr_history.specs.Cycles.{Cycles}
 use Rattle.fr_precision.specs.Among.{both}

@@ -10,6 +10,7 @@ pub mod Quiet
 pub mod Lost
 pub mod Joined
 pub mod Positions
+pub mod Wording
 pub mod Working
 pub mod Uneven
 pub mod UnevenCycles

@@ -7,8 +7,8 @@ use Rattle.fr_base.specs.declared.channel.Channel.TheVariants.{A, B}
 use Rattle.fr_base.specs.declared.cycle_row.Counts.{Counts}
 use Rattle.fr_script.specs.Deeds.{passage_of}
 use Rattle.fr_script.specs.View.{ScriptView}
-use Rattle.fr_script.specs.declared.deeds.Deed.{Deed}
-use Rattle.fr_script.specs.declared.deeds.Deed.TheVariants as deed
+use Rattle.fr_script.specs.declared.deed.Deed.{Deed}
+use Rattle.fr_script.specs.declared.deed.Deed.TheVariants as deed
 use Rattle.fr_cluster.specs.Setting.{Setting}
 use Rattle.fr_history.specs.History.{History, Record}
 use Rattle.fr_worked.specs.Clusters.{cluster_of, on_both}
@@ -16,6 +16,7 @@ use Rattle.fr_worked.specs.Entries.{all_stored}
 use Rattle.fr_base.specs.Rows.{dev_with}
 use Rattle.fr_worked.specs.Files.{no_arbitrary, no_joins, only_on_a}
 use Rattle.fr_worked.specs.Offset.{offset_cycle_0, offset_cycle_1, offset_cycle_2, offset_cycle_3, offset_run, offset_drift}
+use Rattle.fr_worked.specs.Wording.{says_covered, says_cut, says_heard, says_node, says_nodes, says_precision, says_sent, says_skew, says_sync}
 use Rattle.fr_worked.specs.Working.{WorkedRun}
 use Rattle.fr_coverage.specs.declared.gap.Gap.TheVariants.{Link}
 
@@ -48,17 +49,17 @@ lost_history = lost_cycle_3 ∷ offset_cycle_2 ∷ offset_cycle_1 ∷ offset_cyc
 -- what is printed of it
 abbrev pub lost_report : List ℕ
 lost_report =
-    codes "nodes 2 sync 2 arbitrary 0 doubles 2\n"
-    ++ codes "precision 252043600\n"
-    ++ codes "covered no link 1 2 1\n"
-    ++ codes "in sync 0\n"
-    ++ codes "greatest skew 2500000 cycle 0 macrotick 0\n"
-    ++ codes "sent A 8 xor 000000\n"
-    ++ codes "sent B 0 xor 000000\n"
-    ++ codes "heard stored 7 outside 0 damaged 0 id 0 cycle 0 length 0 plain 0\n"
-    ++ codes "cut 0\n"
-    ++ codes "node 1 active next 800001000000 rate 0 offset 0\n"
-    ++ codes "node 2 active next 800001500000 rate 0 offset 0\n"
+    says_nodes (codes "2") (codes "2") (codes "0") (codes "2")
+    ++ says_precision (codes "252043600")
+    ++ says_covered (codes "no link 1 2 1")
+    ++ says_sync (codes "0")
+    ++ says_skew (codes "2500000") (codes "0") (codes "0")
+    ++ says_sent (codes "A") (codes "8") (codes "000000")
+    ++ says_sent (codes "B") (codes "0") (codes "000000")
+    ++ says_heard (codes "7") (codes "0")
+    ++ says_cut (codes "0")
+    ++ says_node (codes "1") (codes "800001000000") (codes "0") (codes "0")
+    ++ says_node (codes "2") (codes "800001500000") (codes "0") (codes "0")
 
 -- ---- one bit of the frame is inverted, the first
 
@@ -81,17 +82,17 @@ flipped_history = flipped_cycle_3 ∷ offset_cycle_2 ∷ offset_cycle_1 ∷ offs
 -- what is printed of it
 abbrev pub flipped_report : List ℕ
 flipped_report =
-    codes "nodes 2 sync 2 arbitrary 0 doubles 2\n"
-    ++ codes "precision 252043600\n"
-    ++ codes "covered no link 1 2 1\n"
-    ++ codes "in sync 0\n"
-    ++ codes "greatest skew 2500000 cycle 0 macrotick 0\n"
-    ++ codes "sent A 8 xor 000000\n"
-    ++ codes "sent B 0 xor 000000\n"
-    ++ codes "heard stored 7 outside 0 damaged 1 id 0 cycle 0 length 0 plain 0\n"
-    ++ codes "cut 0\n"
-    ++ codes "node 1 active next 800001000000 rate 0 offset 0\n"
-    ++ codes "node 2 active next 800001500000 rate 0 offset 0\n"
+    says_nodes (codes "2") (codes "2") (codes "0") (codes "2")
+    ++ says_precision (codes "252043600")
+    ++ says_covered (codes "no link 1 2 1")
+    ++ says_sync (codes "0")
+    ++ says_skew (codes "2500000") (codes "0") (codes "0")
+    ++ says_sent (codes "A") (codes "8") (codes "000000")
+    ++ says_sent (codes "B") (codes "0") (codes "000000")
+    ++ says_heard (codes "7") (codes "1")
+    ++ says_cut (codes "0")
+    ++ says_node (codes "1") (codes "800001000000") (codes "0") (codes "0")
+    ++ says_node (codes "2") (codes "800001500000") (codes "0") (codes "0")
 
 -- ---- the frame is lost, and both nodes are on both channels; the files are those of the run where it is lost
 
@@ -137,17 +138,17 @@ lost_on_one_history = lost_on_one_cycle_3 ∷ lost_on_one_cycle_2 ∷ lost_on_on
 -- what is printed of it
 abbrev pub lost_on_one_report : List ℕ
 lost_on_one_report =
-    codes "nodes 2 sync 2 arbitrary 0 doubles 2\n"
-    ++ codes "precision 252043600\n"
-    ++ codes "covered yes\n"
-    ++ codes "in sync 0\n"
-    ++ codes "greatest skew 2500000 cycle 0 macrotick 0\n"
-    ++ codes "sent A 8 xor 000000\n"
-    ++ codes "sent B 8 xor 000000\n"
-    ++ codes "heard stored 15 outside 0 damaged 0 id 0 cycle 0 length 0 plain 0\n"
-    ++ codes "cut 0\n"
-    ++ codes "node 1 active next 800001000000 rate 0 offset 0\n"
-    ++ codes "node 2 active next 800001500000 rate 0 offset 0\n"
+    says_nodes (codes "2") (codes "2") (codes "0") (codes "2")
+    ++ says_precision (codes "252043600")
+    ++ says_covered (codes "yes")
+    ++ says_sync (codes "0")
+    ++ says_skew (codes "2500000") (codes "0") (codes "0")
+    ++ says_sent (codes "A") (codes "8") (codes "000000")
+    ++ says_sent (codes "B") (codes "8") (codes "000000")
+    ++ says_heard (codes "15") (codes "0")
+    ++ says_cut (codes "0")
+    ++ says_node (codes "1") (codes "800001000000") (codes "0") (codes "0")
+    ++ says_node (codes "2") (codes "800001500000") (codes "0") (codes "0")
 
 -- the run, worked
 abbrev pub worked_lost : WorkedRun

@@ -10,6 +10,7 @@ use Rattle.fr_history.specs.Worked.{on_a}
 use Rattle.fr_worked.specs.Entries.{all_stored, row_with}
 use Rattle.fr_base.specs.Rows.{dev_with}
 use Rattle.fr_worked.specs.Files.{steady_drift, plain_script}
+use Rattle.fr_worked.specs.Wording.{says_covered, says_cut, says_heard, says_node, says_nodes, says_precision, says_sent, says_skew, says_sync}
 use Rattle.fr_worked.specs.Working.{WorkedRun}
 
 -- two double cycles; node 2 starts later
@@ -78,17 +79,17 @@ offset_history = offset_cycle_3 ∷ offset_cycle_2 ∷ offset_cycle_1 ∷ offset
 -- what is printed of it
 abbrev pub offset_report : List ℕ
 offset_report =
-    codes "nodes 2 sync 2 arbitrary 0 doubles 2\n"
-    ++ codes "precision 252043600\n"
-    ++ codes "covered yes\n"
-    ++ codes "in sync 0\n"
-    ++ codes "greatest skew 2500000 cycle 0 macrotick 0\n"
-    ++ codes "sent A 8 xor 000000\n"
-    ++ codes "sent B 0 xor 000000\n"
-    ++ codes "heard stored 8 outside 0 damaged 0 id 0 cycle 0 length 0 plain 0\n"
-    ++ codes "cut 0\n"
-    ++ codes "node 1 active next 800001000000 rate 0 offset 0\n"
-    ++ codes "node 2 active next 800001500000 rate 0 offset 0\n"
+    says_nodes (codes "2") (codes "2") (codes "0") (codes "2")
+    ++ says_precision (codes "252043600")
+    ++ says_covered (codes "yes")
+    ++ says_sync (codes "0")
+    ++ says_skew (codes "2500000") (codes "0") (codes "0")
+    ++ says_sent (codes "A") (codes "8") (codes "000000")
+    ++ says_sent (codes "B") (codes "0") (codes "000000")
+    ++ says_heard (codes "8") (codes "0")
+    ++ says_cut (codes "0")
+    ++ says_node (codes "1") (codes "800001000000") (codes "0") (codes "0")
+    ++ says_node (codes "2") (codes "800001500000") (codes "0") (codes "0")
 
 -- the run, worked
 abbrev pub worked_offset : WorkedRun

@@ -10,6 +10,7 @@ use Rattle.fr_worked.specs.Clusters.{cluster_of}
 use Rattle.fr_history.specs.Worked.{on_a}
 use Rattle.fr_worked.specs.Entries.{all_stored, measured, steady_rows}
 use Rattle.fr_worked.specs.Files.{no_joins, said_first, says_to, steady_drift}
+use Rattle.fr_worked.specs.Wording.{says_covered, says_cut, says_heard, says_node, says_nodes, says_precision, says_sent, says_skew, says_sync}
 use Rattle.fr_worked.specs.Working.{WorkedRun}
 
 -- what node 4 says: that it is 100 microticks late, as much early, or nothing
@@ -71,18 +72,18 @@ one_arbitrary_history = one_arbitrary_cycle_1 ∷ one_arbitrary_cycle_0 ∷ []
 -- what is printed of it
 abbrev pub one_arbitrary_report : List ℕ
 one_arbitrary_report =
-    codes "nodes 4 sync 4 arbitrary 1 doubles 1\n"
-    ++ codes "precision 252043600\n"
-    ++ codes "covered yes\n"
-    ++ codes "in sync 0\n"
-    ++ codes "greatest skew 0 cycle 0 macrotick 0\n"
-    ++ codes "sent A 6 xor 5D6DCB\n"
-    ++ codes "sent B 0 xor 000000\n"
-    ++ codes "heard stored 16 outside 0 damaged 0 id 0 cycle 0 length 0 plain 0\n"
-    ++ codes "cut 0\n"
-    ++ codes "node 1 active next 400000000000 rate 0 offset 0\n"
-    ++ codes "node 2 active next 400000000000 rate 0 offset 0\n"
-    ++ codes "node 3 active next 400000000000 rate 0 offset 0\n"
+    says_nodes (codes "4") (codes "4") (codes "1") (codes "1")
+    ++ says_precision (codes "252043600")
+    ++ says_covered (codes "yes")
+    ++ says_sync (codes "0")
+    ++ says_skew (codes "0") (codes "0") (codes "0")
+    ++ says_sent (codes "A") (codes "6") (codes "5D6DCB")
+    ++ says_sent (codes "B") (codes "0") (codes "000000")
+    ++ says_heard (codes "16") (codes "0")
+    ++ says_cut (codes "0")
+    ++ says_node (codes "1") (codes "400000000000") (codes "0") (codes "0")
+    ++ says_node (codes "2") (codes "400000000000") (codes "0") (codes "0")
+    ++ says_node (codes "3") (codes "400000000000") (codes "0") (codes "0")
 
 -- the run, worked
 abbrev pub worked_one_arbitrary : WorkedRun

@@ -7,6 +7,7 @@ use Rattle.fr_history.specs.History.{History, Record}
 use Rattle.fr_worked.specs.Clusters.{cluster_of}
 use Rattle.fr_history.specs.Worked.{on_a}
 use Rattle.fr_worked.specs.Entries.{all_stored, measured, steady_rows}
+use Rattle.fr_worked.specs.Wording.{says_covered, says_cut, says_heard, says_node, says_nodes, says_precision, says_sent, says_skew, says_sync}
 use Rattle.fr_worked.specs.Working.{WorkedRun}
 use Rattle.fr_worked.specs.Files.{no_joins, steady_drift}
 use Rattle.fr_coverage.specs.declared.gap.Gap.TheVariants.{Count}
@@ -50,17 +51,17 @@ quiet_history = quiet_cycle_1 ∷ quiet_cycle_0 ∷ []
 -- what is printed of it
 abbrev pub quiet_report : List ℕ
 quiet_report =
-    codes "nodes 3 sync 3 arbitrary 1 doubles 1\n"
-    ++ codes "precision 252043600\n"
-    ++ codes "covered no count 2 1\n"
-    ++ codes "in sync 0\n"
-    ++ codes "greatest skew 0 cycle 0 macrotick 0\n"
-    ++ codes "sent A 4 xor 000000\n"
-    ++ codes "sent B 0 xor 000000\n"
-    ++ codes "heard stored 4 outside 0 damaged 0 id 0 cycle 0 length 0 plain 0\n"
-    ++ codes "cut 0\n"
-    ++ codes "node 1 active next 400000000000 rate 0 offset 0\n"
-    ++ codes "node 2 active next 400000000000 rate 0 offset 0\n"
+    says_nodes (codes "3") (codes "3") (codes "1") (codes "1")
+    ++ says_precision (codes "252043600")
+    ++ says_covered (codes "no count 2 1")
+    ++ says_sync (codes "0")
+    ++ says_skew (codes "0") (codes "0") (codes "0")
+    ++ says_sent (codes "A") (codes "4") (codes "000000")
+    ++ says_sent (codes "B") (codes "0") (codes "000000")
+    ++ says_heard (codes "4") (codes "0")
+    ++ says_cut (codes "0")
+    ++ says_node (codes "1") (codes "400000000000") (codes "0") (codes "0")
+    ++ says_node (codes "2") (codes "400000000000") (codes "0") (codes "0")
 
 -- the run, worked
 abbrev pub worked_quiet : WorkedRun

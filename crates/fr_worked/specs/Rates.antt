@@ -11,6 +11,7 @@ use Rattle.fr_history.specs.Worked.{on_a}
 use Rattle.fr_worked.specs.Entries.{all_stored, row_with}
 use Rattle.fr_base.specs.Rows.{dev_with}
 use Rattle.fr_worked.specs.Files.{steady_drift, plain_script}
+use Rattle.fr_worked.specs.Wording.{says_covered, says_cut, says_heard, says_node, says_nodes, says_precision, says_sent, says_skew, says_sync}
 use Rattle.fr_worked.specs.Working.{WorkedRun}
 
 -- two double cycles; the microtick of node 1 is long and that of node 2 short
@@ -95,17 +96,17 @@ rates_history = rates_cycle_3 ∷ rates_cycle_2 ∷ rates_cycle_1 ∷ rates_cycl
 -- what is printed of it
 abbrev pub rates_report : List ℕ
 rates_report =
-    codes "nodes 2 sync 2 arbitrary 0 doubles 2\n"
-    ++ codes "precision 252043600\n"
-    ++ codes "covered yes\n"
-    ++ codes "in sync 1\n"
-    ++ codes "greatest skew 79200000 cycle 1 macrotick 4900\n"
-    ++ codes "sent A 8 xor 000000\n"
-    ++ codes "sent B 0 xor 000000\n"
-    ++ codes "heard stored 8 outside 0 damaged 0 id 0 cycle 0 length 0 plain 0\n"
-    ++ codes "cut 0\n"
-    ++ codes "node 1 active next 800003992400 rate -16 offset -24\n"
-    ++ codes "node 2 active next 799994992500 rate 16 offset 23\n"
+    says_nodes (codes "2") (codes "2") (codes "0") (codes "2")
+    ++ says_precision (codes "252043600")
+    ++ says_covered (codes "yes")
+    ++ says_sync (codes "1")
+    ++ says_skew (codes "79200000") (codes "1") (codes "4900")
+    ++ says_sent (codes "A") (codes "8") (codes "000000")
+    ++ says_sent (codes "B") (codes "0") (codes "000000")
+    ++ says_heard (codes "8") (codes "0")
+    ++ says_cut (codes "0")
+    ++ says_node (codes "1") (codes "800003992400") (codes "-16") (codes "-24")
+    ++ says_node (codes "2") (codes "799994992500") (codes "16") (codes "23")
 
 -- the run, worked
 abbrev pub worked_rates : WorkedRun

@@ -10,7 +10,7 @@ use Rattle.fr_drift.specs.Keys.{delay_key, length_key}
 use Rattle.fr_drift.specs.View.{DriftView}
 use Rattle.fr_script.specs.Deeds.{passage_of}
 use Rattle.fr_script.specs.Files.{IsScriptFile}
-use Rattle.fr_script.specs.declared.deeds.Deed.TheVariants.{Say}
+use Rattle.fr_script.specs.declared.deed.Deed.TheVariants.{Say}
 use Rattle.fr_coverage.specs.Flutter.{flutter_of}
 use Rattle.fr_history.specs.Worked.{on_a}
 use Rattle.fr_promise.specs.Statement.{IsRunOf}

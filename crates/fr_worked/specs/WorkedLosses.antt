@@ -8,8 +8,8 @@ use Rattle.fr_history.specs.Cycles.{Cycles}
 use Rattle.fr_promise.specs.Statement.{IsRunOf}
 use Rattle.fr_script.specs.Deeds.{passage_of}
 use Rattle.fr_script.specs.View.{ScriptView}
-use Rattle.fr_script.specs.declared.deeds.Deed.{Deed}
-use Rattle.fr_script.specs.declared.deeds.Deed.TheVariants as deed
+use Rattle.fr_script.specs.declared.deed.Deed.{Deed}
+use Rattle.fr_script.specs.declared.deed.Deed.TheVariants as deed
 use Rattle.fr_script.specs.declared.deeds.Passage.{Passage}
 use Rattle.fr_traffic.specs.Reaching.{whole_in}
 use Rattle.fr_sharp.specs.LossStatement.{IsCoveredThroughLosses}
