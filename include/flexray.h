@@ -150,164 +150,166 @@ uint32_t flexray_frame_encode(uint32_t channel, const flexray_frame *frame, cons
     int words_length = snprintf(words, sizeof words, __VA_ARGS__);                                                             \
     const uint8_t none = 0
 
-#define FLEXRAY_INLINE_REQUEST(first, first_length, second, second_length, third, third_length)                                \
-    flexray_request((const uint8_t *)words, (size_t)words_length, first, first_length, second, second_length, third,           \
-                    third_length, out, out_room, err, err_room, texts)
+#define FLEXRAY_INLINE_REQUEST(answers, first, first_length, second, second_length, third, third_length)                       \
+    answers((const uint8_t *)words, (size_t)words_length, first, first_length, second, second_length, third, third_length,     \
+            out, out_room, err, err_room, texts)
 
-/* `flexray bound PARAMS join`: these, and the reach and checks of a cluster that nodes join. */
-static inline uint32_t flexray_bound_join(const uint8_t *params, size_t params_length,
-                                          uint8_t *out, size_t out_room, uint8_t *err, size_t err_room, flexray_texts *texts) {
+/* Written by tools/commands from tools/commands.toml: */
+
+/* `flexray bound PARAMS join`: the classical bounds, and the reach and four checks of a cluster that nodes join. */
+static inline uint32_t flexray_bound_join(const uint8_t *params, size_t params_length, uint8_t *out, size_t out_room,
+                                          uint8_t *err, size_t err_room, flexray_texts *texts) {
     FLEXRAY_INLINE_WORDS("bound\nfirst\njoin");
-    return FLEXRAY_INLINE_REQUEST(params, params_length, &none, 0, &none, 0);
+    return FLEXRAY_INLINE_REQUEST(flexray_request, params, params_length, &none, 0, &none, 0);
 }
 
-/* `flexray bound PARAMS sharp FLUTTER`: the sharper bounds and their checks, FLUTTER in ticks, 0 to 20,000,000. */
+/* `flexray bound PARAMS sharp FLUTTER`: the sharper bounds and checks, where delays flutter by at most so many ticks; FLUTTER
+   is 0 to 20,000,000. */
 static inline uint32_t flexray_bound_sharp(const uint8_t *params, size_t params_length, uint64_t flutter,
-                                           uint8_t *out, size_t out_room, uint8_t *err, size_t err_room, flexray_texts *texts) {
+                                           uint8_t *out, size_t out_room, uint8_t *err, size_t err_room,
+                                           flexray_texts *texts) {
     FLEXRAY_INLINE_WORDS("bound\nfirst\nsharp\n%llu", (unsigned long long)flutter);
-    return FLEXRAY_INLINE_REQUEST(params, params_length, &none, 0, &none, 0);
+    return FLEXRAY_INLINE_REQUEST(flexray_request, params, params_length, &none, 0, &none, 0);
 }
 
-/* `flexray bound PARAMS sharp FLUTTER join`: these, and the sharper reach and checks of a cluster that nodes join. */
+/* `flexray bound PARAMS sharp FLUTTER join`: the sharper bounds, and the reach and checks of a cluster that nodes join;
+   FLUTTER is 0 to 20,000,000. */
 static inline uint32_t flexray_bound_sharp_join(const uint8_t *params, size_t params_length, uint64_t flutter,
                                                 uint8_t *out, size_t out_room, uint8_t *err, size_t err_room,
                                                 flexray_texts *texts) {
     FLEXRAY_INLINE_WORDS("bound\nfirst\nsharp\n%llu\njoin", (unsigned long long)flutter);
-    return FLEXRAY_INLINE_REQUEST(params, params_length, &none, 0, &none, 0);
+    return FLEXRAY_INLINE_REQUEST(flexray_request, params, params_length, &none, 0, &none, 0);
 }
 
-/* `flexray bound PARAMS sharp FLUTTER lost COUNT`: how far clocks come apart if any frames are lost in COUNT double cycles in a
-   row, 1 to 1000. */
+/* `flexray bound PARAMS sharp FLUTTER lost COUNT`: how far clocks come apart if any frames are lost in COUNT double cycles in
+   a row; FLUTTER is 0 to 20,000,000; COUNT is 1 to 1,000. */
 static inline uint32_t flexray_bound_lost(const uint8_t *params, size_t params_length, uint64_t flutter, uint32_t count,
-                                          uint8_t *out, size_t out_room, uint8_t *err, size_t err_room,
-                                          flexray_texts *texts) {
+                                          uint8_t *out, size_t out_room, uint8_t *err, size_t err_room, flexray_texts *texts) {
     FLEXRAY_INLINE_WORDS("bound\nfirst\nsharp\n%llu\nlost\n%llu", (unsigned long long)flutter, (unsigned long long)count);
-    return FLEXRAY_INLINE_REQUEST(params, params_length, &none, 0, &none, 0);
+    return FLEXRAY_INLINE_REQUEST(flexray_request, params, params_length, &none, 0, &none, 0);
 }
 
-/* `flexray settle PARAMS START RATE`: how many double cycles it takes at most to be in sync; START and RATE in ticks, at most
-   1,000,000,000,000. */
+/* `flexray upgrade PARAMS`: the parameters as a file of version 2: one compensation per channel. */
+static inline uint32_t flexray_upgrade(const uint8_t *params, size_t params_length, uint8_t *out, size_t out_room,
+                                       uint8_t *err, size_t err_room, flexray_texts *texts) {
+    FLEXRAY_INLINE_WORDS("upgrade\nfirst");
+    return FLEXRAY_INLINE_REQUEST(flexray_request, params, params_length, &none, 0, &none, 0);
+}
+
+/* `flexray settle PARAMS START RATE`: how many double cycles until in sync at most, from START and RATE in ticks; START is 0
+   to 1,000,000,000,000; RATE is 0 to 1,000,000,000,000. */
 static inline uint32_t flexray_settle(const uint8_t *params, size_t params_length, uint64_t start, uint64_t rate,
                                       uint8_t *out, size_t out_room, uint8_t *err, size_t err_room, flexray_texts *texts) {
     FLEXRAY_INLINE_WORDS("settle\nfirst\n%llu\n%llu", (unsigned long long)start, (unsigned long long)rate);
-    return FLEXRAY_INLINE_REQUEST(params, params_length, &none, 0, &none, 0);
+    return FLEXRAY_INLINE_REQUEST(flexray_request, params, params_length, &none, 0, &none, 0);
 }
 
-/* `flexray settle PARAMS START RATE sharp FLUTTER`: the same of sharp sync, FLUTTER in ticks, 0 to 20,000,000. */
-static inline uint32_t flexray_settle_sharp(const uint8_t *params, size_t params_length,
-                                            uint64_t start, uint64_t rate, uint64_t flutter,
-                                            uint8_t *out, size_t out_room, uint8_t *err, size_t err_room, flexray_texts *texts) {
+/* `flexray settle PARAMS START RATE sharp FLUTTER`: how many double cycles it takes at most to be in sharp sync; START is 0 to
+   1,000,000,000,000; RATE is 0 to 1,000,000,000,000; FLUTTER is 0 to 20,000,000. */
+static inline uint32_t flexray_settle_sharp(const uint8_t *params, size_t params_length, uint64_t start, uint64_t rate,
+                                            uint64_t flutter, uint8_t *out, size_t out_room, uint8_t *err, size_t err_room,
+                                            flexray_texts *texts) {
     FLEXRAY_INLINE_WORDS("settle\nfirst\n%llu\n%llu\nsharp\n%llu", (unsigned long long)start, (unsigned long long)rate,
                          (unsigned long long)flutter);
-    return FLEXRAY_INLINE_REQUEST(params, params_length, &none, 0, &none, 0);
+    return FLEXRAY_INLINE_REQUEST(flexray_request, params, params_length, &none, 0, &none, 0);
 }
 
-/* `flexray settle PARAMS power FLUTTER`: how long from the first power-on until all are in sharp sync, FLUTTER as above. */
+/* `flexray settle PARAMS power FLUTTER`: how long from the first power-on to sharp sync, if all others join the leader;
+   FLUTTER is 0 to 20,000,000. */
 static inline uint32_t flexray_settle_power(const uint8_t *params, size_t params_length, uint64_t flutter,
-                                            uint8_t *out, size_t out_room, uint8_t *err, size_t err_room, flexray_texts *texts) {
+                                            uint8_t *out, size_t out_room, uint8_t *err, size_t err_room,
+                                            flexray_texts *texts) {
     FLEXRAY_INLINE_WORDS("settle\nfirst\npower\n%llu", (unsigned long long)flutter);
-    return FLEXRAY_INLINE_REQUEST(params, params_length, &none, 0, &none, 0);
-}
-
-/* `flexray make SEED DOUBLES`: the report of a cluster that is made from a seed, over 1 to 10,000 double cycles. */
-static inline uint32_t flexray_make(uint32_t seed, uint32_t doubles,
-                                    uint8_t *out, size_t out_room, uint8_t *err, size_t err_room, flexray_texts *texts) {
-    FLEXRAY_INLINE_WORDS("make\n%llu\n%llu", (unsigned long long)seed, (unsigned long long)doubles);
-    return FLEXRAY_INLINE_REQUEST(&none, 0, &none, 0, &none, 0);
+    return FLEXRAY_INLINE_REQUEST(flexray_request, params, params_length, &none, 0, &none, 0);
 }
 
 /* `flexray run PARAMS DRIFT SCRIPT sharp`: what the sharper bounds say of a run, and behind it the report. */
 static inline uint32_t flexray_run_sharp(const uint8_t *params, size_t params_length,
                                          const uint8_t *drift, size_t drift_length,
-                                         const uint8_t *script, size_t script_length,
-                                         uint8_t *out, size_t out_room, uint8_t *err, size_t err_room, flexray_texts *texts) {
+                                         const uint8_t *script, size_t script_length, uint8_t *out, size_t out_room,
+                                         uint8_t *err, size_t err_room, flexray_texts *texts) {
     FLEXRAY_INLINE_WORDS("run\nfirst\nsecond\nthird\nsharp");
     (void)none;
-    return FLEXRAY_INLINE_REQUEST(params, params_length, drift, drift_length, script, script_length);
+    return FLEXRAY_INLINE_REQUEST(flexray_request, params, params_length, drift, drift_length, script, script_length);
 }
 
 /* `flexray trace PARAMS DRIFT SCRIPT`: what each node did and measured, cycle by cycle. */
-static inline uint32_t flexray_trace(const uint8_t *params, size_t params_length,
-                                     const uint8_t *drift, size_t drift_length,
-                                     const uint8_t *script, size_t script_length,
-                                     uint8_t *out, size_t out_room, uint8_t *err, size_t err_room, flexray_texts *texts) {
+static inline uint32_t flexray_trace(const uint8_t *params, size_t params_length, const uint8_t *drift, size_t drift_length,
+                                     const uint8_t *script, size_t script_length, uint8_t *out, size_t out_room,
+                                     uint8_t *err, size_t err_room, flexray_texts *texts) {
     FLEXRAY_INLINE_WORDS("trace\nfirst\nsecond\nthird");
     (void)none;
-    return FLEXRAY_INLINE_REQUEST(params, params_length, drift, drift_length, script, script_length);
+    return FLEXRAY_INLINE_REQUEST(flexray_request, params, params_length, drift, drift_length, script, script_length);
 }
 
-/* `flexray check PARAMS TRACE`: whether a trace is lawful and covered, or why not. */
+/* `flexray check PARAMS TRACE`: whether a recorded trace is lawful and covered, or why not. */
 static inline uint32_t flexray_check(const uint8_t *params, size_t params_length, const uint8_t *trace, size_t trace_length,
                                      uint8_t *out, size_t out_room, uint8_t *err, size_t err_room, flexray_texts *texts) {
     FLEXRAY_INLINE_WORDS("check\nfirst\nsecond");
-    return FLEXRAY_INLINE_REQUEST(params, params_length, trace, trace_length, &none, 0);
+    return FLEXRAY_INLINE_REQUEST(flexray_request, params, params_length, trace, trace_length, &none, 0);
 }
 
-/* `flexray check PARAMS TRACE sharp`: what the sharper bounds promise of it. */
+/* `flexray check PARAMS TRACE sharp`: what the sharper bounds promise of a recorded trace. */
 static inline uint32_t flexray_check_sharp(const uint8_t *params, size_t params_length,
-                                           const uint8_t *trace, size_t trace_length,
-                                           uint8_t *out, size_t out_room, uint8_t *err, size_t err_room, flexray_texts *texts) {
+                                           const uint8_t *trace, size_t trace_length, uint8_t *out, size_t out_room,
+                                           uint8_t *err, size_t err_room, flexray_texts *texts) {
     FLEXRAY_INLINE_WORDS("check\nfirst\nsecond\nsharp");
-    return FLEXRAY_INLINE_REQUEST(params, params_length, trace, trace_length, &none, 0);
+    return FLEXRAY_INLINE_REQUEST(flexray_request, params, params_length, trace, trace_length, &none, 0);
 }
 
-/* `flexray observe PARAMS LOG`: what the log of a bus analyzer tells of the cluster's clocks. The text has, by double cycles,
-   limits of skews, cycle lengths and offset terms, and the faults, which contradict the rules; then by senders which frames
-   are there, whether a run can be covered, whether it is sure that frames of clocks in sync come in time, from when on the
-   cluster is in sync, how many double cycles are judged, and the verdict. */
-static inline uint32_t flexray_observe(const uint8_t *params, size_t params_length,
-                                       const uint8_t *log, size_t log_length,
-                                       uint8_t *out, size_t out_room, uint8_t *err, size_t err_room,
-                                       flexray_texts *texts) {
+/* `flexray observe PARAMS LOG`: what the stamps of a bus analyzer tell for certain of a cluster's clocks. */
+static inline uint32_t flexray_observe(const uint8_t *params, size_t params_length, const uint8_t *log, size_t log_length,
+                                       uint8_t *out, size_t out_room, uint8_t *err, size_t err_room, flexray_texts *texts) {
     FLEXRAY_INLINE_WORDS("observe\nfirst\nsecond");
-    return FLEXRAY_INLINE_REQUEST(params, params_length, log, log_length, &none, 0);
+    return FLEXRAY_INLINE_REQUEST(flexray_request, params, params_length, log, log_length, &none, 0);
+}
+
+/* `flexray make SEED DOUBLES`: the report of a cluster of eight nodes that is made from a seed; SEED is 0 to 4,294,967,295;
+   DOUBLES is 1 to 10,000. */
+static inline uint32_t flexray_make(uint32_t seed, uint32_t doubles, uint8_t *out, size_t out_room,
+                                    uint8_t *err, size_t err_room, flexray_texts *texts) {
+    FLEXRAY_INLINE_WORDS("make\n%llu\n%llu", (unsigned long long)seed, (unsigned long long)doubles);
+    return FLEXRAY_INLINE_REQUEST(flexray_request, &none, 0, &none, 0, &none, 0);
 }
 
 /* `flexray cold PARAMS POWER`: who leads the startup of a cluster, and from when on. */
 static inline uint32_t flexray_cold(const uint8_t *params, size_t params_length, const uint8_t *power, size_t power_length,
                                     uint8_t *out, size_t out_room, uint8_t *err, size_t err_room, flexray_texts *texts) {
     FLEXRAY_INLINE_WORDS("cold\nfirst\nsecond");
-    return FLEXRAY_INLINE_REQUEST(params, params_length, power, power_length, &none, 0);
+    return FLEXRAY_INLINE_REQUEST(flexray_request, params, params_length, power, power_length, &none, 0);
 }
 
-/* `flexray upgrade PARAMS`: the parameters as a file of version 2. */
-static inline uint32_t flexray_upgrade(const uint8_t *params, size_t params_length,
-                                       uint8_t *out, size_t out_room, uint8_t *err, size_t err_room, flexray_texts *texts) {
-    FLEXRAY_INLINE_WORDS("upgrade\nfirst");
-    return FLEXRAY_INLINE_REQUEST(params, params_length, &none, 0, &none, 0);
-}
-
-/* `flexray capture A FILE` or `B`: the frames of a recording, up to the first fault. Of another number than a channel it
-   answers FLEXRAY_USAGE. */
-static inline uint32_t flexray_capture(uint32_t channel, const uint8_t *recording, size_t recording_length,
-                                       uint8_t *out, size_t out_room, uint8_t *err, size_t err_room, flexray_texts *texts) {
-    FLEXRAY_INLINE_WORDS("capture\n%s\nfirst", channel == FLEXRAY_A ? "A" : channel == FLEXRAY_B ? "B" : "");
-    return FLEXRAY_INLINE_REQUEST(recording, recording_length, &none, 0, &none, 0);
-}
-
-/* `flexray frame A FILE` or `B`: the line of the frame that the bytes are, or of its first fault. Of another number than a
-   channel it answers FLEXRAY_USAGE. */
-static inline uint32_t flexray_frame_line(uint32_t channel, const uint8_t *bytes, size_t length,
+/* `flexray frame A FILE` or `flexray frame B FILE`: the frame that the bytes of the file are, or its first fault. Of another
+   number than a channel it answers FLEXRAY_USAGE. */
+static inline uint32_t flexray_frame_line(uint32_t channel, const uint8_t *frame, size_t frame_length,
                                           uint8_t *out, size_t out_room, uint8_t *err, size_t err_room, flexray_texts *texts) {
     FLEXRAY_INLINE_WORDS("frame\n%s\nfirst", channel == FLEXRAY_A ? "A" : channel == FLEXRAY_B ? "B" : "");
-    return FLEXRAY_INLINE_REQUEST(bytes, length, &none, 0, &none, 0);
+    return FLEXRAY_INLINE_REQUEST(flexray_request, frame, frame_length, &none, 0, &none, 0);
 }
 
-/* `flexray nm WIDTH FILE`: the network management vectors of a recording, of 1 to 12 bytes, cycle by cycle. */
-static inline uint32_t flexray_nm(uint32_t width, const uint8_t *recording, size_t recording_length,
-                                  uint8_t *out, size_t out_room, uint8_t *err, size_t err_room, flexray_texts *texts) {
+/* `flexray capture A FILE` or `flexray capture B FILE`: the frames of a recording, up to the first fault. Of another number
+   than a channel it answers FLEXRAY_USAGE. */
+static inline uint32_t flexray_capture(uint32_t channel, const uint8_t *capture, size_t capture_length,
+                                       uint8_t *out, size_t out_room, uint8_t *err, size_t err_room, flexray_texts *texts) {
+    FLEXRAY_INLINE_WORDS("capture\n%s\nfirst", channel == FLEXRAY_A ? "A" : channel == FLEXRAY_B ? "B" : "");
+    return FLEXRAY_INLINE_REQUEST(flexray_request, capture, capture_length, &none, 0, &none, 0);
+}
+
+/* `flexray nm WIDTH FILE`: the network management vectors of a recording, cycle by cycle; WIDTH is 1 to 12. */
+static inline uint32_t flexray_nm(uint32_t width, const uint8_t *vectors, size_t vectors_length, uint8_t *out, size_t out_room,
+                                  uint8_t *err, size_t err_room, flexray_texts *texts) {
     FLEXRAY_INLINE_WORDS("nm\n%llu\nfirst", (unsigned long long)width);
-    return FLEXRAY_INLINE_REQUEST(recording, recording_length, &none, 0, &none, 0);
+    return FLEXRAY_INLINE_REQUEST(flexray_request, vectors, vectors_length, &none, 0, &none, 0);
 }
 
-/* `flexray-series PARAMS DRIFT SCRIPT sharp`: the series, held against the sharper bounds too. */
+/* `flexray-series PARAMS DRIFT SCRIPT sharp`: the same, held against the sharper precision too. */
 static inline uint32_t flexray_series_sharp(const uint8_t *params, size_t params_length,
                                             const uint8_t *drift, size_t drift_length,
-                                            const uint8_t *script, size_t script_length,
-                                            uint8_t *out, size_t out_room, uint8_t *err, size_t err_room, flexray_texts *texts) {
-    static const char words[] = "first\nsecond\nthird\nsharp";
-    return flexray_series_request((const uint8_t *)words, sizeof words - 1, params, params_length, drift, drift_length, script,
-                                  script_length, out, out_room, err, err_room, texts);
+                                            const uint8_t *script, size_t script_length, uint8_t *out, size_t out_room,
+                                            uint8_t *err, size_t err_room, flexray_texts *texts) {
+    FLEXRAY_INLINE_WORDS("first\nsecond\nthird\nsharp");
+    (void)none;
+    return FLEXRAY_INLINE_REQUEST(flexray_series_request, params, params_length, drift, drift_length, script, script_length);
 }
 
 #undef FLEXRAY_INLINE_WORDS

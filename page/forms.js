@@ -128,3 +128,15 @@ const MEANT = new Map([
   ["xChangeBound", [0, 1500, "ticks", "the greatest change of that length from one cycle to the next"]],
   ["xDelayError", [0, 10000000, "ticks", "the greatest distance of a delay from the compensation"]],
 ]);
+// Printed lines that the page takes apart: each value is a group, and so is what is one of several texts.
+const LINES = {
+  precision: /^precision (\d+)$/,
+  sync: /^in sync (never|\d+)$/,
+  skew: /^greatest skew (-?\d+) cycle (\d+) macrotick (-?\d+)$/,
+  nodes: /^nodes (\d+) sync (\d+) arbitrary (\d+) doubles (\d+)$/,
+  covered: /^covered (yes|no (?:check \d+ -?\d+ -?\d+|count \d+ \d+|length \d+ \d+ -?\d+|change \d+ \d+ -?\d+|delay \d+ \d+ (?:A|B) \d+ -?\d+|link \d+ \d+ \d+))$/,
+  sent: /^sent (A|B) (\d+) xor ([0-9A-F]{6})$/,
+  heard: /^heard stored (\d+) outside (\d+) damaged (\d+) id (\d+) cycle (\d+) length (\d+) plain (\d+)$/,
+  cut: /^cut (\d+)$/,
+  node: /^node (\d+) (active|passive|halt) next (-?\d+) rate (-?\d+) offset (-?\d+)$/,
+};

@@ -1,15 +1,15 @@
 "use strict";
-// Written by tools/keys from python/flexlab/toml/keys.py: the tables of the TOML file of flexlab with their keys, each
-// with its kind, its unit, the ends of its range as [numerator, denominator, unit], and its default. Before them, how
-// many digits the bytes of a frame have at most.
+// Written by tools/keys from python/flexlab/toml/keys.py: the tables of the TOML file of flexlab, what they are, and their
+// keys, each with its kind, its unit, the ends of its range as [numerator, denominator, unit], and its default. Before them,
+// how many digits the bytes of a frame have at most.
 const FRAME_DIGITS = 524;
 const TABLES = new Map([
-  ["bench", { many: false, keys: new Map([
+  ["bench", { many: false, meaning: "the units of the bench", keys: new Map([
     ["microtick_ns", { kind: "number", unit: "ns", least: [1n, 1n, "ns"], most: [1000n, 1n, "ns"], other: null }],
     ["bit_rate_mbit", { kind: "number", unit: "Mbit/s", least: [1n, 1n, "Mbit/s"], most: [10n, 1n, "Mbit/s"], other: [10n, 1n] }],
     ["start_bits", { kind: "whole number", unit: "bits", least: [1n, 1n, "bits"], most: [15n, 1n, "bits"], other: [15n, 1n] }],
   ]) }],
-  ["cluster", { many: false, keys: new Map([
+  ["cluster", { many: false, meaning: "the parameters of the cluster, in the units of `docs/FORMATS.md`", keys: new Map([
     ["gMacroPerCycle", { kind: "whole number", unit: "macroticks", least: [10n, 1n, "macroticks"], most: [16000n, 1n, "macroticks"], other: null }],
     ["pMicroPerCycle", { kind: "whole number", unit: "microticks", least: [10n, 1n, "microticks"], most: [640000n, 1n, "microticks"], other: null }],
     ["gNumberOfStaticSlots", { kind: "whole number", unit: "slots", least: [1n, 1n, "slots"], most: [1023n, 1n, "slots"], other: null }],
@@ -29,7 +29,7 @@ const TABLES = new Map([
     ["pDelayCompensationA", { kind: "whole number", unit: "microticks", least: [0n, 1n, "microticks"], most: [200n, 1n, "microticks"], other: null }],
     ["pDelayCompensationB", { kind: "whole number", unit: "microticks", least: [0n, 1n, "microticks"], most: [200n, 1n, "microticks"], other: null }],
   ]) }],
-  ["limits", { many: false, keys: new Map([
+  ["limits", { many: false, meaning: "what clocks and delays keep to", keys: new Map([
     ["oscillator_ppm", { kind: "number", unit: "ppm", least: [0n, 1n, "ppm"], most: [5993n, 4n, "ppm"], other: null }],
     ["xRateBound", { kind: "whole number", unit: "ticks", least: [0n, 1n, "ticks"], most: [1500n, 1n, "ticks"], other: null }],
     ["change_ppm_per_cycle", { kind: "number", unit: "ppm", least: [0n, 1n, "ppm"], most: [1499n, 1n, "ppm"], other: null }],
@@ -40,13 +40,13 @@ const TABLES = new Map([
     ["delay_error_microticks", { kind: "number", unit: "microticks", least: [0n, 1n, "ticks"], most: [10000000n, 1n, "ticks"], other: null }],
     ["delay_error_ticks", { kind: "number", unit: "ticks", least: [0n, 1n, "ticks"], most: [10000000n, 1n, "ticks"], other: null }],
   ]) }],
-  ["run", { many: false, keys: new Map([
+  ["run", { many: false, meaning: "the run", keys: new Map([
     ["double_cycles", { kind: "whole number", unit: "", least: [1n, 1n, ""], most: [100000n, 1n, ""], other: null }],
     ["seed", { kind: "whole number", unit: "", least: [0n, 1n, ""], most: [4294967295n, 1n, ""], other: [1n, 1n] }],
   ]) }],
-  ["values", { many: false, keys: new Map([
+  ["values", { many: false, meaning: "names of numbers; any key is a name, and a number elsewhere may be that name as a text", keys: new Map([
   ]) }],
-  ["node", { many: true, keys: new Map([
+  ["node", { many: true, meaning: "a node", keys: new Map([
     ["id", { kind: "whole number", unit: "", least: [1n, 1n, ""], most: [64n, 1n, ""], other: null }],
     ["name", { kind: "text", unit: "", least: null, most: null, other: null }],
     ["channels", { kind: "channels", unit: "", least: null, most: null, other: null }],
@@ -60,20 +60,20 @@ const TABLES = new Map([
     ["start_microticks", { kind: "number", unit: "microticks", least: [0n, 1n, "ticks"], most: [1000000000000n, 1n, "ticks"], other: null }],
     ["start_ticks", { kind: "number", unit: "ticks", least: [0n, 1n, "ticks"], most: [1000000000000n, 1n, "ticks"], other: null }],
   ]) }],
-  ["slot", { many: true, keys: new Map([
+  ["slot", { many: true, meaning: "a further slot of a node", keys: new Map([
     ["slot", { kind: "whole number", unit: "", least: [1n, 1n, ""], most: [1023n, 1n, ""], other: null }],
     ["node", { kind: "nodes", unit: "", least: null, most: null, other: null }],
     ["base", { kind: "whole number", unit: "", least: [0n, 1n, ""], most: [63n, 1n, ""], other: [0n, 1n] }],
     ["repetition", { kind: "whole number", unit: "cycles", least: [1n, 1n, "cycles"], most: [64n, 1n, "cycles"], other: [1n, 1n] }],
   ]) }],
-  ["oscillator", { many: true, keys: new Map([
+  ["oscillator", { many: true, meaning: "oscillators in some cycles; later tables win, and behind its cycles holds what was said before", keys: new Map([
     ["nodes", { kind: "nodes", unit: "", least: null, most: null, other: null }],
     ["cycles", { kind: "cycles", unit: "", least: null, most: null, other: "all" }],
     ["ppm", { kind: "number", unit: "ppm", least: [-333333n, 1n, "ppm"], most: [1000000n, 1n, "ppm"], other: null }],
     ["ppm_from", { kind: "number", unit: "ppm", least: [-333333n, 1n, "ppm"], most: [1000000n, 1n, "ppm"], other: null }],
     ["ppm_to", { kind: "number", unit: "ppm", least: [-333333n, 1n, "ppm"], most: [1000000n, 1n, "ppm"], other: null }],
   ]) }],
-  ["delay", { many: true, keys: new Map([
+  ["delay", { many: true, meaning: "delays of frames; later tables win", keys: new Map([
     ["from", { kind: "nodes", unit: "", least: null, most: null, other: "all" }],
     ["to", { kind: "nodes", unit: "", least: null, most: null, other: "all" }],
     ["channels", { kind: "channels", unit: "", least: null, most: null, other: "AB" }],
@@ -83,7 +83,7 @@ const TABLES = new Map([
     ["microticks", { kind: "number", unit: "microticks", least: [0n, 1n, "ticks"], most: [1000000000n, 1n, "ticks"], other: null }],
     ["ticks", { kind: "number", unit: "ticks", least: [0n, 1n, "ticks"], most: [1000000000n, 1n, "ticks"], other: null }],
   ]) }],
-  ["two_faced", { many: true, keys: new Map([
+  ["two_faced", { many: true, meaning: "an arbitrary node that is early for some and late for others; the rest hear nothing of it", keys: new Map([
     ["node", { kind: "nodes", unit: "", least: null, most: null, other: null }],
     ["early", { kind: "nodes", unit: "", least: null, most: null, other: [] }],
     ["late", { kind: "nodes", unit: "", least: null, most: null, other: [] }],
@@ -95,7 +95,7 @@ const TABLES = new Map([
     ["microticks", { kind: "number", unit: "microticks", least: [0n, 1n, "ticks"], most: [1000000000000n, 1n, "ticks"], other: null }],
     ["ticks", { kind: "number", unit: "ticks", least: [0n, 1n, "ticks"], most: [1000000000000n, 1n, "ticks"], other: null }],
   ]) }],
-  ["say", { many: true, keys: new Map([
+  ["say", { many: true, meaning: "what an arbitrary node sends", keys: new Map([
     ["node", { kind: "nodes", unit: "", least: null, most: null, other: null }],
     ["to", { kind: "nodes", unit: "", least: null, most: null, other: "all" }],
     ["frame", { kind: "hexadecimal digits", unit: "", least: null, most: null, other: "" }],
@@ -106,25 +106,25 @@ const TABLES = new Map([
     ["microticks", { kind: "number", unit: "microticks", least: [-1000000000000n, 1n, "ticks"], most: [1000000000000n, 1n, "ticks"], other: null }],
     ["ticks", { kind: "number", unit: "ticks", least: [-1000000000000n, 1n, "ticks"], most: [1000000000000n, 1n, "ticks"], other: null }],
   ]) }],
-  ["lose", { many: true, keys: new Map([
+  ["lose", { many: true, meaning: "frames that are lost", keys: new Map([
     ["from", { kind: "nodes", unit: "", least: null, most: null, other: "all" }],
     ["to", { kind: "nodes", unit: "", least: null, most: null, other: "all" }],
     ["cycles", { kind: "cycles", unit: "", least: null, most: null, other: null }],
     ["channels", { kind: "channels", unit: "", least: null, most: null, other: "AB" }],
   ]) }],
-  ["flip", { many: true, keys: new Map([
+  ["flip", { many: true, meaning: "frames of which a bit is flipped", keys: new Map([
     ["from", { kind: "nodes", unit: "", least: null, most: null, other: "all" }],
     ["to", { kind: "nodes", unit: "", least: null, most: null, other: "all" }],
     ["cycles", { kind: "cycles", unit: "", least: null, most: null, other: null }],
     ["channels", { kind: "channels", unit: "", least: null, most: null, other: "AB" }],
     ["bit", { kind: "whole number", unit: "", least: [0n, 1n, ""], most: [2095n, 1n, ""], other: null }],
   ]) }],
-  ["join", { many: true, keys: new Map([
+  ["join", { many: true, meaning: "a node that joins", keys: new Map([
     ["node", { kind: "nodes", unit: "", least: null, most: null, other: null }],
     ["reference", { kind: "nodes", unit: "", least: null, most: null, other: null }],
     ["double_cycle", { kind: "whole number", unit: "", least: [0n, 1n, ""], most: [99999n, 1n, ""], other: null }],
   ]) }],
-  ["power", { many: true, keys: new Map([
+  ["power", { many: true, meaning: "of `flexlab power` alone: when nodes are switched on and off; several of a node one behind the other", keys: new Map([
     ["nodes", { kind: "nodes", unit: "", least: null, most: null, other: "all" }],
     ["on_ms", { kind: "number", unit: "ms", least: [0n, 1n, "macroticks"], most: [16000000n, 1n, "macroticks"], other: null }],
     ["on_us", { kind: "number", unit: "us", least: [0n, 1n, "macroticks"], most: [16000000n, 1n, "macroticks"], other: null }],
@@ -133,7 +133,7 @@ const TABLES = new Map([
     ["off_us", { kind: "number", unit: "us", least: [0n, 1n, "macroticks"], most: [16000000n, 1n, "macroticks"], other: null }],
     ["off_macroticks", { kind: "number", unit: "macroticks", least: [0n, 1n, "macroticks"], most: [16000000n, 1n, "macroticks"], other: null }],
   ]) }],
-  ["observer", { many: false, keys: new Map([
+  ["observer", { many: false, meaning: "a bus analyzer (\"Logs\")", keys: new Map([
     ["resolution_ns", { kind: "number", unit: "ns", least: [1n, 1000n, "ns"], most: [1000000000n, 1n, "ticks"], other: null }],
     ["drift_ppm", { kind: "number", unit: "ppm", least: [0n, 1n, "ppm"], most: [1000n, 1n, "ppm"], other: null }],
     ["error_ns", { kind: "number", unit: "ns", least: [0n, 1n, "ns"], most: [1000000000n, 1n, "ticks"], other: [0n, 1n] }],
@@ -145,13 +145,13 @@ const TABLES = new Map([
     ["missed_none", { kind: "true or false", unit: "", least: null, most: null, other: false }],
     ["in_sync_from_cycle", { kind: "whole number", unit: "", least: [0n, 1n, ""], most: [199998n, 1n, ""], other: null }],
   ]) }],
-  ["observer_delay", { many: true, keys: new Map([
+  ["observer_delay", { many: true, meaning: "delays to it from some nodes", keys: new Map([
     ["nodes", { kind: "nodes", unit: "", least: null, most: null, other: null }],
     ["channels", { kind: "channels", unit: "", least: null, most: null, other: "AB" }],
     ["from_ns", { kind: "number", unit: "ns", least: [0n, 1n, "ns"], most: [1000000000n, 1n, "ticks"], other: null }],
     ["to_ns", { kind: "number", unit: "ns", least: [0n, 1n, "ns"], most: [1000000000n, 1n, "ticks"], other: null }],
   ]) }],
-  ["asc", { many: false, keys: new Map([
+  ["asc", { many: false, meaning: "how ASC files are read (\"ASC files\")", keys: new Map([
     ["columns", { kind: "text", unit: "", least: null, most: null, other: null }],
     ["hexadecimal", { kind: "text", unit: "", least: null, most: null, other: null }],
     ["sums_are_exact", { kind: "true or false", unit: "", least: null, most: null, other: false }],

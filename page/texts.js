@@ -4,17 +4,22 @@
 
 function readReport(text) {
   const found = Object.assign(Object.create(null), { ends: [] });
+  const READ = {
+    nodes: (nodes, sync, arbitrary, doubles) => { found.counts = { nodes: +nodes, sync: +sync, arbitrary: +arbitrary, doubles: +doubles }; },
+    precision: (ticks) => { found.precision = ticks; },
+    covered: (told) => { [found.covered, found.gap] = [told === "yes", told.split(" ").slice(1).join(" ")]; },
+    sync: (double) => { found.inSync = /\d/.test(double) ? +double : null; },
+    skew: (ticks, cycle, macrotick) => { found.greatest = { ticks, cycle: +cycle, macrotick: +macrotick }; },
+    sent: (channel, frames) => { found["sent" + channel] = frames; },
+    cut: (terms) => { found.cut = terms; },
+    node: (node, state, next, rate, offset) => { found.ends.push({ node, state, rate, offset }); },
+  };
   for (const line of text.split("\n")) {
-    const words = line.split(" ");
-    if (words[0] === "nodes") found.counts = { nodes: +words[1], sync: +words[3], arbitrary: +words[5], doubles: +words[7] };
-    if (words[0] === "precision") found.precision = words[1];
-    if (words[0] === "covered") [found.covered, found.gap] = [words[1] === "yes", words.slice(2).join(" ")];
-    if (words[0] === "in") found.inSync = words[2] === "never" ? null : +words[2];
-    if (words[0] === "greatest") found.greatest = { ticks: words[2], cycle: +words[4], macrotick: +words[6] };
-    if (words[0] === "sent") found["sent" + words[1]] = words[2];
-    if (words[0] === "heard") found.heard = line.slice(6);
-    if (words[0] === "cut") found.cut = words[1];
-    if (words[0] === "node") found.ends.push({ node: words[1], state: words[2], rate: words[6], offset: words[8] });
+    if (LINES.heard.test(line)) found.heard = line.slice(line.indexOf(" ") + 1);
+    for (const [name, read] of Object.entries(READ)) {
+      const groups = LINES[name].exec(line);
+      if (groups) read(...groups.slice(1));
+    }
   }
   return found;
 }

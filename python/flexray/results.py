@@ -198,8 +198,9 @@ class SharpReport:
     """What the sharper bounds say of a run, and its report. `kind` is `alone` or `beside`. `in_sync` is the first double cycle in sync,
     by the bounds for the flutter from itself on, None where none is. All else is of the double cycles from that one on, and of the whole
     run where there is none: `flutter`, with its place `fluttering`, None where it is 0; `gaps`, with the words of each gap that is told,
-    and empty where the run is covered; `lasts`, for how many double cycles it is proved, None where to the end. `greatest` is the greatest
-    skew since then, `within` whether none was above the precision, None where none is in sync, and `beyond` the first that was."""
+    and empty where the run is covered; `lasts`, for how many double cycles something is proved if the run is covered or has a bound
+    through losses, None where to the end, and where `in_sync` is None. `greatest` is the greatest skew since then, `within` whether none
+    was above the precision, None where none is in sync, and `beyond` the first that was."""
 
     text: str = field(repr=False)
     flutter: int
@@ -302,7 +303,8 @@ class Series:
 class SharpSeries(Series):
     """A series held against the sharper precision too. `kind` is `alone` or `beside`; `sharp_synced` the first double cycle in
     sharp sync. `flutter` with its place `fluttering`, gaps, losses and figures are of the double cycles from there on, as in a
-    `SharpReport`; `lasts` is for how many of them it is proved, None where to the end."""
+    `SharpReport`; `lasts` is for how many of them something is proved if the run is covered or has a bound through losses, None where to
+    the end, and where `sharp_synced` is None."""
 
     flutter: int
     precision: int
@@ -382,10 +384,10 @@ class Verdict:
 class SharpVerdict:
     """What the sharper bounds promise of a recorded trace. `kind` is `alone`, `alike` or `beside`; `checks` are the first three of that
     kind. `in_sync` is the first double cycle in sync with each length in its range, None where none is, and `lasts` for how many from
-    there on that is promised, None where to the end. `unlike` is the first double cycle from there on in which an arbitrary node is not
-    alike, None of other kinds. `greatest` is the greatest skew since then, `within` whether none was above the precision, None where none
-    is in sync, and `beyond` the first that was. Where the trace does not pass, `line` says why, as of a `Verdict`, `record` is the number
-    of the record that breaks a law, and the other fields are None."""
+    there on that is promised, None where to the end, and where `in_sync` is None. `unlike` is the first double cycle from there on in
+    which an arbitrary node is not alike, None of other kinds. `greatest` is the greatest skew since then, `within` whether none was
+    above the precision, None where none is in sync, and `beyond` the first that was. Where the trace does not pass, `line` says why, as
+    of a `Verdict`, `record` is the number of the record that breaks a law, and the other fields are None."""
 
     text: str = field(repr=False)
     passes: bool

@@ -1,10 +1,14 @@
-"""The printed texts, taken apart. Their forms are those of docs/FORMATS.md; a line that fits none is a fault of this module."""
+"""The printed texts, taken apart. The forms of most lines are in `lines`, which comes from the specification; a line that fits none is a
+fault of this module."""
 from __future__ import annotations
 
 import functools
 import re
 from collections.abc import Iterable, Iterator
 
+from .lines import (APART, AT, CHECK, COLDSTART, CONNECTED, COUNTED, COVERED, CUT, FIRST_RATES, FRAMES, GAP, HEARD, KIND, LASTS, LEAD,
+                    LONGEST, NODE, NODES, PEAK, PRECISION, SENT, SETTLES, SHARP_GAP, SHARP_LOST, SHARP_PRECISION, SHARP_SKEW,
+                    SHARP_SYNC, SHARP_WITHIN, SHARPLY_STATED, SKEW, STATED, SYNC, TRACE, TRACED_SYNC, TRACED_WITHIN, UNLIKE)
 from .results import (Bound, Capture, CapturedFrame, Check, CycleRow, Deviation, FailedCheck, Failing, Failure, Fluttering, Frame,
                       Heard, Join, Lead, LogCounts, Losses, LostBound, NodeEnd, Observation, ObservedCycle, ObservedFault,
                       ObservedMissed, ObservedNode, ObservedSender, ObservedSpread, PowerOn, Report, Sent, Series, SeriesCycles,
@@ -64,10 +68,26 @@ def _checks(groups: list[tuple[str, ...]]) -> tuple[Check, ...]:
     return tuple(Check(int(number), holds == "holds", int(left), int(right)) for number, holds, left, right in groups)
 
 
-CHECK = r"C(\d) (holds|fails) (-?\d+) (-?\d+)"
-# The first gap of a run, as it stands behind `covered no`.
-GAP = (r"check \d -?\d+ -?\d+|count \d+ \d+|(?:length|change) \d+ \d+ -?\d+|delay \d+ \d+ [AB] \d+ -?\d+|"
-       r"link \d+ \d+ \d+")
+def _values(told: str) -> tuple[int, ...]:
+    """The numbers in what is one of several texts."""
+    return _numbers(tuple(re.findall(r"-?\d+", told)))
+
+
+def _gap(told: str) -> tuple[bool, tuple[str, ...]]:
+    """Of `yes`, or of `no` with a gap behind it."""
+    _, *gap = told.split()
+    return not gap, tuple(gap)
+
+
+def _last(told: str) -> int | None:
+    """A number of double cycles; None for a word in its place."""
+    return _values(told)[0] if _values(told) else None
+
+
+def _within(told: str) -> tuple[bool | None, Skew | None]:
+    """Whether a skew is within, and the first that is not; None where there is none to be held against it."""
+    place = _values(told)
+    return None if told == "-" else not place, Skew(*place) if place else None
 
 
 def bound(text: str) -> Bound:
@@ -89,8 +109,8 @@ def sharp_bound(text: str) -> SharpBound:
     for kind in kinds:
         lambda_, pi, precision = numbers[kind]
         sides[kind] = SharpSide(lambda_, pi, precision, _checks(both + lines.every(f"{kind} {CHECK}")))
-    lasts = lines.take(r"lasts (on|\d+)")[0]
-    rates, joins = "on", lines.more
+    lasts = _last(lines.take(LASTS)[0])
+    rates, joins = None, lines.more
     if joins:
         reaches = {kind: lines.one(rf"{kind} reach (\d+)") for kind in kinds}
         both = lines.every(CHECK)
@@ -98,56 +118,50 @@ def sharp_bound(text: str) -> SharpBound:
             more = _checks(both + lines.every(f"{kind} {CHECK}"))
             side = sides[kind]
             sides[kind] = SharpSide(side.lambda_, side.pi, side.precision, side.checks + more, reaches[kind])
-        rates = lines.take(r"first rates last (on|\d+)")[0]
-    return SharpBound(text, flutter, sides["alone"], sides["beside"], None if lasts == "on" else int(lasts), joins,
-                      None if rates == "on" else int(rates))
+        rates = _last(lines.take(FIRST_RATES)[0])
+    return SharpBound(text, flutter, sides["alone"], sides["beside"], lasts, joins, rates)
 
 
 def lost_bound(text: str) -> LostBound:
     lines = _Lines(text)
     flutter, lost = lines.one(r"flutter (\d+)"), lines.one(r"lost (\d+)")
     lambda_, pi, precision = (lines.one(rf"alone {name} (\d+)") for name in ("lambda", "pi", "precision"))
-    apart = tuple(int(ticks) for _, ticks in lines.every(r"apart (\d+) (\d+)"))
+    apart = tuple(int(ticks) for _, ticks in lines.every(APART))
     peak, reach = lines.one(r"peak (\d+)"), lines.one(r"reach (\d+)")
     checks = _checks(lines.every(CHECK))
-    lasts = lines.take(r"lasts (on|\d+)")[0]
+    lasts = _last(lines.take(LASTS)[0])
     back = lines.one(r"back (\d+)")
     crossing, crosses = lines.take(r"crossing (\d+)( fails)?")
     second, fails = lines.take(r"every second (\d+)( fails)?")
     meeting, missed, parts = lines.take(r"meeting (\d+) (\d+)( fails)?")
-    longest = lines.take(r"longest (none|\d+)")[0]
-    return LostBound(text, flutter, lost, lambda_, pi, precision, apart, peak, reach, checks, None if lasts == "on" else int(lasts), back,
+    longest = lines.take(LONGEST)[0]
+    return LostBound(text, flutter, lost, lambda_, pi, precision, apart, peak, reach, checks, lasts, back,
                      int(crossing), not crosses, int(second), not fails, int(meeting), int(missed), not parts,
                      None if longest == "none" else int(longest))
 
 
 def _skew_line(lines: _Lines) -> Skew:
-    return Skew(*_numbers(lines.take(r"greatest skew (\d+) cycle (\d+) macrotick (\d+)")))
+    return Skew(*_numbers(lines.take(SKEW)))
 
 
 def _in_sync(lines: _Lines) -> int | None:
-    double = lines.take(r"in sync (never|\d+)")[0]
-    return None if double == "never" else int(double)
+    return _last(lines.take(SYNC)[0])
 
 
 def report(text: str) -> Report:
     lines = _Lines(text)
-    nodes, sync, arbitrary, doubles = _numbers(lines.take(r"nodes (\d+) sync (\d+) arbitrary (\d+) doubles (\d+)"))
-    precision = lines.one(r"precision (\d+)")
-    covered, gap = lines.take(rf"covered (?:(yes)|no ({GAP}))")
+    nodes, sync, arbitrary, doubles = _numbers(lines.take(NODES))
+    precision = lines.one(PRECISION)
+    covered, gap = _gap(lines.take(COVERED)[0])
     in_sync, greatest = _in_sync(lines), _skew_line(lines)
-    sent_a, sent_b = (Sent(int(frames), int(xor, 16)) for frames, xor in
-                      (lines.take(rf"sent {channel} (\d+) xor ([0-9A-F]{{6}})") for channel in "AB"))
-    names = ("stored", "outside", "damaged", "id", "cycle", "length", "plain")
-    heard = Heard(*_numbers(lines.take("heard " + " ".join(rf"{name} (\d+)" for name in names))))
-    cut = lines.one(r"cut (\d+)")
-    ends = lines.every(r"node (\d+) (active|passive|halt) next (\d+) rate (-?\d+) offset (-?\d+)")
-    nodes_at_end = tuple(NodeEnd(int(node), state, int(start), int(rate), int(offset)) for node, state, start, rate, offset in ends)
-    return Report(text, nodes, sync, arbitrary, doubles, precision, covered == "yes", tuple(gap.split()) if gap else (), in_sync,
-                  greatest, sent_a, sent_b, heard, cut, nodes_at_end)
+    sent_a, sent_b = (Sent(int(frames), int(xor, 16)) for _, frames, xor in (lines.take(SENT), lines.take(SENT)))
+    heard, cut = Heard(*_numbers(lines.take(HEARD))), lines.one(CUT)
+    nodes_at_end = tuple(NodeEnd(int(node), state, int(start), int(rate), int(offset))
+                         for node, state, start, rate, offset in lines.every(NODE))
+    return Report(text, nodes, sync, arbitrary, doubles, precision, covered, gap, in_sync, greatest, sent_a, sent_b, heard, cut,
+                  nodes_at_end)
 
 
-PLACE = r"(\d+) cycle (\d+) macrotick (\d+)"
 # Where delays flutter most, as it stands behind a flutter above 0.
 FLUTTERING = r"delay (\d+) (\d+) ([AB]) (\d+)"
 
@@ -164,18 +178,19 @@ def _flutter(lines: _Lines, before: str, between: str) -> tuple[int, Fluttering 
 def sharp_report(text: str) -> SharpReport:
     lines = _Lines(text)
     flutter, fluttering = _flutter(lines, "sharp flutter ", " ")
-    precision, kind = lines.take(r"sharp precision (\d+) (alone|beside)")
-    gaps = tuple(tuple(gap.split()) for (gap,) in lines.every(r"sharp covered no (.+)"))
+    precision, kind = lines.take(SHARP_PRECISION)
+    gaps = tuple(tuple(gap.split()) for (gap,) in lines.every(SHARP_GAP))
     if not gaps:
         lines.take(r"sharp covered yes")
-    synced, lasts = lines.take(r"sharp in sync (?:no|(\d+) (on|\d+))")
-    greatest = Skew(*_numbers(lines.take(rf"sharp greatest skew {PLACE}"))) if synced else None
-    within, *beyond = lines.take(rf"sharp within (?:(yes|-)|no {PLACE})")
-    losses = _losses(*lines.take(r"sharp lost (\d+) last (-|\d+) bound (?:-|(\d+) double (\d+))"))
+    synced, *lasts = lines.take(SHARP_SYNC)[0].split()
+    greatest = Skew(*_numbers(lines.take(SHARP_SKEW))) if lasts else None
+    within, beyond = _within(lines.take(SHARP_WITHIN)[0])
+    doubles, last, told = lines.take(SHARP_LOST)
+    bound = _values(told)
+    losses = Losses(int(doubles), _known(last), *(bound or (None, None)))
     below = "".join(f"{line}\n" for line in lines.lines[lines.at:])
-    return SharpReport(text, flutter, int(precision), kind, not gaps, gaps, int(synced) if synced else None,
-                       int(lasts) if lasts and lasts.isdigit() else None, greatest, None if within == "-" else within == "yes",
-                       Skew(*map(int, beyond)) if beyond[0] else None, losses, report(below), fluttering)
+    return SharpReport(text, flutter, int(precision), kind, not gaps, gaps, int(synced) if lasts else None,
+                       _last(*lasts) if lasts else None, greatest, within, beyond, losses, report(below), fluttering)
 
 
 def _losses(doubles: str, last: str, bound: str, double: str) -> Losses:
@@ -187,7 +202,7 @@ def _greatest(lines: _Lines, name: str, comma: str) -> Skew | None:
     return Skew(*_numbers(groups)) if groups[0] else None
 
 
-def _within(lines: _Lines, name: str, comma: str) -> tuple[bool | None, tuple[int, int] | None]:
+def _within_row(lines: _Lines, name: str, comma: str) -> tuple[bool | None, tuple[int, int] | None]:
     told, cycle, macrotick = lines.take(rf"{name},(?:(yes|-),,|no,(\d+),(\d+)){comma}")
     return (None if told == "-" else told == "yes"), ((int(cycle), int(macrotick)) if cycle else None)
 
@@ -197,7 +212,7 @@ def series(text: str) -> Series:
     return Series(text, cycles, *_ends(lines, ""))
 
 
-TRUTHS, HEARD = frozenset(("yes", "no")), frozenset(("all", "most", "any"))
+TRUTHS, KINDS_HEARD = frozenset(("yes", "no")), frozenset(("all", "most", "any"))
 
 
 def _cycles(text: str, head: str, width: int) -> tuple[SeriesCycles, _Lines]:
@@ -218,7 +233,7 @@ def _cycles(text: str, head: str, width: int) -> tuple[SeriesCycles, _Lines]:
     # Double cycles before the first in sharp sync have no number, and none has one where the run is not covered through losses.
     unbound = next((at for at, word in enumerate(bounds) if word != "-"), len(bounds))
     if (words[-1] or len(words) != (width + 1) * len(numbers) + 1 or set(feeds) - {"\n"} or not TRUTHS.issuperset(in_sync + sharp)
-            or not HEARD.issuperset(heard) or numbers != _numbers_to(len(numbers))
+            or not KINDS_HEARD.issuperset(heard) or numbers != _numbers_to(len(numbers))
             or not (_are_digits(skews) and _are_digits(macroticks) and _are_digits(bounds[unbound:]))):
         raise Strange(_strange_row(rows, width))
     ticks: tuple[int | None, ...] = (None,) * unbound + tuple(map(int, bounds[unbound:]))
@@ -255,7 +270,7 @@ def _strange_row(rows: str, width: int) -> str:
 def _ends(lines: _Lines, comma: str) -> tuple[Skew | None, bool, int | None, bool | None, tuple[int, int] | None]:
     greatest = _greatest(lines, "greatest", comma)
     synced, lost = lines.take(rf"synced,(?:(yes),|no,(\d+)),{comma}")
-    within, beyond = _within(lines, "within", comma)
+    within, beyond = _within_row(lines, "within", comma)
     return greatest, synced == "yes", int(lost) if lost else None, within, beyond
 
 
@@ -264,10 +279,10 @@ def sharp_series(text: str) -> SharpSeries:
     ends = _ends(lines, ",")
     flutter, fluttering = _flutter(lines, "flutter,", ",,,")
     precision, kind = lines.take(r"sharp,(\d+),(alone|beside),,")
-    covered, gap = lines.take(rf"sharp covered,(?:(yes),,,|no,,,({GAP}))")
+    covered, gap = lines.take(rf"sharp covered,(?:(yes),,,|no,,,{GAP})")
     synced, lasts = lines.take(r"sharp synced,(?:-,|(\d+),(on|\d+)),,")
     greatest = _greatest(lines, "sharp greatest", ",")
-    within, beyond = _within(lines, "sharp within", ",")
+    within, beyond = _within_row(lines, "sharp within", ",")
     losses = _losses(*lines.take(r"lost,(\d+),(-|\d+),(?:-,-|(\d+),(\d+))"))
     return SharpSeries(text, cycles, *ends, flutter, int(precision), kind, covered == "yes", tuple(gap.split()) if gap else (),
                        int(synced) if synced else None, None if lasts in (None, "on") else int(lasts), greatest, within, beyond, losses,
@@ -314,8 +329,8 @@ def trace(text: str) -> Trace:
 
 def verdict(text: str) -> Verdict:
     lines = _Lines(text)
-    nodes, arbitrary, doubles = _numbers(lines.take(r"trace nodes (\d+) arbitrary (\d+) doubles (\d+)"))
-    precision = lines.one(r"precision (\d+)")
+    nodes, arbitrary, doubles = _numbers(lines.take(TRACE))
+    precision = lines.one(PRECISION)
     return Verdict(text, True, "", None, nodes, arbitrary, doubles, precision, _in_sync(lines), _skew_line(lines))
 
 
@@ -330,15 +345,14 @@ def failed_verdict(line: str) -> Verdict:
 
 def sharp_verdict(text: str) -> SharpVerdict:
     lines = _Lines(text)
-    flutter, (kind,) = lines.one(r"flutter (\d+)"), lines.take(r"kind (alone|alike|beside)")
-    precision, checks = lines.one(r"precision (\d+)"), _checks(lines.every(CHECK))
-    synced, lasts = lines.take(r"in sync (?:never|(\d+) (on|\d+))")
-    unlike = lines.maybe(r"unlike (\d+)")
-    greatest = _skew_line(lines) if synced else None
-    within, *beyond = lines.take(rf"within (?:(yes|-)|no {PLACE})")
-    return SharpVerdict(text, True, "", None, flutter, kind, precision, checks, int(synced) if synced else None,
-                        int(lasts) if lasts and lasts.isdigit() else None, int(unlike[0]) if unlike else None, greatest,
-                        None if within == "-" else within == "yes", Skew(*map(int, beyond)) if beyond[0] else None)
+    flutter, (kind,) = lines.one(r"flutter (\d+)"), lines.take(KIND)
+    precision, checks = lines.one(PRECISION), _checks(lines.every(CHECK))
+    synced, *lasts = lines.take(TRACED_SYNC)[0].split()
+    unlike = lines.maybe(UNLIKE)
+    greatest = _skew_line(lines) if lasts else None
+    within, beyond = _within(lines.take(TRACED_WITHIN)[0])
+    return SharpVerdict(text, True, "", None, flutter, kind, precision, checks, int(synced) if lasts else None,
+                        _last(*lasts) if lasts else None, int(unlike[0]) if unlike else None, greatest, within, beyond)
 
 
 def failed_sharp_verdict(line: str) -> SharpVerdict:
@@ -347,7 +361,7 @@ def failed_sharp_verdict(line: str) -> SharpVerdict:
 
 # ---- what does not hold, by its line alone
 
-FAILING = re.compile(rf"(alone |beside )?(?:C(\d) fails|(?:settles|synced) no check (\d)) (-?\d+) (-?\d+)|covered no ({GAP})|"
+FAILING = re.compile(rf"(alone |beside )?(?:C(\d) fails|(?:settles|synced) no check (\d)) (-?\d+) (-?\d+)|covered no {GAP}|"
                      r"fault \d+ (.+)",
                      re.ASCII)
 
@@ -454,23 +468,20 @@ def _row(lines: _Lines, word: str) -> tuple[str, ...]:
 
 
 def _way(lines: _Lines, before: str) -> tuple[int, int | None, FailedCheck | None]:
-    peak = lines.one(rf"{before}peak (\d+)")
-    double = lines.maybe(rf"{before}settles (\d+)")
-    if double is not None:
-        return peak, int(double[0]), None
-    failed = lines.take(rf"{before}settles no check (\d) (-?\d+) (-?\d+)")
-    return peak, None, FailedCheck(*_numbers(failed))
+    peak = lines.one(before + PEAK)
+    double, *sides = _values(lines.take(before + SETTLES)[0])
+    return (peak, None, FailedCheck(double, *sides)) if sides else (peak, double, None)
 
 
 def settled(text: str) -> Settled:
     lines = _Lines(text)
-    start, rate = _numbers(lines.take(r"start (\d+) rate (\d+)"))
+    start, rate = _numbers(lines.take(STATED))
     return Settled(text, start, rate, *_way(lines, ""))
 
 
 def sharp_settled(text: str) -> SharpSettled:
     lines = _Lines(text)
-    start, rate, flutter = _numbers(lines.take(r"start (\d+) rate (\d+) flutter (\d+)"))
+    start, rate, flutter = _numbers(lines.take(SHARPLY_STATED))
     return SharpSettled(text, start, rate, flutter, SharpWay(*_way(lines, "alone ")), SharpWay(*_way(lines, "beside ")))
 
 
@@ -486,13 +497,13 @@ def power_on(text: str) -> PowerOn:
 
 def startup(text: str) -> Startup:
     lines = _Lines(text)
-    coldstart, cycles = _numbers(lines.take(r"coldstart (\d+) cycles (\d+)"))
-    first, second = lines.take(r"connected (?:yes|no (\d+) (\d+))")
-    leads = tuple(Lead(*_numbers(groups)) for groups in lines.every(r"lead (\d+) at (\d+)"))
+    coldstart, cycles = _numbers(lines.take(COLDSTART))
+    apart = _values(lines.take(CONNECTED)[0])
+    leads = tuple(Lead(*_numbers(groups)) for groups in lines.every(LEAD))
     leading = tuple(int(node) for (node,) in lines.every(r"leading (\d+)"))
     if not leading:
         lines.take("leading none")
-    return Startup(text, coldstart, cycles, (int(first), int(second)) if first else None, leads, leading)
+    return Startup(text, coldstart, cycles, (apart[0], apart[1]) if apart else None, leads, leading)
 
 
 def frame(text: str) -> Frame:
@@ -508,8 +519,8 @@ def frame(text: str) -> Frame:
 def capture(text: str) -> Capture:
     lines = _Lines(text)
     frames = tuple(CapturedFrame(int(place), int(number), int(words), int(cycle), int(crc, 16))
-                   for place, number, words, cycle, crc in lines.every(r"at (\d+) id (\d+) words (\d+) cycle (\d+) crc ([0-9A-F]{6})"))
-    count = lines.one(rf"frames {len(frames)} bytes (\d+)")
+                   for place, number, words, cycle, crc in lines.every(AT))
+    _, count = _numbers(lines.take(FRAMES))
     place, fault = lines.take(r"fault (?:none|(\d+) (.+))")
     return Capture(text, frames, count, fault, int(place) if place else None)
 
@@ -518,7 +529,7 @@ def vectors(text: str) -> Vectors:
     lines = _Lines(text)
     cycles = tuple(Vector(int(cycle), bytes.fromhex(vector), int(frames)) for cycle, vector, frames in
                    lines.every(r"cycle (\d+) vector ([0-9A-F]+) frames (\d+)"))
-    return Vectors(text, cycles, *_numbers(lines.take(r"frames (\d+) ignored (\d+)")))
+    return Vectors(text, cycles, *_numbers(lines.take(COUNTED)))
 
 
 def upgraded(text: str) -> Upgraded:

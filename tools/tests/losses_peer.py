@@ -10,6 +10,7 @@ from typing import NamedTuple
 
 from clocks_peer import CHANGE, PRODUCTION
 from flexlab.program.forms import FORMS
+from observe_peer import lengths_apart, starts_apart
 
 # The row of a script by which a bit of a frame is inverted on its way.
 DAMAGED = next(word for word, fields in FORMS["script"].kinds.items() if any(field.name == "BIT" for field in fields))
@@ -50,11 +51,8 @@ class Numbers:
         later = (v["pMicroPerCycle"] + v["pRateCorrectionOut"] + v["pOffsetCorrectionOut"] + 1) * change
         damping = v["pClusterDriftDamping"]
         self.value = flutter + self.longest - 1 + later
-        self.alone = 2 * self.value + self.longest + 2 * damping * self.longest + 2 * self.change
-        self.lengths, self.starts = self.alone, self.alone + 2 * self.change + 2 * self.arrival + 3 * self.longest
-        if beside:
-            self.lengths = 2 * self.alone
-            self.starts = 3 * self.lengths + 4 * self.change + 4 * self.arrival + 7 * self.longest
+        self.alone, self.lengths = (lengths_apart(self.value, damping, self.longest, self.change, one) for one in (False, beside))
+        self.starts = starts_apart(self.lengths, self.arrival, self.longest, self.change, beside)
         self.precision = self.apart(self.starts, self.lengths)
         self.action = (last_slot - 1) * v["gdStaticSlot"] + v["gdActionPointOffset"]
         walk = flutter + self.change + later - 1 + (self.longest if damping == 0 else -(damping - 1) * self.shortest)

@@ -2,6 +2,8 @@
 import random
 import re
 
+from flexlab.toml.keys import TABLES, every
+
 # What stands in the place of a value: numbers at and beyond their ranges, texts, lists, and what is no TOML.
 NUMBERS = (
     "0", "1", "-1", "2", "3", "5", "15", "16", "63", "64", "65", "99", "127", "128", "1023", "1024", "0.5", "-0.0", "1.5", "12.5",
@@ -24,9 +26,9 @@ FIELDS = (
     "1.0", '"1"', "param", "node", "length", "delay", "lose", "say", "__proto__", "constructor", "toString", "00", "0g", "\u00e9",
     "\u0000", "x" * 500)
 
-# Keys of tables, and values that most of these take.
-KEYS = ("id", "node", "nodes", "from", "to", "cycles", "channels", "us", "ns", "ticks", "microticks", "ppm", "ppm_from", "ppm_to", "bit",
-        "frame", "early", "late", "reference", "double_cycle", "slot", "base", "repetition", "from_cycle")
+# Keys of tables of which there may be several, and values that most of these take.
+LISTED = tuple(name for name, table in TABLES.items() if table.is_many)
+KEYS = sorted({key.name for key in every() if key.table in LISTED})
 GOOD = {"node": '"1"', "nodes": '"all"', "from": '"all"', "to": '"all"', "cycles": '"3-9"', "channels": '"A"', "us": "0.5", "ppm": "20",
         "ppm_from": "0", "ppm_to": "9", "bit": "9", "early": "[1, 2]"}
 
@@ -77,7 +79,7 @@ class Mutated:
 
     def added(self, text: str) -> str:
         """A table of its own behind the others, of keys that tables have."""
-        name = self.chance.choice(("oscillator", "delay", "two_faced", "say", "lose", "flip", "join", "slot", "node", "power", *NAMES))
+        name = self.chance.choice((*LISTED, *LISTED, *NAMES))
         keys = self.chance.sample(KEYS, self.chance.randrange(1, 6))
         values = [GOOD.get(key, "2") if self.chance.random() < 0.8 else self.any_value() for key in keys]
         return text + f"\n[[{name}]]\n" + "".join(f"{key} = {value}\n" for key, value in zip(keys, values))

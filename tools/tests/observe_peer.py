@@ -118,6 +118,16 @@ class Log:
         return high - low if self.jitter is None else min(self.jitter, high - low)
 
 
+def lengths_apart(error, damping, longest, change, beside):
+    """How far even lengths lie apart in sharp sync, from how far a rate value is off and what a cycle changes, in ticks."""
+    return (2 if beside else 1) * (2 * error + longest + 2 * damping * longest + 2 * change)
+
+
+def starts_apart(lengths, arrival, longest, change, beside):
+    """How far starts do, from how far lengths lie apart and the error of an arrival."""
+    return 3 * lengths + 4 * change + 4 * arrival + 7 * longest if beside else lengths + 2 * change + 2 * arrival + 3 * longest
+
+
 class Bounds:
     """The numbers of a double cycle, in ticks, by what its nodes hear of each other: `clean`, all of all; `meeting`, beside arbitrary
     nodes; `poor`, where some may be missed; None where that is not told."""
@@ -131,17 +141,16 @@ class Bounds:
         later = (params.micros + params.rate_out + params.offset_out + 1) * params.change
         self.flutter, self.error = flutter, flutter + params.longest - 1 + later
         # By how much rate corrections set lengths apart that were equal, and lambda of the sharper precision.
-        self.corrected = 2 * self.error + 2 * params.damping * params.longest + 2 * params.step
-        self.sharp = (self.corrected + params.longest) * (2 if self.heard in ("meeting", None) else 1)
+        alone, self.sharp = (lengths_apart(self.error, params.damping, params.longest, params.step, beside)
+                             for beside in (False, self.heard in ("meeting", None)))
+        self.corrected = alone - params.longest
         damped = params.shortest - params.damping * params.shortest if params.damping else params.longest
         self.walk = flutter + params.step + later - 1 + damped
 
     def synced(self):
         """What is known of a double cycle in sharp sync."""
-        params, lengths = self.params, self.sharp
-        if self.heard in ("meeting", None):
-            return Known(3 * lengths + 4 * params.step + 4 * params.arrival + 7 * params.longest, lengths, 0)
-        return Known(self.odd(lengths) + 2 * params.arrival + 3 * params.longest, lengths, 0)
+        params = self.params
+        return Known(starts_apart(self.sharp, params.arrival, params.longest, params.step, self.heard in ("meeting", None)), self.sharp, 0)
 
     def odd(self, lengths):
         """How far lengths of odd cycles lie apart, where those of even ones lie so far apart."""

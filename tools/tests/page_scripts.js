@@ -7,7 +7,7 @@ const PAGE = path.join(__dirname, "..", "..", "page");
 const names = /^SHARED = \((.*)\)$/m.exec(fs.readFileSync(path.join(__dirname, "..", "page"), "utf8"))[1].match(/\w+\.js/g);
 const context = vm.createContext({ TextEncoder, structuredClone });
 vm.runInContext(`${names.map((name) => fs.readFileSync(path.join(PAGE, name), "utf8").replace('"use strict";', "")).join("\n")}
-globalThis.page = { tables: Object.fromEntries([...TABLES].map(([name, { keys }]) => [name, [...keys.keys()]])), single: SINGLE, parameters: PARAMETERS, filesOfToml, readCluster, writeCluster, tomlOf, explain, listOf, NoToml, texts: { run: readReport, series: readSeries, bound: readBounds },
+globalThis.page = { tables: Object.fromEntries([...TABLES].map(([name, { keys }]) => [name, [...keys.keys()]])), single: SINGLE, parameters: PARAMETERS, filesOfToml, readCluster, writeCluster, tomlOf, explain, lastingWords, listOf, NoToml, texts: { run: readReport, series: readSeries, bound: readBounds },
   left: () => [Object.getOwnPropertyNames(Object.prototype).length, Object.keys(Object.prototype).length, Object.getOwnPropertyNames(Array.prototype).length].join() };`, context);
 const { page } = context, untouched = page.left();
 
@@ -30,6 +30,8 @@ const TASKS = new Map([
   }],
   // A printed text of a kind, taken apart.
   ["printed", ({ kind, text }) => page.texts[kind](text)],
+  // For how long something is proved of a run, by its printed series.
+  ["lasting", ({ text }) => ({ words: page.lastingWords(page.texts.series(text).last) })],
   // A form as a person may fill it.
   ["form", ({ cluster }) => ({ wrong: page.writeCluster(cluster).wrong, toml: again(cluster) })],
 ]);

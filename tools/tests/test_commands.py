@@ -79,7 +79,7 @@ class Written(unittest.TestCase):
                    ("completion/flexray", "bound FILE join", "bound FILE joins"), ("flexray-series", "FILE sharp", "FILE blunt"),
                    ("completion/flexlab", "frame capture", "capture"), ("requests.py", '"script": 3', '"script": 2'),
                    ("flexray.1", ".B lost", ".I lost"), ("flexray-series.1", ".B sharp", ".RB [ sharp ]"),
-                   ("libflexray.3", "The report of a run", "A report"),
+                   ("libflexray.3", "The report of a run", "A report"), ("flexray.h", "uint64_t flutter", "uint32_t flutter"),
                    ("FORMATS.md", "0 to 20000000 |", "1 to 2 |"), ("PYTHON.md", '`run(params, drift, script=b"")`', "`run(params)`"))
         self.assertEqual(len(changes), len(TOOL.FILES))
         for (_, old, new), name in zip(changes, TOOL.FILES):
@@ -91,11 +91,18 @@ class Written(unittest.TestCase):
 
     def test_a_new_request_is_one_row(self) -> None:
         with (self.top / TOOL.TABLE).open("a", encoding="utf-8") as file:
-            file.write('\n[[request]]\nwords = "walk PARAMS COUNT"\nwhat = "how far one walks"\ncrate = "flexray_cli"\npython = "run"\n')
+            file.write('\n[[request]]\nwords = "walk PARAMS COUNT"\nwhat = "how far one walks"\ncrate = "flexray_cli"\npython = "run"\n'
+                       'call = "flexray_walk"\n')
         self.assertEqual(self.ends(0), "")
         for name, told in (("crates/fr_whole/src/pages.rt", "  flexray walk PARAMS COUNT          how far one walks\n"),
                            ("tools/programs", "flexray         walk            flexray_cli\n"), ("tools/completion/flexray", "walk FILE NUMBER\n"),
                            ("tools/completion/flexlab", " walk\""), ("docs/flexray.1", ".B flexray walk\n.I PARAMS COUNT\n"),
+                           ("docs/flexray.1", ".TP\n.B flexray walk\n.I PARAMS COUNT\nHow far one walks.\n.TP\n.B flexray help\n"),
+                           ("docs/libflexray.3", ".B flexray_walk\nHow far one walks.\n"),
+                           ("include/flexray.h", "\n/* `flexray walk PARAMS COUNT`: how far one walks; COUNT is 1 to 1,000. */\nstatic inline uint32_t "
+                            "flexray_walk(const uint8_t *params, size_t params_length, uint32_t count, "),
+                           ("include/flexray.h", '    FLEXRAY_INLINE_WORDS("walk\\nfirst\\n%llu", (unsigned long long)count);\n    return '
+                            "FLEXRAY_INLINE_REQUEST(flexray_request, params, params_length, &none, 0, &none, 0);\n}\n"),
                            ("python/flexlab/program/requests.py", '"walk PARAMS COUNT": {"params": 1},'),
                            ("docs/FORMATS.md", "| `walk PARAMS COUNT` | how far one walks |\n"), ("docs/FORMATS.md", "COUNT of `bound` and `walk`"),
                            ("docs/PYTHON.md", "`run PARAMS DRIFT SCRIPT`, `walk PARAMS COUNT`")):

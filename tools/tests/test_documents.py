@@ -194,7 +194,7 @@ class House(Case):
     def test_what_hurts(self):
         self.write("crates/fr_low/src/long.rt", "".join(
             f"fn wide_{number}(&self, a: Vec<(u8, u8)>, b: u8, c: u8, d: u8, e: u8, f: u8)\n{{\n}}\n\n" for number in range(42)))
-        self.ends(1, "functions with more than 6 arguments: 42 (at most 26)", "house")
+        self.ends(1, "functions with more than 6 arguments: 42 (at most 22)", "house")
         self.write("crates/fr_low/src/long.rt", "fn six(&self, a: Map<u8, u8>, b: fn(u8, u8) -> u8, c: u8, d: u8, e: u8)\n{\n}\n")
         self.ends(0, "functions with more than 6 arguments: 0", "house")
         most = loaded("house").MOST_REPEATED

@@ -24,8 +24,8 @@ from flexlab.program.records import Record  # noqa: E402
 # says, kinds, names, words.
 CHANGES = (
     ("fr_drift", "Holding", "0 199_999", "0 199_998", '("FROM", "number", 0, 199998)'),
-    ("fr_script", "Rows", "pos 1_000_000_000_000", "pos 1_000_000_000_001", '("SHIFT", "number", -1000000000001, 1000000000001)'),
-    ("fr_script", "Reasons", "8 * (8 + 2", "8 * (9 + 2", '"bit": ("gPayloadLengthStatic", (0, 0), (16, 71))'),
+    ("fr_script", "Deed", "pos 1_000_000_000_000", "pos 1_000_000_000_001", '("SHIFT", "number", -1000000000001, 1000000000001)'),
+    ("fr_script", "Deed", "8 * (8 + 2", "8 * (9 + 2", '"bit": ("gPayloadLengthStatic", (0, 0), (16, 71))'),
     ("fr_cluster", "Ranges", "name.gdNIT = 15_999", "name.gdNIT = 15_998", '"gdNIT": (1, 15998)'),
     ("fr_cluster", "Ranges", "name.xDelayError = 0", "name.xDelayError = 1", '"xDelayError": (1, 10000000)'),
     ("fr_log", "Numbers", "head.Lost = 14", "head.Lost = 15", '"lost": (("COUNT", "number", 0, 15), EMPTY'),
@@ -48,6 +48,24 @@ STRANGE = (
     ("fr_drift", "Holding", "field_of r 4 ∷ field_of r 5 ∷ []", "field_of r 5 ∷ []", "field 5 is nothing"),
     ("fr_script", "Holding", "-- `lose,CYCLE", "-- `lost,CYCLE,,,,,` `lose,CYCLE", "a comment has lost,CYCLE,,,,,, and no record has this form"),
 )
+# Of a printed line the same: what stands in lines.py, as an expression, and what then, so that none of its words stands here. The words
+# are others, a value is signed or has more digits, one of several texts is another, and these begin with no word that is the same.
+LINES = (
+    ("fr_lines", "Text", 'heard_text sums =\n    codes "', 'heard_text sums =\n    codes "(all) ', r'HEARD = r"', r'HEARD = r"\\(all\\) '),
+    ("fr_lines", "Text", "decimal sums.stored", "signed_decimal sums.stored", r'(HEARD = r"[^(]*\()', r"\1-?"),
+    ("fr_lines", "Text", "hexadecimal 6 crcs", "hexadecimal 8 crcs", r"(SENT = .*)\{6\}", r"\1{8}"),
+    ("fr_base", "States", 'state_text Halt = codes "', 'state_text Halt = codes "un', r"(NODE = .*\|)(\w+\))", r"\1un\2"),
+    ("fr_coverage", "Phrases", 'sync_text None = codes "', 'sync_text None = codes "not ', r'(SYNC = r")([^(]*)\((\w+)\|', r"\1(not \2\3|\2"),
+)
+# Of a bound the same, with what stands in bounds.py and in a table of docs/PRECISION.md then.
+BOUNDS = (
+    ("SharpBounds", "false p flutter =\n    2 * steady_error p flutter", "false p flutter =\n    steady_error p flutter",
+     "    return steady_error(p, flutter) + longest_micro(p) + 2 * p", "| lambda, of even cycles | `e + Qp + 2 c Qp + 2 J` | `4 e"),
+    ("SharpBounds", "4 * arrival_error p + 7", "4 * (arrival_error p + 2) + 7", "+ 4 * (arrival_error(p) + 2) + 7 *", "4 J + 4 E1 + 8 + 7 Qp` |"),
+    ("SharpBounds", "odd_spread p lengths = lengths + 2", "odd_spread p lengths = lengths + 3", "return lengths + 3 * cycle_change(p)",
+     "`pi + 2 lambda + 3 J + 2 Qp`"),
+    ("Bounds", "y1_of p = 2 * arrival_error p", "y1_of p = 3 * arrival_error p", "return 3 * arrival_error(p) + 2", "| y1 | `3 E1 + 2 Qp + 3 J` | how"),
+)
 # A new row of the script, which is one change of its specification.
 MUTE = """-- `mute,NODE,CYCLE,CHANNEL,,,`
 abbrev pub mute_form : FileRecord → Form
@@ -60,7 +78,8 @@ mute_form r = record {
 }
 
 """
-FILES = ("python/flexlab/base/specified.py", "page/forms.js", "docs/FORMATS.md")
+FILES = ("python/flexlab/base/specified.py", "page/forms.js", "docs/FORMATS.md", "python/flexray/lines.py", "python/flexlab/base/bounds.py",
+         "docs/PRECISION.md")
 
 
 def tool() -> ModuleType:
@@ -79,12 +98,12 @@ class Case(unittest.TestCase):
         room = tempfile.TemporaryDirectory()
         self.addCleanup(room.cleanup)
         self.top = Path(room.name)
-        for crate in ("fr_base", "fr_text", "fr_cluster", "fr_params", "fr_drift", "fr_script", "fr_cold", "fr_nm", "fr_log", "fr_trace"):
-            shutil.copytree(REPOSITORY / "crates" / crate / "specs", self.top / "crates" / crate / "specs")
+        for specs in (REPOSITORY / "crates").glob("*/specs"):
+            shutil.copytree(specs, self.top / specs.relative_to(REPOSITORY))
         for name in set(re.findall(r"^```text (\S+)", (REPOSITORY / "docs/FORMATS.md").read_text(encoding="utf-8"), re.M)):
             shutil.copytree(REPOSITORY / name, self.top / name)
         for name in FILES:
-            (self.top / name).parent.mkdir(parents=True)
+            (self.top / name).parent.mkdir(parents=True, exist_ok=True)
             shutil.copy(REPOSITORY / name, self.top / name)
         self.tool = tool()
 
@@ -119,6 +138,36 @@ class Held(Case):
                 self.assertIn(written, found.text())
                 self.assertNotIn(written, (REPOSITORY / FILES[0]).read_text(encoding="utf-8"))
             (self.top / path).write_text(before, encoding="utf-8")
+
+    def test_what_is_changed_in_a_printed_line_is_written(self) -> None:
+        self.tool.HERE = str(self.top)
+        lines = (REPOSITORY / FILES[3]).read_text(encoding="utf-8")
+        for crate, name, old, new, found, written in LINES:
+            path = f"crates/{crate}/specs/{name}.antt"
+            before = (self.top / path).read_text(encoding="utf-8")
+            with self.subTest(path=path, new=new):
+                self.change(path, old, new)
+                self.assertEqual(self.tool.lines_text(), re.sub(f"^{found}", written, lines, flags=re.M))
+                self.assertNotEqual(self.tool.lines_text(), lines)
+            (self.top / path).write_text(before, encoding="utf-8")
+        self.change("crates/fr_lines/specs/Text.antt", "decimal cut", "shown cut")
+        self.ends(1, "a printed line or a bound has a shape that is not known here: ")
+
+    def test_what_is_changed_in_a_bound_is_written(self) -> None:
+        for name, old, new, *written in BOUNDS:
+            path = f"crates/fr_bound/specs/{name}.antt"
+            before = (self.top / path).read_text(encoding="utf-8")
+            with self.subTest(new=new):
+                self.change(path, old, new)
+                self.assertEqual(self.ends(0, words=()), "")
+                for file, text in zip(FILES[4:], written, strict=True):
+                    self.assertIn(text, (self.top / file).read_text(encoding="utf-8"))
+                    self.assertNotIn(text, (REPOSITORY / file).read_text(encoding="utf-8"))
+            (self.top / path).write_text(before, encoding="utf-8")
+        self.change("docs/PRECISION.md", "| | Without | Beside |", "| Bound | Without | Beside |")
+        self.ends(1, "docs/PRECISION.md: it has no table | | Without | Beside |", words=())
+        self.change("crates/fr_bound/specs/Bounds.antt", "precision_of p = pi_of p", "precision_of p = nat_abs p")
+        self.ends(1, "a printed line or a bound has a shape that is not known here: ", words=())
 
     def test_what_is_strange_in_the_specification_is_told(self) -> None:
         for crate, name, old, new, told in STRANGE:
@@ -168,6 +217,8 @@ class Held(Case):
         for name, old, new, told in (
                 (FILES[0], "99999", "99998", f"{FILES[0]} is not what comes of the specification"),
                 ("page/forms.js", "99999", "99998", "page/forms.js is not"),
+                (FILES[3], 'HEARD = r"', 'HEARD = r"so ', f"{FILES[3]} is not what comes of the specification"),
+                ("page/forms.js", "heard: /^", "heard: /^so ", "page/forms.js is not"),
                 ("docs/FORMATS.md", "SHIFT within 1000000000000 ticks", "SHIFT within 100 ticks", "docs/FORMATS.md is not"),
                 ("docs/FORMATS.md", "| 10 to 16000 |", "| 1 to 16000 |", "docs/FORMATS.md is not"),
                 ("docs/FORMATS.md", "| `on,NODE,TIME` |", "| `on,TIME,NODE` |", "docs/FORMATS.md is not"),
@@ -205,6 +256,9 @@ class Held(Case):
         self.change("docs/FORMATS.md", "KEY 1 to 1023 or empty", "KEY 1 to 10")
         self.change("page/forms.js", "99999", "99998")
         self.change(FILES[0], "99999", "99998")
+        self.change(FILES[3], 'HEARD = r"', 'HEARD = r"so ')
+        self.change(FILES[4], "3 * cycle_change", "2 * cycle_change")
+        self.change(FILES[5], "2 Qp + 4 c Qp + 4 J", "Qp + 4 c Qp + 4 J")
         self.ends(1)
         self.assertEqual(self.ends(0, words=()), "")
         self.ends(0)

@@ -479,6 +479,17 @@ class Page(Bench):
                 self.assertEqual("proved for" in self.run_in('$("verdict").innerText'), "held" not in told)
                 self.run_in('selectTab("answers", "Summary")')
 
+    def test_nothing_is_proved_of_a_run_with_a_gap(self):
+        """Its series has a number of double cycles all the same: how long the rate limit holds the walk."""
+        for name, text, gap in (("script", "arbitrary,3,,,,,\n", r"check 3 \d+ \d+"), ("drift", "length,3,170,1000900,,\n", "length 3 170 1000900")):
+            with self.subTest(gap):
+                self.take("sharp/walk")
+                self.run_in('selectTab("editor", "Files")')
+                self.put(f"#file-{name}", text if name == "script" else self.run_in('$("file-drift").value') + text)
+                self.settle()
+                self.assertRegex(self.text_of("series"), rf"\nsharp covered,no,,,{gap}\nsharp synced,0,62,,\n[\s\S]*\nlost,0,-,-,-\n")
+                self.assertNotIn("proved", self.run_in('$("verdict").innerText'))
+
     def test_checks_of_nodes_that_join(self):
         """The bounds are those of a cluster that nodes join, and whether C6 to C9 hold is told."""
         for name in ("sharp/series-joins", "joins/run", "joins/growing", "joins/missed"):

@@ -174,6 +174,20 @@ class Scripts(Bench):
                     self.assertEqual(shown, TAKEN[kind](call.text.decode()))
         self.assertTrue(all(tried.values()), tried)
 
+    def test_of_what_runs_something_is_proved(self) -> None:
+        """Of one that is covered, or covered through losses: it then has a bound. Others have a number of double cycles too."""
+        text = (EXAMPLES / "sharp" / "series" / "printed.txt").read_text()
+        for covered, synced, lost, wanted in (("yes,,,", "2,62", "0,-,36003994,2", "proved for 62 double cycles from there on"),
+                                              ("no,,,link 1 2 4", "2,62", "1,4,36003994,2", "proved for 62 double cycles from there on"),
+                                              ("no,,,link 1 2 4", "2,0", "1,4,36003994,2", "nothing is proved from there on"),
+                                              ("no,,,count 2 1", "2,62", "0,-,-,-", ""), ("no,,,check 2 2 3", "2,0", "0,-,-,-", ""),
+                                              ("yes,,,", "2,on", "0,-,36003994,2", ""), ("yes,,,", "-,", "0,-,-,-", "")):
+            with self.subTest(covered=covered, synced=synced):
+                given = re.sub(r"(?m)^(sharp covered|sharp synced|lost),.*$", lambda line: {
+                    "sharp covered": f"sharp covered,{covered}", "sharp synced": f"sharp synced,{synced},,",
+                    "lost": f"lost,{lost}"}[line[1]], text)
+                self.assertEqual(self.ask("lasting", text=given)["words"], wanted)
+
     def by_flexlab(self, text: str) -> Any:
         """{file: its lines in an order of their own}, or the line of the refusal."""
         path = self.path("cluster.toml")

@@ -4,7 +4,7 @@ use crate::calls::File::{Bytes, Params, Text, TooLong};
 use crate::calls::{File, Lines, Row, first_other};
 use fr_answer::Status;
 use fr_answer::Status::{Done, No, ReadFault, Refused, Usage};
-use fr_samples::{LATER, TWO_ON_A};
+use fr_samples::{LATER, TWO_ON_A, report};
 use rand_core::utils::NextWord;
 use rand_pcg::Lcg64Xsh32;
 use std::test::Fail;
@@ -330,23 +330,20 @@ const OTHER_FILES: &[Row] = &[
 ];
 
 // The report of the cluster of seed 7 over one double cycle: the correct nodes send 18 frames a cycle and channel.
-pub(crate) const MADE_REPORT: &str = "\
-nodes 8 sync 8 arbitrary 2 doubles 1\n\
-precision 252043600\n\
-covered yes\n\
-in sync never\n\
-greatest skew 129791249 cycle 1 macrotick 4900\n\
-sent A 36 xor 915C04\n\
-sent B 36 xor 915C04\n\
-heard stored 153 outside 0 damaged 0 id 0 cycle 0 length 0 plain 240\n\
-cut 0\n\
-node 1 active next 400044614158 rate 0 offset 2\n\
-node 2 active next 400037877932 rate 0 offset -8\n\
-node 3 active next 400033193749 rate 4 offset 24\n\
-node 4 active next 400039539504 rate -12 offset -30\n\
-node 5 active next 400063825425 rate -16 offset -34\n\
-node 6 active next 400005860969 rate 40 offset 39\n\
-";
+pub(crate) const MADE_REPORT: &str = report! {
+    [8, 8, 2, 1] 252043600 "yes" "never"
+    [129791249, 1, 4900]
+    [36, "915C04"]
+    [36, "915C04"]
+    [153, 0, 0, 0, 0, 0, 240]
+    0
+    [1, "active", "400044614158", 0, 2]
+    [2, "active", "400037877932", 0, "-8"]
+    [3, "active", "400033193749", 4, 24]
+    [4, "active", "400039539504", "-12", "-30"]
+    [5, "active", "400063825425", "-16", "-34"]
+    [6, "active", "400005860969", 40, 39]
+};
 
 pub(crate) const CHECK: &[&str] = &["check", "p", "t"];
 

@@ -12,7 +12,7 @@ use fr_program::MemorySink;
 use fr_report::{Report, add_next, write_report};
 use fr_samples::{
     APART, APART_REPORT, FOUR_ON_A, LATER, LATER_REPORT, ONE, THREE_ON_A, TWO_FACED, TWO_ON_A,
-    params_of,
+    params_of, report,
 };
 use fr_series::write_series;
 use fr_trace::{write_cycle, write_head};
@@ -339,20 +339,17 @@ const SEEN: &[(bool, bool)] = &[
     (false, true),
 ];
 
-const TWO_FACED_REPORT: &str = "\
-nodes 4 sync 4 arbitrary 1 doubles 1\n\
-precision 252043600\n\
-covered yes\n\
-in sync 0\n\
-greatest skew 0 cycle 0 macrotick 0\n\
-sent A 6 xor 5D6DCB\n\
-sent B 0 xor 000000\n\
-heard stored 16 outside 0 damaged 0 id 0 cycle 0 length 0 plain 0\n\
-cut 0\n\
-node 1 active next 400000000000 rate 0 offset 0\n\
-node 2 active next 400000000000 rate 0 offset 0\n\
-node 3 active next 400000000000 rate 0 offset 0\n\
-";
+const TWO_FACED_REPORT: &str = report! {
+    [4, 4, 1, 1] 252043600 "yes" 0
+    [0, 0, 0]
+    [6, "5D6DCB"]
+    [0, "000000"]
+    [16, 0, 0, 0, 0, 0, 0]
+    0
+    [1, "active", "400000000000", 0, 0]
+    [2, "active", "400000000000", 0, 0]
+    [3, "active", "400000000000", 0, 0]
+};
 
 // A run of one double cycle in which node 2 starts two and a half microticks later.
 const LATER_ONE: &str = "doubles,1,,,,\nstart,2,2500000,0,,\n";

@@ -68,33 +68,61 @@ say,0,4,2,A,-100000000,\n\
 say,1,4,2,A,-100000000,\n\
 ";
 
-pub const LATER_REPORT: &str = "\
-nodes 2 sync 2 arbitrary 0 doubles 2\n\
-precision 252043600\n\
-covered yes\n\
-in sync 0\n\
-greatest skew 2500000 cycle 0 macrotick 0\n\
-sent A 8 xor 000000\n\
-sent B 0 xor 000000\n\
-heard stored 8 outside 0 damaged 0 id 0 cycle 0 length 0 plain 0\n\
-cut 0\n\
-node 1 active next 800001000000 rate 0 offset 0\n\
-node 2 active next 800001500000 rate 0 offset 0\n\
-";
+/// The report of a run from what its lines say, so that the words of tests stand here alone. First nodes, sync nodes,
+/// arbitrary ones and double cycles, precision, coverage, first double cycle in sync, greatest skew with cycle and
+/// macrotick. Then frames and sum of CRCs of each channel, what became of frames, cut terms, and a row for each node.
+#[macro_export]
+macro_rules! report {
+    (
+        [$nodes:literal, $sync:literal, $arbitrary:literal, $doubles:literal]
+        $precision:literal $covered:literal $in_sync:literal
+        [$skew:literal, $cycle:literal, $macrotick:literal]
+        [$on_a:literal, $of_a:literal]
+        [$on_b:literal, $of_b:literal]
+        [
+            $stored:literal, $outside:literal, $damaged:literal, $id:literal, $count:literal, $length:literal,
+            $plain:literal
+        ]
+        $cut:literal
+        $([$node:literal, $state:literal, $next:literal, $rate:literal, $offset:literal])*
+    ) => {
+        concat!(
+            "nodes ", $nodes, " sync ", $sync, " arbitrary ", $arbitrary, " doubles ", $doubles, "\n",
+            "precision ", $precision, "\n",
+            "covered ", $covered, "\n",
+            "in sync ", $in_sync, "\n",
+            "greatest skew ", $skew, " cycle ", $cycle, " macrotick ", $macrotick, "\n",
+            "sent A ", $on_a, " xor ", $of_a, "\n",
+            "sent B ", $on_b, " xor ", $of_b, "\n",
+            "heard stored ", $stored, " outside ", $outside, " damaged ", $damaged,
+            " id ", $id, " cycle ", $count, " length ", $length, " plain ", $plain, "\n",
+            "cut ", $cut, "\n",
+            $("node ", $node, " ", $state, " next ", $next, " rate ", $rate, " offset ", $offset, "\n",)*
+        )
+    };
+}
 
-pub const APART_REPORT: &str = "\
-nodes 2 sync 2 arbitrary 0 doubles 2\n\
-precision 252043600\n\
-covered yes\n\
-in sync 1\n\
-greatest skew 79200000 cycle 1 macrotick 4900\n\
-sent A 8 xor 000000\n\
-sent B 0 xor 000000\n\
-heard stored 8 outside 0 damaged 0 id 0 cycle 0 length 0 plain 0\n\
-cut 0\n\
-node 1 active next 800003992400 rate -16 offset -24\n\
-node 2 active next 799994992500 rate 16 offset 23\n\
-";
+pub const LATER_REPORT: &str = report! {
+    [2, 2, 0, 2] 252043600 "yes" 0
+    [2500000, 0, 0]
+    [8, "000000"]
+    [0, "000000"]
+    [8, 0, 0, 0, 0, 0, 0]
+    0
+    [1, "active", "800001000000", 0, 0]
+    [2, "active", "800001500000", 0, 0]
+};
+
+pub const APART_REPORT: &str = report! {
+    [2, 2, 0, 2] 252043600 "yes" 1
+    [79200000, 1, 4900]
+    [8, "000000"]
+    [0, "000000"]
+    [8, 0, 0, 0, 0, 0, 0]
+    0
+    [1, "active", "800003992400", "-16", "-24"]
+    [2, "active", "799994992500", 16, 23]
+};
 
 /// The text with each line that begins so replaced.
 pub fn changed(alloc: Global, old: &str, values: &[(&str, &str)]) -> Result<String, AllocError> {

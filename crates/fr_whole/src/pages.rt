@@ -23,16 +23,16 @@ pub enum Page {
 // completion, manual page and documents to them.
 const HELP: &[u8] = b"usage: flexray COMMAND WORDS
 
-  flexray bound PARAMS               the precision and three more bounds, and the five checks of a cluster
-  flexray bound PARAMS join          these, and the reach and four checks of a cluster that nodes join
+  flexray bound PARAMS               the classical precision, three more bounds, and the five checks of a cluster
+  flexray bound PARAMS join          the classical bounds, and the reach and four checks of a cluster that nodes join
   flexray bound PARAMS sharp FLUTTER
-                                     sharper ones, where delays flutter by at most so many ticks
+                                     the sharper bounds and checks, where delays flutter by at most so many ticks
   flexray bound PARAMS sharp FLUTTER join
-                                     these, and the sharper reach and checks of one that nodes join
+                                     the sharper bounds, and the reach and checks of a cluster that nodes join
   flexray bound PARAMS sharp FLUTTER lost COUNT
                                      how far clocks come apart if any frames are lost in COUNT double cycles in a row
   flexray upgrade PARAMS             the parameters as a file of version 2: one compensation per channel
-  flexray settle PARAMS START RATE   how many double cycles it takes at most to be in sync; both in ticks
+  flexray settle PARAMS START RATE   how many double cycles until in sync at most, from START and RATE in ticks
   flexray settle PARAMS START RATE sharp FLUTTER
                                      how many double cycles it takes at most to be in sharp sync
   flexray settle PARAMS power FLUTTER

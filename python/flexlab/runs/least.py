@@ -1,14 +1,14 @@
-"""The least values of parameters with which all checks hold, found by the formulas of docs/PRECISION.md; that they
-hold is asked of flexray bound before anything is said of them."""
+"""The least values of parameters with which all checks hold, found by the formulas of docs/PRECISION.md, the bounds among them as the
+specification has them; that they hold is asked of flexray bound before anything is said of them."""
 from dataclasses import dataclass
 from fractions import Fraction
 from typing import NamedTuple, overload
 
-from ..base import ranges
+from ..base import bounds, ranges
+from ..base.bounds import TICKS, cycle_change, longest_micro, shortest_micro
 from ..base.ranges import Parameters
 from ..pages.advice import TURNS, latest_start, up
 
-TICKS = 1000000
 FITTED = ("xRateBound", "xChangeBound", "xDelayError", "pRateCorrectionOut", "pClusterDriftDamping", "pOffsetCorrectionOut",
           "gdActionPointOffset", "gdStaticSlot")
 
@@ -21,14 +21,6 @@ class Sides(NamedTuple):
     """Both sides of a check."""
     left: int
     right: int
-
-
-class Common(NamedTuple):
-    """The longest and the shortest microtick, the error of an arrival, and by how much a cycle changes, in ticks."""
-    longest: int
-    shortest: int
-    error: int
-    change: int
 
 
 @dataclass
@@ -66,14 +58,6 @@ class Kind:
         return "beside" if self.beside else "alone"
 
 
-def common_of(p: Parameters, wait: int | None = None) -> Common:
-    """What all bounds are made of: the longest and the shortest microtick, the error of an arrival, and by how much a cycle
-    changes."""
-    wait = ranges.compensation(p) if wait is None else wait
-    return Common(TICKS + p["xRateBound"], TICKS - p["xRateBound"], p["xDelayError"] + wait * p["xRateBound"],
-                  (p["pMicroPerCycle"] + p["pRateCorrectionOut"]) * p["xChangeBound"])
-
-
 def slot_sides(p: Parameters, first: int, apart: int, wait: int | None = None) -> dict[int, Sides]:
     """Both sides of a check of the offset limit, and of the two of slots behind it, for clocks so far apart; `wait` is the greater
     compensation where that is known."""
@@ -88,19 +72,14 @@ def slot_sides(p: Parameters, first: int, apart: int, wait: int | None = None) -
 
 def bounds_of(p: Parameters, join: bool = False) -> Numbers:
     """The bounds of a cluster and both sides of its checks, as `flexray bound` prints them."""
-    longest, shortest, error, change = common_of(p)
-    damping, most = p["pClusterDriftDamping"], p["pRateCorrectionOut"]
-    y1 = 2 * error + 2 * longest + 3 * change
-    lengths = 4 * y1 + 2 * longest + 4 * damping * longest + 8 * change
-    starts = 6 * lengths + 4 * error + 8 * longest
-    precision, drift = starts + 2 * lengths + 2 * longest, 2 * p["pMicroPerCycle"] * p["xRateBound"]
-    found = Numbers({"y1": y1, "lambda": lengths, "pi": starts, "precision": precision},
-                    {1: Sides(damping * shortest, y1 + 2 * change), 2: Sides(most * shortest, drift), **slot_sides(p, 3, precision)})
+    shortest, damping, most = shortest_micro(p), p["pClusterDriftDamping"], p["pRateCorrectionOut"]
+    y1, precision, drift = bounds.y1_of(p), bounds.precision_of(p), 2 * p["pMicroPerCycle"] * p["xRateBound"]
+    found = Numbers({"y1": y1, "lambda": bounds.lambda_of(p), "pi": bounds.pi_of(p), "precision": precision},
+                    {1: Sides(damping * shortest, y1 + 2 * cycle_change(p)), 2: Sides(most * shortest, drift),
+                     **slot_sides(p, 3, precision)})
     if join:
-        follower = y1 + 4 * change
-        reach = starts + 8 * lengths + 4 * follower + 4 * error + 8 * longest
-        found.bounds["reach"] = reach
-        found.sides.update({6: Sides(most * shortest, drift + follower), **slot_sides(p, 7, reach)})
+        found.bounds["reach"] = reach = bounds.reach_of(p)
+        found.sides.update({6: Sides(most * shortest, drift + bounds.follower_error(p)), **slot_sides(p, 7, reach)})
     return found
 
 
@@ -108,15 +87,13 @@ def sharp_bounds_of(p: Parameters, kind: Kind) -> Numbers:
     """The sharper bounds of a cluster and both sides of their checks, as `flexray bound PARAMS sharp FLUTTER join` prints them;
     with how far action points lie apart, and for how many double cycles sync, first rates and the walk last (None: on and on)."""
     wait = ranges.compensation(p)
-    longest, shortest, error, change = common_of(p, wait)
-    micros, damping, most = p["pMicroPerCycle"], p["pClusterDriftDamping"], p["pRateCorrectionOut"]
-    wide = (micros + most + p["pOffsetCorrectionOut"] + 1) * p["xChangeBound"]
-    lengths = (2 if kind.beside else 1) * (2 * (kind.flutter + longest - 1 + wide) + (1 + 2 * damping) * longest + 2 * change)
-    odd = lengths + 2 * change
-    starts = 3 * lengths + 4 * change + 4 * error + 7 * longest if kind.beside else odd + 2 * error + 3 * longest
+    longest, shortest, error, change = longest_micro(p), shortest_micro(p), bounds.arrival_error(p), cycle_change(p)
+    micros, damping, most, wide = p["pMicroPerCycle"], p["pClusterDriftDamping"], p["pRateCorrectionOut"], bounds.wide_change(p)
+    starts, lengths = bounds.sharp_spread(kind.beside, p, kind.flutter)
+    odd, steady = bounds.odd_spread(p, lengths), bounds.steady_error(p, kind.flutter)
     last = (kind.last - 1) * p["gdStaticSlot"] + p["gdActionPointOffset"]
     near = starts + lengths + last * odd // p["gMacroPerCycle"] + longest
-    first = lengths + 2 * (kind.flutter + longest - 1 + wide) + damping * longest + 4 * change
+    first = lengths + 2 * steady + damping * longest + 4 * change
     begins = starts + 2 * lengths + 4 * change + 2 * error + kind.flutter + 4 * longest
     reach = begins + first + last * (first + 2 * change) // p["gMacroPerCycle"] + longest
     walk = kind.flutter + change + wide - 1 + (shortest - damping * shortest if damping else longest)
@@ -125,8 +102,8 @@ def sharp_bounds_of(p: Parameters, kind: Kind) -> Numbers:
     walks = 0 if room < 0 else None if walk <= 0 else room // walk
     is_held = p["xChangeBound"] == 0 and 0 < 3 * walk < 2 * shortest and shortest - 1 + walk <= room
     first_rates = 0 if room < counted else None if walk <= 0 else min(room // walk, (room - counted) // walk + 1)
-    return Numbers({"lambda": lengths, "pi": starts, "precision": starts + lengths + odd + 2 * longest, "near": near,
-                    "reach": reach},
+    return Numbers({"lambda": lengths, "pi": starts, "precision": bounds.precision_by(p, starts, lengths),
+                    "near": near, "reach": reach},
                    {1: Sides(damping * shortest + 1, shortest + kind.flutter + change + wide),
                     2: Sides(most * shortest, 2 * micros * p["xRateBound"]), **slot_sides(p, 3, near, wait),
                     6: Sides(most * shortest, 2 * micros * p["xRateBound"] + counted), **slot_sides(p, 7, reach, wait)},
