@@ -263,14 +263,13 @@ function showVerdict() {
   }
   notice();
   const { run, series, bound, sharp, joins, known } = found, { last } = series;
-  const kind = last.sharp[1], first = last["sharp synced"][0], lasts = last["sharp synced"][1];
+  const kind = last.sharp[1], first = last["sharp synced"][0];
   const covered = last["sharp covered"][0] === "yes", cycle = Number(first) * 2;
-  const ending = lasts === "on" || lasts === "" ? "" : `proved for ${lasts} double cycles from there on`;
   cards.push(card(covered ? "good" : "bad", "Covered", covered ? "yes" : "no",
     covered ? "in sync no macroticks lie further apart than the precision" : gapWords(last["sharp covered"][3], show),
     joins && `nodes that join: ${ofJoins(sharp, kind).text}`));
   cards.push(card(first === "-" ? "bad" : "good", "In sync", first === "-" ? "never" : `from ${msOfCycle(cycle, known)} ms`,
-    first === "-" ? null : `double cycle ${first}, cycle ${cycle}`, ending));
+    first === "-" ? null : `double cycle ${first}, cycle ${cycle}`, lastingWords(last)));
   const skew = last["sharp greatest"][0];
   cards.push(card("", `Precision, ${kind === "beside" ? "beside arbitrary nodes" : "no arbitrary node"}`, `${us(last.sharp[0])} us`,
     skew === "-" ? null : `the skew was ${us(skew)} us at most since, ${percent(skew, last.sharp[0])} of it`));
@@ -553,9 +552,6 @@ const groupOf = (name) => (name.startsWith("x") ? 2 : /^(gMax|pAllow)/.test(name
 // A text that is longer than this is not put into a field: a browser would take long for it.
 const MOST_EDITED = 2000000;
 
-// What becomes of a frame, by the word of its row; another one stands as it is.
-const TOLD = { say: "says", lose: "is lost", flip: "bit inverted" };
-
 const EDITOR = {
   Cluster() {
     const microtick = element("input", { id: "microtick", "data-field": "microtick", value: page.retick ?? page.microtick, size: 6, "aria-label": "A microtick lasts, in nanoseconds", autocomplete: "off",
@@ -606,8 +602,8 @@ const EDITOR = {
   Faults() {
     const is = (kind) => (row) => row.kind === kind;
     return element("div", {}, editTable("What is done to frames", "An arbitrary node says its frame early (below 0) or late, to each receiver another time if you like: that is a two-faced node. Of correct nodes frames are lost, or a bit is inverted. Nodes are as 1-4,6 or all; cycles as 0-399, 7 or all.", page.cluster.faults,
-      [{ key: "kind", head: "what", options: [...FORMS.script[1].keys()].filter(isOfFrames).map((kind) => [kind, TOLD[kind] || kind]) }, { key: "from", head: "of nodes", width: 5 }, { key: "to", head: "to nodes", width: 6 }, { key: "channels", head: "channels", ...CHANNELS }, { key: "cycles", head: "cycles", width: 9 },
-        { key: "value", head: "us late, or bit", width: 6, when: (row) => row.kind !== "lose" }, { key: "bytes", head: "bytes", width: 10, title: "hexadecimal digits; empty: the frame that it would send", when: is("say") }],
+      [{ key: "kind", head: "what", options: [...FORMS.script[1].keys()].filter(isOfFrames).map((kind) => [kind, TABLES.get(kind)?.meaning || kind]) }, { key: "from", head: "of nodes", width: 5 }, { key: "to", head: "to nodes", width: 6 }, { key: "channels", head: "channels", ...CHANNELS }, { key: "cycles", head: "cycles", width: 9 },
+        { key: "value", head: "us late, or bit", width: 6, when: (row) => is("say")(row) || hasBit(row.kind) }, { key: "bytes", head: "bytes", width: 10, title: "hexadecimal digits; empty: the frame that it would send", when: is("say") }],
       () => {
         const arbitrary = page.cluster.nodes.find((node) => node.arbitrary);
         return arbitrary ? { kind: "say", from: arbitrary.id, to: "all", channels: "AB", cycles: "all", value: "1", bytes: "" }

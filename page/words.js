@@ -169,3 +169,10 @@ function gapWords(gap, show) {
   if (kind === "link") return `In double cycle ${rest[2]} no channel carries the frames of node ${rest[0]} to node ${rest[1]} in both cycles.`;
   return gap;
 }
+
+// For how long from sync on something is proved of a run, by the lines behind its series, where that is not to its end. It is of a
+// covered run, and of one that is covered through losses: that one has a bound.
+function lastingWords({ "sharp covered": [covered], "sharp synced": [first, lasts], lost: [, , bound] }) {
+  if (first === "-" || lasts === "on" || (covered !== "yes" && bound === "-")) return "";
+  return lasts === "0" ? "nothing is proved from there on" : `proved for ${lasts} double cycles from there on`;
+}

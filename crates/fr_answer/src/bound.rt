@@ -18,7 +18,7 @@ use fr_text::Piece::{Natural, Word};
 use fr_text::{Line, accepted, line_of, put_lines};
 use std::alloc::Global;
 
-/// Reads the parameters in the file, and writes their bounds and checks, each line in one put. It loads the file
+/// Reads the parameters in the file, and writes their bounds and checks, in puts of whole lines. It loads the file
 /// once. A failure comes where the file can't be loaded, is not accepted, or memory runs out (`Stopped`), or where
 /// the sink counted a fault (`WriteFault`).
 pub fn answer_bound<S: Shelf, O: Sink>(

@@ -17,7 +17,7 @@ use fr_text::{Line, accepted, put_lines};
 use std::alloc::Global;
 
 /// Reads the parameters in the file, and writes their bounds and checks, and then the reach and the checks of a cluster
-/// that nodes join, each line in one put. It loads the file once. A failure comes where the file can't be loaded, is
+/// that nodes join, in puts of whole lines. It loads the file once. A failure comes where the file can't be loaded, is
 /// not accepted, or memory runs out (`Stopped`), or where the sink counted a fault (`WriteFault`).
 pub fn answer_bound_join<S: Shelf, O: Sink>(
     alloc: Global,

@@ -43,10 +43,10 @@ pub struct LossFigures {
     pub longest: Option<u32>,
 }
 
-/// Reads the parameters in the file, and writes how far clocks may lie apart where any frames may be lost in so many double
-/// cycles in a row, 1 to 1000, without arbitrary sync nodes, and delays flutter by no more than so many ticks; with the
-/// checks for that, each line in one put. It loads the file once. A failure comes where the file can't be loaded, is not
-/// accepted, or memory runs out (`Stopped`), or where the sink counted a fault (`WriteFault`).
+/// Reads the parameters in the file, and writes how far clocks may lie apart where any frames may be lost in so many
+/// double cycles in a row, 1 to 1000, without arbitrary sync nodes, and delays flutter by no more than so many ticks;
+/// with the checks for that, in puts of whole lines. It loads the file once. A failure comes where the file can't be
+/// loaded, is not accepted, or memory runs out (`Stopped`), or where the sink counted a fault (`WriteFault`).
 pub fn answer_bound_lost<S: Shelf, O: Sink>(
     alloc: Global,
     file: &str,

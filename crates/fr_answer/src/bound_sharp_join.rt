@@ -22,7 +22,7 @@ use std::alloc::Global;
 
 /// Reads the parameters in the file, and writes their sharper bounds and checks where delays flutter by no more than so
 /// many ticks, and then the sharper reach and checks of a cluster that nodes join, without arbitrary sync nodes and
-/// beside them, each line in one put. It loads the file once. A failure comes where the file can't be loaded, is not
+/// beside them, in puts of whole lines. It loads the file once. A failure comes where the file can't be loaded, is not
 /// accepted, or memory runs out (`Stopped`), or where the sink counted a fault (`WriteFault`).
 pub fn answer_bound_sharp_join<S: Shelf, O: Sink>(
     alloc: Global,

@@ -18,9 +18,9 @@ use fr_text::{Line, accepted, line_of, put_lines};
 use std::alloc::Global;
 
 /// Reads the parameters in the file, and writes how long clocks take until they are in sync that begin at most `start`
-/// ticks apart, and the lengths of whose first two cycles lie at most `rate` ticks apart, each line in one put. It loads
-/// the file once. A failure comes where the file can't be loaded, is not accepted, or memory runs out (`Stopped`), or
-/// where the sink counted a fault (`WriteFault`).
+/// ticks apart, and the lengths of whose first two cycles lie at most `rate` ticks apart, in puts of whole lines. It
+/// loads the file once. A failure comes where the file can't be loaded, is not accepted, or memory runs out
+/// (`Stopped`), or where the sink counted a fault (`WriteFault`).
 pub fn answer_settle<S: Shelf, O: Sink>(
     alloc: Global,
     file: &str,

@@ -20,10 +20,10 @@ use fr_text::{Line, accepted, line_of, put_lines};
 use std::alloc::Global;
 
 /// Reads the parameters in the file, and writes how long clocks take until they are in sharp sync that begin at most
-/// `start` ticks apart, and the lengths of whose first even cycles lie at most `rate` ticks apart, where delays flutter by
-/// no more than so many ticks, without arbitrary sync nodes and beside them, each line in one put. It loads the file once.
-/// A failure comes where the file can't be loaded, is not accepted, or memory runs out (`Stopped`), or where the sink
-/// counted a fault (`WriteFault`).
+/// `start` ticks apart, and the lengths of whose first even cycles lie at most `rate` ticks apart, where delays flutter
+/// by no more than so many ticks, without arbitrary sync nodes and beside them, in puts of whole lines. It loads the
+/// file once. A failure comes where the file can't be loaded, is not accepted, or memory runs out (`Stopped`), or where
+/// the sink counted a fault (`WriteFault`).
 pub fn answer_settle_sharp<S: Shelf, O: Sink>(
     alloc: Global,
     file: &str,

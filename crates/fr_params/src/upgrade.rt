@@ -10,7 +10,7 @@ use fr_program::Failure;
 use fr_text::accepted;
 use std::alloc::Global;
 
-/// Reads the parameters in the file, and writes them as a file of version 2, each record in one put. The text is
+/// Reads the parameters in the file, and writes them as a file of version 2, in puts of whole lines. The text is
 /// accepted as a file, stands for the same parameters, and upgrading it gives the same text. It loads the file once.
 /// A failure comes where the file can't be loaded, is not accepted, or memory runs out (`Stopped`), or where the sink
 /// counted a fault (`WriteFault`).

@@ -27,8 +27,8 @@ pub struct ObserveFiles<'a> {
     pub log: &'a str,
 }
 
-/// Reads the two files, one after the other, and writes what the log tells of the cluster's clocks, each line in one
-/// put. Each file is loaded once, the second only where the first is accepted. A failure comes where a file can't be
+/// Reads the two files, one after the other, and writes what the log tells of the cluster's clocks, in puts of whole
+/// lines. Each file is loaded once, the second only where the first is accepted. A failure comes where a file can't be
 /// loaded, is not accepted, or memory runs out, and tells the first such file (`Stopped`); or where the sink counted a
 /// fault (`WriteFault`).
 pub fn answer_observe<S: Shelf, O: Sink>(

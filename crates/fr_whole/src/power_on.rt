@@ -24,7 +24,7 @@ use std::alloc::Global;
 
 /// Reads the parameters in the file, and writes how long it takes from the first power-on until a node leads, and until
 /// all are in sharp sync that join it, without arbitrary sync nodes, where delays flutter by no more than so many ticks,
-/// each line in one put. It loads the file once. A failure comes where the file can't be loaded, is not accepted, or
+/// in puts of whole lines. It loads the file once. A failure comes where the file can't be loaded, is not accepted, or
 /// memory runs out (`Stopped`), or where the sink counted a fault (`WriteFault`).
 pub fn answer_power_on<S: Shelf, O: Sink>(
     alloc: Global,
