@@ -602,7 +602,7 @@ const EDITOR = {
   Faults() {
     const is = (kind) => (row) => row.kind === kind;
     return element("div", {}, editTable("What is done to frames", "An arbitrary node says its frame early (below 0) or late, to each receiver another time if you like: that is a two-faced node. Of correct nodes frames are lost, or a bit is inverted. Nodes are as 1-4,6 or all; cycles as 0-399, 7 or all.", page.cluster.faults,
-      [{ key: "kind", head: "what", options: [...FORMS.script[1].keys()].filter(isOfFrames).map((kind) => [kind, TABLES.get(kind)?.meaning || kind]) }, { key: "from", head: "of nodes", width: 5 }, { key: "to", head: "to nodes", width: 6 }, { key: "channels", head: "channels", ...CHANNELS }, { key: "cycles", head: "cycles", width: 9 },
+      [{ key: "kind", head: "what", options: [...FORMS.script[1].keys()].filter(isOfFrames).map((kind) => [kind, kind]), title: [...FORMS.script[1].keys()].filter(isOfFrames).map((kind) => `${kind}: ${TABLES.get(kind)?.meaning || kind}`).join("; ") }, { key: "from", head: "of nodes", width: 5 }, { key: "to", head: "to nodes", width: 6 }, { key: "channels", head: "channels", ...CHANNELS }, { key: "cycles", head: "cycles", width: 9 },
         { key: "value", head: "us late, or bit", width: 6, when: (row) => is("say")(row) || hasBit(row.kind) }, { key: "bytes", head: "bytes", width: 10, title: "hexadecimal digits; empty: the frame that it would send", when: is("say") }],
       () => {
         const arbitrary = page.cluster.nodes.find((node) => node.arbitrary);

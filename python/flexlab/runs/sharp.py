@@ -9,7 +9,8 @@ from typing import TYPE_CHECKING, NamedTuple
 from flexray.results import Losses, SharpReport
 
 from ..base import ranges
-from .least import TICKS, Kind, sharp_bounds_of
+from ..base.bounds import TICKS
+from .least import Kind, sharp_bounds_of
 from ..program.report import Series, SharpBounds, Skew, Trace, read_sharp_bounds
 from ..toml.cluster import Cluster
 from .sync import is_in_sharp_sync

@@ -11,9 +11,10 @@ from collections.abc import Callable, Collection, Iterator
 from typing import TYPE_CHECKING, NamedTuple, Protocol
 
 from ..program import calls as programs
+from ..base.bounds import TICKS
 from ..base.files import write_files
 from ..base.ranges import OF_CHANNELS, Parameters, compensation_name, version_of
-from .least import TICKS, Found, can_be_held, held_damping, least_damping, least_sharp, least_sharp_damping, least_values
+from .least import Found, can_be_held, held_damping, least_damping, least_sharp, least_sharp_damping, least_values
 from ..program.report import Bounds, SharpBounds, read_bounds, read_sharp_bounds
 from .every_gap import behind
 from .sharp import first_of, gap_of, kind_of, since_of
