@@ -1,5 +1,5 @@
-//! `flexray` with all words but `observe` and the word `sharp` of `run`: what the launcher of a checkout builds first, since it
-//! stands on no crate that these alone need. `flexray_cli` has every word.
+//! `flexray` with all words but `observe`, `help`, `version`, `sharp` of `run` and of `check`, and `power` of `settle`: what the
+//! launcher of a checkout builds first, since it stands on no crate that these alone need. `flexray_cli` has every word.
 #![tactic(auto)]
 
 use fr_answer::{Status, flexray_core};

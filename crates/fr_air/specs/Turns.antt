@@ -68,6 +68,14 @@ abbrev pub heard_on_air : RunInputs → Air → MemoryView → NodeView → Node
 heard_on_air f air memory node =
     after_offer (setting_in f) air.turn.now.cycle node (offer_on f air memory (node_row_of node))
 
+-- no number that was counted in a cycle is above this one
+abbrev pub most_in_a_cycle : ℕ
+most_in_a_cycle = 1_000_000
+
+-- nor is it above this one while more of the cycle is added
+abbrev pub most_adding : ℕ
+most_adding = 2_000_000
+
 -- all nodes are ready, and no number that was counted so far is above this one
 pub record AreReady (f : RunInputs) (cycle most : ℕ) (nodes : List NodeView) (counts : Counts) : Type 0 where
   pub ready : All (IsReady f cycle) nodes

@@ -7,6 +7,7 @@ ghost use Rattle.fr_time.specs.Instant.{action_instant, IsSlotOf};
 ghost use Rattle.fr_air.specs.Files.{setting_in};
 ghost use Rattle.fr_air.specs.Sending.{sent_instant, said_instant, IsDue, IsEarlyRow, IsEarlyStart};
 ghost use Rattle.fr_node.specs.Listening.{IsArrival};
+ghost use Rattle.fr_drift.specs.Rows.{most_link_delay};
 
 use crate::files::RunInputs;
 use crate::turn::Turn;
@@ -32,7 +33,7 @@ pub fn sent_at(files: &RunInputs, turn: &Turn, sender: &NodeRow, due: i64, recei
     requires { IsDue files.now turn.now sender.now due }
     ensures value { result ≡ sent_instant (setting_in files.now) turn.now sender.now receiver }
     ensures within { IsWithin (pos 2_000_000_000_000_000_000) result }
-    ensures soon { IsBetween due (due +ℤ pos 1_000_000_000) result }
+    ensures soon { IsBetween due (due +ℤ pos most_link_delay) result }
 {
     let delay = files
         .drift

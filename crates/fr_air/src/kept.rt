@@ -2,6 +2,7 @@ ghost use Rattle.std.specs.Prelude.{◌≡◌, ◌≤◌, ◌<◌, ◌≤ℤ◌,
 ghost use Rattle.fr_base.specs.Within.{IsBetween};
 ghost use Rattle.fr_drift.specs.Questions.{delay_of};
 ghost use Rattle.fr_air.specs.Kept.{place_of};
+ghost use Rattle.fr_drift.specs.Rows.{most_link_delay};
 
 use fr_base::{Channel, NodeId};
 use fr_cluster::Params;
@@ -90,7 +91,7 @@ impl KeptDrift {
     // How many ticks a frame travels from one node to another on a channel in a cycle.
     pub fn delay(&self, sender: NodeId, receiver: NodeId, channel: Channel, cycle: u32) -> i64
         ensures value { result ≡ delay_of self.now sender receiver channel cycle }
-        ensures within { IsBetween (pos 0) (pos 1_000_000_000) result }
+        ensures within { IsBetween (pos 0) (pos most_link_delay) result }
     {
         let kept = self.delays[place(sender, receiver, channel)];
         if cycle < kept.until {

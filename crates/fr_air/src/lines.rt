@@ -1,15 +1,16 @@
-ghost use Rattle.std.specs.Prelude.{◌≡◌, ◌+◌, ◌*◌, ◌≤◌, ◌≤ℤ◌, ◌+ℤ◌, ◌-ℤ◌, pos, true, All, IfSome};
+ghost use Rattle.std.specs.Prelude.{◌≡◌, ◌+◌, ◌*◌, ◌≤◌, ◌≤ℤ◌, ◌-ℤ◌, pos, true, All, IfSome};
 ghost use Rattle.fr_cluster.specs.Values.{amount, Values};
 ghost use Rattle.fr_cluster.specs.declared.names.ParamName.TheVariants as name;
 ghost use Rattle.fr_time.specs.Slots.{slot_start_of};
-ghost use Rattle.fr_base.specs.Within.{IsBetween, IsWithin};
+ghost use Rattle.fr_base.specs.Within.{IsBetween};
 ghost use Rattle.fr_base.specs.declared.node_row.NodeRow.{NodeRow};
 ghost use Rattle.fr_air.specs.Lines.{ComesInside, IsLine, IsLineOf, IsOnLine, IsRoom, IsRoomOf, IsSight, IsSpread, IsWider, LeavesSlack, LiesIn, LiesInSight, IsRowStart};
 ghost use Rattle.fr_air.specs.Sending.{IsEarlyRow};
+ghost use Rattle.fr_drift.specs.Rows.{most_link_delay};
 
 use fr_base::{NodeRow, Slot, State};
 use fr_cluster::{ParamName, Params};
-use fr_time::{grid_of, slot_bounds};
+use fr_time::{macros_of, micros_of, slot_bounds};
 
 // The static slots of a cluster, in macroticks: those of a cycle, of a slot, and of a slot up to its action point, and
 // the one at which the last slot begins.
@@ -97,24 +98,6 @@ fn slack_of(room: &Room, spread: &Spread) -> Option<u64>
     }
 }
 
-// The macroticks of a cycle.
-fn macros_of(params: &Params) -> u64
-    ensures value { pos result ≡ params.now.macros }
-    ensures some { 1 ≤ result }
-    ensures most { result ≤ 16_000 }
-{
-    grid_of(params).macros as u64
-}
-
-// The microticks of a cycle with its rate term.
-fn micros_of(params: &Params, row: &NodeRow) -> u64
-    requires { IsWithin params.now.rate_limit row.now.rate }
-    ensures value { pos result ≡ params.now.micros +ℤ row.now.rate }
-    ensures most { result ≤ 660_000 }
-{
-    (grid_of(params).micros + row.rate as i64) as u64
-}
-
 // The macrotick at which the last static slot begins.
 fn last_of(params: &Params) -> u64
     ensures value { result ≡ slot_start_of params.now (amount params.now name.gNumberOfStaticSlots) }
@@ -151,9 +134,9 @@ fn line_of(params: &Params, row: &NodeRow, base: i64) -> Line
 
 // A delay as a number of ticks.
 fn ticks(delay: i64) -> u64
-    requires { IsBetween (pos 0) (pos 1_000_000_000) delay }
+    requires { IsBetween (pos 0) (pos most_link_delay) delay }
     ensures value { pos result ≡ delay }
-    ensures most { result ≤ 1_000_000_000 }
+    ensures most { result ≤ most_link_delay }
 {
     delay as u64
 }
@@ -238,7 +221,7 @@ pub fn sight_of(params: &Params, rows: &[NodeRow]) -> Option<Sight>
 // Whether what one of these nodes sends in each static slot comes to another inside of the slot, so many ticks later.
 pub fn comes_inside(sight: &Sight, delay: i64) -> bool
     requires sight { IsRoom sight.now.room }
-    requires delay { IsBetween (pos 0) (pos 1_000_000_000) delay }
+    requires delay { IsBetween (pos 0) (pos most_link_delay) delay }
     ensures { (p : Values) (sender receiver : NodeRow) → result ≡ true → IsSight p sight.now →
         LiesIn p sight.now.spread sender → LiesIn p sight.now.spread receiver → ComesInside p sender receiver delay }
 {

@@ -9,7 +9,7 @@ ghost use Rattle.fr_air.specs.Counting.{counted_sent};
 ghost use Rattle.fr_air.specs.Listening.{after_frame};
 ghost use Rattle.fr_air.specs.Memory.{cell_of, frame_in_cell, frame_on, held_at, IsPoolOf, memory_with, place_of_slot, sent_at, with_frame};
 ghost use Rattle.fr_air.specs.Sending.{coming_offer, IsComing};
-ghost use Rattle.fr_air.specs.Turns.{frame_of_turn, CanHear, HasAnswered, IsOnAir, SendsInTurn};
+ghost use Rattle.fr_air.specs.Turns.{most_adding, frame_of_turn, CanHear, HasAnswered, IsOnAir, SendsInTurn};
 ghost use Rattle.fr_node.specs.Listening.{IsArrival};
 
 use crate::catching::catch_copy;
@@ -236,7 +236,7 @@ impl Memory {
     pub fn count(&self, turn: &Turn, cell: usize, counts: &mut Counts)
         requires kept { cell < length self.now.held }
         requires long { 3 ≤ length (held_at self.now.held cell).frame }
-        requires few { AreAtMost 2_000_000 counts.old }
+        requires few { AreAtMost most_adding counts.old }
         ensures { counts.new ≡ counted_sent turn.now.channel (held_at self.now.held cell).frame counts.old }
     {
         let frame = &self.pool.read(&self.messages[cell].cell)[..self.bytes];

@@ -9,7 +9,7 @@ ghost use Rattle.fr_air.specs.Files.{setting_in};
 ghost use Rattle.fr_air.specs.Memory.{frame_on};
 ghost use Rattle.fr_air.specs.Reaching.{listening_on, IsReach, SendsAmong};
 ghost use Rattle.fr_air.specs.Sending.{carried, coming_offer, hears, offer_heard, said_by, said_with, sent_with, ComesAs, IsComing, IsDue, IsEarlyRow};
-ghost use Rattle.fr_air.specs.Turns.{heard_on_air, offer_on, AreReady, CanHear, HasHeard, HaveHeard, IsOnAir, IsSent};
+ghost use Rattle.fr_air.specs.Turns.{most_in_a_cycle, most_adding, heard_on_air, offer_on, AreReady, CanHear, HasHeard, HaveHeard, IsOnAir, IsSent};
 
 use crate::files::RunInputs;
 use crate::flipping::arrived;
@@ -133,7 +133,7 @@ fn hear(
     requires hears { CanHear files.now air.now.turn.now node.old }
     requires air { IsOnAir files.now air.now memory.old }
     requires coming { IsComing coming.now }
-    requires few { AreAtMost 2_000_000 counts.old }
+    requires few { AreAtMost most_adding counts.old }
     ensures heard { HasHeard files.now air.now.turn.now
         (Some (coming_offer air.now.turn.now (frame_on memory.old air.now.cell) coming.now))
         node.old counts.old node.new counts.new }
@@ -153,7 +153,7 @@ fn offer_to(
 )
     requires air { IsOnAir files.now air.now memory.old }
     requires ready { IsReady files.now air.now.turn.now.cycle node.old }
-    requires few { AreAtMost 2_000_000 counts.old }
+    requires few { AreAtMost most_adding counts.old }
     ensures heard { HasHeard files.now air.now.turn.now (offer_on files.now air.now memory.old (node_row_of node.old))
         node.old counts.old node.new counts.new }
     ensures stays { memory.new ≡ memory.old }
@@ -173,7 +173,7 @@ pub fn offer_to_all(
     counts: &mut Counts,
 )
     requires air { IsOnAir files.now air.now memory.old }
-    requires ready { AreReady files.now air.now.turn.now.cycle 1_000_000 nodes.old counts.old }
+    requires ready { AreReady files.now air.now.turn.now.cycle most_in_a_cycle nodes.old counts.old }
     ensures heard { HaveHeard files.now air.now.turn.now.cycle (offer_on files.now air.now memory.old)
         nodes.old counts.old nodes.new counts.new }
     ensures stays { memory.new ≡ memory.old }
@@ -197,7 +197,7 @@ fn listening_on(reach: Reach, channel: Channel) -> usize
 fn count_plain(reach: Reach, channel: Channel, counts: &mut Counts)
     requires some { 1 ≤ listening_on reach channel }
     requires few_nodes { listening_on reach channel ≤ 64 }
-    requires few { AreAtMost 1_000_000 counts.old }
+    requires few { AreAtMost most_in_a_cycle counts.old }
     ensures { counts.new ≡ record counts.old { plain = counts.old.plain + (listening_on reach channel - 1) } }
 {
     let others = listening_on(reach, channel) - 1;
@@ -240,7 +240,7 @@ pub fn offer_in_reach(
     counts: &mut Counts,
 )
     requires air { IsOnAir files.now air.now memory.old }
-    requires ready { AreReady files.now air.now.turn.now.cycle 1_000_000 nodes.old counts.old }
+    requires ready { AreReady files.now air.now.turn.now.cycle most_in_a_cycle nodes.old counts.old }
     requires reach { IsReach files.now air.now.turn.now.cycle (map node_row_of nodes.old) reach }
     requires sends { IfSome air.now.sender.now.row (SendsAmong files.now air.now (map node_row_of nodes.old)) }
     ensures heard { HaveHeard files.now air.now.turn.now.cycle (offer_on files.now air.now memory.old)

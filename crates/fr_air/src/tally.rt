@@ -2,13 +2,14 @@ ghost use Rattle.std.specs.Prelude.{◌≡◌, ◌≤◌, length};
 ghost use Rattle.fr_reception.specs.Regular.{carried_crc};
 ghost use Rattle.fr_air.specs.Counting.{with_answer, counted_sent};
 ghost use Rattle.fr_base.specs.Counts.{AreAtMost};
+ghost use Rattle.fr_air.specs.Turns.{most_adding};
 
 use fr_base::{Channel, Counts};
 use fr_reception::{Heard, Ignored};
 
 // Counts an answer.
 pub fn count(counts: &mut Counts, heard: &Heard)
-    requires { AreAtMost 2_000_000 counts.old }
+    requires { AreAtMost most_adding counts.old }
     ensures { counts.new ≡ with_answer heard.now counts.old }
 {
     match heard {
@@ -18,7 +19,7 @@ pub fn count(counts: &mut Counts, heard: &Heard)
 }
 
 fn count_ignored(counts: &mut Counts, why: &Ignored)
-    requires { AreAtMost 2_000_000 counts.old }
+    requires { AreAtMost most_adding counts.old }
     ensures { counts.new ≡ with_answer (Heard.Ignored why.now) counts.old }
 {
     match why {
@@ -33,7 +34,7 @@ fn count_ignored(counts: &mut Counts, why: &Ignored)
 
 // Counts a frame that a correct node sends on a channel.
 pub fn count_sent(counts: &mut Counts, channel: Channel, frame: &[u8])
-    requires few { AreAtMost 2_000_000 counts.old }
+    requires few { AreAtMost most_adding counts.old }
     requires frame { 3 ≤ length frame.now }
     ensures { counts.new ≡ counted_sent channel frame.now counts.old }
 {

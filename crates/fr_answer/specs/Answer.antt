@@ -36,6 +36,6 @@ command_of (cold params power) = cold_command params power
 command_of (trace names) = run_command IsTraceText names
 command_of (check params recorded) = check_command params recorded
 
--- the program of these words, which are all but `observe` and the word `sharp` of `run`
+-- the program of these words, which are all but `observe`, `help`, `version`, `sharp` of `run` and of `check`, and `power` of `settle`
 abbrev pub core_program : Program Asked
 core_program = record { asks_for = AsksFor; command_of = command_of; usage = codes "usage: flexray COMMAND WORDS" }

@@ -1,9 +1,9 @@
 //! The program's answer as a call: words, a shelf and two sinks in, a status out. What `flexray frame CHANNEL FILE`, `flexray
 //! bound PARAMS`, also with the word `join`, with `sharp FLUTTER`, with both, or with `sharp FLUTTER lost COUNT`, and `flexray
-//! settle PARAMS START RATE`, also with `sharp FLUTTER`, answer is made here, the answer to each other command in the crate of its subject; of a run it
-//! says here what the sharper promise says of it. And that the bytes of the files of each request define one status.
-//! Of all words of `flexray` these are all but `observe`, the word `sharp` of `run` and of `check`, and `power` of `settle`,
-//! which stand on much that no run needs: `fr_whole` answers them.
+//! settle PARAMS START RATE`, also with `sharp FLUTTER`, answer is made here, the answer to each other command in the crate of
+//! its subject; of a run it says here what the sharper promise says of it. And that the bytes of the files of each request
+//! define one status. Of all words of `flexray` these are all but `observe`, `help`, `version`, `sharp` of `run` and of
+//! `check`, and `power` of `settle`, which stand on much that no run needs: `fr_whole` answers them.
 #![tactic(auto)]
 
 mod bound;

@@ -13,7 +13,8 @@ use fr_program::Failure;
 use fr_text::Status;
 use std::alloc::Global;
 
-/// Does what the words ask for, which are those after the program's name, all but `observe` and the word `sharp` of `run`:
+/// Does what the words ask for, which are those after the program's name, all but `observe`, `help`, `version`,
+/// `sharp` of `run` and of `check`, and `power` of `settle`:
 /// loads the files that they name from the shelf, in their order up to the first that is not accepted, each as often as it
 /// is named; puts the text of the answer into `out`, and where the answer is not `Done` one line into `err`. Nothing is put
 /// into `out` before every file was accepted.

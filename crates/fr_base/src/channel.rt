@@ -1,4 +1,4 @@
-ghost use Rattle.std.specs.Prelude.{◌≡◌, IfSome, IsNone};
+ghost use Rattle.std.specs.Prelude.{◌≡◌, ◌==◌, IfSome, IsNone};
 
 /// One of the two channels of a cluster, A or B.
 #[derive(Clone, Copy, Debug, PartialEq, Eq)]
@@ -10,6 +10,14 @@ pub enum Channel {
 impl Channel {
     ghost use Rattle.fr_base.specs.declared.channel.Channel.{Channel};
     ghost use Rattle.fr_base.specs.Channels.{channel_of, letter};
+    ghost use Rattle.fr_base.specs.Rows.{channel_rank};
+
+    /// Whether it is this channel.
+    pub fn is_same(self, other: Channel) -> bool
+        ensures { result ≡ (channel_rank self == channel_rank other) }
+    {
+        self == other
+    }
 
     /// Its letter.
     pub fn letter(self) -> &'static [u8]

@@ -4,6 +4,7 @@ pub mod Checks
 pub mod DoubleNumbers
 pub mod Greatest
 pub mod Judged
+pub mod Outweighing
 pub mod Settling
 pub mod SharpBounds
 pub mod SharpChecks

@@ -8,6 +8,7 @@ mod double_number;
 mod flutter;
 mod judging;
 mod laws;
+mod outweighing;
 mod settling;
 mod sharp_bounding;
 mod sharp_checking;
@@ -22,6 +23,7 @@ pub use judging::{Heard, Known, apart_through, is_judged, known_after, met, met_
 pub use laws::{
     in_sync_is_tested, nothing_is_cut, one_first_failing, one_first_failing_to_join, one_settling,
 };
+pub use outweighing::outweighs;
 pub use settling::{Settling, Spread, settle, side_within};
 pub use sharp_bounding::{
     SharpValues, even_lambda, last_action, near_by, next_sharp_spread, odd_spread, precision_by,

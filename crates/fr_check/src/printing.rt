@@ -13,7 +13,7 @@ use fr_text::{Line, line_of, put_lines};
 use fr_trace::Trace;
 use fr_verdict::Verdict;
 
-// Writes the verdict on a trace. Each line is one put.
+// Writes the verdict on a trace. Puts have whole lines.
 pub(crate) fn print<O: Sink>(
     params: &Params,
     trace: &Trace,

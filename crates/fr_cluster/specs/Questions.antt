@@ -50,6 +50,10 @@ index_in p (Some slot) = key_index_of p slot
 abbrev pub own_index : Values → ℕ → Option ℕ
 own_index p id = index_in p (own_key p id)
 
+-- whether there is a node and it is a coldstart node
+abbrev pub is_coldstart : Values → ℕ → Bool
+is_coldstart p id = option_map_or (λ node. node.coldstart) (node_of p id) false
+
 -- whether there is a node and it has the channel
 abbrev pub has_channel : Option NodeSpec → Channel → Bool
 has_channel None ch = false

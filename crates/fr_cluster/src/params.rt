@@ -1,4 +1,4 @@
-ghost use Rattle.std.specs.Prelude.{pos, ◌≤ℤ◌, ◌≡◌, ◌≤◌, ◌<◌, ◌+◌, ◌*◌, IfSome, Some, length, slice_get};
+ghost use Rattle.std.specs.Prelude.{pos, ◌≤ℤ◌, ◌≡◌, ◌≤◌, ◌<◌, ◌+◌, ◌*◌, IfSome, Some, is_none, length, slice_get};
 ghost use Rattle.std.specs.Option.{option_copied};
 ghost use Rattle.fr_cluster.specs.Ranges.{greatest, least, InRange, IsProperSlot};
 ghost use Rattle.fr_cluster.specs.Values.{amount, figure};
@@ -6,7 +6,7 @@ ghost use Rattle.fr_cluster.specs.Numbers.{AreInRange, amount_in, number_in};
 ghost use Rattle.fr_cluster.specs.Constraints.{AllHold, key_slots};
 ghost use Rattle.fr_cluster.specs.Sane.{AreSaneLists, IsSane};
 ghost use Rattle.fr_cluster.specs.Searches.{key_node_in, slot_in};
-ghost use Rattle.fr_cluster.specs.Questions.{compensation_of, has_channel, is_common, key_index_of, node_of, own_index, widest_compensation_of};
+ghost use Rattle.fr_cluster.specs.Questions.{compensation_of, has_channel, is_coldstart, is_common, is_known, key_index_of, node_of, own_index, own_key, widest_compensation_of};
 ghost use Rattle.fr_cluster.specs.declared.names.ParamName.{ParamName as Name};
 ghost use Rattle.fr_cluster.specs.declared.names.ParamName.TheVariants as name;
 
@@ -232,6 +232,33 @@ impl Params {
                 None => None,
                 Some(slot) => self.key_index(slot),
             },
+        }
+    }
+
+    /// Whether there is such a node.
+    pub fn is_known(&self, id: NodeId) -> bool
+        ensures { result ≡ is_known self.now id }
+    {
+        self.node(id).is_some()
+    }
+
+    /// Whether a node has no key slot; true where there is no such node.
+    pub fn lacks_key(&self, id: NodeId) -> bool
+        ensures { result ≡ is_none (own_key self.now id) }
+    {
+        match self.node(id) {
+            Some(node) => node.key.is_none(),
+            None => true,
+        }
+    }
+
+    /// Whether a node is a coldstart node; false where there is no such node.
+    pub fn is_coldstart(&self, id: NodeId) -> bool
+        ensures { result ≡ is_coldstart self.now id }
+    {
+        match self.node(id) {
+            None => false,
+            Some(node) => node.coldstart,
         }
     }
 

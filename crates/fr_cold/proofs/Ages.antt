@@ -5,8 +5,9 @@ use Rattle.std.proofs.lemmas.Bool.{cases_eq}
 use Rattle.std.proofs.lemmas.Bool.Decides.{nat_tests}
 use Rattle.fr_cluster.specs.Values.{Values}
 use Rattle.fr_cluster.specs.Sane.{IsSane}
+use Rattle.fr_cluster.specs.Questions.{is_coldstart}
 use Rattle.fr_cold.specs.Node.{heard, is_turn, resolved, sends, sent, switched}
-use Rattle.fr_cold.specs.Cluster.{Switches, action_of, after_macrotick, is_hearing, is_sending, is_starter, macroticks_of_cycle, moved_states, ready_states, states_at}
+use Rattle.fr_cold.specs.Cluster.{Switches, action_of, after_macrotick, is_hearing, is_sending, macroticks_of_cycle, moved_states, ready_states, states_at}
 use Rattle.fr_cold.specs.StartupLaws.{AreConnected, IsNumber, SwitchesStarters}
 use Rattle.fr_cold.specs.declared.state.ColdState.{ColdState}
 use Rattle.fr_cold.specs.declared.state.ColdState.TheVariants as state
@@ -47,20 +48,20 @@ module _ (p : Values) (switches : Switches) where
   off-hears false t = refl
 
   -- a node that is no coldstart node stays off
-  pub stays-off : SwitchesStarters p switches → (t i : ℕ) → is_starter p i ≡ false → states_at p switches t i ≡ state.Off
+  pub stays-off : SwitchesStarters p switches → (t i : ℕ) → is_coldstart p i ≡ false → states_at p switches t i ≡ state.Off
   stays-off starters zero i idle = starts-off i
   stays-off starters (suc t) i idle =
       next-as t i state.Off (hears_at p switches t i) (ready-as t i None state.Off (starters t i idle) (stays-off starters t i idle)) refl
       ∙ off-hears (hears_at p switches t i) t
 
-  pub off-silent : SwitchesStarters p switches → (t i : ℕ) → is_starter p i ≡ false → sends_at p switches t i ≡ false
+  pub off-silent : SwitchesStarters p switches → (t i : ℕ) → is_coldstart p i ≡ false → sends_at p switches t i ≡ false
   off-silent starters t i idle = sends-as t i state.Off (ready-as t i None state.Off (starters t i idle) (stays-off starters t i idle))
 
   -- a node that is not off is a coldstart node
-  pub on-starts : SwitchesStarters p switches → (t i : ℕ) → states_at p switches t i ≢ state.Off → is_starter p i ≡ true
-  on-starts starters t i on = by (is_starter p i) refl
+  pub on-starts : SwitchesStarters p switches → (t i : ℕ) → states_at p switches t i ≢ state.Off → is_coldstart p i ≡ true
+  on-starts starters t i on = by (is_coldstart p i) refl
     where
-      by : (b : Bool) → is_starter p i ≡ b → is_starter p i ≡ true
+      by : (b : Bool) → is_coldstart p i ≡ b → is_coldstart p i ≡ true
       by true e = e
       by false e = absurd (on (stays-off starters t i e))
 
@@ -113,9 +114,9 @@ module _ (p : Values) (switches : Switches) where
     -- where a node that is on neither sends nor hears, none sends
     not-heard : (t i : ℕ) → IsNumber i → states_at p switches t i ≢ state.Off → sends_at p switches t i ≡ false → hears_at p switches t i ≡ false
         → (j : ℕ) → IsNumber j → sends_at p switches t j ≡ false
-    not-heard t i number on quiet deaf j other = by (cases_eq i j) (is_starter p j) refl
+    not-heard t i number on quiet deaf j other = by (cases_eq i j) (is_coldstart p j) refl
       where
-        by : (i ≡ j) ⊎ (i ≡ j → ⊥) → (b : Bool) → is_starter p j ≡ b → sends_at p switches t j ≡ false
+        by : (i ≡ j) ⊎ (i ≡ j → ⊥) → (b : Bool) → is_coldstart p j ≡ b → sends_at p switches t j ≡ false
         by (inl same) b e = subst (λ (k : ℕ). sends_at p switches t k ≡ false) same quiet
         by (inr apart) false e = off-silent starters t j e
         by (inr apart) true e = hears-not p t (ready_states p switches t (states_at p switches t)) i j other (joined i j number other apart (on-starts starters t i on) e) quiet deaf

@@ -3,9 +3,9 @@ use Rattle.std.proofs.Common.{◌≡◌, ℕ, zero, suc, ◌+◌, ◌-◌, ◌<�
 use Rattle.std.specs.Prelude.{not, ◌&&◌, ◌||◌}
 use Rattle.std.proofs.lemmas.Bool.{cases_order}
 use Rattle.fr_base.specs.declared.channel.Channel.TheVariants as channel
-use Rattle.fr_cluster.specs.Questions.{has_channel, node_of}
+use Rattle.fr_cluster.specs.Questions.{has_channel, node_of, is_coldstart}
 use Rattle.fr_cluster.specs.Values.{Values}
-use Rattle.fr_cold.specs.Cluster.{is_sharing, is_starter}
+use Rattle.fr_cold.specs.Cluster.{is_sharing}
 use Rattle.fr_cold.specs.ColdText.{answer_or, are_apart, first_pair_in, least_apart, paired_or}
 use Rattle.fr_cold.specs.Connected.{AreApart, AreLeastApart, IsPairFound}
 use Rattle.fr_cold.specs.StartupLaws.{AreConnected}
@@ -123,9 +123,9 @@ pair_is p a (suc n) few = by (least_apart p a (suc a) (64 - a)) (least_is p a (s
 connected : (p : Values) → ((c : ℕ) → 1 ≤ c → c < 65 → HasNoneBehind p c) → AreConnected p
 connected p none a b one two other starts starts_too = elim (cases_order a b) [
   | inl same ↦ absurd (other same)
-  | inr (inl less) ↦ shared (is_starter p a) (is_starter p b) (is_sharing p a b) starts starts_too (none a one.from (let to = one.to in omega (arith, to)) b less two.to)
+  | inr (inl less) ↦ shared (is_coldstart p a) (is_coldstart p b) (is_sharing p a b) starts starts_too (none a one.from (let to = one.to in omega (arith, to)) b less two.to)
   | inr (inr more) ↦
-      sharing_swapped p a b ∙ shared (is_starter p b) (is_starter p a) (is_sharing p b a) starts_too starts (none b two.from (let to = two.to in omega (arith, to)) a more one.to)
+      sharing_swapped p a b ∙ shared (is_coldstart p b) (is_coldstart p a) (is_sharing p b a) starts_too starts (none b two.from (let to = two.to in omega (arith, to)) a more one.to)
 ]
 
 -- the first two that are apart are the least
@@ -141,11 +141,11 @@ least_pair p a b from pair earlier = record {
   };
   least = λ c d other. least c d other;
 } where
-  starts : (is_starter p a ≡ true) × (is_starter p b ≡ true) × (is_sharing p a b ≡ false)
-  starts = parts (is_starter p a) (is_starter p b) (is_sharing p a b) pair.apart
+  starts : (is_coldstart p a ≡ true) × (is_coldstart p b ≡ true) × (is_sharing p a b ≡ false)
+  starts = parts (is_coldstart p a) (is_coldstart p b) (is_sharing p a b) pair.apart
 
   never : (c d : ℕ) → AreApart p c d → are_apart p c d ≡ false → ⊥
-  never c d other none = let is = are_parts (is_starter p c) (is_starter p d) (is_sharing p c d) other.first_starts other.second_starts other.none_shared in cc (sym none ∙ is)
+  never c d other none = let is = are_parts (is_coldstart p c) (is_coldstart p d) (is_sharing p c d) other.first_starts other.second_starts other.none_shared in cc (sym none ∙ is)
 
   at_least : (n m : ℕ) → (m < n) ⊎ (n ≤ m)
   at_least n m = grind arith

@@ -4,7 +4,8 @@ use Rattle.std.specs.Prelude.{◌==◌}
 use Rattle.std.proofs.lemmas.Bool.{cases_eq}
 use Rattle.fr_cluster.specs.Values.{Values}
 use Rattle.fr_cluster.specs.Sane.{IsSane}
-use Rattle.fr_cold.specs.Cluster.{Switches, action_of, is_starter, macroticks_of_cycle, ready_states, states_at}
+use Rattle.fr_cluster.specs.Questions.{is_coldstart}
+use Rattle.fr_cold.specs.Cluster.{Switches, action_of, macroticks_of_cycle, ready_states, states_at}
 use Rattle.fr_cold.specs.StartupLaws.{AreConnected, StaysOn, SwitchesStarters}
 use Rattle.fr_cold.specs.declared.state.ColdState.{ColdState}
 use Rattle.fr_cold.specs.declared.state.ColdState.TheVariants as state
@@ -54,10 +55,10 @@ module _ (p : Values) (switches : Switches) (sane : IsSane p) (starters : Switch
       by (Some switch.Off) e = absurd (stays.never_off t j e)
 
   -- a node that is switched is a coldstart node
-  pub on-starter : (t j : ℕ) → switches t j ≡ Some switch.On → is_starter p j ≡ true
-  on-starter t j e = by (is_starter p j) refl
+  pub on-starter : (t j : ℕ) → switches t j ≡ Some switch.On → is_coldstart p j ≡ true
+  on-starter t j e = by (is_coldstart p j) refl
     where
-      by : (b : Bool) → is_starter p j ≡ b → is_starter p j ≡ true
+      by : (b : Bool) → is_coldstart p j ≡ b → is_coldstart p j ≡ true
       by true is = is
       by false is = let none : switches t j ≡ None = starters t j is in let never : Some switch.On ≡ None = sym e ∙ none in absurd (cc never)
 

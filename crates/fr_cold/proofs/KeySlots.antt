@@ -11,13 +11,13 @@ use Rattle.fr_cluster.specs.Values.{Values, amount}
 use Rattle.fr_cluster.specs.declared.names.ParamName.TheVariants as name
 use Rattle.fr_cluster.specs.Sane.{IsSane, IsSaneNode}
 use Rattle.fr_cluster.specs.Constraints.{key_slots}
-use Rattle.fr_cluster.specs.Questions.{key_in, node_of, own_key}
+use Rattle.fr_cluster.specs.Questions.{key_in, node_of, own_key, is_coldstart}
 use Rattle.fr_cluster.specs.declared.nodes.NodeSpec.{NodeSpec}
 use Rattle.fr_cluster.proofs.Found.{find_keeps}
 use Rattle.fr_cluster.proofs.KeyNodes.{found_key, key_among}
 use Rattle.fr_time.specs.Slots.{action_point_of, slot_end_of}
 use Rattle.fr_time.proofs.Placing.{action_point_lt, slot_end_lt}
-use Rattle.fr_cold.specs.Cluster.{action_of, is_starter, macroticks_of_cycle}
+use Rattle.fr_cold.specs.Cluster.{action_of, macroticks_of_cycle}
 
 some-same : {A : Type 0} (x y : A) → Some x ≡ Some y → x ≡ y
 some-same x y e = cc e
@@ -64,7 +64,7 @@ pub record HasKey (p : Values) (i : ℕ) : Type 0 where
   pub key : spec.key ≡ Some slot
   pub static : (1 ≤ slot) × (slot ≤ amount p name.gNumberOfStaticSlots)
 
-pub has-key : (p : Values) (i : ℕ) → IsSane p → is_starter p i ≡ true → HasKey p i
+pub has-key : (p : Values) (i : ℕ) → IsSane p → is_coldstart p i ≡ true → HasKey p i
 has-key p i sane starts = by (node_of p i) refl
   where
     with_key : (spec : NodeSpec) → node_of p i ≡ Some spec → (key : Option ℕ) → spec.key ≡ key → HasKey p i
@@ -128,7 +128,7 @@ action-less p slot key sane some order =
     omega arith
 
 -- two coldstart nodes that send at one macrotick of the cycle are one
-pub action-apart : (p : Values) (i j : ℕ) → IsSane p → is_starter p i ≡ true → is_starter p j ≡ true → action_of p i ≡ action_of p j → i ≡ j
+pub action-apart : (p : Values) (i j : ℕ) → IsSane p → is_coldstart p i ≡ true → is_coldstart p j ≡ true → action_of p i ≡ action_of p j → i ≡ j
 action-apart p i j sane starts_i starts_j same = by (cases_lt a.slot b.slot) (cases_lt b.slot a.slot)
   where
     a : HasKey p i

@@ -5,8 +5,9 @@ use Rattle.std.proofs.lemmas.Bool.{cases_lt}
 use Rattle.std.proofs.lemmas.Bool.Decides.{nat_tests}
 use Rattle.fr_cluster.specs.Values.{Values}
 use Rattle.fr_cluster.specs.Sane.{IsSane}
+use Rattle.fr_cluster.specs.Questions.{is_coldstart}
 use Rattle.fr_cold.specs.Node.{is_leading, is_turn}
-use Rattle.fr_cold.specs.Cluster.{Switches, action_of, is_starter, macroticks_of_cycle, ready_states, states_at}
+use Rattle.fr_cold.specs.Cluster.{Switches, action_of, macroticks_of_cycle, ready_states, states_at}
 use Rattle.fr_cold.specs.StartupLaws.{AreConnected, AtMostOneLeads, IsNumber, SwitchesStarters}
 use Rattle.fr_cold.specs.declared.state.ColdState.{ColdState}
 use Rattle.fr_cold.specs.declared.state.ColdState.TheVariants as state
@@ -30,7 +31,7 @@ module _ (p : Values) (switches : Switches) (sane : IsSane p) (starters : Switch
   unfolding Kept
   aged t i begun number e = subst (Kept p switches i t) e (kept p switches sane starters joined t i number)
 
-  starts : (t i begun : ℕ) → states_at p switches t i ≡ state.Leading begun → is_starter p i ≡ true
+  starts : (t i begun : ℕ) → states_at p switches t i ≡ state.Leading begun → is_coldstart p i ≡ true
   starts t i begun e = on-starts p switches starters t i (λ off. let never : state.Leading begun ≡ state.Off = sym e ∙ off in cc never)
 
   -- two that began together send at different macroticks of their first cycle, and each would have heard the other

@@ -11,12 +11,11 @@ use Rattle.fr_text.specs.Least.{GivesLeast, IsLeastReason, row_passes}
 use Rattle.fr_text.proofs.LeastReasons.{least-first}
 use Rattle.fr_text.proofs.FormFacts.{IsFormed, IsFormedBy, formed-if, formed-one, formed-read, formed-sized, is_overfull, least-formed, natural-read, never, read-both}
 use Rattle.fr_cluster.specs.Values.{Values}
-use Rattle.fr_cold.specs.Cluster.{is_starter}
 use Rattle.fr_cold.specs.declared.state.Switch.{Switch}
 use Rattle.fr_cold.specs.declared.state.Switch.TheVariants as switch
 use Rattle.fr_cold.specs.Rows.{cycles_row, power_file_row, power_row_of, switch_row, switch_with}
 use Rattle.fr_cold.specs.Reasons.{cycles_at, is_out_of_turn, last_at, power_reason_after, power_row_reason}
-use Rattle.fr_cluster.specs.Questions.{is_known}
+use Rattle.fr_cluster.specs.Questions.{is_known, is_coldstart}
 use Rattle.fr_cold.specs.Holding.{are_cycles_said_again, cycles_form, is_switch_misplaced, power_form, power_holds, power_names_stranger, switch_form}
 use Rattle.fr_cold.specs.declared.rows.Row.{Row}
 use Rattle.fr_cold.specs.declared.rows.Row.TheVariants as row
@@ -62,7 +61,7 @@ least-row p test before (Err why) f node role link hex again = least-formed far 
 least-row p test before (Ok (row.Cycles n)) f node role link hex again =
     least-first test false false false false false false false false false (is_some (cycles_at before)) f.0 f.1 f.2 f.3 node f.4 role link hex again
 least-row p test before (Ok (row.Switched s)) f node role link hex again =
-    least-first test false false false false (not (is_known p s.node)) false (not (is_starter p s.node) || is_out_of_turn (last_at s.node before) s) false false false f.0 f.1 f.2 f.3 node f.4 role link hex again
+    least-first test false false false false (not (is_known p s.node)) false (not (is_coldstart p s.node) || is_out_of_turn (last_at s.node before) s) false false false f.0 f.1 f.2 f.3 node f.4 role link hex again
 
 spelt : (r : FileRecord) → has_bad_channels (power_form r) ≡ false
 spelt r = by (bytes_eq (field_of r 0) (codes "cycles")) (bytes_eq (field_of r 0) (codes "on")) (bytes_eq (field_of r 0) (codes "off"))

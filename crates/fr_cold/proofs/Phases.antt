@@ -5,8 +5,9 @@ use Rattle.std.proofs.lemmas.Bool.{cases_eq, cases_lt}
 use Rattle.std.proofs.lemmas.Bool.Decides.{nat_tests}
 use Rattle.fr_cluster.specs.Values.{Values}
 use Rattle.fr_cluster.specs.Sane.{IsSane}
+use Rattle.fr_cluster.specs.Questions.{is_coldstart}
 use Rattle.fr_cold.specs.Node.{is_leading, is_resolved, is_turn}
-use Rattle.fr_cold.specs.Cluster.{Switches, action_of, begins_at, is_starter, macroticks_of_cycle, ready_states, states_at}
+use Rattle.fr_cold.specs.Cluster.{Switches, action_of, begins_at, macroticks_of_cycle, ready_states, states_at}
 use Rattle.fr_cold.specs.StartupLaws.{AreConnected, IsFirstOn, IsNumber, LeadsAlone, StaysOn, SwitchesStarters}
 use Rattle.fr_cold.specs.declared.state.ColdState.{ColdState}
 use Rattle.fr_cold.specs.declared.state.ColdState.TheVariants as state
@@ -70,14 +71,14 @@ module _ (p : Values) (switches : Switches) (at i : ℕ) (sane : IsSane p) (star
       by (inl on) = absurd (other (stays.on_once t at i on first.here))
       by (inr none) = none
 
-  first-starter : is_starter p i ≡ true
+  first-starter : is_coldstart p i ≡ true
   first-starter = on-starter p switches sane starters joined stays at i first.here
 
   -- another that is switched on with it has a later action point
   later : (j : ℕ) → IsNumber j → j ≢ i → switches at j ≡ Some switch.On → action_of p i < action_of p j
   later j number other on = by (cases_eq (action_of p i) (action_of p j))
     where
-      starts : is_starter p j ≡ true
+      starts : is_coldstart p j ≡ true
       starts = on-starter p switches sane starters joined stays at j on
 
       a : HasKey p i

@@ -3,8 +3,9 @@ use Rattle.std.proofs.Common.{◌≡◌, ℕ, zero, suc, ◌+◌, ◌-◌, ◌*�
 use Rattle.std.specs.Prelude.{nat_lt, ◌==◌, ◌||◌, if◌then◌else◌}
 use Rattle.std.proofs.lemmas.Bool.Decides.{nat_tests}
 use Rattle.fr_cluster.specs.Values.{Values}
+use Rattle.fr_cluster.specs.Questions.{is_coldstart}
 use Rattle.fr_cold.specs.Node.{acts, is_resolved, resolved, sends, sent, switched}
-use Rattle.fr_cold.specs.Cluster.{Switches, action_of, after_macrotick, begins_at, is_starter, macroticks_of_cycle, moved_states, ready_states, states_at}
+use Rattle.fr_cold.specs.Cluster.{Switches, action_of, after_macrotick, begins_at, macroticks_of_cycle, moved_states, ready_states, states_at}
 use Rattle.fr_cold.specs.StartupLaws.{IsNumber}
 use Rattle.fr_cold.specs.declared.state.ColdState.{ColdState}
 use Rattle.fr_cold.specs.declared.state.ColdState.TheVariants as state
@@ -37,7 +38,7 @@ idle-sent g a t (state.Leading begun) e = refl
 -- where no node is switched there is no switch of a coldstart node
 no-switch : (p : Values) (v : PowerView) (t node : ℕ) → switch_rows v t node ≡ None → switches_of p v t node ≡ None
 unfolding switches_of
-no-switch p v t node e = by (is_starter p node)
+no-switch p v t node e = by (is_coldstart p node)
   where
     by : (b : Bool) → (if b then switch_rows v t node else None) ≡ None
     by true = e

@@ -4,8 +4,9 @@ use Rattle.std.specs.Prelude.{◌||◌}
 use Rattle.fr_cluster.specs.Values.{Values}
 use Rattle.fr_cold.specs.Node.{is_leading}
 use Rattle.std.specs.Prelude.{codes}
+use Rattle.fr_cluster.specs.Questions.{is_coldstart}
 use Rattle.fr_text.specs.Pieces.{line}
-use Rattle.fr_cold.specs.Cluster.{States, is_starter, states_at}
+use Rattle.fr_cold.specs.Cluster.{States, states_at}
 use Rattle.fr_cold.specs.View.{PowerView}
 use Rattle.fr_cold.specs.Questions.{macroticks_of_run, switches_of}
 use Rattle.fr_cold.specs.Leads.{leads_of}
@@ -18,13 +19,13 @@ pub starters-none : (p : Values) → starters_up_to p 0 ≡ 0
 unfolding starters_up_to
 starters-none p = refl
 
-pub starters-more : (p : Values) (n count : ℕ) → 1 ≤ n → count ≡ starters_up_to p (n - 1) → one_more (is_starter p n) count ≡ starters_up_to p (n + 1 - 1)
+pub starters-more : (p : Values) (n count : ℕ) → 1 ≤ n → count ≡ starters_up_to p (n - 1) → one_more (is_coldstart p n) count ≡ starters_up_to p (n + 1 - 1)
 unfolding starters_up_to
 starters-more p zero count some e = absurd (omega arith)
 starters-more p (suc n) count some e =
     let here : suc n - 1 ≡ n = omega arith in
     let next : suc n + 1 - 1 ≡ suc n = omega arith in
-    ap (one_more (is_starter p (suc n))) (e ∙ ap (λ (k : ℕ). starters_up_to p k) here) ∙ ap (λ (k : ℕ). starters_up_to p k) (sym next)
+    ap (one_more (is_coldstart p (suc n))) (e ∙ ap (λ (k : ℕ). starters_up_to p k) here) ∙ ap (λ (k : ℕ). starters_up_to p k) (sym next)
 
 -- looking for two nodes that are apart
 pub apart-not : (p : Values) (a n : ℕ) → n ≤ 64 → are_apart p a n ≡ false → least_apart p a n (65 - n) ≡ least_apart p a (n + 1) (65 - (n + 1))

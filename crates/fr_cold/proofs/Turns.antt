@@ -10,13 +10,12 @@ use Rattle.fr_text.specs.Records.{FileRecord}
 use Rattle.fr_text.specs.Fields.{or_else}
 use Rattle.fr_text.specs.Refusal.{NoneRefused}
 use Rattle.fr_cluster.specs.Values.{Values}
-use Rattle.fr_cold.specs.Cluster.{is_starter}
 use Rattle.fr_cold.specs.StartupLaws.{StaysOn, SwitchesStarters}
 use Rattle.fr_cold.specs.declared.state.Switch.{Switch}
 use Rattle.fr_cold.specs.declared.state.Switch.TheVariants as switch
 use Rattle.fr_cold.specs.Rows.{power_row_of}
 use Rattle.fr_cold.specs.Reasons.{is_out_of_turn, last_at, last_in, power_reason_after, power_row_reason, switch_alike, switch_at, switch_in, switch_reason}
-use Rattle.fr_cluster.specs.Questions.{is_known}
+use Rattle.fr_cluster.specs.Questions.{is_known, is_coldstart}
 use Rattle.fr_cold.specs.View.{PowerView, switch_rows}
 use Rattle.fr_cold.specs.Files.{PowerFits}
 use Rattle.fr_cold.specs.Questions.{IsNeverOff, switches_of}
@@ -169,9 +168,9 @@ module _ (done : List FileRecord) (r : FileRecord) (s : SwitchRow) (says : power
 one-more : (p : Values) (done : List FileRecord) (r : FileRecord) (x : Result Row Reason) → power_row_of r ≡ x → power_row_reason p done x ≡ None → InTurn done → InTurn (done ++ r ∷ [])
 one-more p done r (Err why) says fine h = absurd (cc fine)
 one-more p done r (Ok (row.Cycles n)) says fine h = same-turn done (done ++ r ∷ []) (λ at node. switch_at-more at node done r _ says) (λ node. last_at-more node done r _ says) h
-one-more p done r (Ok (row.Switched s)) says fine h = by (is_known p s.node) (is_starter p s.node) (is_out_of_turn (last_at s.node done) s) refl refl refl
+one-more p done r (Ok (row.Switched s)) says fine h = by (is_known p s.node) (is_coldstart p s.node) (is_out_of_turn (last_at s.node done) s) refl refl refl
   where
-    by : (a b c : Bool) → is_known p s.node ≡ a → is_starter p s.node ≡ b → is_out_of_turn (last_at s.node done) s ≡ c → InTurn (done ++ r ∷ [])
+    by : (a b c : Bool) → is_known p s.node ≡ a → is_coldstart p s.node ≡ b → is_out_of_turn (last_at s.node done) s ≡ c → InTurn (done ++ r ∷ [])
     by false b c ea eb ec = let never : Some reason.UnknownNode ≡ None = rw ea at fine in absurd (cc never)
     by true false c ea eb ec = let never : Some reason.Role ≡ None = rw (ea, eb) at fine in absurd (cc never)
     by true true true ea eb ec = let never : Some reason.Role ≡ None = rw (ea, eb, ec) at fine in absurd (cc never)
@@ -188,8 +187,8 @@ walk p done (r ∷ rest) none h =
 pub stays-on : (p : Values) (v : PowerView) → PowerFits p v → IsNeverOff v → StaysOn (switches_of p v)
 unfolding switches_of IsOff
 stays-on p v fits never = record {
-  never_off = λ t node e. off t node (is_starter p node) e;
-  on_once = λ t u node one other. once t u node (is_starter p node) one other;
+  never_off = λ t node e. off t node (is_coldstart p node) e;
+  on_once = λ t u node one other. once t u node (is_coldstart p node) one other;
 }
   where
     turns : InTurn fits.records

@@ -20,10 +20,6 @@ Switches = ℕ → ℕ → Option Switch
 abbrev pub States : Type 0
 States = ℕ → ColdState
 
--- whether there is such a node and it is a coldstart node
-abbrev pub is_starter : Values → ℕ → Bool
-is_starter p node = option_map_or (λ spec. spec.coldstart) (node_of p node) false
-
 -- the macroticks of a cycle
 abbrev pub macroticks_of_cycle : Values → ℕ
 macroticks_of_cycle p = amount p name.gMacroPerCycle

@@ -2,9 +2,10 @@
 use Rattle.std.specs.Prelude.{ℕ, zero, suc, ◌+◌, ◌-◌, ◌*◌, ◌≡◌, Bool, true, false, not, ◌&&◌, ◌||◌, List, [], ◌∷◌, ◌++◌, Option, Some, None, codes, if◌then◌else◌}
 use Rattle.std.specs.Fmt.{decimal, signed_decimal}
 use Rattle.fr_cluster.specs.Values.{Values}
+use Rattle.fr_cluster.specs.Questions.{is_coldstart}
 use Rattle.fr_text.specs.Pieces.{line}
 use Rattle.fr_cold.specs.Node.{is_leading}
-use Rattle.fr_cold.specs.Cluster.{States, is_sharing, is_starter, macroticks_of_cycle, states_at}
+use Rattle.fr_cold.specs.Cluster.{States, is_sharing, macroticks_of_cycle, states_at}
 use Rattle.fr_cold.specs.StartupLaws.{AreConnected, AtMostOneLeads, IsFirstOn, LeadsAlone}
 use Rattle.fr_cold.specs.View.{PowerView}
 use Rattle.fr_cold.specs.Questions.{IsNeverOff, cycles_of_power, macroticks_of_run, switches_of}
@@ -19,11 +20,11 @@ one_more false count = count
 
 unfoldable pub starters_up_to : Values → ℕ → ℕ
 starters_up_to p zero = 0
-starters_up_to p (suc n) = one_more (is_starter p (suc n)) (starters_up_to p n)
+starters_up_to p (suc n) = one_more (is_coldstart p (suc n)) (starters_up_to p n)
 
 -- two coldstart nodes that share no channel
 abbrev pub are_apart : Values → ℕ → ℕ → Bool
-are_apart p a b = is_starter p a && (is_starter p b && not (is_sharing p a b))
+are_apart p a b = is_coldstart p a && (is_coldstart p b && not (is_sharing p a b))
 
 -- an answer, where there is one, or another
 abbrev pub answer_or : {A : Type 0} → Bool → A → Option A → Option A

@@ -1,7 +1,8 @@
 -- Which coldstart nodes share no channel.
 use Rattle.std.specs.Prelude.{ℕ, ◌≡◌, ◌<◌, ◌≤◌, ◌⊎◌, true, false, Option, Some, None}
 use Rattle.fr_cluster.specs.Values.{Values}
-use Rattle.fr_cold.specs.Cluster.{is_sharing, is_starter}
+use Rattle.fr_cluster.specs.Questions.{is_coldstart}
+use Rattle.fr_cold.specs.Cluster.{is_sharing}
 use Rattle.fr_cold.specs.StartupLaws.{AreConnected, IsNumber}
 
 -- two coldstart nodes that share no channel, the one with the lesser number first
@@ -9,8 +10,8 @@ pub record AreApart (p : Values) (a b : ℕ) : Type 0 where
   pub first : IsNumber a
   pub second : IsNumber b
   pub order : a < b
-  pub first_starts : is_starter p a ≡ true
-  pub second_starts : is_starter p b ≡ true
+  pub first_starts : is_coldstart p a ≡ true
+  pub second_starts : is_coldstart p b ≡ true
   pub none_shared : is_sharing p a b ≡ false
 
 -- the least such two: no others have a lesser first node, or the same one and a lesser second

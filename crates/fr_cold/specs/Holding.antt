@@ -8,10 +8,9 @@ use Rattle.fr_text.specs.Fields.{field_of}
 use Rattle.fr_text.specs.Forms.{Form, number_field, misses_form, has_unknown_name, has_no_number, is_out_of_range}
 use Rattle.fr_text.specs.Least.{row_passes}
 use Rattle.fr_cluster.specs.Values.{Values}
-use Rattle.fr_cold.specs.Cluster.{is_starter}
-use Rattle.fr_cold.specs.Rows.{power_row_of}
+use Rattle.fr_cold.specs.Rows.{most_tick, power_row_of}
 use Rattle.fr_cold.specs.Reasons.{cycles_at, is_out_of_turn, last_at}
-use Rattle.fr_cluster.specs.Questions.{is_known}
+use Rattle.fr_cluster.specs.Questions.{is_known, is_coldstart}
 use Rattle.fr_cold.specs.declared.rows.Row.{Row}
 use Rattle.fr_cold.specs.declared.rows.Row.TheVariants as row
 
@@ -30,7 +29,7 @@ abbrev pub switch_form : FileRecord → Form
 switch_form r = record {
   empty = [];
   known = true;
-  numbers = number_field (field_of r 1) 1 64 ∷ number_field (field_of r 2) 0 16_000_000 ∷ [];
+  numbers = number_field (field_of r 1) 1 64 ∷ number_field (field_of r 2) 0 most_tick ∷ [];
   short = true;
   spelt = true;
 }
@@ -50,7 +49,7 @@ power_names_stranger p (row.Switched s) = not (is_known p s.node)
 -- a node that is no coldstart node, or a record out of the turn of its node
 abbrev pub is_switch_misplaced : Values → List FileRecord → Row → Bool
 is_switch_misplaced p before (row.Cycles n) = false
-is_switch_misplaced p before (row.Switched s) = not (is_starter p s.node) || is_out_of_turn (last_at s.node before) s
+is_switch_misplaced p before (row.Switched s) = not (is_coldstart p s.node) || is_out_of_turn (last_at s.node before) s
 
 -- a second row of the number of cycles
 abbrev pub are_cycles_said_again : List FileRecord → Row → Bool

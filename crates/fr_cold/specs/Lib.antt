@@ -3,9 +3,9 @@ pub mod Node
 pub mod Cluster
 pub mod StartupLaws
 pub mod Connected
+pub mod Rows
 pub mod Moves
 pub mod Keys
-pub mod Rows
 pub mod Reasons
 pub mod View
 pub mod Inside

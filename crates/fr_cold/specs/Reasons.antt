@@ -6,8 +6,7 @@ use Rattle.fr_base.specs.declared.reason.Reason.TheVariants as reason
 use Rattle.fr_text.specs.Records.{FileRecord}
 use Rattle.fr_text.specs.Fields.{looked_up, or_else}
 use Rattle.fr_cluster.specs.Values.{Values}
-use Rattle.fr_cluster.specs.Questions.{is_known}
-use Rattle.fr_cold.specs.Cluster.{is_starter}
+use Rattle.fr_cluster.specs.Questions.{is_known, is_coldstart}
 use Rattle.fr_cold.specs.declared.state.Switch.{Switch}
 use Rattle.fr_cold.specs.declared.state.Switch.TheVariants as switch
 use Rattle.fr_cold.specs.Rows.{power_row_of}
@@ -66,7 +65,7 @@ is_out_of_turn (Some last) s = switch_alike last.switch s.switch || not (nat_lt 
 abbrev pub switch_reason : Values → List FileRecord → SwitchRow → Option Reason
 switch_reason p records s =
     if not (is_known p s.node) then Some reason.UnknownNode
-    else if not (is_starter p s.node) || is_out_of_turn (last_at s.node records) s then Some reason.Role
+    else if not (is_coldstart p s.node) || is_out_of_turn (last_at s.node records) s then Some reason.Role
     else None
 
 -- the least reason after these records, of what a record says or shows by itself

@@ -10,6 +10,10 @@ use Rattle.fr_cold.specs.declared.state.Switch.TheVariants as switch
 use Rattle.fr_cold.specs.declared.rows.Row.{Row}
 use Rattle.fr_cold.specs.declared.rows.Row.TheVariants as row
 
+-- the greatest macrotick of a run: that at which 1,000 cycles of 16,000 macroticks end
+abbrev pub most_tick : ℕ
+most_tick = 16_000_000
+
 -- the number of cycles of a run
 abbrev pub cycles_row : List ℕ → Result Row Reason
 cycles_row count = or_reason (λ n. Ok (row.Cycles n)) (natural_of 1 1000 count)
@@ -19,7 +23,7 @@ abbrev pub switch_with : Switch → ℕ × ℕ → Result Row Reason
 switch_with how numbers = Ok (row.Switched (record { node = numbers.0; at = numbers.1; switch = how }))
 
 abbrev pub switch_row : Switch → List ℕ → List ℕ → Result Row Reason
-switch_row how node at = or_reason (switch_with how) (both_of (natural_of 1 64 node) (natural_of 0 16_000_000 at))
+switch_row how node at = or_reason (switch_with how) (both_of (natural_of 1 64 node) (natural_of 0 most_tick at))
 
 -- what a record of three fields says, by its kind
 abbrev pub power_file_row : List ℕ → List ℕ → List ℕ → Result Row Reason
@@ -43,4 +47,4 @@ pub record IsProperCycles (cycles : ℕ) : Type 0 where
 -- the numbers of a row lie in their ranges
 abbrev pub IsProperPowerRow : Row → Type 0
 IsProperPowerRow (row.Cycles n) = IsProperCycles n
-IsProperPowerRow (row.Switched s) = s.at ≤ 16_000_000
+IsProperPowerRow (row.Switched s) = s.at ≤ most_tick

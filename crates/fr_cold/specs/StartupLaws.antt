@@ -2,9 +2,9 @@
 use Rattle.std.specs.Prelude.{ℕ, ◌+◌, ◌*◌, ◌≡◌, ◌≢◌, ◌≤◌, ◌==◌, nat_lt, true, false, ◌&&◌, Some, None}
 use Rattle.fr_cluster.specs.Values.{Values}
 use Rattle.fr_cluster.specs.Sane.{IsSane}
-use Rattle.fr_cluster.specs.Questions.{own_key}
+use Rattle.fr_cluster.specs.Questions.{own_key, is_coldstart}
 use Rattle.fr_cold.specs.Node.{is_leading}
-use Rattle.fr_cold.specs.Cluster.{Switches, begins_at, is_sharing, is_starter, macroticks_of_cycle, ready_states, states_at}
+use Rattle.fr_cold.specs.Cluster.{Switches, begins_at, is_sharing, macroticks_of_cycle, ready_states, states_at}
 use Rattle.fr_cold.specs.declared.state.Switch.TheVariants as switch
 
 -- a node's number
@@ -14,11 +14,11 @@ pub record IsNumber (node : ℕ) : Type 0 where
 
 -- every two coldstart nodes share a channel
 abbrev pub AreConnected : Values → Type 0
-AreConnected p = (a b : ℕ) → IsNumber a → IsNumber b → a ≢ b → is_starter p a ≡ true → is_starter p b ≡ true → is_sharing p a b ≡ true
+AreConnected p = (a b : ℕ) → IsNumber a → IsNumber b → a ≢ b → is_coldstart p a ≡ true → is_coldstart p b ≡ true → is_sharing p a b ≡ true
 
 -- only coldstart nodes are switched
 abbrev pub SwitchesStarters : Values → Switches → Type 0
-SwitchesStarters p switches = (t node : ℕ) → is_starter p node ≡ false → switches t node ≡ None
+SwitchesStarters p switches = (t node : ℕ) → is_coldstart p node ≡ false → switches t node ≡ None
 
 -- of two nodes that lead between macroticks, or within one, each is the other
 pub record AtMostOneLeads (p : Values) (switches : Switches) : Type 0 where

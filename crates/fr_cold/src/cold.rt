@@ -34,12 +34,13 @@ pub struct Cold {
 impl Model for Cold {
     ghost use Rattle.std.specs.Prelude.{◌≤◌};
     ghost use Rattle.fr_cold.specs.Cold.{ColdView};
+    ghost use Rattle.fr_cold.specs.Rows.{most_tick};
 
     ghost Value = { ColdView };
 
     ghost view = { λ a. record { at = a.at; told = a.told; states = a.table } };
 
-    ghost invariant = { λ a. (a.at ≤ 16_000_000) × (a.told ≤ 64) };
+    ghost invariant = { λ a. (a.at ≤ most_tick) × (a.told ≤ 64) };
 }
 
 impl Cold {

@@ -1,5 +1,4 @@
 ghost use Rattle.std.specs.Prelude.{◌≡◌, ◌≤◌, ◌-◌, suc};
-ghost use Rattle.fr_cold.specs.Cluster.{is_starter};
 ghost use Rattle.fr_cold.specs.ColdText.{least_apart, are_apart, one_more, first_pair_in, starters_up_to};
 
 use fr_base::{Channel, NodeId};
@@ -11,7 +10,7 @@ pub(crate) fn starter_count(params: &Params) -> u64
 {
     let mut count = 0;
     for number in 1..65 {
-        count = one_more(count, is_starter(params, NodeId(number)));
+        count = one_more(count, params.is_coldstart(NodeId(number)));
     }
     count
 }
@@ -21,15 +20,6 @@ fn one_more(count: u64, more: bool) -> u64
     ensures { result ≡ one_more more count }
 {
     if more { count + 1 } else { count }
-}
-
-fn is_starter(params: &Params, node: NodeId) -> bool
-    ensures { result ≡ is_starter params.now node }
-{
-    match params.node(node) {
-        None => false,
-        Some(spec) => spec.coldstart,
-    }
 }
 
 // The least two coldstart nodes that share no channel, the least first node first.
@@ -62,7 +52,7 @@ fn apart_after(params: &Params, node: NodeId) -> Option<NodeId>
 fn are_apart(params: &Params, a: NodeId, b: NodeId) -> bool
     ensures { result ≡ are_apart params.now a b }
 {
-    is_starter(params, a)
-        && is_starter(params, b)
+    params.is_coldstart(a)
+        && params.is_coldstart(b)
         && !(params.common(a, b, Channel::A) || params.common(a, b, Channel::B))
 }

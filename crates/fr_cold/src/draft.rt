@@ -1,10 +1,8 @@
 ghost use Rattle.std.specs.Prelude.{◌≡◌, [], List, Some, IfOk};
 ghost use Rattle.std.specs.Option.{option_copied};
 ghost use Rattle.fr_cluster.specs.Values.{Values};
-ghost use Rattle.fr_cold.specs.Cluster.{is_starter};
 ghost use Rattle.fr_cold.specs.Rows.{IsProperCycles};
 ghost use Rattle.fr_cold.specs.Reasons.{is_out_of_turn};
-ghost use Rattle.fr_cluster.specs.Questions.{is_known};
 ghost use Rattle.std.specs.BTreeMap.{IsOrdered};
 ghost use Rattle.fr_text.specs.Records.{FileRecord};
 ghost use Rattle.fr_cold.specs.Files.{PowerStandsFor};
@@ -76,10 +74,10 @@ impl Draft {
     ) -> Result<Option<Reason>, AllocError>
         ensures { TakesPowerRow params.now self.old self.new (said.Switched row) result }
     {
-        if !is_node(params, row.node) {
+        if !params.is_known(row.node) {
             return Ok(Some(Reason::UnknownNode));
         }
-        if !is_starter(params, row.node) || is_out_of_turn(self.lasts.get(&row.node), row) {
+        if !params.is_coldstart(row.node) || is_out_of_turn(self.lasts.get(&row.node), row) {
             return Ok(Some(Reason::Role));
         }
         let key = PowerKey {
@@ -130,20 +128,5 @@ fn is_out_of_turn(last: Option<&Last>, row: SwitchRow) -> bool
     match last {
         None => row.switch == Switch::Off,
         Some(last) => last.switch == row.switch || row.at <= last.at,
-    }
-}
-
-fn is_node(params: &Params, node: NodeId) -> bool
-    ensures { result ≡ is_known params.now node }
-{
-    params.node(node).is_some()
-}
-
-pub(crate) fn is_starter(params: &Params, node: NodeId) -> bool
-    ensures { result ≡ is_starter params.now node }
-{
-    match params.node(node) {
-        None => false,
-        Some(spec) => spec.coldstart,
     }
 }

@@ -1,6 +1,7 @@
 ghost use Rattle.std.specs.Prelude.{◌≡◌, ◌≤◌, ◌<◌, ℕ, false};
 ghost use Rattle.fr_cold.specs.Node.{acts, heard, is_leading, is_resolved, is_turn, resolved, sends, sent, switched};
 ghost use Rattle.fr_cold.specs.Moves.{IsTimely};
+ghost use Rattle.fr_cold.specs.Rows.{most_tick};
 
 use crate::state::{ColdState, Switch};
 
@@ -8,7 +9,7 @@ use crate::state::{ColdState, Switch};
 /// resolution ends. `cycle` has the macroticks of a cycle.
 pub fn ready(cycle: u32, tick: u32, switch: Option<Switch>, state: ColdState) -> ColdState
     requires cycle { cycle ≤ 16_000 }
-    requires tick { tick ≤ 16_000_000 }
+    requires tick { tick ≤ most_tick }
     requires timely { IsTimely state }
     ensures value { result ≡ resolved cycle tick (switched switch tick state) }
     ensures timely { IsTimely result }
@@ -29,7 +30,7 @@ pub fn ready(cycle: u32, tick: u32, switch: Option<Switch>, state: ColdState) ->
 /// Whether a node begins to lead at a macrotick.
 pub fn resolves(cycle: u32, tick: u32, switch: Option<Switch>, state: ColdState) -> bool
     requires cycle { cycle ≤ 16_000 }
-    requires tick { tick ≤ 16_000_000 }
+    requires tick { tick ≤ most_tick }
     requires timely { IsTimely state }
     ensures { result ≡ is_resolved cycle tick (switched switch tick state) }
 {
@@ -40,7 +41,7 @@ pub fn resolves(cycle: u32, tick: u32, switch: Option<Switch>, state: ColdState)
 }
 
 fn switched(tick: u32, switch: Option<Switch>, state: ColdState) -> ColdState
-    requires tick { tick ≤ 16_000_000 }
+    requires tick { tick ≤ most_tick }
     requires timely { IsTimely state }
     ensures value { result ≡ switched switch tick state }
     ensures timely { IsTimely result }
@@ -80,7 +81,7 @@ fn is_turn(first: u32, cycle: u32, tick: u32) -> bool
 /// something and does not lead.
 pub fn moved(cycle: u32, tick: u32, hears: bool, state: ColdState) -> ColdState
     requires cycle { cycle ≤ 16_000 }
-    requires tick { tick ≤ 16_000_000 }
+    requires tick { tick ≤ most_tick }
     requires timely { IsTimely state }
     ensures value { result ≡ heard hears tick (sent cycle tick state) }
     ensures timely { IsTimely result }
@@ -99,7 +100,7 @@ pub fn moved(cycle: u32, tick: u32, hears: bool, state: ColdState) -> ColdState
 
 fn sent(cycle: u32, tick: u32, state: ColdState) -> ColdState
     requires cycle { cycle ≤ 16_000 }
-    requires tick { tick ≤ 16_000_000 }
+    requires tick { tick ≤ most_tick }
     requires timely { IsTimely state }
     ensures value { result ≡ sent cycle tick state }
     ensures timely { IsTimely result }
@@ -134,7 +135,7 @@ pub fn quiet_before(cycle: u32, action: u32, state: ColdState, tick: u32, end: u
     requires action { action < cycle }
     requires timely { IsTimely state }
     requires order { tick ≤ end }
-    requires end { end ≤ 16_000_000 }
+    requires end { end ≤ most_tick }
     ensures from { tick ≤ result }
     ensures to { result ≤ end }
     ensures quiet { (t : ℕ) → tick ≤ t → t < result → acts cycle action t state ≡ false }
@@ -165,7 +166,7 @@ fn next_turn(first: u32, cycle: u32, tick: u32, end: u32) -> u32
     requires cycle { 1 ≤ cycle }
     requires small { cycle ≤ 16_000 }
     requires order { tick ≤ end }
-    requires end { end ≤ 16_000_000 }
+    requires end { end ≤ most_tick }
     ensures from { tick ≤ result }
     ensures to { result ≤ end }
     ensures quiet { (t : ℕ) → tick ≤ t → t < result → is_turn first cycle t ≡ false }

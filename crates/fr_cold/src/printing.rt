@@ -12,7 +12,7 @@ use fr_cluster::Params;
 use fr_text::Piece::{Natural, Signed, Word};
 use fr_text::{Line, line_of, put_line, put_lines, put_text};
 
-// Writes who leads the startup of these parameters and this power file. Each line is one put.
+// Writes who leads the startup of these parameters and this power file. Puts have whole lines.
 pub(crate) fn print<O: Sink>(params: &Params, power: &Power, out: &mut O) -> Result<(), PutFault>
     ensures { Puts result (O.state out.old) (O.state out.new) (cold_text params.now power.now) }
 {

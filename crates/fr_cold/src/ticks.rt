@@ -6,8 +6,8 @@ ghost use Rattle.fr_cluster.specs.Questions.{has_channel, node_of};
 ghost use Rattle.fr_cold.specs.Questions.{macroticks_of_run, switches_of};
 ghost use Rattle.fr_cold.specs.Cold.{Agrees};
 ghost use Rattle.fr_cold.specs.Events.{IsQuietUpTo, hears_by, ready_at};
+ghost use Rattle.fr_cold.specs.Rows.{most_tick};
 
-use crate::draft::is_starter;
 use crate::power::Power;
 use crate::table::StateTable;
 use crate::{ColdState, Switch, action, moved, quiet_before, ready, sends};
@@ -28,7 +28,7 @@ pub(crate) fn cycle_length(params: &Params) -> u32
 pub(crate) fn switch_of(params: &Params, power: &Power, at: u32, node: NodeId) -> Option<Switch>
     ensures { result ≡ switches_of params.now power.now at node }
 {
-    if is_starter(params, node) {
+    if params.is_coldstart(node) {
         power.switch(at, node)
     } else {
         None
@@ -37,7 +37,7 @@ pub(crate) fn switch_of(params: &Params, power: &Power, at: u32, node: NodeId) -
 
 // The first two parts of a macrotick, for all nodes.
 pub(crate) fn make_ready(params: &Params, power: &Power, tick: u32, table: &mut StateTable)
-    requires tick { tick ≤ 16_000_000 }
+    requires tick { tick ≤ most_tick }
     requires stands { Agrees table.old (states_at params.now (switches_of params.now power.now) tick) }
     ensures { Agrees table.new (ready_at params.now power.now tick) }
 {
@@ -111,7 +111,7 @@ fn is_hearing(
 
 // The last two parts of a macrotick, for all nodes: each hears what was sent before any of them moved.
 pub(crate) fn move_all(params: &Params, tick: u32, table: &mut StateTable)
-    requires { tick ≤ 16_000_000 }
+    requires { tick ≤ most_tick }
     ensures { (states : States) → Agrees table.old states → Agrees table.new (moved_states params.now tick states) }
 {
     let cycle = cycle_length(params);
@@ -134,7 +134,7 @@ pub(crate) fn next_event(
     end: u32,
 ) -> u32
     requires order { tick ≤ end }
-    requires end { end ≤ 16_000_000 }
+    requires end { end ≤ most_tick }
     ensures from { tick ≤ result }
     ensures to { result ≤ end }
     ensures quiet { IsQuietUpTo params.now power.now table.now tick result 65 }
@@ -152,7 +152,7 @@ pub(crate) fn next_event(
 #[tactic(auto, unfolding(crate::specs::Questions::macroticks_of_run, crate::specs::Questions::cycles_of_power))]
 pub(crate) fn end_tick(params: &Params, power: &Power) -> u32
     ensures value { result ≡ macroticks_of_run params.now power.now }
-    ensures few { result ≤ 16_000_000 }
+    ensures few { result ≤ most_tick }
 {
     power.cycles() * cycle_length(params)
 }

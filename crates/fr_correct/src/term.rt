@@ -1,6 +1,7 @@
 ghost use Rattle.std.specs.Prelude.{◌≡◌, ◌≢◌, ◌↔◌, ◌≤ℤ◌, ◌+ℤ◌, pos, [], IsPermutation};
 ghost use Rattle.fr_base.specs.Within.{IsBetween, IsWithin};
 ghost use Rattle.fr_correct.specs.Terms.{damped, term_of, missing_term, offset_term_of, rate_term_of, IsOutside, IsOffsetTerm, IsRateTerm, OffsetTermIsFound, OffsetTermIsThere, RateTermIsFound, RateTermIsThere, TellsItsOutcome, TermLiesWithin};
+ghost use Rattle.fr_midpoint.specs.Midpoint.{most_value};
 
 use fr_base::Outcome;
 use fr_midpoint::{List15, midpoint};
@@ -94,7 +95,7 @@ fn cut(limit: i32, before: i32) -> Term
 fn rate_before(old: i32, damping: i32, mid: i32) -> i32
     requires old_within { IsWithin (pos 2000) old }
     requires damping { IsBetween (pos 0) (pos 100) damping }
-    requires mid_within { IsWithin (pos 2000000) mid }
+    requires mid_within { IsWithin (pos most_value) mid }
     ensures { result ≡ damped damping (old +ℤ mid) }
 {
     damp(damping, old + mid)

@@ -9,12 +9,13 @@ use Rattle.fr_cluster.specs.Values.{Values}
 use Rattle.fr_cluster.specs.Sane.{IsSane}
 use Rattle.fr_cluster.specs.declared.nodes.NodeSpec.{NodeSpec}
 use Rattle.fr_bound.specs.Checks.{left_of, right_of, holds_of}
+use Rattle.fr_bound.specs.Outweighing.{outweighs}
 use Rattle.fr_drift.specs.View.{DriftView}
 use Rattle.fr_drift.specs.Questions.{doubles_of, length_of, delay_of}
 use Rattle.fr_script.specs.View.{ScriptView, is_arbitrary}
 use Rattle.fr_coverage.specs.First.{first_below, first_in}
 use Rattle.fr_coverage.specs.Links.{is_link, shares, is_carried, link_gap}
-use Rattle.fr_coverage.specs.Coverage.{asked_checks, how_many_cycles, check_gap, count_of, outweighs, count_gap, is_off, length_gap, lengths_gap, has_jumped, change_gap, changes_gap, is_wrong, delay_gap, channel_gap, delays_gap, links_gap, first_of_nodes, first_of_pairs, gap_from, gap_of_run, first_gap}
+use Rattle.fr_coverage.specs.Coverage.{asked_checks, how_many_cycles, check_gap, count_of, count_gap, is_off, length_gap, lengths_gap, has_jumped, change_gap, changes_gap, is_wrong, delay_gap, channel_gap, delays_gap, links_gap, first_of_nodes, first_of_pairs, gap_from, gap_of_run, first_gap}
 use Rattle.fr_coverage.specs.Kinds.{gaps_by_kind, AreFirstGaps, IsFirstOf}
 use Rattle.fr_coverage.specs.Order.{place_of_gap, HasNoGapFrom, IsBehind, IsEarlierGap, FindsGapFrom, IsFailingCheck, IsRunCheckGap, IsCountGap, IsLengthGap, IsChangeGap, IsDelayGap, IsLinkGap, IsGap, IsGapOfRun, IsFirstGap, FindsGapOfRun}
 use Rattle.fr_coverage.specs.declared.gap.Gap.{Gap}

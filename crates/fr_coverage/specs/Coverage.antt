@@ -1,5 +1,5 @@
 -- The gaps for which a run is not covered by the precision theorem, in the order in which they are looked for.
-use Rattle.std.specs.Prelude.{ℕ, ℤ, pos, ◌+ℤ◌, ◌-ℤ◌, ◌*ℤ◌, int_lt, suc, ◌-◌, ◌*◌, ◌==◌, ◌&&◌, ◌||◌, nat_le, Bool, true, false, not, List, count_by, filter, Option, Some, None, is_none, is_some, if◌then◌else◌}
+use Rattle.std.specs.Prelude.{ℕ, ℤ, pos, ◌+ℤ◌, ◌-ℤ◌, ◌*ℤ◌, int_lt, suc, ◌-◌, ◌*◌, ◌&&◌, ◌||◌, Bool, true, false, not, List, count_by, filter, Option, Some, None, is_none, is_some, if◌then◌else◌}
 use Rattle.std.specs.List.{list_any}
 use Rattle.std.specs.Option.{option_or}
 use Rattle.fr_base.specs.declared.channel.Channel.{Channel}
@@ -10,6 +10,7 @@ use Rattle.fr_cluster.specs.declared.nodes.NodeSpec.{NodeSpec}
 use Rattle.fr_cluster.specs.declared.names.ParamName.TheVariants as name
 use Rattle.fr_bound.specs.Bounds.{nominal, longest_micro, shortest_micro}
 use Rattle.fr_bound.specs.Checks.{left_of, right_of, holds_of}
+use Rattle.fr_bound.specs.Outweighing.{outweighs}
 use Rattle.fr_drift.specs.View.{DriftView}
 use Rattle.fr_drift.specs.Questions.{doubles_of, length_of, delay_of}
 use Rattle.fr_script.specs.View.{ScriptView, is_arbitrary, join_of}
@@ -56,10 +57,6 @@ is_counted s arbitrary node = is_sync node && (if arbitrary then is_arbitrary s 
 
 abbrev pub count_of : ScriptView → Bool → List NodeSpec → ℕ
 count_of s arbitrary nodes = count_by (is_counted s arbitrary) nodes
-
-abbrev pub outweighs : ℕ → ℕ → Bool
-outweighs correct arbitrary =
-    ((arbitrary == 0) && nat_le 1 correct) || ((arbitrary == 1) && nat_le 3 correct) || ((arbitrary == 2) && nat_le 6 correct)
 
 abbrev pub weighed : List NodeSpec → ScriptView → Option Gap
 weighed nodes s =

@@ -8,11 +8,12 @@ use Rattle.fr_base.specs.declared.channel.Channel.{Channel}
 use Rattle.fr_cluster.specs.Values.{Values}
 use Rattle.fr_cluster.specs.declared.nodes.NodeSpec.{NodeSpec}
 use Rattle.fr_bound.specs.Checks.{left_of, right_of, holds_of}
+use Rattle.fr_bound.specs.Outweighing.{outweighs}
 use Rattle.fr_drift.specs.View.{DriftView}
 use Rattle.fr_drift.specs.Questions.{doubles_of, length_of, delay_of}
 use Rattle.fr_script.specs.View.{ScriptView, is_arbitrary}
 use Rattle.fr_coverage.specs.Links.{is_link, shares, is_carried}
-use Rattle.fr_coverage.specs.Coverage.{asked_checks, how_many_cycles, count_of, outweighs, is_off, has_jumped, is_wrong, first_gap, gap_from, gap_of_run}
+use Rattle.fr_coverage.specs.Coverage.{asked_checks, how_many_cycles, count_of, is_off, has_jumped, is_wrong, first_gap, gap_from, gap_of_run}
 use Rattle.fr_coverage.specs.declared.gap.Gap.{Gap}
 use Rattle.fr_coverage.specs.declared.gap.Gap.TheVariants as gap
 

@@ -5,6 +5,8 @@ ghost use Rattle.fr_coverage.specs.Coverage.{how_many_cycles};
 ghost use Rattle.fr_coverage.specs.First.{from_on};
 ghost use Rattle.fr_coverage.specs.declared.gap.Fluttering.{Fluttering as Found};
 ghost use Rattle.fr_coverage.specs.Flutter.{fluttering_between, fluttering_from, fluttering_in, fluttering_on, outdoes, ticks_of, told_below, told_in, told_of_two, TellsFluttering};
+ghost use Rattle.fr_drift.specs.Rows.{most_link_delay};
+ghost use Rattle.fr_bound.specs.SharpBounds.{most_flutter};
 
 use crate::gap::Fluttering;
 use crate::gaps::Run;
@@ -25,7 +27,7 @@ use fr_script::Script;
 pub fn flutter(params: &Params, drift: &Drift, script: &Script, from: u32) -> Option<Fluttering>
     ensures value { result ≡ fluttering_from params.now drift.now script.now from }
     ensures told { TellsFluttering params.now drift.now script.now from result }
-    ensures most { IfSome result (λ place. place.ticks ≤ 1_000_000_000) }
+    ensures most { IfSome result (λ place. place.ticks ≤ most_flutter) }
 {
     let nodes = &params.nodes;
     let run = Run {
@@ -54,13 +56,13 @@ trait Gauge {
 
     fn gauge(&self, node: &NodeSpec) -> Option<Fluttering>
         ensures value { result ≡ gauged self.now node.now }
-        ensures most { IfSome result (λ place. place.ticks ≤ 1_000_000_000) };
+        ensures most { IfSome result (λ place. place.ticks ≤ most_flutter) };
 }
 
 // That which is told of those of the nodes.
 fn told_among<G: Gauge>(nodes: &NodeList, gauge: &G) -> Option<Fluttering>
     ensures value { result ≡ told_in (G.gauged gauge.now) nodes.now }
-    ensures most { IfSome result (λ place. place.ticks ≤ 1_000_000_000) }
+    ensures most { IfSome result (λ place. place.ticks ≤ most_flutter) }
 {
     let mut told: Option<Fluttering> = None;
     for place in 0..nodes.len() {
@@ -74,10 +76,10 @@ fn told_among<G: Gauge>(nodes: &NodeList, gauge: &G) -> Option<Fluttering>
 
 // Of two that of more ticks, of two alike that of the later double cycle, and of two of one double cycle the former.
 fn told_of_two(one: Option<Fluttering>, other: Option<Fluttering>) -> Option<Fluttering>
-    requires one_most { IfSome one (λ place. place.ticks ≤ 1_000_000_000) }
-    requires other_most { IfSome other (λ place. place.ticks ≤ 1_000_000_000) }
+    requires one_most { IfSome one (λ place. place.ticks ≤ most_flutter) }
+    requires other_most { IfSome other (λ place. place.ticks ≤ most_flutter) }
     ensures value { result ≡ told_of_two one other }
-    ensures most { IfSome result (λ place. place.ticks ≤ 1_000_000_000) }
+    ensures most { IfSome result (λ place. place.ticks ≤ most_flutter) }
 {
     match (one, other) {
         (None, _) => other,
@@ -134,7 +136,7 @@ fn fluttering_on(
     channel: Channel,
 ) -> Option<Fluttering>
     ensures value { result ≡ fluttering_on run.entry.drift.now run.entry.from sender.now receiver.now channel }
-    ensures most { IfSome result (λ place. place.ticks ≤ 1_000_000_000) }
+    ensures most { IfSome result (λ place. place.ticks ≤ most_flutter) }
 {
     if !shares(sender, receiver, channel) {
         return None;
@@ -153,7 +155,7 @@ fn told_turn(
 ) -> Option<Fluttering>
     ensures value { result ≡
         told_below (from_on from (fluttering_in drift.now sender receiver channel)) (doubles_of drift.now) }
-    ensures most { IfSome result (λ place. place.ticks ≤ 1_000_000_000) }
+    ensures most { IfSome result (λ place. place.ticks ≤ most_flutter) }
 {
     let end = cycles(drift);
     let mut told: Option<Fluttering> = None;
@@ -175,7 +177,7 @@ fn turn(
 ) -> Option<Fluttering>
     ensures odd { cycle % 2 ≡ 1 → result ≡ fluttering_in drift.now sender receiver channel (cycle / 2) }
     ensures even { cycle % 2 ≡ 0 → result ≡ None }
-    ensures most { IfSome result (λ place. place.ticks ≤ 1_000_000_000) }
+    ensures most { IfSome result (λ place. place.ticks ≤ most_flutter) }
 {
     if cycle % 2 == 0 {
         return None;
@@ -196,11 +198,11 @@ fn turn(
 
 fn apart(one: i64, other: i64) -> u64
     requires one_from { pos 0 ≤ℤ one }
-    requires one_to { one ≤ℤ pos 1_000_000_000 }
+    requires one_to { one ≤ℤ pos most_link_delay }
     requires other_from { pos 0 ≤ℤ other }
-    requires other_to { other ≤ℤ pos 1_000_000_000 }
+    requires other_to { other ≤ℤ pos most_link_delay }
     ensures value { result ≡ nat_abs (one -ℤ other) }
-    ensures most { result ≤ 1_000_000_000 }
+    ensures most { result ≤ most_flutter }
 {
     one.abs_diff(other)
 }

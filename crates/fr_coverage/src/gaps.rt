@@ -3,7 +3,7 @@ ghost use Rattle.fr_bound.specs.Checks.{AllChecksHold, IsCheck, left_of, right_o
 ghost use Rattle.fr_coverage.specs.First.{first_below, first_in};
 ghost use Rattle.fr_coverage.specs.declared.gap.Gap.TheVariants as gap;
 ghost use Rattle.fr_coverage.specs.Kinds.{gaps_by_kind};
-ghost use Rattle.fr_coverage.specs.Coverage.{asked_where, channel_gap, changes_gap, check_gap, count_of, delays_gap, first_gap, gap_from, lengths_gap, links_gap, outweighs, pairs_gap, weighed};
+ghost use Rattle.fr_coverage.specs.Coverage.{asked_where, channel_gap, changes_gap, check_gap, count_of, delays_gap, first_gap, gap_from, lengths_gap, links_gap, pairs_gap, weighed};
 
 use crate::gap::{Gap, RunGaps};
 use crate::joining::{is_counted, some_join};
@@ -11,7 +11,7 @@ use crate::linking::{first_break, is_link, shares};
 use crate::search::{Search, first_among};
 use crate::spans::{first_change, first_delay, first_length};
 use fr_base::Channel;
-use fr_bound::{checks, join_checks, side};
+use fr_bound::{checks, join_checks, outweighs, side};
 use fr_cluster::{NodeList, NodeSpec, Params};
 use fr_drift::Drift;
 use fr_script::Script;
@@ -170,22 +170,10 @@ fn outweighed(nodes: &NodeList, script: &Script) -> Option<Gap>
 {
     let correct = count(nodes, script, false);
     let arbitrary = count(nodes, script, true);
-    if outweighs(correct, arbitrary) {
+    if outweighs(u64::from(correct), u64::from(arbitrary)) {
         None
     } else {
         Some(Gap::Count { correct, arbitrary })
-    }
-}
-
-/// Whether so many correct nodes outweigh so many arbitrary ones: one none, three one, six two.
-pub fn outweighs(correct: u32, arbitrary: u32) -> bool
-    ensures { result ≡ outweighs correct arbitrary }
-{
-    match arbitrary {
-        0 => correct >= 1,
-        1 => correct >= 3,
-        2 => correct >= 6,
-        _ => false,
     }
 }
 

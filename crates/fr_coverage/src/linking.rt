@@ -1,5 +1,6 @@
-ghost use Rattle.std.specs.Prelude.{◌≡◌, ◌≤◌, ◌*◌, ◌||◌, ◌&&◌, Option, None, Some, true, false, if◌then◌else◌};
+ghost use Rattle.std.specs.Prelude.{◌≡◌, ◌≤◌, ◌<◌, ◌*◌, ◌||◌, ◌&&◌, Option, None, Some, true, false, if◌then◌else◌};
 ghost use Rattle.fr_cluster.specs.Questions.{has_channel};
+ghost use Rattle.fr_bound.specs.DoubleNumbers.{too_many_doubles};
 ghost use Rattle.fr_script.specs.View.{is_arbitrary};
 ghost use Rattle.fr_coverage.specs.First.{first_between};
 ghost use Rattle.fr_coverage.specs.Links.{is_carried, is_carried_on, is_free, is_link, link_gap, shares};
@@ -23,10 +24,7 @@ pub fn is_link(script: &Script, sender: &NodeSpec, receiver: &NodeSpec) -> bool
 pub fn shares(a: &NodeSpec, b: &NodeSpec, channel: Channel) -> bool
     ensures { result ≡ shares a.now b.now channel }
 {
-    match channel {
-        Channel::A => a.on_a && b.on_a,
-        Channel::B => a.on_b && b.on_b,
-    }
+    a.has_channel(channel) && b.has_channel(channel)
 }
 
 // The first double cycle from one on, of so many, in which no common channel carries the frames of both cycles.
@@ -63,14 +61,15 @@ fn is_carried(script: &Script, sender: &NodeSpec, receiver: &NodeSpec, double: u
         || is_carried_on(script, sender, receiver, double, Channel::B)
 }
 
-fn is_carried_on(
+/// Whether both nodes have the channel, and it carries the frames of both cycles of a double cycle as they were sent.
+pub fn is_carried_on(
     script: &Script,
     sender: &NodeSpec,
     receiver: &NodeSpec,
     double: u32,
     channel: Channel,
 ) -> bool
-    requires { double ≤ 100_000 }
+    requires { double < too_many_doubles }
     ensures { result ≡ is_carried_on script.now sender.now receiver.now double channel }
 {
     shares(sender, receiver, channel)

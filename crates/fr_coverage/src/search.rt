@@ -6,17 +6,18 @@ ghost use Rattle.fr_coverage.specs.declared.gap.Gap.{Gap as Found};
 use crate::gap::Gap;
 use fr_cluster::{NodeList, NodeSpec};
 
-// What looks for the first gap of a node.
-pub(crate) trait Search {
+/// What looks for the first gap of a node.
+pub trait Search {
     /// The gap that it finds.
     ghost found: { Self → Node → Option Found };
 
+    /// The first gap of the node, if it has one.
     fn find(&self, node: &NodeSpec) -> Option<Gap>
         ensures { result ≡ found self.now node.now };
 }
 
-// The gap of the first node that has one.
-pub(crate) fn first_among<S: Search>(nodes: &NodeList, search: &S) -> Option<Gap>
+/// The gap of the first node that has one; None exactly where none has.
+pub fn first_among<S: Search>(nodes: &NodeList, search: &S) -> Option<Gap>
     ensures { result ≡ first_in (S.found search.now) nodes.now }
 {
     for place in 0..nodes.len() {

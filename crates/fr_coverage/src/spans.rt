@@ -1,6 +1,7 @@
 ghost use Rattle.std.specs.Prelude.{◌≡◌, ◌≤◌, ◌<◌, ◌*◌, ◌≤ℤ◌, pos, neg_ℤ, suc};
 ghost use Rattle.fr_coverage.specs.First.{first_between};
 ghost use Rattle.fr_coverage.specs.Coverage.{change_gap, delay_gap, has_jumped, how_many_cycles, is_off, is_wrong, length_gap};
+ghost use Rattle.fr_drift.specs.Rows.{most_link_delay};
 
 use crate::gap::Gap;
 use fr_base::{Channel, NodeId};
@@ -120,7 +121,7 @@ fn has_jumped(params: &Params, before: i64, ticks: i64) -> bool
 
 fn is_wrong(params: &Params, channel: Channel, ticks: i64) -> bool
     requires from { pos 0 ≤ℤ ticks }
-    requires to { ticks ≤ℤ pos 1_000_000_000 }
+    requires to { ticks ≤ℤ pos most_link_delay }
     ensures { result ≡ is_wrong params.now channel ticks }
 {
     let expected = params.compensation(channel) * NOMINAL;

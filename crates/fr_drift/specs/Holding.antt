@@ -11,7 +11,7 @@ use Rattle.fr_text.specs.Forms.{Form, number_field, misses_form, has_unknown_nam
 use Rattle.fr_text.specs.Least.{row_passes}
 use Rattle.fr_cluster.specs.Values.{Values}
 use Rattle.fr_cluster.specs.Questions.{is_common, is_known}
-use Rattle.fr_drift.specs.Rows.{drift_row_of}
+use Rattle.fr_drift.specs.Rows.{most_link_delay, drift_row_of}
 use Rattle.fr_drift.specs.Reasons.{doubles_at, start_at, length_said_at, delay_at}
 use Rattle.fr_drift.specs.declared.rows.Row.{Row}
 use Rattle.fr_drift.specs.declared.rows.Row.TheVariants as row
@@ -55,7 +55,7 @@ delay_form r = record {
   empty = [];
   known = true;
   numbers =
-      number_field (field_of r 1) 1 64 ∷ number_field (field_of r 2) 1 64 ∷ number_field (field_of r 4) 0 199_999 ∷ number_field (field_of r 5) 0 1_000_000_000 ∷ [];
+      number_field (field_of r 1) 1 64 ∷ number_field (field_of r 2) 1 64 ∷ number_field (field_of r 4) 0 199_999 ∷ number_field (field_of r 5) 0 most_link_delay ∷ [];
   short = true;
   spelt = is_some (channel_of (field_of r 3));
 }

@@ -14,6 +14,10 @@ use Rattle.fr_drift.specs.declared.rows.Start.{Start}
 use Rattle.fr_drift.specs.declared.rows.Row.{Row}
 use Rattle.fr_drift.specs.declared.rows.Row.TheVariants as row
 
+-- the greatest delay of a link, in ticks
+abbrev pub most_link_delay : ℕ
+most_link_delay = 1_000_000_000
+
 -- the number of double cycles of a run
 abbrev pub doubles_row : List ℕ → Result Row Reason
 doubles_row count = or_reason (λ n. Ok (row.Doubles n)) (natural_of 1 100_000 count)
@@ -46,7 +50,7 @@ delay_on channel numbers =
 abbrev pub delay_row : List ℕ → List ℕ → List ℕ → List ℕ → List ℕ → Result Row Reason
 delay_row sender receiver channel from ticks =
     or_reason (delay_on (channel_of channel))
-    (both_of (both_of (natural_of 1 64 sender) (natural_of 1 64 receiver)) (both_of (natural_of 0 199_999 from) (within (pos 0) (pos 1_000_000_000) (number_of ticks))))
+    (both_of (both_of (natural_of 1 64 sender) (natural_of 1 64 receiver)) (both_of (natural_of 0 199_999 from) (within (pos 0) (pos most_link_delay) (number_of ticks))))
 
 -- a row of a form of four fields: the last two fields are empty
 abbrev pub short_row : List ℕ → List ℕ → Result Row Reason → Result Row Reason
@@ -82,7 +86,7 @@ pub record IsMicrotickLength (ticks : ℤ) : Type 0 where
 -- a delay is 0 to 1,000,000,000 ticks
 pub record IsProperDelay (ticks : ℤ) : Type 0 where
   pub from : pos 0 ≤ℤ ticks
-  pub to : ticks ≤ℤ pos 1_000_000_000
+  pub to : ticks ≤ℤ pos most_link_delay
 
 -- a run has 1 to 100,000 double cycles
 pub record IsProperCount (doubles : ℕ) : Type 0 where

@@ -76,7 +76,7 @@ impl Draft {
         if !is_rate(params, row.start.rate) {
             return Ok(Some(Reason::OutOfRange));
         }
-        if !is_node(params, row.node) {
+        if !params.is_known(row.node) {
             return Ok(Some(Reason::UnknownNode));
         }
         put(&mut self.starts, row.node, row.start)
@@ -90,7 +90,7 @@ impl Draft {
         requires { IsMicrotickLength row.ticks }
         ensures { TakesDriftRow params.now self.old self.new (said.Length row) result }
     {
-        if !is_node(params, row.node) {
+        if !params.is_known(row.node) {
             return Ok(Some(Reason::UnknownNode));
         }
         let key = LengthKey {
@@ -185,11 +185,5 @@ fn is_rate(params: &Params, rate: i32) -> bool
 fn are_nodes(params: &Params, sender: NodeId, receiver: NodeId) -> bool
     ensures { result ≡ (is_known params.now sender && is_known params.now receiver) }
 {
-    is_node(params, sender) && is_node(params, receiver)
-}
-
-fn is_node(params: &Params, node: NodeId) -> bool
-    ensures { result ≡ is_known params.now node }
-{
-    params.node(node).is_some()
+    params.is_known(sender) && params.is_known(receiver)
 }

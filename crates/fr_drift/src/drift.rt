@@ -6,7 +6,7 @@ ghost use Rattle.fr_drift.specs.Keys.{delay_cmp, delay_key};
 ghost use Rattle.fr_drift.specs.View.{compensation_on, delay_rows, length_rows, start_rows};
 ghost use Rattle.fr_drift.specs.declared.keys.DelayKey.{DelayKey as Key};
 ghost use Rattle.fr_drift.specs.Held.{IsNextChange, held};
-ghost use Rattle.fr_drift.specs.Rows.{IsProperDelay, IsMicrotickLength, IsProperStart};
+ghost use Rattle.fr_drift.specs.Rows.{most_link_delay, IsProperDelay, IsMicrotickLength, IsProperStart};
 ghost use Rattle.fr_drift.specs.Questions.{delay_of, doubles_of, length_of, rate_of, start_of};
 ghost use Rattle.fr_drift.specs.Draft.{AreDelaysOn};
 ghost use Rattle.fr_drift.specs.Files.{DriftFits, IsRateWithin};
@@ -135,7 +135,7 @@ impl Drift {
     pub fn delay(&self, sender: NodeId, receiver: NodeId, channel: Channel, cycle: u32) -> i64
         ensures value { result ≡ delay_of self.now sender receiver channel cycle }
         ensures from { pos 0 ≤ℤ result }
-        ensures to { result ≤ℤ pos 1_000_000_000 }
+        ensures to { result ≤ℤ pos most_link_delay }
     {
         match self.delay_row(sender, receiver, channel, cycle) {
             Some(ticks) => ticks,

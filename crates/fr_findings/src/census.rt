@@ -1,7 +1,6 @@
 ghost use Rattle.std.specs.Prelude.{◌≡◌, ◌==◌, ◌+◌, ◌-◌, ◌≤◌, ◌<◌, ◌++◌, Some, is_none, length, slice_get};
 ghost use Rattle.std.specs.List.{range_with_len};
 ghost use Rattle.fr_base.specs.Device.{Puts};
-ghost use Rattle.fr_base.specs.Rows.{channel_rank};
 ghost use Rattle.fr_base.specs.declared.channel.Channel.TheVariants.{A, B};
 ghost use Rattle.fr_time.specs.Cycles.{double_cycle_of};
 ghost use Rattle.fr_text.specs.Pieces.{Spells};
@@ -20,17 +19,11 @@ use fr_sightings::{Sighting, first_stamp, look_at};
 use fr_text::Piece::{Natural, Word};
 use fr_text::{Line, Piece, letter_of, put_line, row_of};
 
-fn is_same(one: Channel, other: Channel) -> bool
-    ensures { result ≡ (channel_rank one == channel_rank other) }
-{
-    one == other
-}
-
 // Whether a sighting is that of a node on a channel.
 fn is_from(sighting: &Sighting, node: NodeId, channel: Channel) -> bool
     ensures { result ≡ is_from node channel sighting.now }
 {
-    sighting.node == node && is_same(sighting.channel, channel)
+    sighting.node == node && sighting.channel.is_same(channel)
 }
 
 // How many there are.
@@ -54,7 +47,7 @@ fn first_frame_from(seen: &[Sighting], node: NodeId, channel: Channel) -> Option
 {
     match seen
         .iter()
-        .find(|s| s.node == node && is_same(s.channel, channel))
+        .find(|s| s.node == node && s.channel.is_same(channel))
     {
         None => None,
         Some(first) => Some(first.number),
@@ -262,7 +255,7 @@ fn put_sender<O: Sink>(
     }
 }
 
-// The rows of all senders of a log by its sightings, in the order of the parameters, each line in one put.
+// The rows of all senders of a log by its sightings, in the order of the parameters. Puts have whole lines.
 pub(crate) fn put_census<O: Sink>(
     params: &Params,
     log: &Log,

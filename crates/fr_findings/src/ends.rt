@@ -10,19 +10,10 @@ use crate::progress::{OverRow, Progress, Reach};
 use crate::verdict::{Partly, Verdict, or_none_seen};
 use fr_base::NodeId;
 use fr_judging::Obstacle;
-use fr_observe::{Fault, known_node};
+use fr_observe::{Fault, known_count, known_node};
 use fr_sightings::{Sighting, Tally};
 use fr_text::Piece::{Natural, Signed, Word};
 use fr_text::{Line, Piece, row_of};
-
-fn known_count(number: Option<u64>) -> Piece<'static>
-    ensures { Spells result (known_count number) 20 }
-{
-    match number {
-        None => Word(b"-"),
-        Some(number) => Natural(number),
-    }
-}
 
 // What became of the entries of a log.
 pub(crate) fn log_row(tally: &Tally) -> Line

@@ -183,7 +183,7 @@ fn put_told<O: Sink>(
 }
 
 /// Writes what a log tells of a cluster's clocks, what contradicts it, and its verdict, by its sightings: records of
-/// eight fields, each line in one put. It takes no memory but what the sink does; a fault comes only where the sink
+/// eight fields. Puts have whole lines. It takes no memory but what the sink does; a fault comes only where the sink
 /// counted it, and then a front of the text was put.
 #[tactic(auto, unfolding(crate::specs::Text::observe_text))]
 pub fn write_observed<O: Sink>(

@@ -1,7 +1,8 @@
 -- What the nodes of a log hear of each other, by the counts of its sync nodes and by how many a node may miss; and the numbers that
 -- follow from it.
-use Rattle.std.specs.Prelude.{ℕ, ◌==◌, ◌&&◌, ◌||◌, nat_le, Bool, true, false, Option, Some, None, if◌then◌else◌}
+use Rattle.std.specs.Prelude.{ℕ, ◌==◌, Bool, true, false, Option, Some, None, if◌then◌else◌}
 use Rattle.std.specs.List.{count_by}
+use Rattle.fr_bound.specs.Outweighing.{outweighs}
 use Rattle.fr_bound.specs.SharpBounds.{sharp_precision}
 use Rattle.fr_bound.specs.SharpSpreads.{sharp_spread}
 use Rattle.fr_bound.specs.declared.judging.Heard.{Heard}
@@ -15,11 +16,6 @@ use Rattle.fr_judging.specs.declared.obstacle.Obstacle.{Obstacle}
 use Rattle.fr_judging.specs.declared.obstacle.ObstacleKind.{ObstacleKind}
 use Rattle.fr_judging.specs.declared.obstacle.ObstacleKind.TheVariants as obstacle
 
--- so many correct sync nodes suffice for so many arbitrary ones
-abbrev pub are_enough : ℕ → ℕ → Bool
-are_enough correct arbitrary =
-    ((arbitrary == 0) && nat_le 1 correct) || ((arbitrary == 1) && nat_le 3 correct) || ((arbitrary == 2) && nat_le 6 correct)
-
 -- what they hear, where a node may miss so many senders of a double cycle: all of all, without arbitrary nodes or beside them; or some,
 -- without arbitrary nodes
 abbrev pub heard_among : ℕ → ℕ → Option Heard
@@ -28,7 +24,7 @@ heard_among arbitrary lost =
     else (if arbitrary == 0 then Some Poor else None)
 
 abbrev pub heard_with : ℕ → ℕ → ℕ → Option Heard
-heard_with correct arbitrary lost = if are_enough correct arbitrary then heard_among arbitrary lost else None
+heard_with correct arbitrary lost = if outweighs correct arbitrary then heard_among arbitrary lost else None
 
 -- in a log; where that is not told, none of its double cycles is judged
 unfoldable pub log_heard : Values → LogView → Option Heard
@@ -37,7 +33,7 @@ log_heard p l = heard_with (count_by (is_sync_as l false) p.nodes) (count_by (is
 -- what keeps each of them from being judged then: the correct sync nodes do not suffice, or, where they do, frames may be lost beside
 -- arbitrary ones
 abbrev pub unheard_kind : ℕ → ℕ → ObstacleKind
-unheard_kind correct arbitrary = if are_enough correct arbitrary then obstacle.Lost else obstacle.Count
+unheard_kind correct arbitrary = if outweighs correct arbitrary then obstacle.Lost else obstacle.Count
 
 unfoldable pub log_unheard : Values → LogView → Obstacle
 log_unheard p l =

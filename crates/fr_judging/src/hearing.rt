@@ -1,9 +1,9 @@
 ghost use Rattle.std.specs.Prelude.{◌≡◌, ◌≤◌, count_by, length, pos};
 ghost use Rattle.fr_sightings.specs.Sure.{is_sync_as};
-ghost use Rattle.fr_judging.specs.Hearing.{are_enough, heard_among, heard_with, is_beside, log_heard, log_unheard, synced_with, unheard_kind, yardstick};
+ghost use Rattle.fr_judging.specs.Hearing.{heard_among, heard_with, is_beside, log_heard, log_unheard, synced_with, unheard_kind, yardstick};
 
 use crate::obstacle::{Obstacle, ObstacleKind};
-use fr_bound::{Heard, Known, Spread, sharp_bounds};
+use fr_bound::{Heard, Known, Spread, outweighs, sharp_bounds};
 use fr_cluster::{NodeList, Params};
 use fr_log::Log;
 use fr_observe::stated_flutter;
@@ -26,7 +26,7 @@ pub fn heard(params: &Params, log: &Log) -> Option<Heard>
 fn unheard_kind(correct: u64, arbitrary: u64) -> ObstacleKind
     ensures { result ≡ unheard_kind correct arbitrary }
 {
-    if !are_enough(correct, arbitrary) {
+    if !outweighs(correct, arbitrary) {
         ObstacleKind::Count
     } else {
         ObstacleKind::Lost
@@ -79,18 +79,6 @@ fn is_beside(heard: Option<Heard>) -> bool
     }
 }
 
-// Whether so many correct sync nodes suffice for so many arbitrary ones.
-fn are_enough(correct: u64, arbitrary: u64) -> bool
-    ensures { result ≡ are_enough correct arbitrary }
-{
-    match arbitrary {
-        0 => correct >= 1,
-        1 => correct >= 3,
-        2 => correct >= 6,
-        _ => false,
-    }
-}
-
 // What they hear, where a node may miss so many senders of a double cycle.
 fn heard_among(arbitrary: u64, lost: u64) -> Option<Heard>
     ensures { result ≡ heard_among arbitrary lost }
@@ -111,7 +99,7 @@ fn heard_among(arbitrary: u64, lost: u64) -> Option<Heard>
 fn heard_with(correct: u64, arbitrary: u64, lost: u64) -> Option<Heard>
     ensures { result ≡ heard_with correct arbitrary lost }
 {
-    if are_enough(correct, arbitrary) {
+    if outweighs(correct, arbitrary) {
         heard_among(arbitrary, lost)
     } else {
         None

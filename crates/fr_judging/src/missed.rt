@@ -3,9 +3,7 @@ ghost use Rattle.std.specs.List.{Contains, flat_map};
 ghost use Rattle.fr_base.specs.Device.{Puts};
 ghost use Rattle.fr_sightings.specs.Ranges.{IsProperSender};
 ghost use Rattle.std.specs.Option.{option_to_list};
-ghost use Rattle.fr_text.specs.Pieces.{Spells};
 ghost use Rattle.fr_observe.specs.Faults.{first_of_faults};
-ghost use Rattle.fr_observe.specs.Observing.{known_count};
 ghost use Rattle.fr_observe.specs.Scenes.{IsScene};
 ghost use Rattle.fr_judging.specs.Knowing.{standing_faults};
 ghost use Rattle.fr_judging.specs.Missing.{least_missed, missed_if_any, missed_where, missed_with, missed_of_term, missed_row, missed_told, unlike_term};
@@ -15,10 +13,10 @@ use crate::zeros::term_may_be_0;
 use fr_base::{NodeId, PutFault, Sink};
 use fr_bound::DoubleNumber;
 use fr_log::Log;
-use fr_observe::{Asked, Fault, Scene, Term, sender_fault};
+use fr_observe::{Asked, Fault, Scene, Term, known_count, sender_fault};
 use fr_sightings::Sender;
 use fr_text::Piece::{Natural, Word};
-use fr_text::{Line, Piece, put_line, row_of};
+use fr_text::{Line, put_line, row_of};
 
 /// How many senders a node must have missed in a double cycle.
 #[derive(Clone, Copy, Debug, PartialEq, Eq)]
@@ -112,15 +110,6 @@ fn missed_where(term: Term, scene: &Scene<'_>, sender: &Sender) -> Option<Missed
     missed_if_any(term, DoubleNumber(scene.number), sender.node, least)
 }
 
-fn known_number(number: Option<u64>) -> Piece<'static>
-    ensures { Spells result (known_count number) 20 }
-{
-    match number {
-        None => Word(b"-"),
-        Some(number) => Natural(number),
-    }
-}
-
 #[tactic(auto, unfolding(crate::specs::Missing::missed_row))]
 fn missed_row(missed: &Missed) -> Line
     ensures { result ≡ missed_row missed.now }
@@ -131,7 +120,7 @@ fn missed_row(missed: &Missed) -> Line
             Natural(u64::from(missed.cycle)),
             Natural(u64::from(missed.node.0)),
             Word(missed.term.word()),
-            known_number(missed.least),
+            known_count(missed.least),
             Word(b""),
             Word(b""),
             Word(b""),
@@ -192,7 +181,7 @@ fn is_clear(log: &Log, against: &Option<Fault>) -> bool
 }
 
 /// Puts how many senders a node of a double cycle that stands so must have missed, in which it is judged, where it must have
-/// missed one at least: each as a record, in one put. `against` is the first contradiction of what it stands for: where there is
+/// missed one at least: a line for each. `against` is the first contradiction of what it stands for: where there is
 /// none and the log states that nodes miss none, no term is computed again.
 pub fn put_missed<O: Sink>(
     scene: &Scene<'_>,

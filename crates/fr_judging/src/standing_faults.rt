@@ -117,7 +117,7 @@ fn put_moving_heard<O: Sink>(
 
 /// Tells which skews, starts and lengths contradict a double cycle that stands so: skews by the numbers that it is judged by,
 /// starts and lengths by what is known of it beside what is seen. Behind one of these nothing is known of the next double
-/// cycle. Each is one put, and the first one of all that were told is kept.
+/// cycle. A line for each, and the first one of all that were told is kept.
 #[tactic(auto, unfolding(crate::specs::Knowing::moving_faults))]
 pub fn put_moving_faults<O: Sink>(
     scene: &Scene<'_>,

@@ -42,8 +42,8 @@ pub struct Told {
 impl Told {
     /// Writes the text: the numbers of the cluster, its precision, whether the run is covered, from when on the
     /// clocks are in sync, their greatest skew, the frames that were sent on channel A and on channel B, what
-    /// receivers made of them, how many terms were cut, and each node that had a row in the last cycle. Each line
-    /// is one put. A fault comes only where the sink counted it, and then a front of the text was put.
+    /// receivers made of them, how many terms were cut, and each node that had a row in the last cycle. Puts
+    /// have whole lines. A fault comes only where the sink counted it, and then a front of the text was put.
     pub fn write<O: Sink>(&self, out: &mut O) -> Result<(), PutFault>
         ensures { Puts result (O.state out.old) (O.state out.new) (told_text self.now) }
     {

@@ -1,13 +1,12 @@
 ghost use Rattle.std.specs.Prelude.{◌≡◌, ◌≤◌, length, IfOk, IfSome};
 ghost use Rattle.fr_text.specs.Plain.{fields_of};
-ghost use Rattle.fr_text.specs.Fields.{hex_digits_in};
 ghost use Rattle.fr_log.specs.Numbers.{greatest_number, head_number_of, head_place, least_number, most_head_ticks};
 ghost use Rattle.fr_log.specs.Rows.{AreEntryBytes, IsProperLogRow, each_row, entry_bytes_in, entry_row, limits_in, link_row, log_fields, log_delay_row, log_file_row, log_node_row, log_row_of, most_delay, number_row, other_row, whole_row};
 
 use crate::entry::{EntryBytes, EntryKind};
 use crate::fields::Fields;
 use fr_base::{Channel, NodeId, NumberFault, Reason};
-use fr_text::{Record, both, natural, reason_of};
+use fr_text::{Record, both, hex_digits, natural, reason_of};
 use hex::FromHexError;
 use std::alloc::{AllocError, Global};
 
@@ -19,9 +18,6 @@ const MOST_DELAY: u64 = 1_000_000_000;
 
 // The greatest stamp, in units, and the greatest instant of a frame, in ticks.
 pub(crate) const LAST_STAMP: u64 = 900_000_000_000_000_000;
-
-// The greatest number of hexadecimal digits of a frame, which has 262 bytes at most.
-const MOST_DIGITS: usize = 524;
 
 /// A number that one record of the head of a log says.
 #[derive(Clone, Copy, Debug, PartialEq, Eq)]
@@ -279,7 +275,7 @@ fn read_entry(
     }
     match both(
         natural(row.number, 0, LAST_STAMP),
-        few_digits(row.low_or_bytes),
+        hex_digits(row.low_or_bytes),
     ) {
         Err(fault) => Ok(Err(reason_of(fault))),
         Ok((stamp, _)) => {
@@ -292,15 +288,6 @@ fn read_entry(
             })))
         }
     }
-}
-
-fn few_digits(text: &[u8]) -> Result<usize, NumberFault>
-    ensures { result ≡ hex_digits_in text.now }
-{
-    if text.len() > MOST_DIGITS {
-        return Err(NumberFault::OutOfRange);
-    }
-    Ok(text.len())
 }
 
 // The bytes that a text writes; None where it is not hexadecimal. `AllocError` where memory ran out.

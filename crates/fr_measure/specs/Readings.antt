@@ -10,6 +10,10 @@ pub record Readings : Type 0 where
   pub odd_a : List (Option ℤ)
   pub odd_b : List (Option ℤ)
 
+-- the greatest deviation, in microticks
+abbrev pub most_deviation : ℕ
+most_deviation = 1_000_000
+
 -- no deviation at any key index
 abbrev pub no_readings : Readings
 no_readings = record {

@@ -1,8 +1,9 @@
 ghost use Rattle.std.specs.Prelude.{◌≡◌, ◌<◌, pos, [], IfSome};
 ghost use Rattle.std.specs.Option.{ForSome};
 ghost use Rattle.fr_base.specs.Within.{IsWithin};
-ghost use Rattle.fr_measure.specs.Readings.{no_readings, reading, stored, IsEmpty, Stores};
+ghost use Rattle.fr_measure.specs.Readings.{IsEmpty, Stores, most_deviation, no_readings, reading, stored};
 ghost use Rattle.fr_measure.specs.Values.{values_of, offset_at, rate_at, change_at};
+ghost use Rattle.fr_midpoint.specs.Midpoint.{most_value};
 
 use crate::values::{append, change, least, mean, put};
 use fr_base::Channel;
@@ -23,17 +24,17 @@ impl Model for Table {
     ghost use Rattle.std.specs.Prelude.{All, pos};
     ghost use Rattle.std.specs.Option.{ForSome};
     ghost use Rattle.fr_base.specs.Within.{IsWithin};
-    ghost use Rattle.fr_measure.specs.Readings.{Readings};
+    ghost use Rattle.fr_measure.specs.Readings.{Readings, most_deviation};
 
     ghost Value = { Readings };
 
     ghost view = { λ table. record { even_a = table.even_a; even_b = table.even_b; odd_a = table.odd_a; odd_b = table.odd_b } };
 
     ghost invariant = { λ table.
-        All (λ entry. ForSome entry (IsWithin (pos 1000000))) table.even_a
-        × All (λ entry. ForSome entry (IsWithin (pos 1000000))) table.even_b
-        × All (λ entry. ForSome entry (IsWithin (pos 1000000))) table.odd_a
-        × All (λ entry. ForSome entry (IsWithin (pos 1000000))) table.odd_b };
+        All (λ entry. ForSome entry (IsWithin (pos most_deviation))) table.even_a
+        × All (λ entry. ForSome entry (IsWithin (pos most_deviation))) table.even_b
+        × All (λ entry. ForSome entry (IsWithin (pos most_deviation))) table.odd_a
+        × All (λ entry. ForSome entry (IsWithin (pos most_deviation))) table.odd_b };
 }
 
 impl Table {
@@ -62,7 +63,7 @@ impl Table {
     /// takes the place of one that was stored there; all else stays.
     pub fn store(&mut self, index: usize, odd: bool, channel: Channel, value: i32)
         requires index { index < 15 }
-        requires within { IsWithin (pos 1000000) value }
+        requires within { IsWithin (pos most_deviation) value }
         ensures value { self.new ≡ stored self.old index odd channel value }
         ensures stores { Stores self.old self.new index odd channel value }
     {
@@ -79,7 +80,7 @@ impl Table {
     pub fn get(&self, index: usize, odd: bool, channel: Channel) -> Option<i32>
         requires { index < 15 }
         ensures value { result ≡ reading self.now index odd channel }
-        ensures within { IfSome result (IsWithin (pos 1000000)) }
+        ensures within { IfSome result (IsWithin (pos most_deviation)) }
     {
         match (odd, channel) {
             (false, Channel::A) => self.even_a[index],
@@ -120,7 +121,7 @@ impl Table {
     fn offset_value(&self, own: Option<usize>, index: usize) -> Option<i32>
         requires { index < 15 }
         ensures value { result ≡ offset_at (reading self.now) own index }
-        ensures within { ForSome result (IsWithin (pos 2000000)) }
+        ensures within { ForSome result (IsWithin (pos most_value)) }
     {
         if own == Some(index) {
             return Some(0);
@@ -135,7 +136,7 @@ impl Table {
     fn rate_value(&self, own: Option<usize>, index: usize) -> Option<i32>
         requires { index < 15 }
         ensures value { result ≡ rate_at (reading self.now) own index }
-        ensures within { ForSome result (IsWithin (pos 2000000)) }
+        ensures within { ForSome result (IsWithin (pos most_value)) }
     {
         if Some(index) == own {
             return Some(0);
@@ -150,7 +151,7 @@ impl Table {
     fn change_on(&self, index: usize, channel: Channel) -> Option<i32>
         requires { index < 15 }
         ensures value { result ≡ change_at (reading self.now) index channel }
-        ensures within { ForSome result (IsWithin (pos 2000000)) }
+        ensures within { ForSome result (IsWithin (pos most_value)) }
     {
         change(
             self.get(index, false, channel),

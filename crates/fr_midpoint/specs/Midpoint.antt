@@ -5,6 +5,10 @@ use Rattle.std.specs.Prelude.{◌≡◌, ℕ, ◌<◌, ◌≤◌, Bool, ◌&&◌
 abbrev pub discarded : ℕ → ℕ
 discarded n = if nat_lt n 3 then 0 else (if nat_lt n 8 then 1 else 2)
 
+-- the greatest of the values, in microticks: as much as two deviations
+abbrev pub most_value : ℕ
+most_value = 2_000_000
+
 -- half of the sum of two numbers, truncated toward zero (sections 8.6.1 and 8.6.3)
 abbrev pub half_of_sum : ℤ → ℤ → ℤ
 half_of_sum low high = int_div (low +ℤ high) (pos 2)

@@ -1,5 +1,6 @@
 ghost use Rattle.std.specs.Prelude.{◌≡◌, ◌<◌, ◌≤◌, pos, [], ◌∷◌, ◌++◌, length};
 ghost use Rattle.fr_base.specs.Within.{IsWithin};
+ghost use Rattle.fr_midpoint.specs.Midpoint.{most_value};
 
 use std::marker::Model;
 
@@ -13,12 +14,13 @@ pub struct List15 {
 impl Model for List15 {
     ghost use Rattle.std.specs.Prelude.{◌≤◌, ℤ, pos, List, take, All};
     ghost use Rattle.fr_base.specs.Within.{IsWithin};
+    ghost use Rattle.fr_midpoint.specs.Midpoint.{most_value};
 
     ghost Value = { List ℤ };
 
     ghost view = { λ list. take list.len list.values };
 
-    ghost invariant = { λ list. (list.len ≤ 15) × All (IsWithin (pos 2000000)) (take list.len list.values) };
+    ghost invariant = { λ list. (list.len ≤ 15) × All (IsWithin (pos most_value)) (take list.len list.values) };
 }
 
 impl List15 {
@@ -35,7 +37,7 @@ impl List15 {
     /// Appends a value.
     pub fn push(&mut self, value: i32)
         requires room { length self.old < 15 }
-        requires within { IsWithin (pos 2000000) value }
+        requires within { IsWithin (pos most_value) value }
         ensures { self.new ≡ self.old ++ value ∷ [] }
     {
         self.values[self.len] = value;

@@ -1,6 +1,6 @@
 ghost use Rattle.std.specs.Prelude.{◌≡◌, ◌↔◌, ◌+ℤ◌, ◌+◌, ◌*◌, ◌<◌, ◌≤◌, pos, [], length, All, IsNone, IfSome, IsPermutation};
 ghost use Rattle.fr_base.specs.Within.{IsWithin};
-ghost use Rattle.fr_midpoint.specs.Midpoint.{discarded, half_of_sum, midpoint_of, IsMidpoint, MidpointIsFound, MidpointIsThere, MidpointIsUnique};
+ghost use Rattle.fr_midpoint.specs.Midpoint.{IsMidpoint, MidpointIsFound, MidpointIsThere, MidpointIsUnique, discarded, half_of_sum, midpoint_of, most_value};
 
 use crate::list15::List15;
 
@@ -11,7 +11,7 @@ pub fn midpoint(values: &mut List15) -> Option<i32>
     ensures none { IsNone result ↔ (values.old ≡ []) }
     ensures midpoint { IfSome result (IsMidpoint values.old) }
     ensures value { result ≡ midpoint_of values.old }
-    ensures within { IfSome result (IsWithin (pos 2000000)) }
+    ensures within { IfSome result (IsWithin (pos most_value)) }
     ensures permutation { IsPermutation values.old values.new }
 {
     let count = values.len;
@@ -25,9 +25,9 @@ pub fn midpoint(values: &mut List15) -> Option<i32>
 fn middle_of(values: &mut [i32]) -> i32
     requires some { 0 < length values.old }
     requires most { length values.old ≤ 15 }
-    requires within { All (IsWithin (pos 2000000)) values.old }
+    requires within { All (IsWithin (pos most_value)) values.old }
     ensures midpoint { IsMidpoint values.old result }
-    ensures within { IsWithin (pos 2000000) result }
+    ensures within { IsWithin (pos most_value) result }
     ensures permutation { IsPermutation values.old values.new }
 {
     values.sort_unstable();
@@ -53,10 +53,10 @@ pub fn discarded_of(count: usize) -> usize
 
 /// Half of the sum of two values, truncated toward zero.
 pub fn half_sum(low: i32, high: i32) -> i32
-    requires low { IsWithin (pos 2000000) low }
-    requires high { IsWithin (pos 2000000) high }
+    requires low { IsWithin (pos most_value) low }
+    requires high { IsWithin (pos most_value) high }
     ensures value { result ≡ half_of_sum low high }
-    ensures within { IsWithin (pos 2000000) result }
+    ensures within { IsWithin (pos most_value) result }
 {
     (low + high) / 2
 }

@@ -1,18 +1,14 @@
 ghost use Rattle.std.specs.Prelude.{◌≡◌, ◌≤◌, IfOk};
 ghost use Rattle.csv.specs.Records.{fields_of};
 ghost use Rattle.fr_nm.specs.Rows.{hex_bytes_in, vector_fields, said_row, vectors_row_of};
-ghost use Rattle.fr_text.specs.Fields.{hex_digits_in};
 
 use crate::fields::Fields;
 use csv::ByteRecord;
-use fr_base::{Channel, NumberFault, Reason};
-use fr_text::{both, natural, reason_of};
+use fr_base::{Channel, Reason};
+use fr_text::{both, hex_digits, natural, reason_of};
 use hex::FromHexError;
 use std::alloc::{AllocError, Global};
 use std::marker::Model;
-
-// The greatest number of hexadecimal digits of a frame, which has 262 bytes at most.
-const MOST_DIGITS: usize = 524;
 
 /// The bytes that a record was seen with, as their list.
 pub struct SeenBytes {
@@ -75,7 +71,7 @@ fn read_fields(alloc: Global, row: &Fields<'_>) -> Result<Result<Row, Reason>, A
     ensures said { IfOk result (λ said. said ≡ said_row (vector_fields row.now)) }
     ensures proper { IfOk result (λ said. IfOk said (λ r. r.cycle ≤ 199_999)) }
 {
-    match both(natural(row.cycle, 0, 199_999), few_digits(row.bytes)) {
+    match both(natural(row.cycle, 0, 199_999), hex_digits(row.bytes)) {
         Err(fault) => Ok(Err(reason_of(fault))),
         Ok((cycle, _)) => {
             let bytes = read_bytes(alloc, row.bytes)?;
@@ -86,15 +82,6 @@ fn read_fields(alloc: Global, row: &Fields<'_>) -> Result<Result<Row, Reason>, A
             }))
         }
     }
-}
-
-fn few_digits(text: &[u8]) -> Result<usize, NumberFault>
-    ensures { result ≡ hex_digits_in text.now }
-{
-    if text.len() > MOST_DIGITS {
-        return Err(NumberFault::OutOfRange);
-    }
-    Ok(text.len())
 }
 
 // The bytes that a text writes; None where it is not hexadecimal. `AllocError` where memory ran out.

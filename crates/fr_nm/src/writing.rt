@@ -11,7 +11,7 @@ use std::collections::BTreeMap;
 
 impl Vectors {
     /// Writes a line for each cycle with a record that counts, in ascending order, and then how many records count and
-    /// how many do not. Each line is one put. It takes no memory but what the sink does; a fault comes only where the
+    /// how many do not. Puts have whole lines. It takes no memory but what the sink does; a fault comes only where the
     /// sink counted it.
     pub fn write<O: Sink>(&self, out: &mut O) -> Result<(), PutFault>
         ensures { Puts result (O.state out.old) (O.state out.new) (nm_text self.now) }

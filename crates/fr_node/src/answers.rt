@@ -1,4 +1,4 @@
-ghost use Rattle.std.specs.Prelude.{◌≡◌, ◌+ℤ◌, ◌-ℤ◌, ◌≤◌, pos, Ok, [], IfNone, IfSome, true};
+ghost use Rattle.std.specs.Prelude.{◌≡◌, ◌-ℤ◌, ◌≤◌, pos, Ok, [], IfNone, IfSome, true};
 ghost use Rattle.fr_base.specs.Timed.{IsTimed};
 ghost use Rattle.fr_base.specs.Within.{IsBetween, IsWithin};
 ghost use Rattle.fr_cluster.specs.Values.{amount};
@@ -10,13 +10,16 @@ ghost use Rattle.fr_time.specs.Slots.{slot_end_of, slot_start_of};
 ghost use Rattle.fr_reception.specs.Offers.{deviation_of};
 ghost use Rattle.fr_node.specs.Arrivals.{offer_with, IfStored, LiesInSlot, LiesOutside, most_behind_start};
 ghost use Rattle.fr_node.specs.Receptions.{answer_with, received_as};
+ghost use Rattle.fr_measure.specs.Readings.{most_deviation};
 
 use crate::quotients::{lies_between, quotient};
 use fr_base::{Channel, NodeRow, Slot};
 use fr_cluster::{ParamName, Params};
 use fr_frame::{FrameFault, Header, decode};
 use fr_reception::{Heard, Ignored};
-use fr_time::{action_point, cycle_count, early_position, grid_of, slot_bounds, slot_instants};
+use fr_time::{
+    action_point, cycle_count, early_position, macros_of, micros_of, slot_bounds, slot_instants,
+};
 
 // As a rule no frame comes so many microticks before it is due.
 const NEAR: i64 = 1024;
@@ -87,7 +90,7 @@ fn deviation(params: &Params, row: &NodeRow, arrival: Arrival) -> i32
     requires slot { IsSlotOf params.now row.now arrival.slot }
     requires at { IsInCycle row.now arrival.at }
     ensures value { result ≡ deviation_of params.now row.now (offer_with arrival []) }
-    ensures within { IsWithin (pos 1000000) result }
+    ensures within { IsWithin (pos most_deviation) result }
 {
     let due = early_position(params, row.rate, action_point(params, arrival.slot));
     let passed = microticks_until(row, arrival.at, due);
@@ -167,24 +170,6 @@ fn ticks_since(row: &NodeRow, at: i64) -> Option<u64>
     Some(since as u64)
 }
 
-// The microticks of a cycle with its rate term.
-fn micros_of(params: &Params, row: &NodeRow) -> u64
-    requires { IsWithin params.now.rate_limit row.now.rate }
-    ensures value { pos result ≡ params.now.micros +ℤ row.now.rate }
-    ensures most { result ≤ 660_000 }
-{
-    (grid_of(params).micros + row.rate as i64) as u64
-}
-
-// The macroticks of a cycle.
-fn macros_of(params: &Params) -> u64
-    ensures value { pos result ≡ params.now.macros }
-    ensures some { 1 ≤ result }
-    ensures most { result ≤ 16_000 }
-{
-    grid_of(params).macros as u64
-}
-
 // The macroticks between which a static slot lies.
 fn bounds_of(params: &Params, slot: Slot) -> (u64, u64)
     requires { slot ≤ amount params.now name.gNumberOfStaticSlots }
@@ -237,7 +222,7 @@ pub(crate) fn answer(
     requires out { IfSome missed (LiesOutside params.now row.now arrival.slot arrival.at) }
     requires within { IfNone missed (LiesInSlot params.now row.now arrival.slot arrival.at) }
     ensures value { result ≡ answer_with params.now row.now (offer_with arrival []) reception.now }
-    ensures within { IfStored result (IsWithin (pos 1000000)) }
+    ensures within { IfStored result (IsWithin (pos most_deviation)) }
 {
     if let Some((from, to)) = missed {
         return Heard::Ignored(Ignored::Outside {

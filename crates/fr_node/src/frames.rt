@@ -4,10 +4,10 @@ ghost use Rattle.fr_cluster.specs.declared.names.ParamName.TheVariants as name;
 ghost use Rattle.fr_frame.specs.Reading.{read_as};
 ghost use Rattle.fr_time.specs.Cycles.{cycle_count};
 ghost use Rattle.fr_time.specs.Senders.{sender_of};
-ghost use Rattle.fr_reception.specs.Regular.{has_payload, is_coldstart, is_sync_frame, payload_byte, payload_bytes, payload_of, regular_frame, regular_header};
+ghost use Rattle.fr_reception.specs.Regular.{has_payload, is_sync_frame, payload_byte, payload_bytes, payload_of, regular_frame, regular_header};
 
 use crate::own::sane;
-use fr_base::{Channel, NodeId, Slot};
+use fr_base::{Channel, Slot};
 use fr_cluster::{ParamName, Params};
 use fr_frame::{FrameFault, Header, seal};
 use fr_time::{Kind, Sending, cycle_count};
@@ -65,20 +65,10 @@ fn header_of(params: &Params, sending: &Sending, slot: Slot, cycle: u32) -> Head
         preamble: false,
         null_bit: !matches!(sending.kind, Kind::NullFrame),
         sync,
-        startup: sync && starts(params, sending.node),
+        startup: sync && params.is_coldstart(sending.node),
         id: slot.0,
         words: params.natural(ParamName::gPayloadLengthStatic) as u8,
         cycle: cycle_count(cycle),
-    }
-}
-
-// Whether a node is a coldstart node.
-fn starts(params: &Params, node: NodeId) -> bool
-    ensures { result ≡ is_coldstart params.now node }
-{
-    match params.node(node) {
-        None => false,
-        Some(node) => node.coldstart,
     }
 }
 

@@ -1,7 +1,7 @@
 ghost use Rattle.std.specs.Prelude.{◌≡◌, ℕ, ◌<◌, pos, true, List, [], Some, IfNone, IfSome, IsSome, IsNone, if◌then◌else◌};
 ghost use Rattle.fr_base.specs.Timed.{IsLength, IsTimed};
 ghost use Rattle.fr_base.specs.Within.{IsBetween, IsWithin};
-ghost use Rattle.fr_measure.specs.Readings.{no_readings, reading};
+ghost use Rattle.fr_measure.specs.Readings.{most_deviation, no_readings, reading};
 ghost use Rattle.fr_time.specs.Cycles.{is_odd};
 ghost use Rattle.fr_time.specs.Instant.{IsSlotOf, KeepsLimits};
 ghost use Rattle.fr_cluster.specs.Questions.{node_of};
@@ -330,7 +330,7 @@ impl Node {
         requires { CanReceive params.now self.now slot channel }
         ensures answer { result ≡ answer_with params.now (node_row_of self.now)
             (record { slot = slot; channel = channel; arrival = at; bytes = [] }) reception.now }
-        ensures within { IfStored result (IsWithin (pos 1000000)) }
+        ensures within { IfStored result (IsWithin (pos most_deviation)) }
     {
         let row = self.row();
         let missed = self.missed(params, &row, slot, at);
@@ -373,7 +373,7 @@ impl Node {
     // Keeps the deviation that an answer stores.
     fn keep(&mut self, params: &Params, slot: Slot, channel: Channel, heard: &Heard)
         requires receives { CanReceive params.now self.old slot channel }
-        requires within { IfStored heard.now (IsWithin (pos 1000000)) }
+        requires within { IfStored heard.now (IsWithin (pos most_deviation)) }
         ensures value { self.new ≡ after_hearing params.now self.old slot channel heard.now }
         ensures rest { self.new ≡ record self.old { table = self.new.table } }
         ensures fits { NodeFits params.now self.new }

@@ -32,8 +32,8 @@ fn skew_fault(bound: i128, cycle: u32, low: i64, high: Option<i64>) -> Option<Fa
     }
 }
 
-/// Tells where the skew of a double cycle was certainly greater than a bound, in ticks: each cycle in one put, and the first one of
-/// all that were told is kept.
+/// Tells where the skew of a double cycle was certainly greater than a bound, in ticks: a line for each cycle, and the
+/// first one of all that were told is kept.
 pub fn put_skews<O: Sink>(
     bound: i128,
     scene: &Scene<'_>,
@@ -115,7 +115,7 @@ fn lengths_fault(scale: &Scale, cycle: u32, bound: i128, courses: &[Course]) -> 
 }
 
 /// Tells where the starts, or the lengths, of the even cycles of a double cycle certainly lay further apart than these bounds, in
-/// ticks: each in one put, and the first one of all that were told is kept.
+/// ticks: a line for each, and the first one of all that were told is kept.
 pub fn put_apart<O: Sink>(
     starts: i128,
     lengths: i128,

@@ -19,7 +19,7 @@ pub use apart_faults::{Apart, put_apart, put_skews};
 pub use fault::{Fault, LogSpan, Range, known_node};
 pub use missing::put_missing;
 pub use own_faults::put_own_faults;
-pub use rows::{cycle_row, node_row, precision_row, terms_of};
+pub use rows::{cycle_row, known_count, node_row, precision_row, terms_of};
 pub use says::Says;
 pub use scene::Scene;
 pub use sender_faults::{

@@ -127,7 +127,7 @@ fn put_all_missing<O: Sink>(
     Ok(())
 }
 
-/// Tells which frames are missing of nodes that sent in the double cycle before, where the observer missed none: each in one put,
+/// Tells which frames are missing of nodes that sent in the double cycle before, where the observer missed none: a line for each,
 /// and the first one of all that were told is kept.
 pub fn put_missing<O: Sink>(
     scene: &Scene<'_>,

@@ -340,8 +340,8 @@ fn put_late<O: Sink>(
     Ok(())
 }
 
-/// Tells what in a double cycle contradicts any run of which the log is seen; `late` are its untimely frames. Each in one put, and
-/// the first one of all that were told is kept.
+/// Tells what in a double cycle contradicts any run of which the log is seen; `late` are its untimely frames. A line for
+/// each, and the first one of all that were told is kept.
 #[tactic(auto, unfolding(crate::specs::Faults::own_faults))]
 pub fn put_own_faults<O: Sink>(
     scene: &Scene<'_>,

@@ -4,7 +4,7 @@ ghost use Rattle.std.specs.Option.{option_map};
 ghost use Rattle.fr_base.specs.Within.{IsWithin};
 ghost use Rattle.fr_course.specs.Near.{IsTerm};
 ghost use Rattle.fr_text.specs.Pieces.{Spells};
-ghost use Rattle.fr_observe.specs.Observing.{cycle_row, known, node_row, precision_row, terms_of};
+ghost use Rattle.fr_observe.specs.Observing.{cycle_row, known, known_count, node_row, precision_row, terms_of};
 ghost use Rattle.fr_sightings.specs.Ranges.{IsProperSender};
 ghost use Rattle.fr_observe.specs.Ranges.{greatest_printed_length};
 
@@ -13,6 +13,16 @@ use fr_course::{Interval, Scale, offset_seen};
 use fr_sightings::Sender;
 use fr_text::Piece::{Natural, Signed, Word};
 use fr_text::{Line, Piece, row_of};
+
+/// A number, or - where none is known.
+pub fn known_count(number: Option<u64>) -> Piece<'static>
+    ensures { Spells result (known_count number) 20 }
+{
+    match number {
+        None => Word(b"-"),
+        Some(number) => Natural(number),
+    }
+}
 
 // A number, if it is known.
 pub(crate) fn known(number: Option<i64>) -> Piece<'static>

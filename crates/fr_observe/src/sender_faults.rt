@@ -383,8 +383,8 @@ pub fn sender_fault(asked: Asked, scene: &Scene<'_>, sender: &Sender) -> Option<
     }
 }
 
-/// Tells what contradicts a run by this of each sender of a double cycle: each in one put, and the first one of all that were told
-/// is kept.
+/// Tells what contradicts a run by this of each sender of a double cycle: a line for each, and the first one of all that were
+/// told is kept.
 pub fn put_of_senders<O: Sink>(
     asked: Asked,
     scene: &Scene<'_>,

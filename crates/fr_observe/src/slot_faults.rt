@@ -52,8 +52,8 @@ fn irregular_fault(params: &Params, log: &Log, sighting: &Sighting) -> Fault
     }
 }
 
-/// Tells what contradicts any run that sends each whole frame of the log in the slot of a node, by these irregular frames: each in
-/// one put, and the first one of all that were told is kept.
+/// Tells what contradicts any run that sends each whole frame of the log in the slot of a node, by these irregular frames: a
+/// line for each, and the first one of all that were told is kept.
 #[tactic(auto, unfolding(crate::specs::Faults::slot_faults))]
 pub fn put_slot_faults<O: Sink>(
     params: &Params,

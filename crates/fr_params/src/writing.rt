@@ -11,7 +11,7 @@ use fr_text::Piece::{Natural, Word};
 use fr_text::{Line, Piece, put_line, put_text, row_of};
 
 /// Writes the parameters as the text of a file of version 2: the version, each value in the order of the table, the
-/// nodes and the further slots in ascending order. Each record is one put. A fault comes only where the sink counted
+/// nodes and the further slots in ascending order. Puts have whole lines. A fault comes only where the sink counted
 /// it, and then a front of the text was put. It takes no memory but what the sink does.
 ///
 /// Where the parameters were read from a file of either version, a law says that the text is accepted as a file and

@@ -76,7 +76,7 @@ impl Gathered {
         self.put_all(out)
     }
 
-    /// Puts all that waits, in one put, or in none where nothing waits. A fault comes only where the sink counted it,
+    /// Puts all that waits, in whole lines. A fault comes only where the sink counted it,
     /// and then a front of this was put. Nothing waits any more.
     pub fn put_all<O: Sink>(&mut self, out: &mut O) -> Result<(), PutFault>
         ensures puts { Puts result (O.state out.old) (O.state out.new) self.old.bytes }
@@ -148,7 +148,7 @@ fn append(bytes: &mut Vec<u8>, piece: &[u8]) -> Result<(), PutFault>
     }
 }
 
-// Puts whole lines in one put, or nothing in none.
+// Puts whole lines, or nothing where there are none.
 fn put_waiting<O: Sink>(lines: &[u8], out: &mut O) -> Result<(), PutFault>
     requires { AreLines lines.now }
     ensures { Puts result (O.state out.old) (O.state out.new) lines.now }

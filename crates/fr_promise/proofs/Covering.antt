@@ -17,10 +17,11 @@ use Rattle.fr_bound.specs.Bounds.{longest_micro, shortest_micro}
 use Rattle.fr_bound.specs.Checks.{holds_of, left_of, right_of}
 use Rattle.fr_midpoint.specs.Receivers.{AreFew}
 use Rattle.fr_base.specs.Within.{IsWithin}
+use Rattle.fr_bound.specs.Outweighing.{outweighs}
 use Rattle.fr_precision.specs.Reception.{IsDelay}
 use Rattle.fr_drift.specs.Questions.{delay_of, doubles_of, length_of}
 use Rattle.fr_drift.specs.View.{DriftView}
-use Rattle.fr_coverage.specs.Coverage.{asked_checks, asked_where, count_of, expected_delay, has_jumped, is_off, is_wrong, outweighs, some_join}
+use Rattle.fr_coverage.specs.Coverage.{asked_checks, asked_where, count_of, expected_delay, has_jumped, is_off, is_wrong, some_join}
 use Rattle.fr_script.specs.Events.{event_of}
 use Rattle.fr_coverage.specs.Order.{HasNoGap, HasNoGapFrom}
 use Rattle.fr_coverage.specs.Links.{is_carried, is_carried_on, is_free, is_link, is_regular, shares}

@@ -23,7 +23,8 @@ use Rattle.fr_cluster.specs.declared.nodes.SlotSpec.{SlotSpec}
 use Rattle.fr_cluster.specs.Searches.{is_key}
 use Rattle.fr_time.specs.Senders.{key_node_of, further_slot_of, sync_sending, further_sending, sender_of}
 use Rattle.fr_time.specs.declared.senders.Sending.{Sending}
-use Rattle.fr_reception.specs.Regular.{has_payload, is_sync_frame, is_coldstart, payload_byte, payload_bytes, payload_of, regular_header, regular_payload, regular_frame}
+use Rattle.fr_cluster.specs.Questions.{is_coldstart}
+use Rattle.fr_reception.specs.Regular.{has_payload, is_sync_frame, payload_byte, payload_bytes, payload_of, regular_header, regular_payload, regular_frame}
 
 -- what is found passes the test, and is what all elements are
 find_holds : {X : Type 0} (P : X → Type 0) (test : X → Bool) (xs : List X) (x : X) → All P xs → find test xs ≡ Some x → P x × (test x ≡ true)

@@ -1,12 +1,11 @@
 -- The regular frame of a static slot: what its sender sends there in a cycle (chapters 4 and 5).
 use Rattle.std.specs.Prelude.{ℕ, ◌+◌, ◌-◌, ◌*◌, ◌%◌, Bool, true, false, ◌&&◌, List, map, fold, drop, length, replicate}
 use Rattle.std.specs.List.{range_with_len}
-use Rattle.std.specs.Option.{option_map_or}
 use Rattle.fr_base.specs.declared.channel.Channel.{Channel}
 use Rattle.fr_frame.specs.declared.header.Header.{Header}
 use Rattle.fr_frame.specs.Reading.{frame_of}
 use Rattle.fr_cluster.specs.Values.{Values, amount}
-use Rattle.fr_cluster.specs.Questions.{node_of}
+use Rattle.fr_cluster.specs.Questions.{is_coldstart}
 use Rattle.fr_cluster.specs.declared.names.ParamName.TheVariants as name
 use Rattle.fr_time.specs.Cycles.{cycle_count}
 use Rattle.fr_time.specs.declared.senders.Sending.{Sending}
@@ -24,10 +23,6 @@ abbrev pub has_payload : Kind → Bool
 has_payload SyncFrame = true
 has_payload ValidFrame = true
 has_payload NullFrame = false
-
--- whether a node is a coldstart node
-abbrev pub is_coldstart : Values → ℕ → Bool
-is_coldstart p node = option_map_or (λ spec. spec.coldstart) (node_of p node) false
 
 -- The header (section 4.2): only a key slot has sync frames, which are startup frames where the node is a coldstart node.
 abbrev pub regular_header : Values → Sending → ℕ → ℕ → Header

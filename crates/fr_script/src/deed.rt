@@ -1,6 +1,5 @@
 ghost use Rattle.std.specs.Prelude.{◌≡◌, ◌≤◌, length, IfOk, IfSome, neg_ℤ, ◌≤ℤ◌};
 ghost use Rattle.std.specs.Option.{option_copied};
-ghost use Rattle.fr_text.specs.Fields.{hex_digits_in};
 ghost use Rattle.fr_script.specs.Said.{AreSaidBytes};
 ghost use Rattle.fr_script.specs.Columns.{as_record};
 ghost use Rattle.fr_script.specs.Deed.{IsDeedRead, bits_of, done_by, event_of_deed, farthest, flip_row, is_after_frame, is_say, lose_row, said_in, say_deed, say_row, shift_in};
@@ -12,7 +11,7 @@ use crate::rows::{Row, deed_of, read_passage};
 use crate::script::Event;
 use fr_base::{NumberFault, Reason, number};
 use fr_cluster::Params;
-use fr_text::{both, natural, reason_of};
+use fr_text::{both, hex_digits, natural, reason_of};
 use hex::FromHexError;
 use std::alloc::{AllocError, Global};
 use std::marker::Model;
@@ -22,9 +21,6 @@ const FARTHEST: i64 = 1_000_000_000_000;
 
 // The last bit of the longest frame, which has 262 bytes.
 const LAST_BIT: u64 = 2095;
-
-// The greatest number of hexadecimal digits of a frame.
-const MOST_DIGITS: usize = 524;
 
 /// The bytes of a frame that an arbitrary node says, at most 262, seen as their list.
 pub struct SaidBytes {
@@ -108,7 +104,7 @@ fn read_say(alloc: Global, row: &Fields<'_>) -> Result<Result<Row, Reason>, Allo
     ensures proper { IfOk result (λ said. IfOk said IsProperScriptRow) }
 {
     let text = row.bytes;
-    let numbers = both(read_passage(row), both(read_shift(row), few_digits(text)));
+    let numbers = both(read_passage(row), both(read_shift(row), hex_digits(text)));
     match numbers {
         Err(fault) => Ok(Err(reason_of(fault))),
         Ok((passage, (shift, _))) => {
@@ -149,15 +145,6 @@ fn read_shift(row: &Fields<'_>) -> Result<i64, NumberFault>
     ensures range { IfOk result (λ shift. (neg_ℤ farthest ≤ℤ shift) × (shift ≤ℤ farthest)) }
 {
     number(row.number, -FARTHEST, FARTHEST)
-}
-
-fn few_digits(text: &[u8]) -> Result<usize, NumberFault>
-    ensures { result ≡ hex_digits_in text.now }
-{
-    if text.len() > MOST_DIGITS {
-        return Err(NumberFault::OutOfRange);
-    }
-    Ok(text.len())
 }
 
 // The frame that is to be said, None within where it is the regular one; None where the text is not

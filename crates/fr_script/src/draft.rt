@@ -182,7 +182,7 @@ impl<'a> Draft<'a> {
         ensures { result ≡ knows_both self.now.params.now passage.now }
     {
         let params = self.params;
-        params.node(passage.sender).is_some() && params.node(passage.receiver).is_some()
+        params.is_known(passage.sender) && params.is_known(passage.receiver)
     }
 
     fn is_misplaced(&self, passage: &Passage, says: bool) -> bool

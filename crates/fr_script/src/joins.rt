@@ -1,6 +1,5 @@
-ghost use Rattle.std.specs.Prelude.{◌≡◌, ◌≤◌, List, None, Some, is_none, is_some, slice_index_or, slice_set};
+ghost use Rattle.std.specs.Prelude.{◌≡◌, ◌≤◌, List, None, Some, is_some, slice_index_or, slice_set};
 ghost use Rattle.fr_text.specs.Records.{FileRecord};
-ghost use Rattle.fr_cluster.specs.Questions.{own_key};
 ghost use Rattle.fr_script.specs.Reasons.{is_reference, join_by, join_reason, knows_joining, may_not_join, share_channel};
 ghost use Rattle.fr_script.specs.Draft.{IsScriptDraft, TakesScriptRowAtOnce};
 ghost use Rattle.fr_script.specs.declared.rows.Row.TheVariants as said;
@@ -54,7 +53,7 @@ impl<'a> Draft<'a> {
         row.node == reference
             || self.is_arbitrary(row.node)
             || self.is_arbitrary(reference)
-            || has_no_key(params, reference)
+            || params.lacks_key(reference)
             || self.joins(reference)
             || self.is_reference(row.node)
     }
@@ -72,19 +71,10 @@ impl<'a> Draft<'a> {
     }
 }
 
-fn has_no_key(params: &Params, node: NodeId) -> bool
-    ensures { result ≡ is_none (own_key params.now node) }
-{
-    match params.node(node) {
-        Some(spec) => spec.key.is_none(),
-        None => true,
-    }
-}
-
 fn knows_joining(params: &Params, row: &JoinRow) -> bool
     ensures { result ≡ knows_joining params.now row.now }
 {
-    params.node(row.node).is_some() && params.node(row.join.reference).is_some()
+    params.is_known(row.node) && params.is_known(row.join.reference)
 }
 
 fn share_channel(params: &Params, row: &JoinRow) -> bool

@@ -14,6 +14,7 @@ use Rattle.fr_cluster.specs.Setting.{Setting, correct_nodes}
 use Rattle.fr_cluster.specs.declared.nodes.NodeSpec.{NodeSpec}
 use Rattle.fr_cluster.proofs.Elements.{Contains-here, Contains-none, Contains-there}
 use Rattle.fr_cluster.specs.Values.{Values}
+use Rattle.fr_bound.specs.Outweighing.{outweighs}
 use Rattle.fr_precision.specs.Round.{sync_count}
 use Rattle.fr_history.specs.Cycles.{Cycles}
 use Rattle.fr_log.specs.View.{LogView}
@@ -32,7 +33,7 @@ use Rattle.fr_observe.specs.declared.term.Term.TheVariants.{Offset, Rate}
 use Rattle.fr_observe.specs.Faults.{offset_fault, rate_fault, skew_fault, stated_flutter}
 use Rattle.fr_observe.specs.Observing.{even_high, even_low, odd_high, odd_low, seen_doubles}
 use Rattle.fr_observe.specs.declared.fault.Fault.{Fault}
-use Rattle.fr_judging.specs.Hearing.{are_enough, log_heard, synced_with}
+use Rattle.fr_judging.specs.Hearing.{log_heard, synced_with}
 use Rattle.fr_findings.specs.Verdict.{log_span, sightings_before}
 use Rattle.fr_sharp.specs.JudgedSteps.{GoesOnJudged, IsHeardIn}
 use Rattle.fr_runs.specs.SharpHistories.{IsLawfulStatedRun}
@@ -110,7 +111,7 @@ module _ (x : Setting) (h : Cycles) (base : ℕ) (l : LogView) (until : ℕ) (st
   heard_in what is =
       let correct = count_by (is_sync_as l false) x.params.nodes in
       let arbitrary = count_by (is_sync_as l true) x.params.nodes in
-      hears_by what arbitrary (are_enough correct arbitrary) (l.lost == 0) (arbitrary == 0) is refl refl (arbitrary_alike x l states.named) is
+      hears_by what arbitrary (outweighs correct arbitrary) (l.lost == 0) (arbitrary == 0) is refl refl (arbitrary_alike x l states.named) is
 
 -- ---- the laws of judged double cycles
 

@@ -61,7 +61,7 @@ fn basis_by(
     place: Option<Fluttering>,
 ) -> Basis
     requires value { place ≡ fluttering_from params.now drift.now script.now from }
-    requires most { IfSome place (λ place. place.ticks ≤ 1_000_000_000) }
+    requires most { IfSome place (λ place. place.ticks ≤ most_flutter) }
     ensures value { result ≡ basis_by params.now drift.now script.now from (ticks_of place) }
     ensures flutter { result.flutter ≤ most_flutter }
 {

@@ -1,15 +1,12 @@
 ghost use Rattle.std.specs.Prelude.{◌≡◌, ◌+◌, None, Some, IfSome};
-ghost use Rattle.fr_traffic.specs.Reaching.{whole_in};
 ghost use Rattle.fr_traffic.specs.Traffic.{heard_in, traffic_in};
 ghost use Rattle.fr_series.specs.SharpLosses.{bound_of, bound_since, from_of, kept_by, IsHeldSince, IsHeldBy};
 
 use crate::basis::Basis;
 use fr_bound::{DoubleNumber, Flutter};
-use fr_cluster::Params;
 use fr_precision::Kinds;
-use fr_script::Script;
 use fr_sharp::LossSpread;
-use fr_traffic::{all_reach, heard_in};
+use fr_traffic::{heard_in, is_whole};
 use fr_world::World;
 
 /// What the nodes hear in a double cycle, and how far macroticks may lie apart in it.
@@ -103,13 +100,6 @@ fn next_bound(
             bound_of(basis.through, apart)
         }
     }
-}
-
-fn is_whole(params: &Params, script: &Script, double: DoubleNumber) -> bool
-    ensures { result ≡ whole_in params.now script.now double }
-{
-    let nodes = &params.nodes;
-    all_reach(nodes, script, &Some(double))
 }
 
 fn bound_of(through: bool, apart: u128) -> Option<u128>

@@ -27,7 +27,7 @@ use fr_text::{put_line, put_lines};
 use fr_world::World;
 
 /// Runs all cycles of a world that has run none, and writes the sharper series of the run: a line for each cycle, as
-/// soon as its double cycle was run, and nine lines at the end. Puts have whole lines. A fault comes only where the
+/// soon as its double cycle was run, and ten lines at the end. Puts have whole lines. A fault comes only where the
 /// sink counted it, and then a front of the text was put, and no further cycle is run: of the double cycles that were
 /// run the lines of all but the last had been put whole. It takes no memory but what the sink does.
 pub fn write_sharp_series<O: Sink>(world: &mut World, out: &mut O) -> Result<(), PutFault>

@@ -15,7 +15,7 @@ use fr_coverage::{found_gap_from_is_first, some_join};
 use fr_drift::Drift;
 use fr_promise::heard_numbers;
 use fr_script::Script;
-use fr_traffic::{all_bear_from, all_reach, heard_in, is_borne_to_join, none_lacks};
+use fr_traffic::{all_bear_from, heard_in, is_borne_to_join, is_whole, none_lacks};
 
 /// What a run loses from a double cycle on, by its files, and how far apart that may take its clocks, from one in sharp sync
 /// on.
@@ -109,13 +109,6 @@ fn is_borne_of(
     } else {
         borne
     }
-}
-
-fn is_whole(params: &Params, script: &Script, double: DoubleNumber) -> bool
-    ensures { result ≡ whole_in params.now script.now double }
-{
-    let nodes = &params.nodes;
-    all_reach(nodes, script, &Some(double))
 }
 
 impl RunLosses {

@@ -1,5 +1,4 @@
 ghost use Rattle.std.specs.Prelude.{◌≡◌, ◌==◌, ◌*◌, ◌≤◌, ℤ, IfSome};
-ghost use Rattle.fr_base.specs.Rows.{channel_rank};
 ghost use Rattle.fr_course.specs.Near.{AreDelays, IsBox, IsObserver, IsSpan, EndBetween};
 ghost use Rattle.fr_log.specs.Rows.{last_stamp};
 ghost use Rattle.fr_log.specs.View.{AreDelayLimits};
@@ -60,19 +59,13 @@ fn delays_in(log: &Log, node: NodeId, channel: Channel) -> Option<Delays>
     delays_by(log.limits_of(node, channel), log.jitter_of(node, channel))
 }
 
-fn is_same(one: Channel, other: Channel) -> bool
-    ensures { result ≡ (channel_rank one == channel_rank other) }
-{
-    one == other
-}
-
 /// The stamp of the first frame of a node on a channel in a cycle of the log, in units of the log, if one was seen
 /// there.
 #[tactic(auto, unfolding(crate::specs::Senders::first_stamp))]
 pub fn first_stamp(seen: &[Sighting], node: NodeId, channel: Channel, cycle: u32) -> Option<u64>
     ensures { result ≡ first_stamp seen.now node channel cycle }
 {
-    match seen.iter().find(|s| s.node == node && is_same(s.channel, channel) && s.number == cycle) {
+    match seen.iter().find(|s| s.node == node && s.channel.is_same(channel) && s.number == cycle) {
         None => None,
         Some(first) => Some(first.stamp),
     }

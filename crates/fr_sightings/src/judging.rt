@@ -1,7 +1,7 @@
 ghost use Rattle.std.specs.Prelude.{◌≡◌, ◌≤◌, IfSome};
 ghost use Rattle.std.specs.Option.{option_copied};
 ghost use Rattle.fr_frame.specs.Reading.{read_as, read_checked};
-ghost use Rattle.fr_reception.specs.Regular.{is_coldstart, is_sync_frame, regular_header};
+ghost use Rattle.fr_reception.specs.Regular.{is_sync_frame, regular_header};
 ghost use Rattle.fr_sightings.specs.Judging.{has_form_of, head_read, header_read, is_regular_of, is_same_indicator, judged_as, judgement_by, judgement_of, static_sending, whole_header};
 
 use fr_base::{Channel, NodeId, Slot};
@@ -162,7 +162,7 @@ fn has_form(params: &Params, header: &Header, sending: &Sending) -> bool
     let sync = is_sync_frame(sending.kind);
     u64::from(header.words) == params.natural(ParamName::gPayloadLengthStatic)
         && is_same(sync, header.sync)
-        && is_same(sync && is_coldstart(params, sending.node), header.startup)
+        && is_same(sync && params.is_coldstart(sending.node), header.startup)
 }
 
 // Whether an indicator is as it should be.
@@ -170,14 +170,4 @@ fn is_same(regular: bool, got: bool) -> bool
     ensures { result ≡ is_same_indicator regular got }
 {
     if regular { got } else { !got }
-}
-
-// Whether a node is a coldstart node.
-fn is_coldstart(params: &Params, node: NodeId) -> bool
-    ensures { result ≡ is_coldstart params.now node }
-{
-    match params.node(node) {
-        None => false,
-        Some(node) => node.coldstart,
-    }
 }

@@ -28,7 +28,7 @@ pub use intervals::{SeenCycle, first_stamp, seen_box, seen_span};
 pub use laws::silence_ends_all;
 pub use looking::{Window, look_at, look_from};
 pub use nodes::{is_judged, keyed_count};
-pub use sender::{Sender, no_course};
+pub use sender::Sender;
 pub use sending::{Observed, seen_senders};
 pub use sighting::{Fate, Sighting, Tally};
 pub use sure::{are_numbers_sure, is_sync_as};

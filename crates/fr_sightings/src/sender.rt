@@ -14,8 +14,8 @@ pub struct Sender {
     pub onward: Option<Interval>,
 }
 
-/// What stands in the places of a list of courses that are not in use: all its numbers are 0.
-pub fn no_course() -> Course {
+// What stands in the places of a list of courses that are not in use: all its numbers are 0.
+pub(crate) fn no_course() -> Course {
     let nowhere = Interval { low: 0, high: 0 };
     Course {
         action: 0,

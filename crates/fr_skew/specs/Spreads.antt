@@ -7,6 +7,10 @@ use Rattle.fr_time.specs.Cycles.{is_odd}
 use Rattle.fr_time.specs.Instant.{instant_of}
 use Rattle.fr_time.specs.declared.grid.Grid.{Grid}
 
+-- no instants of clocks lie further apart, in ticks
+abbrev pub most_apart_ever : ℕ
+most_apart_ever = 2_222_000_000_000_000_000
+
 -- the greatest of some numbers less the least; 0 where there are none
 abbrev pub spread_of : List ℤ → ℤ
 spread_of [] = pos 0

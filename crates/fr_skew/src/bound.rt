@@ -3,7 +3,7 @@ ghost use Rattle.fr_base.specs.Within.{IsBetween};
 ghost use Rattle.fr_time.specs.Placed.{IsPlacedRow};
 ghost use Rattle.fr_time.specs.Position.{IsGrid};
 ghost use Rattle.fr_skew.specs.Alike.{AreAlike};
-ghost use Rattle.fr_skew.specs.Spreads.{spread_at};
+ghost use Rattle.fr_skew.specs.Spreads.{most_apart_ever, spread_at};
 ghost use Rattle.fr_skew.specs.Sweep.{greatest_within};
 
 use crate::alike::are_alike;
@@ -78,7 +78,7 @@ pub(crate) fn wider_end(grid: &Grid, cycle: u32, rows: &[NodeRow], from: u32, to
     requires to { pos to ≤ℤ grid.now.macros }
     ensures begins { spread_at grid.now cycle rows.now from ≤ℤ result }
     ensures ends { spread_at grid.now cycle rows.now to ≤ℤ result }
-    ensures within { IsBetween (pos 0) (pos 2_222_000_000_000_000_000) result }
+    ensures within { IsBetween (pos 0) (pos most_apart_ever) result }
 {
     let begins = spread_at(grid, cycle, from, rows);
     let ends = spread_at(grid, cycle, to, rows);
@@ -87,11 +87,11 @@ pub(crate) fn wider_end(grid: &Grid, cycle: u32, rows: &[NodeRow], from: u32, to
 
 // The greater of two spreads.
 pub(crate) fn wider(one: i64, other: i64) -> i64
-    requires one { IsBetween (pos 0) (pos 2_222_000_000_000_000_000) one }
-    requires other { IsBetween (pos 0) (pos 2_222_000_000_000_000_000) other }
+    requires one { IsBetween (pos 0) (pos most_apart_ever) one }
+    requires other { IsBetween (pos 0) (pos most_apart_ever) other }
     ensures first { one ≤ℤ result }
     ensures second { other ≤ℤ result }
-    ensures within { IsBetween (pos 0) (pos 2_222_000_000_000_000_000) result }
+    ensures within { IsBetween (pos 0) (pos most_apart_ever) result }
 {
     if one < other { other } else { one }
 }

@@ -7,7 +7,7 @@ ghost use Rattle.fr_time.specs.Cycles.{is_odd};
 ghost use Rattle.fr_time.specs.Placed.{IsPlacedRow};
 ghost use Rattle.fr_skew.specs.Courses.{course_if, course_of, courses_at, gone_on, gone_to, next_instant, CanGoOn};
 ghost use Rattle.fr_skew.specs.Extents.{with_number, IsExtent, IsInstant};
-ghost use Rattle.fr_skew.specs.Spreads.{spread_of};
+ghost use Rattle.fr_skew.specs.Spreads.{most_apart_ever, spread_of};
 
 use crate::extent::{Extent, spread_by, widened};
 use arrayvec::ArrayVec;
@@ -125,7 +125,7 @@ pub(crate) fn next_spread(courses: &mut [Course]) -> i64
     requires { All CanGoOn courses.old }
     ensures value { result ≡ spread_of (map next_instant courses.old) }
     ensures after { courses.new ≡ map gone_on courses.old }
-    ensures within { IsBetween (pos 0) (pos 2_222_000_000_000_000_000) result }
+    ensures within { IsBetween (pos 0) (pos most_apart_ever) result }
 {
     spread_by(next_extent(courses))
 }

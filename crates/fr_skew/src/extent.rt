@@ -1,6 +1,7 @@
 ghost use Rattle.std.specs.Prelude.{◌≡◌, pos, IfSome};
 ghost use Rattle.fr_base.specs.Within.{IsBetween};
 ghost use Rattle.fr_skew.specs.Extents.{spread_by, widened, IsExtent, IsInstant};
+ghost use Rattle.fr_skew.specs.Spreads.{most_apart_ever};
 
 // The least and the greatest of some numbers.
 #[derive(Clone, Copy, Debug, PartialEq, Eq)]
@@ -29,7 +30,7 @@ pub(crate) fn widened(extent: Option<Extent>, at: i64) -> Extent
 pub(crate) fn spread_by(extent: Option<Extent>) -> i64
     requires { IfSome extent IsExtent }
     ensures value { result ≡ spread_by extent }
-    ensures within { IsBetween (pos 0) (pos 2_222_000_000_000_000_000) result }
+    ensures within { IsBetween (pos 0) (pos most_apart_ever) result }
 {
     match extent {
         None => 0,

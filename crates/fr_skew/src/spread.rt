@@ -6,7 +6,7 @@ ghost use Rattle.fr_time.specs.Cycles.{is_odd};
 ghost use Rattle.fr_time.specs.Instant.{instant_of};
 ghost use Rattle.fr_time.specs.Placed.{IsPlacedRow};
 ghost use Rattle.fr_skew.specs.Extents.{with_instant, with_length, with_start, IsExtent, IsInstant};
-ghost use Rattle.fr_skew.specs.Spreads.{spread_at, spread_of};
+ghost use Rattle.fr_skew.specs.Spreads.{most_apart_ever, spread_at, spread_of};
 ghost use Rattle.fr_skew.specs.Sync.{cycle_length_by, IsSyncBounds};
 
 use crate::extent::{Extent, spread_by, widened};
@@ -20,7 +20,7 @@ pub fn spread_at(grid: &Grid, cycle: u32, macrotick: u32, rows: &[NodeRow]) -> i
     requires rows { All (IsPlacedRow grid.now) rows.now }
     requires macrotick { pos macrotick ≤ℤ grid.now.macros }
     ensures value { result ≡ spread_at grid.now cycle rows.now macrotick }
-    ensures within { IsBetween (pos 0) (pos 2_222_000_000_000_000_000) result }
+    ensures within { IsBetween (pos 0) (pos most_apart_ever) result }
 {
     spread_by(instants_extent(grid, cycle, macrotick, rows))
 }

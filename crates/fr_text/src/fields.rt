@@ -1,9 +1,12 @@
 ghost use Rattle.std.specs.Prelude.{◌≡◌, ◌<◌, ◌≤◌, ◌^◌, [], length, slice_index_or, IfOk};
 ghost use Rattle.csv.specs.Records.{fields_of};
-ghost use Rattle.fr_text.specs.Fields.{both_of, natural_of, reason_of};
+ghost use Rattle.fr_text.specs.Fields.{both_of, hex_digits_in, natural_of, reason_of};
 
 use csv::ByteRecord;
 use fr_base::{NumberFault, Reason, number};
+
+// The hexadecimal digits of the longest frame, of 262 bytes.
+const MOST_DIGITS: usize = 524;
 
 /// The bytes of one field of a record, by its place from 0.
 pub fn field(row: &ByteRecord, place: usize) -> &[u8]
@@ -11,6 +14,17 @@ pub fn field(row: &ByteRecord, place: usize) -> &[u8]
     ensures { result.now ≡ slice_index_or (fields_of row.now) place [] }
 {
     row.get(place).unwrap()
+}
+
+/// How many hexadecimal digits a field has for the bytes of a frame; every byte counts as one. `OutOfRange` where there are more
+/// than those of the longest frame, 524.
+pub fn hex_digits(text: &[u8]) -> Result<usize, NumberFault>
+    ensures { result ≡ hex_digits_in text.now }
+{
+    if text.len() > MOST_DIGITS {
+        return Err(NumberFault::OutOfRange);
+    }
+    Ok(text.len())
 }
 
 /// The number from `low` to `high` that a field writes: `NotDigits` where it writes none, `OutOfRange`

@@ -1,5 +1,5 @@
-//! Text that is read and written. A line is a list of pieces, words and numbers, and a text is a list of lines, each of which
-//! is one put. A file is a list of records: the reader over `csv`, the stream that cuts plain lines where they lie, what the
+//! Text that is read and written. A line is a list of pieces, words and numbers, and a text is a list of lines, which
+//! are put whole. A file is a list of records: the reader over `csv`, the stream that cuts plain lines where they lie, what the
 //! fields of a record say, and for either a loop that fills a table with the records of a file or names the first that is
 //! refused. A kind of file has one way from a shelf
 //! to its value. And how a command reads files one after the other: what it may write of them, why it stops, what is
@@ -28,7 +28,7 @@ mod told;
 mod words;
 
 pub use draft::Draft;
-pub use fields::{both, field, natural, reason_of};
+pub use fields::{both, field, hex_digits, natural, reason_of};
 pub use filling::{RecordTable, read_records};
 pub use kind::{FileKind, Stop, accepted};
 pub use laws::{first_refused_excludes_none, one_first_refused, refused_or_none};

@@ -5,7 +5,7 @@ ghost use Rattle.fr_text.specs.Lines.{joined_lines, shown};
 use crate::line::Line;
 use fr_base::{PutFault, Sink};
 
-/// Puts a text of whole lines, in one put. A fault comes only where the sink counted it, and then a front of the text
+/// Puts a text of whole lines. A fault comes only where the sink counted it, and then a front of the text
 /// was put.
 pub fn put_text<O: Sink>(text: &[u8], out: &mut O) -> Result<(), PutFault>
     requires { IsEnded text.now }
@@ -14,14 +14,14 @@ pub fn put_text<O: Sink>(text: &[u8], out: &mut O) -> Result<(), PutFault>
     out.put(text)
 }
 
-/// Puts a line, in one put. A fault comes only where the sink counted it, and then a front of the line was put.
+/// Puts a line. A fault comes only where the sink counted it, and then a front of the line was put.
 pub fn put_line<O: Sink>(line: &Line, out: &mut O) -> Result<(), PutFault>
     ensures { Puts result (O.state out.old) (O.state out.new) line.now }
 {
     put_text(line.ended_bytes(), out)
 }
 
-/// Puts the lines that are there, one after the other: each is one put. A fault comes only where the sink
+/// Puts the lines that are there, one after the other, each whole. A fault comes only where the sink
 /// counted it, and then a front of the text was put.
 #[cycle(put)]
 pub fn put_lines<O: Sink>(lines: &[Option<Line>], out: &mut O) -> Result<(), PutFault>

@@ -9,6 +9,10 @@ use Rattle.fr_time.specs.declared.grid.Grid.{Grid}
 use Rattle.fr_time.specs.Position.{even_position, grid_for, position_of}
 use Rattle.fr_time.specs.Slots.{action_point_of, slot_end_of, slot_start_of}
 
+-- no macrotick lies at a later instant
+abbrev pub most_instant : ℕ
+most_instant = 1_111_000_000_000_000_000
+
 -- the instant of a macrotick in a node's cycle
 abbrev pub instant_of : Grid → NodeRow → Bool → ℤ → ℤ
 instant_of grid row odd macrotick = row.start +ℤ (position_of grid row.rate row.offset odd macrotick *ℤ row.length)

@@ -1,6 +1,8 @@
-ghost use Rattle.std.specs.Prelude.{◌≡◌};
+ghost use Rattle.std.specs.Prelude.{◌≡◌, ◌≤◌, ◌+ℤ◌, pos};
+ghost use Rattle.fr_base.specs.Within.{IsWithin};
 ghost use Rattle.fr_time.specs.Position.{grid_for, CanPlace};
 
+use fr_base::NodeRow;
 use fr_cluster::Params;
 
 /// How a cycle is divided: what the position of a macrotick rests on beside the correction terms.
@@ -24,4 +26,22 @@ pub fn grid_of(params: &Params) -> Grid
         micros: params.micros,
         correction: params.correction,
     }
+}
+
+/// The macroticks of a cycle, `gMacroPerCycle`.
+pub fn macros_of(params: &Params) -> u64
+    ensures value { pos result ≡ params.now.macros }
+    ensures some { 1 ≤ result }
+    ensures most { result ≤ 16_000 }
+{
+    grid_of(params).macros as u64
+}
+
+/// The microticks of a cycle with its rate term and without its offset term.
+pub fn micros_of(params: &Params, row: &NodeRow) -> u64
+    requires { IsWithin params.now.rate_limit row.now.rate }
+    ensures value { pos result ≡ params.now.micros +ℤ row.now.rate }
+    ensures most { result ≤ 660_000 }
+{
+    (grid_of(params).micros + row.rate as i64) as u64
 }

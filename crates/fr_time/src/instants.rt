@@ -1,7 +1,7 @@
 ghost use Rattle.std.specs.Prelude.{◌≡◌, ◌+ℤ◌, ◌-ℤ◌, ◌*ℤ◌, pos};
 ghost use Rattle.fr_base.specs.Timed.{IsTimed};
 ghost use Rattle.fr_base.specs.Within.{IsBetween, IsWithin};
-ghost use Rattle.fr_time.specs.Instant.{action_instant, next_start_of, slot_begins, slot_ends, IsInCycle, KeepsLimits, IsSlotOf};
+ghost use Rattle.fr_time.specs.Instant.{IsInCycle, IsSlotOf, KeepsLimits, action_instant, most_instant, next_start_of, slot_begins, slot_ends};
 ghost use Rattle.fr_time.specs.Position.{even_position, grid_for};
 ghost use Rattle.fr_time.specs.Slots.{IsEarly};
 
@@ -39,7 +39,7 @@ pub fn slot_instants(params: &Params, row: &NodeRow, slot: Slot) -> (i64, i64)
 pub fn action_instant(params: &Params, row: &NodeRow, slot: Slot) -> i64
     requires { IsSlotOf params.now row.now slot }
     ensures value { result ≡ action_instant params.now row.now slot }
-    ensures within { IsBetween (pos 0) (pos 1_111_000_000_000_000_000) result }
+    ensures within { IsBetween (pos 0) (pos most_instant) result }
 {
     early_instant(params, row, action_point(params, slot))
 }
@@ -60,7 +60,7 @@ fn early_instant(params: &Params, row: &NodeRow, macrotick: i64) -> i64
     requires early { IsEarly params.now macrotick }
     ensures value { result ≡
         row.now.start +ℤ (even_position (grid_for params.now) row.now.rate macrotick *ℤ row.now.length) }
-    ensures within { IsBetween (pos 0) (pos 1_111_000_000_000_000_000) result }
+    ensures within { IsBetween (pos 0) (pos most_instant) result }
     ensures in_cycle { IsInCycle row.now result }
 {
     row.start + ticks_of(early_position(params, row.rate, macrotick), row.length)

@@ -13,7 +13,7 @@ mod shares;
 mod slots;
 
 pub use cycles::{cycle_count, is_odd};
-pub use grid::{Grid, grid_of};
+pub use grid::{Grid, grid_of, macros_of, micros_of};
 pub use instants::{action_instant, early_position, next_start, slot_instants};
 pub use laws::{
     a_cycle_begins_and_ends, each_cycle_is_in_a_double_cycle, each_slot_has_its_sender, placeable,

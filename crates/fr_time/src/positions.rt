@@ -1,7 +1,7 @@
 ghost use Rattle.std.specs.Prelude.{◌≡◌, ◌≤ℤ◌, ◌+ℤ◌, ◌-ℤ◌, ◌*ℤ◌, ◌&&◌, int_lt, pos};
 ghost use Rattle.fr_base.specs.Within.{IsBetween};
 ghost use Rattle.fr_time.specs.Position.{corrected_micros, corrected_position, even_position, floor_of, position_of, IsGrid, IsPlaceable};
-ghost use Rattle.fr_time.specs.Instant.{instant_of};
+ghost use Rattle.fr_time.specs.Instant.{instant_of, most_instant};
 ghost use Rattle.fr_time.specs.Placed.{IsPlacedRow};
 
 use crate::grid::Grid;
@@ -37,7 +37,7 @@ pub fn instant(grid: &Grid, row: &NodeRow, odd: bool, macrotick: i64) -> i64
     requires row { IsPlacedRow grid.now row.now }
     requires macrotick { IsBetween (pos 0) grid.now.macros macrotick }
     ensures value { result ≡ instant_of grid.now row.now odd macrotick }
-    ensures within { IsBetween (pos 0) (pos 1_111_000_000_000_000_000) result }
+    ensures within { IsBetween (pos 0) (pos most_instant) result }
 {
     let microticks = position(grid, row.rate, row.offset, odd, macrotick);
     row.start + ticks_of(microticks, row.length)

@@ -1,5 +1,4 @@
-ghost use Rattle.std.specs.Prelude.{◌≡◌, ◌==◌, ◌≤◌, ◌≤ℤ◌, [], is_none, length, pos, negsuc, IfOk, OnOk};
-ghost use Rattle.fr_cluster.specs.Questions.{is_known, own_key};
+ghost use Rattle.std.specs.Prelude.{◌≡◌, ◌==◌, ◌≤◌, ◌≤ℤ◌, [], length, pos, negsuc, IfOk, OnOk};
 ghost use Rattle.std.specs.List.{list_any};
 ghost use Rattle.fr_cluster.specs.Values.{Values};
 ghost use Rattle.fr_trace.specs.Cycles.{history_by};
@@ -331,7 +330,7 @@ fn join_reason(
 fn knows_both(params: &Params, join: &TracedJoin) -> bool
     ensures { result ≡ knows_node_and_reference params.now join.now }
 {
-    is_known(params, join.node) && is_known(params, join.join.reference)
+    params.is_known(join.node) && params.is_known(join.join.reference)
 }
 
 fn joins_wrongly(params: &Params, named: &[NodeId], joins: &[TracedJoin], join: &TracedJoin) -> bool
@@ -341,18 +340,9 @@ fn joins_wrongly(params: &Params, named: &[NodeId], joins: &[TracedJoin], join: 
     reference == join.node
         || is_among(named, join.node)
         || is_among(named, reference)
-        || lacks_key(params, reference)
+        || params.lacks_key(reference)
         || join_among(joins, reference).is_some()
         || is_reference(joins, join.node)
-}
-
-fn lacks_key(params: &Params, node: NodeId) -> bool
-    ensures { result ≡ is_none (own_key params.now node) }
-{
-    match params.node(node) {
-        None => true,
-        Some(spec) => spec.key.is_none(),
-    }
 }
 
 fn is_reference(joins: &[TracedJoin], node: NodeId) -> bool
@@ -374,7 +364,7 @@ fn clock_reason(params: &Params, clock: &NodeRow, comes: bool) -> Option<Reason>
 {
     if is_beyond(params, clock) {
         Some(Reason::OutOfRange)
-    } else if !is_known(params, clock.node) {
+    } else if !params.is_known(clock.node) {
         Some(Reason::UnknownNode)
     } else if !comes {
         Some(Reason::Role)
@@ -386,7 +376,7 @@ fn clock_reason(params: &Params, clock: &NodeRow, comes: bool) -> Option<Reason>
 fn heard_reason(params: &Params, heard: &HeardRow, comes: bool) -> Option<Reason>
     ensures { result ≡ heard_reason params.now heard.now comes }
 {
-    if !is_known(params, heard.receiver) {
+    if !params.is_known(heard.receiver) {
         return Some(Reason::UnknownNode);
     }
     let Some(channel) = heard.channel else {
@@ -399,12 +389,6 @@ fn heard_reason(params: &Params, heard: &HeardRow, comes: bool) -> Option<Reason
     } else {
         None
     }
-}
-
-fn is_known(params: &Params, node: NodeId) -> bool
-    ensures { result ≡ is_known params.now node }
-{
-    params.node(node).is_some()
 }
 
 fn is_beyond(params: &Params, clock: &NodeRow) -> bool

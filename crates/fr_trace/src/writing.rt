@@ -22,7 +22,7 @@ use fr_text::{Draft, Line, put_line, put_text, state_of};
 const FRONT_ROOM: usize = 50;
 
 /// Writes the lines before the cycles of a run's trace: its number of double cycles, each arbitrary node, and each node
-/// that joins the running cluster, in ascending order. Each line is one put. A fault comes only where the sink counted
+/// that joins the running cluster, in ascending order. Puts have whole lines. A fault comes only where the sink counted
 /// it, and then a front of the text was put. It takes no memory but what the sink does.
 pub fn write_head<O: Sink>(
     params: &Params,
@@ -41,7 +41,7 @@ pub fn write_head<O: Sink>(
 }
 
 /// Writes the lines of a cycle: each node's row, and then the deviations that it measured, by slot and then by
-/// channel. Each line is one put. A fault comes only where the sink counted it, and then a front of the text was put.
+/// channel. Puts have whole lines. A fault comes only where the sink counted it, and then a front of the text was put.
 /// It takes no memory but what the sink does.
 pub fn write_cycle<O: Sink>(row: &CycleRow, out: &mut O) -> Result<(), PutFault>
     ensures { (h : History) → length h ≡ row.now.cycle →

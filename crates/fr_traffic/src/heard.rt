@@ -1,12 +1,11 @@
 ghost use Rattle.std.specs.Prelude.{◌≡◌};
-ghost use Rattle.fr_coverage.specs.Links.{is_free};
-ghost use Rattle.fr_traffic.specs.Reaching.{all_reach, reaches, reaches_each, reaches_on};
+ghost use Rattle.fr_traffic.specs.Reaching.{all_reach, reaches, reaches_each, reaches_on, whole_in};
 
 use fr_base::Channel;
 use fr_bound::DoubleNumber;
-use fr_cluster::{NodeList, NodeSpec};
-use fr_coverage::{is_link, shares};
-use fr_script::{Event, Script};
+use fr_cluster::{NodeList, NodeSpec, Params};
+use fr_coverage::{is_carried_on, is_link, shares};
+use fr_script::Script;
 
 /// Whether all is heard in a double cycle: of any two nodes one channel carries the frames of both its cycles, where one counts
 /// on the other. Without a number: whether it would be if nothing were lost.
@@ -21,6 +20,15 @@ pub fn all_reach(nodes: &NodeList, script: &Script, when: &Option<DoubleNumber>)
         }
     }
     all
+}
+
+/// Whether all is heard in a double cycle: of any two nodes one channel carries the frames of both its cycles, where one
+/// counts on the other.
+pub fn is_whole(params: &Params, script: &Script, double: DoubleNumber) -> bool
+    ensures { result ≡ whole_in params.now script.now double }
+{
+    let nodes = &params.nodes;
+    all_reach(nodes, script, &Some(double))
 }
 
 fn reaches_each(
@@ -67,25 +75,6 @@ fn reaches_on(
 {
     match when {
         None => shares(sender, receiver, channel),
-        Some(double) => {
-            shares(sender, receiver, channel)
-                && is_free(script, sender, receiver, channel, 2 * double.0)
-                && is_free(script, sender, receiver, channel, 2 * double.0 + 1)
-        }
+        Some(double) => is_carried_on(script, sender, receiver, double.0, channel),
     }
-}
-
-fn is_free(
-    script: &Script,
-    sender: &NodeSpec,
-    receiver: &NodeSpec,
-    channel: Channel,
-    cycle: u32,
-) -> bool
-    ensures { result ≡ is_free script.now sender.now.id receiver.now.id channel cycle }
-{
-    matches!(
-        script.at(cycle, sender.id, receiver.id, channel),
-        Event::Regular
-    )
 }

@@ -10,6 +10,6 @@ mod meeting;
 mod traffic;
 
 pub use bearing::{all_bear_from, none_lacks};
-pub use heard::all_reach;
+pub use heard::{all_reach, is_whole};
 pub use hearing::{heard_in, is_borne_to_join};
 pub use traffic::{discarded_of, is_arbitrary_sync};

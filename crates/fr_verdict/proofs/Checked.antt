@@ -25,7 +25,6 @@ use Rattle.fr_precision.proofs.RoundLemmas.{contains_map, map_contains}
 use Rattle.fr_runs.proofs.Rows.{Ascend, HasRow, all_rows, has_row as row_there, rows_are}
 use Rattle.fr_runs.proofs.Spread.{RowsLie, macrotick_within, spread_within}
 use Rattle.fr_correct.specs.declared.term.Term.{Term}
-use Rattle.fr_coverage.specs.Coverage.{outweighs}
 use Rattle.fr_coverage.specs.declared.gap.Gap.{Gap}
 use Rattle.fr_coverage.specs.declared.gap.Gap.TheVariants as gap
 use Rattle.fr_runs.specs.Hearers.{FollowsIn, Hearers, IsOneOf, IsRoundSynced, IsSupplied, group_of, member_from}
@@ -42,6 +41,7 @@ use Rattle.fr_precision.proofs.OffsetLaws.{third_check_suffices}
 use Rattle.fr_precision.specs.Round.{Hearer, senders_of, sync_count}
 use Rattle.fr_precision.proofs.Counting.{count_cons, one_if}
 use Rattle.fr_cluster.proofs.Elements.{Contains-here, Contains-none, Contains-there, kept_filtered}
+use Rattle.fr_bound.specs.Outweighing.{outweighs}
 use Rattle.fr_skew.specs.Spreads.{spread_at}
 use Rattle.fr_time.specs.Cycles.{odd_cycle}
 use Rattle.fr_time.specs.Position.{grid_for}

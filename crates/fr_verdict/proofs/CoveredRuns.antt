@@ -22,9 +22,10 @@ use Rattle.fr_cluster.specs.Values.{amount}
 use Rattle.fr_cluster.specs.declared.join.Join.{Join}
 use Rattle.fr_cluster.specs.declared.names.ParamName.TheVariants as name
 use Rattle.fr_cluster.specs.declared.nodes.NodeSpec.{NodeSpec}
-use Rattle.fr_coverage.specs.Coverage.{has_jumped, is_off, outweighs}
+use Rattle.fr_coverage.specs.Coverage.{has_jumped, is_off}
 use Rattle.fr_coverage.specs.declared.gap.Gap.{Gap}
 use Rattle.fr_midpoint.specs.Receivers.{AreFew}
+use Rattle.fr_bound.specs.Outweighing.{outweighs}
 use Rattle.fr_precision.proofs.Counting.{count_cons, one_if}
 use Rattle.fr_precision.specs.Round.{sync_count}
 use Rattle.fr_time.specs.Cycles.{even_cycle, odd_cycle}

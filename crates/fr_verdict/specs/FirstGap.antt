@@ -5,8 +5,9 @@ use Rattle.fr_base.specs.declared.node_row.NodeRow.{NodeRow}
 use Rattle.fr_cluster.specs.Sane.{IsSane}
 use Rattle.fr_cluster.specs.Values.{Values}
 use Rattle.fr_cluster.specs.declared.nodes.NodeSpec.{NodeSpec}
+use Rattle.fr_bound.specs.Outweighing.{outweighs}
 use Rattle.fr_precision.specs.Round.{sync_count}
-use Rattle.fr_coverage.specs.Coverage.{checks_gap, has_jumped, is_off, outweighs}
+use Rattle.fr_coverage.specs.Coverage.{checks_gap, has_jumped, is_off}
 use Rattle.fr_coverage.specs.First.{first_below, first_in}
 use Rattle.fr_coverage.specs.declared.gap.Gap.{Gap}
 use Rattle.fr_coverage.specs.declared.gap.Gap.TheVariants as gap

@@ -7,8 +7,9 @@ use Rattle.fr_base.specs.declared.node_row.NodeRow.{NodeRow}
 use Rattle.fr_cluster.specs.Values.{Values}
 use Rattle.fr_cluster.specs.declared.nodes.NodeSpec.{NodeSpec}
 use Rattle.fr_bound.specs.Checks.{holds_of, left_of, right_of}
+use Rattle.fr_bound.specs.Outweighing.{outweighs}
 use Rattle.fr_precision.specs.Round.{sync_count}
-use Rattle.fr_coverage.specs.Coverage.{has_jumped, is_off, outweighs}
+use Rattle.fr_coverage.specs.Coverage.{has_jumped, is_off}
 use Rattle.fr_coverage.specs.Links.{shares}
 use Rattle.fr_coverage.specs.Order.{IsEarlierGap}
 use Rattle.fr_coverage.specs.declared.gap.Gap.{Gap}

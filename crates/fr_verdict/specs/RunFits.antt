@@ -9,6 +9,7 @@ use Rattle.fr_cluster.specs.Sane.{IsSane}
 use Rattle.fr_cluster.specs.Setting.{Setting}
 use Rattle.fr_cluster.specs.declared.join.Join.{Join}
 use Rattle.fr_cluster.specs.declared.nodes.NodeSpec.{NodeSpec}
+use Rattle.fr_drift.specs.Rows.{most_link_delay}
 use Rattle.fr_history.specs.Cycles.{Cycles, told_of}
 use Rattle.fr_history.specs.Lawful.{IsLawful}
 use Rattle.fr_trace.specs.Fits.{TraceFits}
@@ -30,7 +31,7 @@ pub record JoinsInRange (x : Setting) (node : ℕ) (join : Join) : Type 0 where
   pub channel : Channel
   pub common : is_common x.params node join.reference channel ≡ true
   pub double : join.double < 100_000
-  pub delays : (sender cycle : ℕ) (ch : Channel) → x.delay sender node ch cycle ≤ℤ pos 1_000_000_000
+  pub delays : (sender cycle : ℕ) (ch : Channel) → x.delay sender node ch cycle ≤ℤ pos most_link_delay
 
 -- and of all: sane parameters, 1 to 100,000 double cycles, ranges of clocks; arbitrary nodes have key slots, and say something only
 -- to nodes with which they have the channel in common

@@ -6,6 +6,7 @@ use Rattle.fr_base.specs.Within.{IsWithin}
 use Rattle.fr_base.specs.declared.dev.Dev.{Dev}
 use Rattle.fr_cluster.specs.Values.{Values, amount}
 use Rattle.fr_cluster.specs.declared.names.ParamName.TheVariants as name
+use Rattle.fr_measure.specs.Readings.{most_deviation}
 use Rattle.fr_time.specs.Instant.{KeepsLimits}
 use Rattle.fr_history.specs.History.{Record}
 use Rattle.fr_trace.specs.Cycles.{kept_of}
@@ -13,7 +14,7 @@ use Rattle.fr_trace.specs.declared.trace.TracedCycle.{TracedCycle}
 
 -- a deviation within its range, of a static slot
 pub record IsSoundDev (p : Values) (dev : Dev) : Type 0 where
-  pub within : IsWithin (pos 1_000_000) dev.value
+  pub within : IsWithin (pos most_deviation) dev.value
   pub static_slot : dev.slot ≤ amount p name.gNumberOfStaticSlots
 
 -- deviations in their order, within their ranges

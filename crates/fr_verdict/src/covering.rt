@@ -1,6 +1,6 @@
 ghost use Rattle.std.specs.Prelude.{◌≡◌, ◌≤◌, ◌==◌, length, ◌&&◌, false, true, All, IfSome, find, option_and_then, is_some, None};
 ghost use Rattle.std.specs.Option.{option_copied};
-ghost use Rattle.fr_base.specs.Rows.{AreAscendingDevs, channel_rank, dev_in, is_dev_of};
+ghost use Rattle.fr_base.specs.Rows.{AreAscendingDevs, dev_in, is_dev_of};
 ghost use Rattle.fr_base.specs.Timed.{IsTimed};
 ghost use Rattle.fr_coverage.specs.Coverage.{checks_gap, has_jumped, is_off};
 ghost use Rattle.fr_coverage.specs.First.{first_below, first_in};
@@ -18,11 +18,10 @@ ghost use Rattle.fr_verdict.specs.Sound.{AreOrdered, AreTimed};
 
 use crate::found::{is_named, row_of};
 use crate::ordered::first_place;
-use crate::searching::{Search, first_among};
 use fr_base::{Channel, Dev, NodeId, NodeRow, Slot};
-use fr_bound::{checks, side};
+use fr_bound::{checks, outweighs, side};
 use fr_cluster::{NodeList, NodeSpec, ParamName, Params};
-use fr_coverage::{Gap, outweighs};
+use fr_coverage::{Gap, Search, first_among, shares};
 use fr_trace::{Trace, TracedCycle, TracedJoin};
 
 /// The first gap of a trace with this first double cycle in sync, in the order of gaps: one of the first five checks
@@ -213,7 +212,7 @@ fn outweighed(nodes: &NodeList, trace: &Trace) -> Option<Gap>
 {
     let correct = count(nodes, trace, false);
     let arbitrary = count(nodes, trace, true);
-    if outweighs(correct, arbitrary) {
+    if outweighs(u64::from(correct), u64::from(arbitrary)) {
         None
     } else {
         Some(Gap::Count { correct, arbitrary })
@@ -403,13 +402,7 @@ fn found_among(devs: &[Dev], receiver: u8, slot: u16, channel: Channel) -> Optio
 fn is_dev_of(dev: &Dev, receiver: u8, slot: u16, channel: Channel) -> bool
     ensures { result ≡ is_dev_of receiver slot channel dev.now }
 {
-    dev.receiver.0 == receiver && dev.slot.0 == slot && is_channel(dev.channel, channel)
-}
-
-fn is_channel(one: Channel, other: Channel) -> bool
-    ensures { result ≡ (channel_rank one == channel_rank other) }
-{
-    one == other
+    dev.receiver.0 == receiver && dev.slot.0 == slot && dev.channel.is_same(channel)
 }
 
 // Whether a receiver has a deviation of a sender in a cycle on a channel.
@@ -438,16 +431,6 @@ fn has_dev_in(cycle: &TracedCycle, sender: &NodeSpec, receiver: &NodeSpec, chann
     match sender.key {
         None => false,
         Some(slot) => dev_in(&cycle.devs, receiver.id, slot, channel).is_some(),
-    }
-}
-
-// Whether both nodes have the channel.
-fn shares(a: &NodeSpec, b: &NodeSpec, channel: Channel) -> bool
-    ensures { result ≡ shares a.now b.now channel }
-{
-    match channel {
-        Channel::A => a.on_a && b.on_a,
-        Channel::B => a.on_b && b.on_b,
     }
 }
 
@@ -502,8 +485,8 @@ fn have_rows(trace: &Trace, double: u32, sender: &NodeSpec, receiver: &NodeSpec)
     has_rows(cycles, double, sender) && has_rows(cycles, double, receiver)
 }
 
-// Whether a double cycle comes before the first one in sync.
-fn is_early(synced: Option<u32>, double: u32) -> bool
+/// Whether a double cycle comes before the first one in sync; true where none is.
+pub fn is_early(synced: Option<u32>, double: u32) -> bool
     ensures { result ≡ is_early synced double }
 {
     match synced {

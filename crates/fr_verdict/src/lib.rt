@@ -9,11 +9,10 @@ mod laws;
 mod ordered;
 mod places;
 mod run_laws;
-mod searching;
 mod traces;
 mod unlawful;
 
-pub use covering::{dev_in, first_gap, first_other_gap, timed_cycles};
+pub use covering::{dev_in, first_gap, first_other_gap, is_early, timed_cycles};
 pub use found::{is_named, row_of};
 pub use laws::{
     a_passing_trace_keeps_its_precision, found_breach_is_first, found_gap_is_first,

@@ -19,8 +19,8 @@ pub enum Page {
     Version,
 }
 
-// The words of all requests but the pages, with what a caller gives in capitals, and what each is for. The launcher prints these lines, and tests hold
-// completion, manual page and documents to them.
+// The words of all requests but the pages, with what a caller gives in capitals, and what each is for. The launcher prints
+// these lines.
 const HELP: &[u8] = b"usage: flexray COMMAND WORDS
 
   flexray bound PARAMS               the classical precision, three more bounds, and the five checks of a cluster
@@ -79,7 +79,7 @@ fn page_by_word(word: &str) -> Option<Page>
     }
 }
 
-/// Writes a page, in one put. It loads no file. A failure comes where the sink counted a fault (`WriteFault`).
+/// Writes a page. It loads no file. A failure comes where the sink counted a fault (`WriteFault`).
 pub fn answer_page<O: Sink>(page: Page, out: &mut O) -> Result<(), Failure>
     ensures ends { (shelf : Shelved) → CommandEnds (page_command page)
         (around_of shelf shelf (O.state out.old) (O.state out.new)) result }

@@ -108,7 +108,7 @@ fn joined_line(node: NodeId) -> Line
     ])
 }
 
-// Writes what the sharper bounds say. Each line is one put.
+// Writes what the sharper bounds say. Puts have whole lines.
 fn print_sharply<O: Sink>(
     params: &Params,
     trace: &Trace,

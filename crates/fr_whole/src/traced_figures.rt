@@ -18,7 +18,7 @@ use fr_cluster::Params;
 use fr_series::{Scale, SharpFigures, are_in_sharp_sync, sharp_scale};
 use fr_time::grid_of;
 use fr_trace::{Trace, TracedCycle};
-use fr_verdict::recorded_flutter;
+use fr_verdict::{is_early, recorded_flutter};
 
 /// For which kind of cluster a trace counts.
 #[derive(Clone, Copy, Debug, PartialEq, Eq)]
@@ -180,14 +180,4 @@ fn with_rows(
 {
     let in_sync = !is_early(synced, double) && are_in_sharp_sync(scale, even, odd);
     figures.followed(scale, DoubleNumber(double), even, odd, in_sync, false)
-}
-
-// Whether a double cycle comes before the first one in sync.
-fn is_early(synced: Option<u32>, double: u32) -> bool
-    ensures { result ≡ is_early synced double }
-{
-    match synced {
-        None => true,
-        Some(synced) => double < synced,
-    }
 }

@@ -20,7 +20,7 @@ use Rattle.fr_air.specs.Files.{setting_in}
 use Rattle.fr_air.specs.Hearing.{after_offer}
 use Rattle.fr_air.specs.Memory.{MemoryView, memory_with, place_of_slot, with_sent}
 use Rattle.fr_air.specs.Sending.{IsEarlyRow}
-use Rattle.fr_air.specs.Turns.{AreReady}
+use Rattle.fr_air.specs.Turns.{AreReady, most_in_a_cycle}
 use Rattle.fr_air.specs.Walk.{over_slots}
 use Rattle.fr_air.specs.declared.files.RunInputs.{RunInputs}
 use Rattle.fr_air.specs.declared.turn.Turn.{Turn}
@@ -113,7 +113,7 @@ pub record AllReady (f : RunInputs) (cycle : ℕ) (stage : StageView) : Type 0 w
 -- they are before a frame is offered to them, and their answers can be counted
 pub record CanAnswer (f : RunInputs) (cycle : ℕ) (stage : StageView) : Type 0 where
   pub rows_are : stage.rows ≡ map node_row_of stage.nodes
-  pub ready : AreReady f cycle 1_000_000 stage.nodes stage.counts
+  pub ready : AreReady f cycle most_in_a_cycle stage.nodes stage.counts
   pub followers_ready : All (IsReady f cycle) stage.followers
   pub few_followers : length stage.followers ≤ 64
 

@@ -34,6 +34,7 @@ use Rattle.fr_air.specs.Memory.{MemoryView, held_after, memory_with}
 use Rattle.fr_world.specs.Stage.{StageView}
 use Rattle.fr_world.specs.Standing.{followers_kept, listeners_kept, nodes_kept}
 use Rattle.fr_air.specs.declared.files.RunInputs.{RunInputs}
+use Rattle.fr_air.specs.Turns.{most_in_a_cycle}
 
 -- A world: its three files, and how many cycles it has run. They determine its cycles, so that nothing else is seen.
 pub record WorldView : Type 0 where
@@ -73,7 +74,7 @@ pub record IsRowOf (x : Setting) (cycle : ℕ) (row : CycleRow) : Type 0 where
   pub told : recorded row ≡ (next_cycle x (cycles_of x cycle)).told
   pub numbered : row.cycle ≡ cycle
   pub placed : All (IsPlacedRow (grid_for x.params)) row.rows
-  pub few : AreAtMost 1_000_000 row.counts
+  pub few : AreAtMost most_in_a_cycle row.counts
 
 -- the message memory of a world of these files after so many cycles
 abbrev pub memory_after : RunInputs → ℕ → MemoryView

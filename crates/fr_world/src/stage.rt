@@ -13,7 +13,7 @@ ghost use Rattle.fr_air.specs.Reaching.{IsReach, SendsAmong};
 ghost use Rattle.fr_air.specs.Sending.{offer_heard, sending_row_in, IsEarlyRow};
 ghost use Rattle.fr_world.specs.Stage.{answered, answered_by_nodes, begun_nodes, begun_stage, ended_stage, heard_after, after_turn, saying, sent_on, stage_before, AllReady, CanAnswer, HearsTurn, IsBefore, IsStage};
 ghost use Rattle.fr_world.specs.Succeeding.{first_now, followers_without, listeners_now, nodes_with, succeeded, AllFit, CanPass, HasFew, HasHeardBoth, HasPassed};
-ghost use Rattle.fr_air.specs.Turns.{frame_of_turn, heard_on_air, offer_on, AreReady, IsOnAir};
+ghost use Rattle.fr_air.specs.Turns.{most_in_a_cycle, frame_of_turn, heard_on_air, offer_on, AreReady, IsOnAir};
 ghost use Rattle.fr_node.specs.Cycle.{ended};
 ghost use Rattle.fr_node.specs.Fits.{NodeFits};
 ghost use Rattle.fr_node.specs.View.{node_row_of};
@@ -258,7 +258,7 @@ impl Stage {
     fn offer_to_nodes(&mut self, files: &RunInputs, air: &Air<'_>, reach: Reach)
         requires air { IsOnAir files.now air.now self.old.memory }
         requires rows { self.old.rows ≡ map node_row_of self.old.nodes }
-        requires ready { AreReady files.now air.now.turn.now.cycle 1_000_000 self.old.nodes self.old.counts }
+        requires ready { AreReady files.now air.now.turn.now.cycle most_in_a_cycle self.old.nodes self.old.counts }
         requires reach { IsReach files.now air.now.turn.now.cycle self.old.rows reach }
         requires sends { IfSome air.now.sender.now.row (SendsAmong files.now air.now self.old.rows) }
         ensures heard { self.new ≡ answered_by_nodes (setting_in files.now) air.now.turn.now.cycle
@@ -462,7 +462,7 @@ impl Stage {
         requires nodes { AreListable self.old.nodes }
         ensures heard { self.new ≡ heard_after (setting_in files.now) cycle
             (amount files.now.params name.gNumberOfStaticSlots) self.old }
-        ensures few { AreAtMost 1_000_000 self.new.counts }
+        ensures few { AreAtMost most_in_a_cycle self.new.counts }
         ensures ready { AllReady files.now cycle self.new }
         ensures early { All (IsEarlyRow files.now.params) self.new.rows }
     {
@@ -476,7 +476,7 @@ impl Stage {
         requires reach { IsReach files.now cycle self.old.rows reach }
         ensures heard { self.new ≡ heard_after (setting_in files.now) cycle
             (amount files.now.params name.gNumberOfStaticSlots) self.old }
-        ensures few { AreAtMost 1_000_000 self.new.counts }
+        ensures few { AreAtMost most_in_a_cycle self.new.counts }
         ensures ready { AllReady files.now cycle self.new }
         ensures early { All (IsEarlyRow files.now.params) self.new.rows }
     {

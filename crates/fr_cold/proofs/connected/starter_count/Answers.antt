@@ -16,12 +16,12 @@ one_more-count-requires c = let few = c.loop-number.invariant.few in omega arith
 pub loop-number-preserved : goal.loop-number-preserved
 loop-number-preserved c =
     let from = c.loop-number.invariant.from in
-    let value : c.one_more-count.result ≡ one_more c.is_starter.result c.loop-number.count = c.one_more-count.ensures in
-    let less = least c.is_starter.result c.loop-number.count c.loop-number.number c.loop-number.invariant.few in record {
+    let value : c.one_more-count.result ≡ one_more c.is_coldstart.result c.loop-number.count = c.one_more-count.ensures in
+    let less = least c.is_coldstart.result c.loop-number.count c.loop-number.number c.loop-number.invariant.few in record {
       from = omega arith;
       few = omega (arith, value, less);
       count =
-          value ∙ ap (λ (b : Bool). one_more b c.loop-number.count) c.is_starter.ensures
+          value ∙ ap (λ (b : Bool). one_more b c.loop-number.count) c.is_coldstart.ensures
           ∙ starters-more c.args.params.now c.loop-number.number c.loop-number.count from c.loop-number.invariant.count;
     }
 

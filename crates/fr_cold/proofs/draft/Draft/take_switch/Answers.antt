@@ -1,7 +1,6 @@
 use Rattle.std.proofs.Common.{◌≡◌, Option, true, false, refl, rules, sym, ap, ◌∙◌}
-use Rattle.fr_cold.specs.Cluster.{is_starter}
 use Rattle.fr_cold.specs.Reasons.{is_out_of_turn, last_at}
-use Rattle.fr_cluster.specs.Questions.{is_known}
+use Rattle.fr_cluster.specs.Questions.{is_known, is_coldstart}
 use Rattle.fr_cold.specs.declared.draft.Last.{Last}
 use Rattle.fr_cold.proofs.Tables.{draft-switch}
 use Rattle.fr_cold.proofs.draft.Draft.take_switch.Goals as goal
@@ -10,7 +9,7 @@ pub returns : goal.returns
 returns c = record {
   why = λ done h.
       let known : is_known c.args.params.now c.args.row.node ≡ true = search rules in
-      let starts : is_starter c.args.params.now c.args.row.node ≡ true = search rules in
+      let starts : is_coldstart c.args.params.now c.args.row.node ≡ true = search rules in
       let turn : is_out_of_turn (last_at c.args.row.node done) c.args.row ≡ false =
       ap (λ (o : Option Last). is_out_of_turn o c.args.row) (sym (c.get.ensures.value ∙ h.lasts c.args.row.node)) ∙ sym c.is_out_of_turn.ensures ∙ c.if-is_out_of_turn.false in
       rw (known, starts, turn) refl;

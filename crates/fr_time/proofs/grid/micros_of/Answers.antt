@@ -1,7 +1,7 @@
 use Rattle.std.proofs.Common.{◌≡◌, ap, arith}
 use Rattle.std.proofs.lemmas.Int.{ints}
 use Rattle.fr_time.specs.declared.grid.Grid.{Grid}
-use Rattle.fr_node.proofs.answers.micros_of.Goals as goal
+use Rattle.fr_time.proofs.grid.micros_of.Goals as goal
 
 pub overflow_cast-result-2 : goal.overflow_cast-result-2
 overflow_cast-result-2 c =
