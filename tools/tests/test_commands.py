@@ -76,6 +76,7 @@ class Written(unittest.TestCase):
 
     def test_a_file_that_was_changed_is_told_and_written(self) -> None:
         changes = (("pages.rt", "the report of a run", "a report"), ("Pages.antt", "make SEED", "make WITH"), ("programs", "observe", "watch"),
+                   ("launch", "the same, held", "held"),
                    ("completion/flexray", "bound FILE join", "bound FILE joins"), ("flexray-series", "FILE sharp", "FILE blunt"),
                    ("completion/flexlab", "frame capture", "capture"), ("requests.py", '"script": 3', '"script": 2'),
                    ("flexray.1", ".B lost", ".I lost"), ("flexray-series.1", ".B sharp", ".RB [ sharp ]"),
@@ -167,12 +168,12 @@ class Completion(unittest.TestCase):
 
     def test_each_word_that_is_spelt_so_is_completed_behind_those_before_it(self) -> None:
         for request in TABLE.requests:
-            for spelt in [] if request.is_page else request.each():
+            for spelt in request.each():
                 words = [request.program, *spelt.removeprefix(request.program).split()]
                 for place, word in enumerate(words[1:], 1):
                     if word.islower() or word in "AB":
                         self.assertIn(word, self.complete(*words[:place], ""), spelt)
-        self.assertEqual(set(self.complete("flexray", "")), {words.split()[0] for words in requests.REQUESTS})
+        self.assertEqual(set(self.complete("flexray", "")), {request.parts[0] for request in TABLE.requests if request.program == "flexray"})
 
     def test_files_where_one_is_given(self) -> None:
         for words in (["flexray", "run"], ["flexray-series"], ["flexray", "frame", "B"], ["flexray-series", "a", "b"]):
@@ -189,6 +190,9 @@ class Itself(unittest.TestCase):
         for word in ("--help", "-h", "help"):
             status, told, _ = ended(str(REPOSITORY / "flexray"), word)
             self.assertEqual((status, told.split("\n\n")[:2]), (0, "\n".join(TOOL.help_lines(TABLE)).split("\n\n")[:2]))
+            status, told, _ = ended(str(REPOSITORY / "flexray-series"), word)
+            self.assertEqual((status, told.split("\n\n")[:2]),
+                             (0, ["usage: flexray-series PARAMS DRIFT SCRIPT", "\n".join(TOOL.rows_of_help(TABLE, "flexray-series"))]))
 
     def test_the_version_is_that_of_the_file(self) -> None:
         version = f"flexray {(REPOSITORY / 'VERSION').read_text(encoding='utf-8')}"

@@ -178,6 +178,7 @@ class Package(Bench):
             self.assertTrue(told.startswith(f"usage: {name} "), told)
             self.assertNotIn("tools/", told)
             self.assertNotIn("build", told)
+            self.assertIn(f"  {name} {'run ' * (name == 'flexray')}PARAMS DRIFT SCRIPT sharp\n", told)
         self.assertEqual(self.installed(root, os.path.join(root, "usr/bin/flexray"), "--help"), self.installed(root, FLEXRAY, "help"))
 
     @needs("dpkg-deb")

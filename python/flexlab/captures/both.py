@@ -339,7 +339,7 @@ def same_cluster(one: Cluster, two: Cluster) -> None:
 def observe_both(words: Namespace, folder: str) -> int:
     """Observes two files, and holds them against each other."""
     wanted, shift, (capture, toml) = least_judged(words.require), words.shift or 0, words.second
-    program, one, two = programs.flexray(words.flexray, "observe"), read_cluster(words.cluster), read_cluster(toml)
+    program, one, two = programs.flexray(words.flexray), read_cluster(words.cluster), read_cluster(toml)
     same_cluster(one, two)
     hold(folder)
     place = os.path.join(folder, SECOND)

@@ -355,7 +355,7 @@ def fold(program: str, width: int, vectors: str) -> str:
 def capture(words: Namespace, folder: str) -> int:
     if words.nm is not None and not 1 <= words.nm <= 12:
         raise Stop(USAGE, f"--nm: {words.nm} is not from 1 to 12 bytes")
-    program = programs.flexray(words.flexray)
+    program = programs.flexray(words.flexray, ["capture"])
     cluster = read_cluster(words.cluster) if words.cluster else None
     taken = take_apart(words.file, program, words.most_mib * MIB, words.bus)
     times = timing(taken, cluster)

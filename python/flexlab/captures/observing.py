@@ -178,7 +178,7 @@ def seen_in(program: str, cluster: Cluster, words: Namespace, folder: str) -> Se
 
 def observe(words: Namespace, folder: str) -> int:
     wanted = least_judged(words.require)
-    program, cluster = programs.flexray(words.flexray, "observe"), read_cluster(words.cluster)
+    program, cluster = programs.flexray(words.flexray), read_cluster(words.cluster)
     hold(folder)
     seen = seen_in(program, cluster, words, folder)
     drawn = seen.drawn() if words.pictures else []

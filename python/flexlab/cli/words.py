@@ -379,7 +379,7 @@ def do_build(words: argparse.Namespace) -> int:
     for line in cluster.notes:
         print(f"flexlab: warning: {line}", file=sys.stderr)
     try:
-        program = programs.flexray(words.flexray)
+        program = programs.flexray(words.flexray, ["bound"])
     except Stop as stop:
         if words.flexray:
             raise
@@ -463,7 +463,7 @@ def do_worst(words: argparse.Namespace) -> int:
     from ..runs.worst import worst
     cluster, folder = read_cluster(words.file), folder_of(words, ".worst")
     hold(folder)
-    return worst(cluster, folder, program.flexray(words.flexray), words)
+    return worst(cluster, folder, program.flexray(words.flexray, ["run"]), words)
 
 
 def do_pcap(words: argparse.Namespace) -> int:

@@ -115,7 +115,7 @@ def design(words: argparse.Namespace) -> int:
         wish, nodes, notes = wish_of_cluster(cluster), nodes_of_cluster(cluster), list(cluster.notes)
     changes = {"margin_ns": margin or Fraction(0), "free": words.free, "kept": kept}
     wish = Wish(**{**wish.__dict__, **changes, **({} if flutter is None else {"flutter_ns": flutter})})
-    program = programs.flexray(words.flexray)
+    program = programs.flexray(words.flexray, ["bound"])
     macros = wish.of_kept("gMacroPerCycle")
     found = search(tasks_of(wish, words.file), words.purpose, max(2, words.top), words.whole_macroticks, macros)
     answer = Answer(words.file, wish, words.purpose, nodes_words(nodes), found, notes=notes)

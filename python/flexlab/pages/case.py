@@ -341,7 +341,7 @@ def stated(words: argparse.Namespace, params: str) -> Case:
         raise Stop(NO, f"{cluster.path}: nothing is proved beside {arbitrary} arbitrary nodes of {keys} sync nodes that do not join: none "
                        "asks "
                        "for 1 correct one, one for 3, two for 6")
-    program, join = os.path.realpath(calls.flexray(words.flexray)), bool(cluster.joins) or words.join
+    program, join = os.path.realpath(calls.flexray(words.flexray, ["bound"])), bool(cluster.joins) or words.join
     flutter, text = flutter_asked(words.flutter_ns, cluster), "".join(parameter_lines(cluster))
     put(params, text, "ascii")
     sharp = ["bound", "params.csv", "sharp", str(flutter), *(["join"] if join else [])]

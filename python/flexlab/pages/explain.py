@@ -382,7 +382,7 @@ def explain(words: Sequence[str], line: str | None, given: str | None, as_json: 
     """Prints the explanation; runs flexray where no line is given."""
     accepted, found = False, list[str]()
     if line is None:
-        status, text, line = programs.call(programs.flexray(given, words[0] if words else ""), words)
+        status, text, line = programs.call(programs.flexray(given, words), words)
         accepted = status == 0
         if accepted:
             line, found = None, explain_answer(text, words)

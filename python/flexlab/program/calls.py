@@ -17,7 +17,7 @@ from types import ModuleType
 from flexray import Answer
 
 from ..base.ending import MISSING, PROGRAM, Stop
-from .requests import REQUESTS
+from .requests import REQUESTS, WHOLE
 from .stamp import stamp
 
 PACKAGES = {"gnuplot": "gnuplot-nox", "parallel": "parallel", "tshark": "tshark"}
@@ -34,14 +34,14 @@ class Told(NamedTuple):
     line: str
 
 
-def flexray(given: str | None = None, command: str = "") -> str:
-    """The program that answers a command: as given, of the variable FLEXRAY, of this repository, or on the path."""
+def flexray(given: str | None = None, words: Sequence[str] = ()) -> str:
+    """The program: as given, of the variable FLEXRAY, of this repository, or on the path; one that answers these words, or all."""
     for path, whence in ((given, "--flexray"), (os.environ.get("FLEXRAY"), "the variable FLEXRAY")):
         if path:
             if not os.access(path, os.X_OK) or os.path.isdir(path):
                 raise Stop(MISSING, f"{path}, which {whence} names, is no program that can be run")
             return os.path.abspath(path)
-    found = own_program(command)
+    found = own_program(words)
     if found:
         return found
     raise Stop(MISSING, f"flexray: not built yet, and not on the path; {coming()}, or name it by --flexray. `./flexray --try WORDS` there "
@@ -72,13 +72,19 @@ def is_held(path: str) -> bool:
     return False
 
 
-def own_program(command: str = "") -> str | None:
+def is_of_core(words: Sequence[str]) -> bool:
+    """Whether the program that a checkout builds first answers these words."""
+    rows = (row.split(",") for row in WHOLE)
+    return bool(words) and not any(len(row) <= len(words) and all(one in ("", word) for one, word in zip(row, words)) for row in rows)
+
+
+def own_program(words: Sequence[str] = ()) -> str | None:
     """The program of this repository, of the package that this flexlab is part of, or the one on the path. A repository may have
-    built the whole program, or at first the one that answers all commands but `observe`."""
+    built the whole program, or at first one that suffices for these words; without words the whole one."""
     # Of a package the program itself, and not the script bin/flexray that calls it.
     share = os.path.join(HERE, "..", "..", "..")
     packed = os.path.join(share, "..", "..", "lib", "flexray", "flexray")
-    for crate in ("flexray_cli", *(["flexray_core_cli"] if command != "observe" else [])):
+    for crate in ("flexray_cli", *(["flexray_core_cli"] if is_of_core(words) else [])):
         built = os.path.join(HERE, "..", "..", "..", "crates", crate, "out", crate)
         if os.access(built, os.X_OK):
             return os.path.realpath(built)
@@ -145,7 +151,7 @@ def package() -> ModuleType | None:
 def by_library(program: str) -> Request | None:
     """The function of the package that answers as this program does: where it is the one that flexlab finds by itself, or
     flexray-series beside it. None where a call has to be one of the program."""
-    own, found = own_program(), package()
+    own, found = own_program(["bound"]), package()
     if not own or found is None:
         return None
     request: Request | None = None

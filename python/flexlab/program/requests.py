@@ -1,6 +1,8 @@
 """The requests of flexray, each with its files: the role of one and its place among the words.
 Written by tools/commands from tools/commands.toml."""
 
+from __future__ import annotations
+
 REQUESTS: dict[str, dict[str, int]] = {
     "bound PARAMS": {"params": 1},
     "bound PARAMS join": {"params": 1},
@@ -25,3 +27,13 @@ REQUESTS: dict[str, dict[str, int]] = {
     "capture B FILE": {"capture": 2},
     "nm WIDTH FILE": {"vectors": 2},
 }
+
+# What the program that a checkout builds first does not answer; nothing stands for a word that a caller gives.
+WHOLE: tuple[str, ...] = (
+    "settle,,power,",
+    "run,,,,sharp",
+    "check,,,sharp",
+    "observe",
+    "help",
+    "version",
+)

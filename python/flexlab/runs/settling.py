@@ -70,7 +70,7 @@ def settle(words: Namespace, folder: str) -> int:
     if cluster.joins:
         raise Stop(REFUSED, f"{cluster.path}: nodes join it ([[join]]), and how soon clocks settle is proved of runs that no "
                             "node joins; `flexlab run` and `flexlab power` tell of others")
-    program = flexray(words.flexray)
+    program = flexray(words.flexray, ["settle"])
     hold(folder)
     paths = write_files(cluster, folder)
     answer(program, bound_words(cluster, paths[0]), cluster=cluster)
